@@ -1,0 +1,47 @@
+-- The events of a run, one for each line of a trace.
+use Rattle.std.specs.Prelude.{ℕ, Bool, List, ℤ, Option, Result}
+use Rattle.page_types.specs.declared.Source.{Source}
+use Rattle.page_types.specs.declared.End.{End}
+use Rattle.page_types.specs.declared.RegKind.{RegKind}
+use Rattle.page_types.specs.declared.Priority.{Priority}
+
+pub data Queued : Type 0 where
+  MicroJob : ℕ → Queued
+  ReactJob : ℕ → Queued
+  AdoptJob : ℕ → Queued
+
+pub data QueueName : Type 0 where
+  FixedQueue : Priority → QueueName
+  SignalQueue : ℕ → QueueName
+
+-- Values stand in events by their spelling, as bytes.
+pub data Event : Type 0 where
+  Turn : ℕ → Option Source → Event
+  Call : ℕ → Event
+  Ret : Event
+  Throw : List ℕ → Event
+  Report : List ℕ → Event
+  Log : List ℕ → Event
+  Reg : ℕ → RegKind → Event
+  Arm : ℕ → ℕ → ℕ → Event
+  Due : ℕ → Event
+  Drop : ℕ → Event
+  Job : ℕ → Queued → Event
+  Run : ℕ → Event
+  Settle : ℕ → Bool → List ℕ → Event
+  Period : ℕ → Event
+  IdleLine : ℕ → Event
+  Frame : ℕ → Event
+  Enq : ℕ → QueueName → Bool → ℕ → Event
+  Prio : ℕ → Priority → Event
+  Abort : ℕ → Event
+  Wait : ℕ → Event
+  Host : ℕ → ℤ → Result ℤ ℤ → Event
+  Unhandled : ℕ → Event
+  Handled : ℕ → Event
+  EndLine : End → Event
+
+-- an event and the time at which it happens
+pub record Stamped : Type 0 where
+  pub time : ℕ
+  pub event : Event

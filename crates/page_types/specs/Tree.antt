@@ -1,0 +1,75 @@
+-- The syntax tree of a script.
+use Rattle.std.specs.Prelude.{ℕ, List, ℤ, Option}
+use Rattle.page_types.specs.declared.SumSign.{SumSign}
+use Rattle.page_types.specs.declared.ProductSign.{ProductSign}
+use Rattle.page_types.specs.declared.CompareSign.{CompareSign}
+use Rattle.page_types.specs.declared.UnarySign.{UnarySign}
+
+-- a name, and the byte at which it stands
+pub record Named : Type 0 where
+  pub name : List ℕ
+  pub at : ℕ
+
+-- One variant for each level of the grammar and for each branch of its lowest level.
+mutual
+  pub data Expr : Type 0 where
+    Or : Expr → Exprs → Expr
+    And : Expr → Exprs → Expr
+    Compare : Expr → CompareSign → Expr → Expr
+    Sum : Expr → SumParts → Expr
+    Product : Expr → ProductParts → Expr
+    Unary : UnarySign → Expr → Expr
+    Post : Expr → Exprs → Expr
+    Number : ℤ → Expr
+    TextLiteral : List ℕ → Expr
+    TrueLiteral : Expr
+    FalseLiteral : Expr
+    UnitLiteral : Expr
+    Name : Named → Expr
+    Call : Named → Exprs → Expr
+    Paren : Expr → Expr
+    ListLiteral : Exprs → Expr
+
+  pub data Exprs : Type 0 where
+    no_exprs : Exprs
+    with_expr : Expr → Exprs → Exprs
+
+  pub data SumParts : Type 0 where
+    no_terms : SumParts
+    with_term : SumSign → Expr → SumParts → SumParts
+
+  pub data ProductParts : Type 0 where
+    no_factors : ProductParts
+    with_factor : ProductSign → Expr → ProductParts → ProductParts
+
+mutual
+  pub data Stmt : Type 0 where
+    VarStmt : Named → Expr → Stmt
+    AssignStmt : Named → Expr → Stmt
+    ExprStmt : Expr → Stmt
+    IfStmt : Expr → Block → ElseIfs → ElsePart → Stmt
+    WhileStmt : Expr → Block → Stmt
+    ReturnStmt : Option Expr → Stmt
+    ThrowStmt : Expr → Stmt
+    TryStmt : Block → Named → Block → Stmt
+
+  pub data Block : Type 0 where
+    no_stmts : Block
+    with_stmt : Stmt → Block → Block
+
+  pub data ElseIfs : Type 0 where
+    no_else_ifs : ElseIfs
+    with_else_if : Expr → Block → ElseIfs → ElseIfs
+
+  pub data ElsePart : Type 0 where
+    no_else : ElsePart
+    else_block : Block → ElsePart
+
+pub data Item : Type 0 where
+  FnItem : Named → List Named → Block → Item
+  StmtItem : Stmt → Item
+
+-- a script whose names are resolved, with the names of its functions in the order of their numbers
+pub record Program : Type 0 where
+  pub items : List Item
+  pub names : List (List ℕ)
