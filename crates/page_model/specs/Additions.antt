@@ -1,0 +1,28 @@
+-- Lines are only given: what a step does with other events before its own.
+use Rattle.std.specs.Prelude.{◌≡◌, List, ◌++◌}
+use Rattle.page_types.specs.Events.{Stamped}
+use Rattle.lang_meaning.specs.Machine.{Done, hosted}
+use Rattle.lang_meaning.specs.Following.{Follows}
+use Rattle.page_model.specs.State.{Page, State}
+use Rattle.page_model.specs.Turns.{Turned, GoesOn, Ended, Stuck}
+
+-- the page as it is with these events before its own (the last event stands first)
+abbrev pub after : List Stamped → Page → Page
+after es p = record p { events = p.events ++ es }
+
+-- f only adds lines
+abbrev pub Adds : List Stamped → (Page → Page) → Type 0
+Adds es f = (p : Page) → f (after es p) ≡ after es (f p)
+
+-- the same of a step of the script machine around a page
+abbrev pub AddsAll : List Stamped → (State → Done Page) → Type 0
+AddsAll es f = Follows (after es) f f
+
+abbrev pub turned_after : List Stamped → Turned → Turned
+turned_after es (GoesOn m c) = GoesOn (hosted (after es) m) c
+turned_after es (Ended end m) = Ended end (hosted (after es) m)
+turned_after es (Stuck m) = Stuck (hosted (after es) m)
+
+-- the same of a turn
+abbrev pub TurnAdds : List Stamped → (State → Turned) → Type 0
+TurnAdds es f = (m : State) → f (hosted (after es) m) ≡ turned_after es (f m)

@@ -1,0 +1,12 @@
+pub mod State
+pub mod PagePromises
+pub mod PageTime
+pub mod Invoke
+pub mod PageSignals
+pub mod Operations
+pub mod Tasks
+pub mod Parallel
+pub mod View
+pub mod Turns
+pub mod PageTrace
+pub mod Additions

@@ -1,0 +1,183 @@
+-- Timers, frames, idle periods and scheduler tasks of a page.
+use Rattle.std.specs.Prelude.{ℕ, suc, ◌+◌, ◌-◌, ◌*◌, max, Bool, cond, ◌&&◌, ◌||◌, List, [], ◌∷◌, length, Option, Some, None, ℤ, nat_lt, nat_le, ◌==◌, find, unwrap_or, option_map}
+use Rattle.page_types.specs.declared.Source.{Source}
+use Rattle.page_types.specs.declared.Source.TheVariants.{Render, Idle}
+use Rattle.page_types.specs.declared.Priority.{Priority}
+use Rattle.page_types.specs.declared.Priority.TheVariants.{UserVisible}
+use Rattle.page_types.specs.Events.{QueueName, FixedQueue, SignalQueue, Arm, Drop, Period, Enq}
+use Rattle.page_parts.specs.Words.{and_last, without, is_empty, is_there, numbered}
+use Rattle.page_parts.specs.Timers as Timers
+use Rattle.page_parts.specs.Timers.{Armed, armed, with_armed, next_due}
+use Rattle.page_parts.specs.Frames as Frames
+use Rattle.page_parts.specs.Frames.{Callback, callback_in, next_multiple}
+use Rattle.page_parts.specs.IdleCallbacks as IdleCallbacks
+use Rattle.page_parts.specs.IdleCallbacks.{waits}
+use Rattle.page_parts.specs.TaskSignals.{rank, priority_of}
+use Rattle.page_parts.specs.Sources.{same_source}
+use Rattle.page_model.specs.State.{Registration, Completion, QueueTimer, Completing, Task, InvokeIdle, PrioSource, Fixed, OfSignal, SchedTask, SchedulingState, Page, emit, queue_task}
+
+-- ---- timers
+
+-- steps that run some milliseconds on
+abbrev pub run_after : ℕ → Completion → Page → Page
+run_after ms completion p =
+    let timers = Timers.run_after ms p.now p.timers in
+    record p { timers = timers; completions = and_last p.completions (record { start = timers.starts_made; completion = completion }) }
+
+abbrev pub timer_armed : Option ℕ → Armed → (registration : ℕ) → Bool → ℤ → Page → Page
+timer_armed again a r repeats timeout p =
+    emit (Arm r a.due a.level)
+    (record p {
+      timers = with_armed again a p.timers;
+      completions = and_last p.completions (record {
+        start = a.start;
+        completion = QueueTimer (record { registration = r; id = a.id; handle = a.handle; level = a.level; repeats = repeats; timeout = timeout });
+      });
+    })
+
+-- a timer is initialised, again under its id or under a new one, with its `arm` line
+abbrev pub init_timer : Option ℕ → (registration : ℕ) → Bool → ℤ → Page → Page
+init_timer again r repeats timeout p = timer_armed again (armed again timeout p.level p.now p.timers) r repeats timeout p
+
+abbrev pub clear_id : ℕ → Page → Page
+clear_id id p = record p { timers = Timers.clear id p.timers }
+
+-- the registration that has this timer id
+abbrev pub registration_with_id : ℕ → ℕ → List Registration → ℕ
+registration_with_id id r [] = 0
+registration_with_id id r (x ∷ more) = cond (x.timer_id == id) r (registration_with_id id (suc r) more)
+
+-- `clearTimeout` and `clearInterval`: the id leaves the map, where it is there
+abbrev pub clear_timer : ℕ → Page → Page
+clear_timer id p = cond (Timers.has_id id p.timers) (emit (Drop (registration_with_id id 1 p.registrations)) (clear_id id p)) p
+
+abbrev pub completion_of : List Completing → ℕ → Option Completion
+completion_of cs start = option_map (λ c. c.completion) (find (λ c. c.start == start) cs)
+
+abbrev pub without_timer : ℕ → Page → Page
+without_timer start p = record p { timers = Timers.completed start p.timers; completions = without (λ c. c.start == start) p.completions }
+
+-- ---- sources and tasks
+
+-- the first task of a source's queue
+abbrev pub first_task : Source → List Task → Option Task
+first_task source tasks = find (λ t. same_source t.source source) tasks
+
+-- ---- frames
+
+-- the next rendering opportunity: none where no frame callback waits or a render task does
+abbrev pub next_frame : Page → Option ℕ
+next_frame p =
+    cond (is_empty p.frames.callbacks || is_there (first_task Render p.tasks)) None
+    (Some (next_multiple p.period (max p.frames_since p.last_opportunity)))
+
+abbrev pub request_frame : ℕ → Page → Page
+request_frame r p = record p { frames_since = cond (is_empty p.frames.callbacks) p.now p.frames_since; frames = Frames.request r p.frames }
+
+abbrev pub without_frame : ℕ → Page → Page
+without_frame handle p = record p { frames = Frames.cancel handle p.frames }
+
+abbrev pub cancel_frame : ℕ → Page → Page
+cancel_frame handle p = elim (callback_in p.frames.callbacks handle) [ None ↦ p | Some c ↦ emit (Drop c.registration) (without_frame handle p) ]
+
+-- ---- idle periods
+
+-- the deadline of an idle period with this start: where a frame callback waits, the last opportunity plus the period counts too
+abbrev pub deadline : ℕ → Page → ℕ
+deadline start p =
+    IdleCallbacks.deadline start (next_due p.timers) (cond (is_empty p.frames.callbacks) None (Some (p.last_opportunity + p.period)))
+
+-- the idle moment, where it counts
+abbrev pub idle_moment : Page → Option ℕ
+idle_moment p =
+    let t = max p.now p.period_end in
+    cond (waits p.idle && nat_lt t (deadline t p)) (Some t) None
+
+abbrev pub period_begun : ℕ → Page → Page
+period_begun end p = queue_task Idle InvokeIdle (emit (Period end) (record p { idle = IdleCallbacks.started p.idle; period_end = end }))
+
+-- an idle period starts, unless its start is delayed
+abbrev pub start_period : Page → Page
+start_period p =
+    cond (waits p.idle && nat_lt p.now (deadline p.last_idle_start p) && nat_le p.period_end p.now) (period_begun (deadline p.last_idle_start p) p) p
+
+-- the idle step of a turn
+abbrev pub idle_step : Page → Page
+idle_step p = start_period (record p { last_idle_start = p.now })
+
+abbrev pub idle_timeout : ℕ → ℕ → Page → Page
+idle_timeout ms r p =
+    emit (Arm r (p.now + ms * 1000) 0)
+    (record p { idle_timers = and_last p.idle_timers (record { due = p.now + ms * 1000; handle = p.idle.made; registration = r }) })
+
+-- an idle callback is requested; with a positive timeout an idle timeout is started
+abbrev pub request_idle : ℕ → ℕ → Page → Page
+request_idle ms r p = cond (ms == 0) (λ q. q) (idle_timeout ms r) (record p { idle = IdleCallbacks.request r p.idle })
+
+abbrev pub idle_callback : ℕ → Page → Option Callback
+idle_callback handle p = IdleCallbacks.waiting_callback handle p.idle
+
+abbrev pub without_idle : ℕ → Page → Page
+without_idle handle p = record p { idle = IdleCallbacks.cancel handle p.idle }
+
+abbrev pub cancel_idle : ℕ → Page → Page
+cancel_idle handle p = elim (idle_callback handle p) [ None ↦ p | Some c ↦ emit (Drop c.registration) (without_idle handle p) ]
+
+-- what is left of a deadline: a period's is computed again
+abbrev pub time_remaining : Option ℕ → Page → ℕ
+time_remaining None p = deadline p.last_idle_start p - p.now
+time_remaining (Some t) p = t - p.now
+
+-- ---- scheduler tasks
+
+-- the priority of a source now
+abbrev pub priority_now : Page → PrioSource → Priority
+priority_now p (Fixed priority) = priority
+priority_now p (OfSignal s) = unwrap_or (priority_of p.prios s) UserVisible
+
+-- the effective priority of a scheduler task now
+abbrev pub effective : Page → SchedTask → ℕ
+effective p t = 2 * rank (priority_now p t.source) + cond t.continuation 1 0
+
+-- whether a goes before b
+abbrev pub goes_before : Page → SchedTask → SchedTask → Bool
+goes_before p a b = nat_lt (effective p b) (effective p a) || ((effective p a == effective p b) && nat_lt a.order b.order)
+
+abbrev pub first_sched_from : Page → SchedTask → List SchedTask → SchedTask
+first_sched_from p a [] = a
+first_sched_from p a (b ∷ more) = first_sched_from p (cond (goes_before p b a) b a) more
+
+-- among the tasks of greatest effective priority now, the one of least order
+abbrev pub first_of : Page → List SchedTask → Option SchedTask
+first_of p [] = None
+first_of p (a ∷ more) = Some (first_sched_from p a more)
+
+abbrev pub first_sched : Page → Option SchedTask
+first_sched p = first_of p p.sched_tasks
+
+abbrev pub queue_name : PrioSource → QueueName
+queue_name (Fixed priority) = FixedQueue priority
+queue_name (OfSignal s) = SignalQueue s
+
+-- a scheduler task is enqueued; its order is its task number
+abbrev pub enqueue : ℕ → PrioSource → Bool → Page → Page
+enqueue r source continuation p =
+    emit (Enq r (queue_name source) continuation (suc p.tasks_made))
+    (record p {
+      tasks_made = suc p.tasks_made;
+      sched_tasks = and_last p.sched_tasks (record { registration = r; source = source; continuation = continuation; order = suc p.tasks_made });
+    })
+
+abbrev pub without_sched : ℕ → Page → Page
+without_sched r p = record p { sched_tasks = without (λ t. t.registration == r) p.sched_tasks }
+
+abbrev pub no_state : SchedulingState
+no_state = record { abort_source = None; prio_source = Fixed UserVisible }
+
+-- the current scheduling state; with none, no abort source and fixed user-visible
+abbrev pub current_state : Page → SchedulingState
+current_state p = elim p.scheduling [ None ↦ no_state | Some n ↦ numbered p.scheduling_states n no_state ]
+
+-- a new scheduling state is made and is the current one
+abbrev pub with_state : SchedulingState → Page → Page
+with_state s p = record p { scheduling_states = and_last p.scheduling_states s; scheduling = Some (suc (length p.scheduling_states)) }

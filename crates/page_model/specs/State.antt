@@ -1,0 +1,175 @@
+-- The state of a page: one record of plain lists and numbers.
+use Rattle.std.specs.Prelude.{ℕ, suc, Bool, List, [], ◌∷◌, length, Option, None, ℤ}
+use Rattle.page_types.specs.Values.{Value}
+use Rattle.page_types.specs.declared.Source.{Source}
+use Rattle.page_types.specs.declared.RegKind.{RegKind}
+use Rattle.page_types.specs.declared.Priority.{Priority}
+use Rattle.page_types.specs.Events.{Stamped, Event}
+use Rattle.page_parts.specs.Words.{and_last, numbered}
+use Rattle.page_parts.specs.Kinds.{Func}
+use Rattle.lang_meaning.specs.Machine.{Machine}
+use Rattle.page_parts.specs.Setup.{Arrival, Latency}
+use Rattle.page_parts.specs.HostClosures.{HostClosure}
+use Rattle.page_parts.specs.Notices.{Notices, Noticed}
+use Rattle.page_parts.specs.Timers.{Timers}
+use Rattle.page_parts.specs.Frames.{Frames}
+use Rattle.page_parts.specs.IdleCallbacks.{Idle}
+use Rattle.page_parts.specs.AbortGraph.{Signals}
+use Rattle.page_parts.specs.TaskSignals.{Prios}
+use Rattle.page_parts.specs.Listeners.{Listener}
+
+pub data Role : Type 0 where
+  ScriptRole : Role
+  OfKind : RegKind → Role
+
+-- A registration: what it is for, its callbacks, and where it has one its timer id, its promise and the signal that can abort it. A handler that is no function is absent.
+pub record Registration : Type 0 where
+  pub role : Role
+  pub callback : Option Func
+  pub second_callback : Option Func
+  pub timer_id : ℕ
+  pub promise : ℕ
+  pub signal : Option ℕ
+
+-- a timer of setTimeout or setInterval: its registration, id, handle, level, whether it repeats, and its timeout as given
+pub record TimerTask : Type 0 where
+  pub registration : ℕ
+  pub id : ℕ
+  pub handle : ℕ
+  pub level : ℕ
+  pub repeats : Bool
+  pub timeout : ℤ
+
+-- a host closure that was asked for its answer on a number
+pub record HostTask : Type 0 where
+  pub registration : ℕ
+  pub closure : ℕ
+  pub number : ℤ
+
+-- the steps of a task
+pub data Steps : Type 0 where
+  RunScript : Steps
+  RunTimer : TimerTask → Steps
+  TimeOutSignal : ℕ → Steps
+  FireAtWindow : List ℕ → Value → Steps
+  AnswerHost : HostTask → Steps
+  RunFrame : ℕ → Steps
+  InvokeIdle : Steps
+  IdleTimeout : ℕ → Steps
+  NotifyRejected : List ℕ → Steps
+  NotifyHandled : ℕ → Steps
+
+pub record Task : Type 0 where
+  pub number : ℕ
+  pub source : Source
+  pub steps : Steps
+
+pub data PrioSource : Type 0 where
+  Fixed : Priority → PrioSource
+  OfSignal : ℕ → PrioSource
+
+-- a scheduler task; its order is its task number
+pub record SchedTask : Type 0 where
+  pub registration : ℕ
+  pub source : PrioSource
+  pub continuation : Bool
+  pub order : ℕ
+
+-- what an active timer does when it completes
+pub data Completion : Type 0 where
+  QueueTimer : TimerTask → Completion
+  EnqueuePost : (registration : ℕ) → PrioSource → Completion
+  QueueSignal : (registration signal : ℕ) → Completion
+
+-- the completion steps of the active timer with this start number
+pub record Completing : Type 0 where
+  pub start : ℕ
+  pub completion : Completion
+
+pub record IdleTimer : Type 0 where
+  pub due : ℕ
+  pub handle : ℕ
+  pub registration : ℕ
+
+pub record HostAnswer : Type 0 where
+  pub due : ℕ
+  pub task : HostTask
+
+pub record SchedulingState : Type 0 where
+  pub abort_source : Option ℕ
+  pub prio_source : PrioSource
+
+pub record Page : Type 0 where
+  -- the run
+  pub now : ℕ
+  pub turns : ℕ
+  pub events : List Stamped  -- the last one first
+  -- the script
+  pub names : List (List ℕ)
+  pub level : ℕ  -- the nesting level of the current task
+  pub scheduling : Option ℕ  -- the current scheduling state
+  pub performing : Bool  -- whether a checkpoint is being performed
+  pub registrations : List Registration
+  pub script_promises : List ℕ  -- those made by `promise`
+  -- promises and jobs
+  pub notices : Notices
+  -- tasks
+  pub tasks : List Task
+  pub sched_tasks : List SchedTask
+  pub tasks_made : ℕ
+  -- time
+  pub timers : Timers
+  pub completions : List Completing
+  pub idle_timers : List IdleTimer
+  pub host_answers : List HostAnswer
+  pub arrivals : List Arrival
+  -- frames and idle periods
+  pub frames : Frames
+  pub frames_since : ℕ  -- the moment at which the frame map last became non-empty
+  pub last_opportunity : ℕ
+  pub period : ℕ
+  pub idle : Idle
+  pub last_idle_start : ℕ
+  pub period_end : ℕ
+  -- signals
+  pub signals : Signals Value
+  pub prios : Prios
+  pub listeners : List Listener
+  pub scheduling_states : List SchedulingState
+  -- hosts
+  pub hosts : List HostClosure
+  pub latencies : List Latency
+
+-- the whole state: the script machine around its page
+abbrev pub State : Type 0
+State = Machine Page
+
+abbrev pub on_page : (Page → Page) → State → State
+on_page f m = record m { host = f m.host }
+
+-- what stands for a registration that was never made
+abbrev pub no_registration : Registration
+no_registration = record { role = ScriptRole; callback = None; second_callback = None; timer_id = 0; promise = 0; signal = None }
+
+abbrev pub the_registration : Page → ℕ → Registration
+the_registration p r = numbered p.registrations r no_registration
+
+abbrev pub last_registration : Page → ℕ
+last_registration p = length p.registrations
+
+-- one event is written, at the time now
+abbrev pub emit : Event → Page → Page
+emit e p = record p { events = record { time = p.now; event = e } ∷ p.events }
+
+abbrev pub emit_each : List Event → Page → Page
+emit_each [] p = p
+emit_each (e ∷ es) p = emit_each es (emit e p)
+
+-- a call on the notices, with its lines
+abbrev pub on_notices : (Notices → Noticed) → Page → Page
+on_notices f p = let d = f p.notices in emit_each d.lines (record p { notices = d.notices })
+
+-- a task is queued, with the next number
+abbrev pub queue_task : Source → Steps → Page → Page
+queue_task source steps p =
+    record p { tasks_made = suc p.tasks_made; tasks = and_last p.tasks (record { number = suc p.tasks_made; source = source; steps = steps }) }

@@ -1,0 +1,230 @@
+-- Turns and runs.
+use Rattle.std.specs.Prelude.{ℕ, zero, suc, ◌/◌, max, Bool, true, false, cond, not, ◌&&◌, ◌||◌, List, [], ◌∷◌, length, Option, Some, None, nat_lt, nat_le, ◌==◌, slice_get, option_map, reverse}
+use Rattle.page_types.specs.Values.{no_values}
+use Rattle.page_types.specs.Tree.{Program}
+use Rattle.page_types.specs.declared.Source.{Source}
+use Rattle.page_types.specs.declared.Source.TheVariants.{Dom, Sched}
+use Rattle.page_types.specs.declared.End.{End}
+use Rattle.page_types.specs.declared.End.TheVariants.{Done as DoneEnd, Fuel as FuelEnd, Clock as ClockEnd}
+use Rattle.page_types.specs.Events.{Turn, Wait, EndLine, Stamped}
+use Rattle.page_parts.specs.Words.{is_empty, without, least}
+use Rattle.lang_meaning.specs.Machine.{Done, Gives, Throws, Returns, OutOfFuel, afterwards, finish, Caller}
+use Rattle.lang_meaning.specs.Evaluation.{call_from_outside, first_globals}
+use Rattle.page_model.specs.State.{Registration, Task, RunScript, HostTask, SchedTask, ScriptRole, Page, State, on_page, emit}
+use Rattle.page_parts.specs.HostClosures.{HostClosure}
+use Rattle.page_types.specs.declared.HostMark.TheVariants.{Live, Queued as QueuedMark, Fired, Dropped}
+use Rattle.page_parts.specs.Setup.{Setup}
+use Rattle.page_parts.specs.Notices.{no_notices}
+use Rattle.page_parts.specs.Timers.{no_timers}
+use Rattle.page_parts.specs.Frames.{no_frames}
+use Rattle.page_parts.specs.IdleCallbacks.{no_idle, waits}
+use Rattle.page_model.specs.PageTime.{first_task, first_sched, without_sched, idle_moment, idle_step}
+use Rattle.page_model.specs.Invoke.{in_task}
+use Rattle.page_model.specs.PageSignals.{host_task_of}
+use Rattle.page_model.specs.Operations.{page_operations}
+use Rattle.page_model.specs.Tasks.{perform_steps, perform_sched, answer_host, after_task}
+use Rattle.page_model.specs.Parallel.{first_item, item_count, parallel}
+use Rattle.page_parts.specs.WrittenChoices.{Runnable, Choices, PickedSource, PickedReading, PickedAnswer, next_source, next_reading, next_answer}
+use Rattle.page_model.specs.View.{view}
+
+-- how a turn ends: the run goes on, has ended, or is stuck at a choice
+pub data Turned : Type 0 where
+  GoesOn : State → Choices → Turned
+  Ended : End → State → Turned
+  Stuck : State → Turned
+
+abbrev pub ends : End → State → Turned
+ends end m = Ended end (on_page (emit (EndLine end)) m)
+
+-- the end of a task: where fuel ended, the run ends at once
+abbrev pub goes_on : Choices → (State → State) → Done Page → Turned
+goes_on c next (Gives v m) = GoesOn (next m) c
+goes_on c next (Returns v m) = GoesOn (next m) c
+goes_on c next (Throws v m) = GoesOn (next m) c
+goes_on c next (OutOfFuel m) = ends FuelEnd m
+
+abbrev pub choose_turned : Bool → (State → Turned) → (State → Turned) → State → Turned
+choose_turned true then else m = then m
+choose_turned false then else m = else m
+
+-- step 5: where no task is runnable now, the idle step is done
+abbrev pub step_five : State → State
+step_five m = cond (is_empty (view m.host)) (on_page idle_step) (λ m. m) m
+
+-- a task has been performed: a checkpoint, and then step 5
+abbrev pub task_done : Caller Page → Choices → Done Page → Turned
+task_done call c done = goes_on c step_five (afterwards done (after_task call))
+
+abbrev pub without_task : ℕ → Page → Page
+without_task n p = record p { tasks = without (λ t. t.number == n) p.tasks }
+
+-- the closure of a net task, unless it was dropped
+abbrev pub not_dropped : Option HostClosure → Option HostClosure
+not_dropped None = None
+not_dropped (Some c) = elim c.mark [ Live ↦ Some c | QueuedMark ↦ Some c | Fired ↦ Some c | Dropped ↦ None ]
+
+abbrev pub answered : Caller Page → HostTask → Option PickedAnswer → State → Turned
+answered call t None m = Stuck m
+answered call t (Some a) m = task_done call a.left (finish (on_page (answer_host t a.answer) m))
+
+-- a net task of a host: a task whose signal was aborted before does nothing
+abbrev pub perform_host : Caller Page → HostTask → Option HostClosure → State → Choices → Turned
+perform_host call t None m c = task_done call c (finish m)
+perform_host call t (Some k) m c = answered call t (next_answer k.kind t.number c) m
+
+abbrev pub perform_task : Caller Page → Task → Option HostTask → State → Choices → Turned
+perform_task call task None m c = task_done call c (perform_steps (in_task call) task.steps m)
+perform_task call task (Some t) m c = perform_host call t (not_dropped (slice_get m.host.hosts t.closure)) m c
+
+abbrev pub perform_first : Caller Page → Option Task → State → Choices → Turned
+perform_first call None m c = Stuck m
+perform_first call (Some task) m c = perform_task call task (host_task_of task.steps) (on_page (without_task task.number) m) c
+
+abbrev pub perform_first_sched : Caller Page → Option SchedTask → State → Choices → Turned
+perform_first_sched call None m c = Stuck m
+perform_first_sched call (Some t) m c = task_done call c (perform_sched (in_task call) t (on_page (without_sched t.registration) m))
+
+-- the first task of a source is removed and performed
+abbrev pub perform : Caller Page → Source → State → Choices → Turned
+perform call Sched m c = perform_first_sched call (first_sched m.host) m c
+perform call source m c = perform_first call (first_task source m.host.tasks) m c
+
+abbrev pub turn_line : Option Source → State → State
+turn_line source m = on_page (λ p. emit (Turn p.turns source) p) m
+
+abbrev pub perform_picked : Caller Page → Option PickedSource → State → Turned
+perform_picked call None m = Stuck m
+perform_picked call (Some s) m = perform call s.source (turn_line (Some s.source) m) s.left
+
+-- steps 4 and 5
+abbrev pub step_four : Caller Page → List Runnable → State → Choices → Turned
+step_four call [] m c = GoesOn (step_five (turn_line None m)) c
+step_four call (r ∷ rs) m c = perform_picked call (next_source (r ∷ rs) c) m
+
+abbrev pub counted_turn : ℕ → State → State
+counted_turn left m = on_page (λ p. record p { turns = suc p.turns }) (record m { fuel = left })
+
+-- step 3: a unit of fuel is taken
+abbrev pub with_turn_fuel : Caller Page → ℕ → State → Choices → Turned
+with_turn_fuel call zero m c = ends FuelEnd m
+with_turn_fuel call (suc left) m c = step_four call (view m.host) (counted_turn left m) c
+
+abbrev pub step_three : Caller Page → ℕ → Choices → State → Turned
+step_three call until c m = choose_turned (nat_le until m.host.now) (ends ClockEnd) (λ m. with_turn_fuel call m.fuel m c) m
+
+-- whether anything is pending
+abbrev pub is_pending : Page → Bool
+is_pending p =
+    not (is_empty p.timers.active && is_empty p.idle_timers && is_empty p.host_answers && is_empty p.arrivals && is_empty p.frames.callbacks) || waits p.idle
+
+-- the least of the next due time, the next rendering opportunity and the idle moment
+abbrev pub target : Page → Option ℕ
+target p = least (option_map (λ a. a.due) (first_item p)) (idle_moment p)
+
+abbrev pub at_time : ℕ → Page → Page
+at_time t p = record p { now = t }
+
+abbrev pub waited : ℕ → Option PickedReading → (State → Choices → Turned) → State → Turned
+waited t None again m = Stuck m
+waited t (Some r) again m = again (on_page (λ p. emit (Wait t) (at_time r.reading p)) m) r.left
+
+-- step 2 with a target
+abbrev pub step_two_at : ℕ → ℕ → (State → Choices → Turned) → (State → Turned) → Choices → State → Turned
+step_two_at until t again next c m =
+    choose_turned (nat_le until m.host.now || nat_le until t)
+    (λ m. ends ClockEnd (on_page (λ p. at_time (max p.now until) p) m))
+    (choose_turned (nat_lt m.host.now t) (waited t (next_reading t c) again) next) m
+
+abbrev pub step_two_by : ℕ → Option ℕ → (State → Choices → Turned) → (State → Turned) → Choices → State → Turned
+step_two_by until None again next c m = ends DoneEnd m
+step_two_by until (Some t) again next c m = step_two_at until t again next c m
+
+-- step 2, where no task is runnable: `again` is the turn from its beginning, `next` is step 3
+abbrev pub step_two : ℕ → (State → Choices → Turned) → (State → Turned) → Choices → State → Turned
+step_two until again next c m = choose_turned (is_pending m.host) (step_two_by until (target m.host) again next c) (ends DoneEnd) m
+
+-- step 1: the parallel items are taken, but in the first turn
+abbrev pub step_one : State → State
+step_one m = cond (m.host.turns == 0) m (on_page parallel m)
+
+abbrev pub after_step_one : Caller Page → ℕ → (State → Choices → Turned) → Choices → State → Turned
+after_step_one call until again c m = choose_turned (is_empty (view m.host)) (step_two until again (step_three call until c) c) (step_three call until c) m
+
+-- steps 1 and 2, again after each wait; each wait takes an item, opens a frame or comes to the idle moment, so n of them are enough
+abbrev pub from_step_one : Caller Page → ℕ → ℕ → State → Choices → Turned
+from_step_one call until zero m c = Stuck m
+from_step_one call until (suc n) m c = after_step_one call until (from_step_one call until n) c (step_one m)
+
+-- one turn
+abbrev pub turn : Caller Page → ℕ → State → Choices → Turned
+turn call until m c = from_step_one call until (suc (suc (item_count m.host))) m c
+
+-- what is next, where the run goes on
+abbrev pub next_turn : Turned → (State → Choices → Turned) → Turned
+next_turn (GoesOn m c) next = next m c
+next_turn (Ended end m) next = Ended end m
+next_turn (Stuck m) next = Stuck m
+
+-- at most n turns
+abbrev pub turns : Caller Page → ℕ → ℕ → State → Choices → Turned
+turns call until zero m c = Stuck m
+turns call until (suc n) m c = next_turn (turn call until m c) (turns call until n)
+
+-- the script's own body has the number after the last function
+abbrev pub the_script : Program → Registration
+the_script program =
+    record { role = ScriptRole; callback = Some (record { function = length program.names; bound = no_values }); second_callback = None; timer_id = 0; promise = 0; signal = None }
+
+abbrev pub first_page : Program → Setup → List HostClosure → Page
+first_page program setup hosts =
+    record {
+      now = 0;
+      turns = 0;
+      events = [];
+      names = program.names;
+      level = 0;
+      scheduling = None;
+      performing = false;
+      registrations = the_script program ∷ [];
+      script_promises = [];
+      notices = no_notices;
+      tasks = record { number = 1; source = Dom; steps = RunScript } ∷ [];
+      sched_tasks = [];
+      tasks_made = 1;
+      timers = no_timers;
+      completions = [];
+      idle_timers = [];
+      host_answers = [];
+      arrivals = setup.arrivals;
+      frames = no_frames;
+      frames_since = 0;
+      last_opportunity = 0;
+      period = 1000000 / setup.refresh;
+      idle = no_idle;
+      last_idle_start = 0;
+      period_end = 0;
+      signals = [];
+      prios = [];
+      listeners = [];
+      scheduling_states = [];
+      hosts = hosts;
+      latencies = setup.latencies;
+    }
+
+abbrev pub first_state : Program → Setup → List HostClosure → State
+first_state program setup hosts =
+    record { globals = first_globals program; open_calls = []; fuel = setup.fuel; host = first_page program setup hosts }
+
+-- a whole run: each turn takes a unit of fuel
+unfoldable pub run : Program → Setup → List HostClosure → Choices → Turned
+run program setup hosts c =
+    turns (call_from_outside program page_operations) setup.until (suc setup.fuel) (first_state program setup hosts) c
+
+abbrev pub state_of : Turned → State
+state_of (GoesOn m c) = m
+state_of (Ended end m) = m
+state_of (Stuck m) = m
+
+-- the events of a run
+abbrev pub events_of_run : Turned → List Stamped
+events_of_run t = reverse (state_of t).host.events

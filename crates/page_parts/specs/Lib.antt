@@ -1,0 +1,16 @@
+pub mod Words
+pub mod Spelling
+pub mod Kinds
+pub mod Promises
+pub mod Notices
+pub mod Timers
+pub mod Frames
+pub mod IdleCallbacks
+pub mod AbortGraph
+pub mod TaskSignals
+pub mod Listeners
+pub mod Sources
+pub mod Setup
+pub mod HostClosures
+pub mod WrittenChoices
+pub mod TraceText

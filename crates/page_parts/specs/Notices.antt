@@ -1,0 +1,97 @@
+-- All promises, the queue of jobs and the lists of rejected promises, with the lines that a call writes.
+use Rattle.std.specs.Prelude.{ℕ, suc, Bool, true, false, cond, List, [], ◌∷◌, ◌++◌, Option, Some, None, ◌==◌}
+use Rattle.page_types.specs.Events.{Queued, MicroJob, ReactJob, AdoptJob, Event, Job, Settle}
+use Rattle.page_parts.specs.Words.{and_last, without, has_number, numbered, with_numbered}
+use Rattle.page_parts.specs.Spelling.{spelled}
+use Rattle.page_parts.specs.Promises.{Settled, Fulfilled, Failed, Reaction, PromiseRecord, PromiseJob, React, Adopt, Change, pending_promise, resolve, reject, follow, subscribe}
+
+pub data Todo : Type 0 where
+  Micro : ℕ → Todo
+  OfPromise : PromiseJob → Todo
+
+pub record WaitingJob : Type 0 where
+  pub number : ℕ
+  pub what : Todo
+
+pub record Notices : Type 0 where
+  pub promises : List PromiseRecord
+  pub jobs : List WaitingJob
+  pub jobs_made : ℕ
+  pub rejected : List ℕ  -- about to be notified
+  pub outstanding : List ℕ
+
+abbrev pub no_notices : Notices
+no_notices = record { promises = []; jobs = []; jobs_made = 0; rejected = []; outstanding = [] }
+
+-- what a call gives: the notices after it, and its lines
+pub record Noticed : Type 0 where
+  pub notices : Notices
+  pub lines : List Event
+
+abbrev pub the_promise : Notices → ℕ → PromiseRecord
+the_promise s n = numbered s.promises n pending_promise
+
+-- a new pending promise; its number is the length of the list afterwards
+abbrev pub make : Notices → Notices
+make s = record s { promises = and_last s.promises pending_promise }
+
+-- the word of a job in its line
+abbrev pub queued_as : Todo → Queued
+queued_as (Micro r) = MicroJob r
+queued_as (OfPromise (React of r)) = ReactJob of
+queued_as (OfPromise (Adopt into from)) = AdoptJob into
+
+-- a call, and then another on the notices after it
+abbrev pub followed_by : Noticed → (Notices → Noticed) → Noticed
+followed_by d next = record { notices = (next d.notices).notices; lines = d.lines ++ (next d.notices).lines }
+
+-- a job is queued, with the next number and its line
+abbrev pub queue_job : Todo → Notices → Noticed
+queue_job what s =
+    record {
+      notices = record s { jobs_made = suc s.jobs_made; jobs = and_last s.jobs (record { number = suc s.jobs_made; what = what }) };
+      lines = Job (suc s.jobs_made) (queued_as what) ∷ [];
+    }
+
+abbrev pub queue_jobs : List PromiseJob → Notices → Noticed
+queue_jobs [] s = record { notices = s; lines = [] }
+queue_jobs (j ∷ more) s = followed_by (queue_job (OfPromise j) s) (queue_jobs more)
+
+abbrev pub settle_line : List (List ℕ) → ℕ → Option Settled → List Event
+settle_line names n None = []
+settle_line names n (Some (Fulfilled v)) = Settle n true (spelled names v) ∷ []
+settle_line names n (Some (Failed v)) = Settle n false (spelled names v) ∷ []
+
+-- the change of promise number n comes about: its settle line, then the jobs
+abbrev pub promise_changed : List (List ℕ) → ℕ → Change → Notices → Noticed
+promise_changed names n c s =
+    record {
+      notices = record s { promises = with_numbered s.promises n c.promise; rejected = cond c.newly_rejected (and_last s.rejected n) s.rejected };
+      lines = cond c.settled (settle_line names n c.promise.outcome) [];
+    }
+
+abbrev pub changed : List (List ℕ) → ℕ → Change → Notices → Noticed
+changed names n c s = followed_by (promise_changed names n c s) (queue_jobs c.jobs)
+
+abbrev pub settle_promise : List (List ℕ) → ℕ → Settled → Notices → Noticed
+settle_promise names n (Fulfilled v) s = changed names n (resolve n (the_promise s n) v) s
+settle_promise names n (Failed v) s = changed names n (reject n (the_promise s n) v) s
+
+abbrev pub follow_promise : List (List ℕ) → ℕ → Settled → Notices → Noticed
+follow_promise names n how s = changed names n (follow n (the_promise s n) how) s
+
+-- A promise gets a handler, so it leaves the list of those to be notified about and the outstanding ones.
+abbrev pub subscribe_promise : ℕ → Reaction → Notices → Noticed
+subscribe_promise n r s =
+    changed [] n (subscribe n (the_promise s n) r)
+    (record s { rejected = without (λ m. m == n) s.rejected; outstanding = without (λ m. m == n) s.outstanding })
+
+abbrev pub is_outstanding : ℕ → Notices → Bool
+is_outstanding n s = has_number s.outstanding n
+
+abbrev pub queue_micro : ℕ → Notices → Noticed
+queue_micro r s = queue_job (Micro r) s
+
+-- a promise that is still unhandled joins the outstanding list
+abbrev pub note_outstanding : ℕ → Notices → Notices
+note_outstanding n s = cond (the_promise s n).handled s (record s { outstanding = and_last s.outstanding n })

@@ -1,0 +1,84 @@
+-- Promises: what happens to the record of one promise.
+use Rattle.std.specs.Prelude.{ℕ, Bool, true, false, cond, not, ◌&&◌, List, [], ◌∷◌, map, Option, Some, None, ◌==◌}
+use Rattle.page_types.specs.Values.{Value}
+use Rattle.page_types.specs.declared.FaultName.TheVariants.{TypeError}
+use Rattle.page_parts.specs.Words.{and_last}
+use Rattle.page_parts.specs.Kinds.{promise_in, a_fault}
+
+-- how a promise was settled
+pub data Settled : Type 0 where
+  Fulfilled : Value → Settled
+  Failed : Value → Settled
+
+-- a reaction: its `then` registration, absent for an inner subscription; the promise that it settles; the scheduling state that it keeps
+pub record Reaction : Type 0 where
+  pub registration : Option ℕ
+  pub into : ℕ
+  pub state : Option ℕ
+
+pub record PromiseRecord : Type 0 where
+  pub outcome : Option Settled
+  pub locked : Bool
+  pub handled : Bool
+  pub reactions : List Reaction
+
+pub data PromiseJob : Type 0 where
+  React : (of : ℕ) → Reaction → PromiseJob
+  Adopt : (into from : ℕ) → PromiseJob
+
+abbrev pub pending_promise : PromiseRecord
+pending_promise = record { outcome = None; locked = false; handled = false; reactions = [] }
+
+-- the new record of a promise, whether it was settled, the new jobs, and whether it is newly rejected with no handler
+pub record Change : Type 0 where
+  pub promise : PromiseRecord
+  pub settled : Bool
+  pub jobs : List PromiseJob
+  pub newly_rejected : Bool
+
+abbrev pub no_change : PromiseRecord → Change
+no_change q = record { promise = q; settled = false; jobs = []; newly_rejected = false }
+
+abbrev pub has_failed : Settled → Bool
+has_failed (Fulfilled v) = false
+has_failed (Failed v) = true
+
+abbrev pub settled_value : Settled → Value
+settled_value (Fulfilled v) = v
+settled_value (Failed v) = v
+
+-- promise number n is settled: a job for each reaction
+abbrev pub settle : ℕ → PromiseRecord → Settled → Change
+settle n q how =
+    record {
+      promise = record { outcome = Some how; locked = true; handled = q.handled; reactions = [] };
+      settled = true;
+      jobs = map (React n) q.reactions;
+      newly_rejected = has_failed how && not q.handled;
+    }
+
+-- it is to become what another promise becomes: one job, which subscribes to that one
+abbrev pub adopt : ℕ → PromiseRecord → ℕ → Change
+adopt n q from = record { promise = record q { locked = true }; settled = false; jobs = Adopt n from ∷ []; newly_rejected = false }
+
+abbrev pub resolve_unlocked : ℕ → PromiseRecord → Value → Option ℕ → Change
+resolve_unlocked n q v None = settle n q (Fulfilled v)
+resolve_unlocked n q v (Some other) = cond (other == n) (settle n q (Failed (a_fault TypeError))) (adopt n q other)
+
+-- The first resolution wins.
+abbrev pub resolve : ℕ → PromiseRecord → Value → Change
+resolve n q v = cond q.locked (no_change q) (resolve_unlocked n q v (promise_in v))
+
+abbrev pub reject : ℕ → PromiseRecord → Value → Change
+reject n q v = cond q.locked (no_change q) (settle n q (Failed v))
+
+-- what the job of an inner subscription does: it settles a pending promise, also one that is locked
+abbrev pub follow : ℕ → PromiseRecord → Settled → Change
+follow n q how = elim q.outcome [ None ↦ settle n q how | Some before ↦ no_change q ]
+
+abbrev pub subscribe_by : ℕ → PromiseRecord → Reaction → Option Settled → Change
+subscribe_by n q r None = record { promise = record q { handled = true; reactions = and_last q.reactions r }; settled = false; jobs = []; newly_rejected = false }
+subscribe_by n q r (Some how) = record { promise = record q { handled = true }; settled = false; jobs = React n r ∷ []; newly_rejected = false }
+
+abbrev pub subscribe : ℕ → PromiseRecord → Reaction → Change
+subscribe n q r = subscribe_by n q r q.outcome

@@ -1,0 +1,59 @@
+-- Signals with a priority.
+use Rattle.std.specs.Prelude.{ℕ, Bool, true, false, cond, List, [], ◌∷◌, Option, Some, None, ◌==◌, find, option_map}
+use Rattle.page_types.specs.declared.Priority.{Priority}
+use Rattle.page_types.specs.declared.Priority.TheVariants.{Background, UserVisible, UserBlocking}
+use Rattle.page_parts.specs.Words.{and_last}
+
+pub record PrioRecord : Type 0 where
+  pub signal : ℕ
+  pub priority : Priority
+  pub follows : Option ℕ
+  pub followers : List ℕ
+  pub changing : Bool
+
+-- the signals that were given a priority
+abbrev pub Prios : Type 0
+Prios = List PrioRecord
+
+abbrev pub rank : Priority → ℕ
+rank Background = 0
+rank UserVisible = 1
+rank UserBlocking = 2
+
+abbrev pub same_priority : Priority → Priority → Bool
+same_priority a b = rank a == rank b
+
+abbrev pub record_of : Prios → ℕ → Option PrioRecord
+record_of ps s = find (λ r. r.signal == s) ps
+
+abbrev pub priority_of : Prios → ℕ → Option Priority
+priority_of ps s = option_map (λ r. r.priority) (record_of ps s)
+
+abbrev pub is_changing : Prios → ℕ → Bool
+is_changing ps s = elim (record_of ps s) [ None ↦ false | Some r ↦ r.changing ]
+
+abbrev pub followed : Prios → ℕ → Option ℕ
+followed ps s = elim (record_of ps s) [ None ↦ None | Some r ↦ r.follows ]
+
+abbrev pub followers : Prios → ℕ → List ℕ
+followers ps s = elim (record_of ps s) [ None ↦ [] | Some r ↦ r.followers ]
+
+-- the record of one signal is changed
+abbrev pub changed_at : ℕ → (PrioRecord → PrioRecord) → Prios → Prios
+changed_at s f [] = []
+changed_at s f (r ∷ rs) = cond (r.signal == s) (f r) r ∷ changed_at s f rs
+
+-- a signal is given a priority
+abbrev pub give : ℕ → Priority → Prios → Prios
+give s priority ps = and_last ps (record { signal = s; priority = priority; follows = None; followers = []; changing = false })
+
+-- s follows another signal from now on
+abbrev pub depend : ℕ → ℕ → Prios → Prios
+depend s on ps = changed_at s (λ r. record r { follows = Some on }) (changed_at on (λ r. record r { followers = and_last r.followers s }) ps)
+
+-- a change begins, with the new priority, and ends
+abbrev pub begun : ℕ → Priority → Prios → Prios
+begun s priority ps = changed_at s (λ r. record r { priority = priority; changing = true }) ps
+
+abbrev pub ended : ℕ → Prios → Prios
+ended s ps = changed_at s (λ r. record r { changing = false }) ps

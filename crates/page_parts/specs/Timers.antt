@@ -1,0 +1,105 @@
+-- Timers: the id map and the active timers.
+use Rattle.std.specs.Prelude.{ℕ, suc, ◌+◌, ◌-◌, ◌*◌, ◌%◌, ◌^◌, Bool, false, cond, ◌&&◌, ◌||◌, List, [], ◌∷◌, Option, Some, None, ℤ, pos, negsuc, nat_lt, ◌==◌, find, unwrap_or, option_map}
+use Rattle.page_parts.specs.Words.{and_last, without, is_there}
+
+-- an id of the map, with its unique handle
+pub record TimerId : Type 0 where
+  pub id : ℕ
+  pub handle : ℕ
+
+pub record ActiveTimer : Type 0 where
+  pub start : ℕ
+  pub due : ℕ
+
+pub record Timers : Type 0 where
+  pub ids : List TimerId
+  pub active : List ActiveTimer  -- in the order of start
+  pub ids_made : ℕ
+  pub handles_made : ℕ
+  pub starts_made : ℕ
+
+abbrev pub no_timers : Timers
+no_timers = record { ids = []; active = []; ids_made = 0; handles_made = 0; starts_made = 0 }
+
+-- the remainder of an integer modulo 2 ^ 32
+abbrev pub modulo_word : ℤ → ℕ
+modulo_word (pos n) = n % 2 ^ 32
+modulo_word (negsuc n) = 2 ^ 32 - 1 - n % 2 ^ 32
+
+-- The timeout in milliseconds: modulo 2 ^ 32 into the range of 32 bits with a sign, and 0 for one below 0.
+abbrev pub milliseconds : ℤ → ℕ
+milliseconds timeout = cond (nat_lt (modulo_word timeout) (2 ^ 31)) (modulo_word timeout) 0
+
+-- a nesting level above 5 makes it 4 at least
+abbrev pub clamped : ℕ → ℕ → ℕ
+clamped nesting ms = cond (nat_lt 5 nesting && nat_lt ms 4) 4 ms
+
+-- an active timer is set, with the next start number
+abbrev pub run_after : ℕ → ℕ → Timers → Timers
+run_after ms now t =
+    record t { starts_made = suc t.starts_made; active = and_last t.active (record { start = suc t.starts_made; due = now + ms * 1000 }) }
+
+abbrev pub with_id : ℕ → ℕ → List TimerId → List TimerId
+with_id id handle ids = and_last (without (λ e. e.id == id) ids) (record { id = id; handle = handle })
+
+-- what initialising a timer gives
+pub record Armed : Type 0 where
+  pub id : ℕ
+  pub handle : ℕ
+  pub start : ℕ
+  pub due : ℕ
+  pub level : ℕ
+
+-- a timer is initialised, again under its id or under the next one: one level deeper than now
+abbrev pub armed : Option ℕ → ℤ → ℕ → ℕ → Timers → Armed
+armed again timeout nesting now t =
+    record {
+      id = unwrap_or again (suc t.ids_made);
+      handle = suc t.handles_made;
+      start = suc t.starts_made;
+      due = now + clamped nesting (milliseconds timeout) * 1000;
+      level = suc nesting;
+    }
+
+abbrev pub with_armed : Option ℕ → Armed → Timers → Timers
+with_armed again a t =
+    record {
+      ids = with_id a.id a.handle t.ids;
+      active = and_last t.active (record { start = a.start; due = a.due });
+      ids_made = elim again [ None ↦ a.id | Some id ↦ t.ids_made ];
+      handles_made = a.handle;
+      starts_made = a.start;
+    }
+
+abbrev pub id_entry : ℕ → Timers → Option TimerId
+id_entry id t = find (λ e. e.id == id) t.ids
+
+abbrev pub has_id : ℕ → Timers → Bool
+has_id id t = is_there (id_entry id t)
+
+-- the id leaves the map, and the active timers stay
+abbrev pub clear : ℕ → Timers → Timers
+clear id t = record t { ids = without (λ e. e.id == id) t.ids }
+
+-- whether the id is in the map with this handle
+abbrev pub is_live : ℕ → ℕ → Timers → Bool
+is_live id handle t = elim (id_entry id t) [ None ↦ false | Some e ↦ e.handle == handle ]
+
+-- the first active timer: the one of least due time, and among those the one of least start
+abbrev pub first_from : ActiveTimer → List ActiveTimer → ActiveTimer
+first_from a [] = a
+first_from a (b ∷ more) = first_from (cond (nat_lt b.due a.due || ((b.due == a.due) && nat_lt b.start a.start)) b a) more
+
+abbrev pub first_of : List ActiveTimer → Option ActiveTimer
+first_of [] = None
+first_of (a ∷ more) = Some (first_from a more)
+
+abbrev pub first_timer : Timers → Option ActiveTimer
+first_timer t = first_of t.active
+
+abbrev pub next_due : Timers → Option ℕ
+next_due t = option_map (λ a. a.due) (first_timer t)
+
+-- an active timer completes: it leaves the list
+abbrev pub completed : ℕ → Timers → Timers
+completed start t = record t { active = without (λ a. a.start == start) t.active }
