@@ -18,13 +18,15 @@ use Rattle.page_parts.specs.Kinds.{func_in, bool_in, int_in, text_in, list_in, s
 use Rattle.lang_meaning.specs.Machine.{Variable, Machine, Done, Gives, Throws, Returns, OutOfFuel, and_then, or_catch, throw_fault, finish, given, branch, take_unit, variable, assigned, or_else, Caller, Operations}
 use Rattle.lang_meaning.specs.OpNames.{op_named}
 
+-- ---- Ours: the meaning of the script language
+
 -- what stands around an expression: the program, how functions are called here, and what operations do
 pub record Around (H : Type 0) : Type 0 where
   pub program : Program
   pub call : Caller H
   pub operate : Op → List Value → Machine H → Done H
 
--- an integer within 64 bits, or RangeError
+-- whether an integer fits 64 bits with a sign
 abbrev pub fits : ℤ → Bool
 fits (pos n) = nat_lt n (2 ^ 63)
 fits (negsuc n) = nat_lt n (2 ^ 63)
@@ -33,14 +35,17 @@ fits (negsuc n) = nat_lt n (2 ^ 63)
 abbrev pub Answer : Type 0
 Answer = Result Value FaultName
 
+-- the answer of an operator, as a step of the machine
 abbrev pub answered : {H : Type 0} → Answer → Machine H → Done H
 answered (Ok v) m = Gives v m
 answered (Err name) m = throw_fault name m
 
+-- what is done with what is there; a fault where nothing is
 abbrev pub need : {X : Type 0} → Option X → FaultName → (X → Answer) → Answer
 need None fault next = Err fault
 need (Some x) fault next = next x
 
+-- an integer within 64 bits, or RangeError
 abbrev pub int_answer : ℤ → Answer
 int_answer n = cond (fits n) (Ok (IntValue n)) (Err RangeError)
 
@@ -48,9 +53,11 @@ int_answer n = cond (fits n) (Ok (IntValue n)) (Err RangeError)
 abbrev pub both_ints : Value → Value → (ℤ → ℤ → Answer) → Answer
 both_ints a b next = need (int_in a) TypeError (λ x. need (int_in b) TypeError (next x))
 
+-- a value within the limits of weight and nesting, or RangeError
 abbrev pub limited_value : Value → Answer
 limited_value v = need (within_limits v) RangeError Ok
 
+-- the same as a step of the machine
 abbrev pub limited : {H : Type 0} → Value → Machine H → Done H
 limited v m = answered (limited_value v) m
 
@@ -60,9 +67,11 @@ sum_answer Plus (TextValue a) b = need (text_in b) TypeError (λ bs. limited_val
 sum_answer Plus a b = both_ints a b (λ x y. int_answer (x +ℤ y))
 sum_answer Minus a b = both_ints a b (λ x y. int_answer (x -ℤ y))
 
+-- the same as a step of the machine
 abbrev pub sum_of : {H : Type 0} → SumSign → Value → Value → Machine H → Done H
 sum_of sign a b m = answered (sum_answer sign a b) m
 
+-- whether an integer is 0
 abbrev pub is_zero : ℤ → Bool
 is_zero n = same_int n (pos 0)
 
@@ -70,6 +79,7 @@ is_zero n = same_int n (pos 0)
 abbrev pub divides : ℤ → ℤ → Bool
 divides x y = not (is_zero y) && not (same_int y (negsuc 0) && same_int x (neg_ℤ (pos (2 ^ 63))))
 
+-- a quotient or a remainder, or RangeError
 abbrev pub divided : (ℤ → ℤ → ℤ) → ℤ → ℤ → Answer
 divided by x y = cond (divides x y) (Ok (IntValue (by x y))) (Err RangeError)
 
@@ -79,9 +89,11 @@ product_answer Times a b = both_ints a b (λ x y. int_answer (x *ℤ y))
 product_answer Divide a b = both_ints a b (divided int_div)
 product_answer Remainder a b = both_ints a b (divided int_rem)
 
+-- the same as a step of the machine
 abbrev pub product_of : {H : Type 0} → ProductSign → Value → Value → Machine H → Done H
 product_of sign a b m = answered (product_answer sign a b) m
 
+-- the answer of a comparison of two integers
 abbrev pub ordered : (ℤ → ℤ → Bool) → ℤ → ℤ → Answer
 ordered test x y = Ok (BoolValue (test x y))
 
@@ -94,24 +106,29 @@ compare_answer AtMost a b = both_ints a b (ordered int_le)
 compare_answer Greater a b = both_ints a b (ordered (λ x y. int_lt y x))
 compare_answer AtLeast a b = both_ints a b (ordered (λ x y. int_le y x))
 
+-- the same as a step of the machine
 abbrev pub compared : {H : Type 0} → CompareSign → Value → Value → Machine H → Done H
 compared sign a b m = answered (compare_answer sign a b) m
 
+-- a negated integer within 64 bits, or a negated Bool
 abbrev pub unary_answer : UnarySign → Value → Answer
 unary_answer Negative a = need (int_in a) TypeError (λ x. int_answer (neg_ℤ x))
 unary_answer Not a = need (bool_in a) TypeError (λ b. Ok (BoolValue (not b)))
 
+-- the same as a step of the machine
 abbrev pub unary_of : {H : Type 0} → UnarySign → Value → Machine H → Done H
 unary_of sign a m = answered (unary_answer sign a) m
 
+-- the item at a place from 0, none outside the list
 abbrev pub place_in : Values → ℤ → Option Value
 place_in vs (pos n) = slice_get (items_of vs) n
 place_in vs (negsuc n) = None
 
--- an item of a list by its place, from 0
+-- an item of a list by its place, from 0: RangeError outside the list
 abbrev pub item_answer : Value → Value → Answer
 item_answer v i = need (list_in v) TypeError (λ vs. need (int_in i) TypeError (λ n. need (place_in vs n) RangeError Ok))
 
+-- the same as a step of the machine
 abbrev pub item_at : {H : Type 0} → Value → Value → Machine H → Done H
 item_at v i m = answered (item_answer v i) m
 
@@ -119,12 +136,13 @@ item_at v i m = answered (item_answer v i) m
 abbrev pub tested : {H : Type 0} → Value → Machine H → (Machine H → Done H) → (Machine H → Done H) → Done H
 tested v m then else = given (bool_in v) TypeError m (λ b m. branch b m then else)
 
--- the functions of a script, in the order of their numbers
+-- a function of the script: its name, the names of its parameters, its body
 pub record Function : Type 0 where
   pub name : List ℕ
   pub parameters : List (List ℕ)
   pub body : Block
 
+-- the functions of a script, in the order of their numbers
 abbrev pub functions_of : List Item → List Function
 functions_of [] = []
 functions_of (FnItem f xs body ∷ items) = record { name = f.name; parameters = map (λ x. x.name) xs; body = body } ∷ functions_of items
@@ -141,6 +159,7 @@ abbrev pub number_of : List Function → List ℕ → Option ℕ
 number_of [] x = None
 number_of (f ∷ fs) x = cond (same_bytes f.name x) (Some 0) (elim (number_of fs x) [ None ↦ None | Some n ↦ Some (suc n) ])
 
+-- a function as a value, with no bound argument
 abbrev pub function_value : Option ℕ → Option Value
 function_value None = None
 function_value (Some f) = Some (FunValue f no_values)
@@ -149,7 +168,7 @@ function_value (Some f) = Some (FunValue f no_values)
 abbrev pub named_value : {H : Type 0} → Program → Machine H → List ℕ → Option Value
 named_value program m x = or_else (variable m x) (function_value (number_of (functions_of program.items) x))
 
--- a value is called with arguments
+-- a value is called with arguments, which come after its bound ones; TypeError where it is no function
 abbrev pub called : {H : Type 0} → Caller H → Value → List Value → Machine H → Done H
 called call v args m = given (func_in v) TypeError m (λ f m. call f.function (items_of f.bound ++ args) m)
 
@@ -161,8 +180,8 @@ call_of w x before args m =
       | None ↦ given (named_value w.program before x) TypeError m (λ f m. called w.call f args m)
     ]
 
--- The meaning of an expression. Operands and arguments come from left to right.
 abbrev mutual
+  -- The meaning of an expression. Operands and arguments come from left to right.
   pub eval : {H : Type 0} → Around H → Expr → Machine H → Done H
   eval w (Or e es) m = and_then (eval w e m) (λ v m. tested v m (Gives (BoolValue true)) (eval_or w es))
   eval w (And e es) m = and_then (eval w e m) (λ v m. tested v m (eval_and w es) (Gives (BoolValue false)))
@@ -181,11 +200,12 @@ abbrev mutual
   eval w (Paren e) m = eval w e m
   eval w (ListLiteral es) m = eval_all w es [] (λ vs m. limited (ListValue (values_of vs)) m) m
 
-  -- the operands of `||` from here on, where those before were false; of `&&`, where those before were true
+  -- the operands of `||` from here on, where those before were false
   pub eval_or : {H : Type 0} → Around H → Exprs → Machine H → Done H
   eval_or w no_exprs m = Gives (BoolValue false) m
   eval_or w (with_expr e es) m = and_then (eval w e m) (λ v m. tested v m (Gives (BoolValue true)) (eval_or w es))
 
+  -- the operands of `&&` from here on, where those before were true
   pub eval_and : {H : Type 0} → Around H → Exprs → Machine H → Done H
   eval_and w no_exprs m = Gives (BoolValue true) m
   eval_and w (with_expr e es) m = and_then (eval w e m) (λ v m. tested v m (eval_and w es) (Gives (BoolValue false)))
@@ -195,14 +215,17 @@ abbrev mutual
   eval_all w no_exprs vs next m = next vs m
   eval_all w (with_expr e es) vs next m = and_then (eval w e m) (λ v m. eval_all w es (vs ++ v ∷ []) next m)
 
+  -- an item of an item and so on, by the places in a row
   pub eval_places : {H : Type 0} → Around H → Exprs → Value → Machine H → Done H
   eval_places w no_exprs v m = Gives v m
   eval_places w (with_expr e es) v m = and_then (eval w e m) (λ i m. and_then (item_at v i m) (eval_places w es))
 
+  -- the further terms, added to or subtracted from what stands so far
   pub eval_sum : {H : Type 0} → Around H → SumParts → Value → Machine H → Done H
   eval_sum w no_terms v m = Gives v m
   eval_sum w (with_term sign e parts) v m = and_then (eval w e m) (λ x m. and_then (sum_of sign v x m) (eval_sum w parts))
 
+  -- the further factors, by which what stands so far is multiplied or divided
   pub eval_product : {H : Type 0} → Around H → ProductParts → Value → Machine H → Done H
   eval_product w no_factors v m = Gives v m
   eval_product w (with_factor sign e parts) v m = and_then (eval w e m) (λ x m. and_then (product_of sign v x m) (eval_product w parts))
@@ -213,15 +236,17 @@ loop_turns zero test body m = OutOfFuel m
 loop_turns (suc n) test body m =
     and_then (test m) (λ v m. tested v m (λ m. take_unit m (λ m. and_then (body m) (λ u m. loop_turns n test body m))) finish)
 
+-- a value becomes one that is returned
 abbrev pub returned : {H : Type 0} → Done H → Done H
 returned d = and_then d Returns
 
+-- the value of a `return`, unit where none is written
 abbrev pub opt_eval : {H : Type 0} → Around H → Option Expr → Machine H → Done H
 opt_eval w None m = Returns UnitValue m
 opt_eval w (Some e) m = returned (eval w e m)
 
--- The meaning of a statement. It gives unit where it comes to its end.
 abbrev mutual
+  -- The meaning of a statement. It gives unit where it comes to its end.
   pub exec : {H : Type 0} → Around H → Stmt → Machine H → Done H
   exec w (VarStmt x e) m = and_then (eval w e m) (λ v m. finish (assigned m x.name v))
   exec w (AssignStmt x e) m = and_then (eval w e m) (λ v m. finish (assigned m x.name v))
@@ -232,20 +257,23 @@ abbrev mutual
   exec w (ThrowStmt e) m = and_then (eval w e m) Throws
   exec w (TryStmt block x handler) m = or_catch (exec_block w block m) (λ v m. exec_block w handler (assigned m x.name v))
 
+  -- statements in a row
   pub exec_block : {H : Type 0} → Around H → Block → Machine H → Done H
   exec_block w no_stmts m = finish m
   exec_block w (with_stmt s rest) m = and_then (exec w s m) (λ u m. exec_block w rest m)
 
+  -- the `else if` parts in a row, and where none applies what comes last
   pub exec_others : {H : Type 0} → Around H → ElseIfs → (Machine H → Done H) → Machine H → Done H
   exec_others w no_else_ifs last m = last m
   exec_others w (with_else_if e block others) last m = and_then (eval w e m) (λ v m. tested v m (exec_block w block) (exec_others w others last))
 
+  -- the `else` part, where there is one
   pub exec_else : {H : Type 0} → Around H → ElsePart → Machine H → Done H
   exec_else w no_else m = finish m
   exec_else w (else_block block) m = exec_block w block m
 
--- the names that `var` and `catch` give in a block
 abbrev mutual
+  -- the names that `var` and `catch` give in a statement
   pub names_in_stmt : Stmt → List (List ℕ)
   names_in_stmt (VarStmt x e) = x.name ∷ []
   names_in_stmt (AssignStmt x e) = []
@@ -256,18 +284,22 @@ abbrev mutual
   names_in_stmt (ThrowStmt e) = []
   names_in_stmt (TryStmt block x handler) = names_in block ++ x.name ∷ names_in handler
 
+  -- the same in a block
   pub names_in : Block → List (List ℕ)
   names_in no_stmts = []
   names_in (with_stmt s rest) = names_in_stmt s ++ names_in rest
 
+  -- the same in the `else if` parts
   pub names_in_others : ElseIfs → List (List ℕ)
   names_in_others no_else_ifs = []
   names_in_others (with_else_if e block others) = names_in block ++ names_in_others others
 
+  -- the same in the `else` part
   pub names_in_else : ElsePart → List (List ℕ)
   names_in_else no_else = []
   names_in_else (else_block block) = names_in block
 
+-- variables of these names, each unit
 abbrev pub unit_variables : List (List ℕ) → List Variable
 unit_variables xs = map (λ x. record { name = x; value = UnitValue }) xs
 
@@ -277,14 +309,16 @@ parameters_with [] vs = []
 parameters_with (x ∷ xs) [] = record { name = x; value = UnitValue } ∷ parameters_with xs []
 parameters_with (x ∷ xs) (v ∷ vs) = record { name = x; value = v } ∷ parameters_with xs vs
 
--- the state in a call, with these local variables, and after it
+-- the state in a call, with these local variables
 abbrev pub opened : {H : Type 0} → List Variable → Machine H → Machine H
 opened xs m = record m { open_calls = xs ∷ m.open_calls }
 
+-- a list without its first item
 abbrev pub without_first : {X : Type 0} → List X → List X
 without_first [] = []
 without_first (x ∷ xs) = xs
 
+-- the state after a call
 abbrev pub closed : {H : Type 0} → Machine H → Machine H
 closed m = record m { open_calls = without_first m.open_calls }
 
@@ -300,6 +334,7 @@ abbrev pub body_of_call : {H : Type 0} → Around H → Option Function → List
 body_of_call w None args m = end_of_call (exec_block w (own_body w.program.items) (opened [] m))
 body_of_call w (Some f) args m = end_of_call (exec_block w f.body (opened (parameters_with f.parameters args ++ unit_variables (names_in f.body)) m))
 
+-- what stands around the body of a call: the program, how functions are called there, and what operations do there
 abbrev pub around : {H : Type 0} → Program → Operations H → Caller H → Around H
 around program operations call = record { program = program; call = call; operate = operations call }
 

@@ -5,28 +5,32 @@ use Rattle.page_types.specs.Values.{Value, UnitValue, FaultValue}
 use Rattle.page_types.specs.declared.Op.{Op}
 use Rattle.page_parts.specs.Words.{same_bytes, is_there}
 
+-- ---- Ours: the meaning of the script language
+
 -- a variable and its value now
 pub record Variable : Type 0 where
   pub name : List ℕ
   pub value : Value
 
+-- the global variables, the local variables of each call that is open (the innermost first), the units of fuel that are left, and the host
 pub record Machine (H : Type 0) : Type 0 where
   pub globals : List Variable
   pub open_calls : List (List Variable)  -- the local variables of each call that is open, the innermost first
   pub fuel : ℕ
   pub host : H
 
--- how a step ends, and the state then
+-- how a step ends, and the state then: it gives a value, throws one, returns one from the call around it, or finds no fuel
 pub data Done (H : Type 0) : Type 0 where
   Gives : Value → Machine H → Done H
   Throws : Value → Machine H → Done H
   Returns : Value → Machine H → Done H
   OutOfFuel : Machine H → Done H
 
--- the machine with another host, and the same of how a step ends
+-- the machine with another host
 abbrev pub hosted : {H K : Type 0} → (H → K) → Machine H → Machine K
 hosted φ m = record { globals = m.globals; open_calls = m.open_calls; fuel = m.fuel; host = φ m.host }
 
+-- how a step ends, with another host
 abbrev pub done_hosted : {H K : Type 0} → (H → K) → Done H → Done K
 done_hosted φ (Gives v m) = Gives v (hosted φ m)
 done_hosted φ (Throws v m) = Throws v (hosted φ m)
@@ -54,9 +58,11 @@ afterwards (Throws v m) next = next m
 afterwards (Returns v m) next = next m
 afterwards (OutOfFuel m) next = OutOfFuel m
 
+-- a fault that the machine makes is thrown, with an empty text
 abbrev pub throw_fault : {H : Type 0} → FaultName → Machine H → Done H
 throw_fault name m = Throws (FaultValue name []) m
 
+-- a step that has nothing to give gives unit
 abbrev pub finish : {H : Type 0} → Machine H → Done H
 finish m = Gives UnitValue m
 
@@ -70,11 +76,12 @@ abbrev pub branch : {H : Type 0} → Bool → Machine H → (Machine H → Done 
 branch true m then else = then m
 branch false m then else = else m
 
--- a unit of fuel is taken, and then comes the rest
+-- a unit is taken of so much fuel, and then comes the rest; with no unit left the step ends so
 abbrev pub with_fuel : {H : Type 0} → ℕ → Machine H → (Machine H → Done H) → Done H
 with_fuel zero m next = OutOfFuel m
 with_fuel (suc left) m next = next (record m { fuel = left })
 
+-- a unit of fuel is taken, and then comes the rest
 abbrev pub take_unit : {H : Type 0} → Machine H → (Machine H → Done H) → Done H
 take_unit m next = with_fuel m.fuel m next
 
@@ -83,6 +90,7 @@ abbrev pub value_in : List Variable → List ℕ → Option Value
 value_in [] x = None
 value_in (a ∷ more) x = cond (same_bytes a.name x) (Some a.value) (value_in more x)
 
+-- the first of two that is there
 abbrev pub or_else : {X : Type 0} → Option X → Option X → Option X
 or_else None o = o
 or_else (Some x) o = Some x
@@ -101,11 +109,12 @@ abbrev pub with_value_in : List Variable → List ℕ → Value → List Variabl
 with_value_in [] x v = []
 with_value_in (a ∷ more) x v = cond (same_bytes a.name x) (record { name = x; value = v } ∷ more) (a ∷ with_value_in more x v)
 
+-- the local variables of the innermost open call with v for x
 abbrev pub with_local : List (List Variable) → List ℕ → Value → List (List Variable)
 with_local [] x v = []
 with_local (innermost ∷ others) x v = with_value_in innermost x v ∷ others
 
--- x is assigned v
+-- x is assigned v: a local variable where there is one of this name, else a global one
 abbrev pub assigned : {H : Type 0} → Machine H → List ℕ → Value → Machine H
 assigned m x v =
     cond (is_there (value_in (locals m.open_calls) x))

@@ -4,14 +4,19 @@ use Rattle.page_types.specs.declared.Op.{Op}
 use Rattle.page_types.specs.declared.Op.TheVariants.{Log, TextOf, KindOf, Len, Push, Bind, MakeFault, FaultNameOf, FaultTextOf, NowOp, Busy, QueueMicrotask, MakePromise, ResolveOp, RejectOp, Resolved, Rejected, Then, SetTimeout, SetInterval, ClearTimeout, ClearInterval, RequestFrame, CancelFrame, RequestIdle, CancelIdle, DidTimeout, TimeRemaining, PostTask, YieldTask, MakeController, MakeTaskController, SignalOf, AbortOp, SetPriority, AbortedSignal, AnySignal, TaskAny, TimeoutSignal, Aborted, ReasonOf, PriorityOf, Listen, Unlisten, HostOp}
 use Rattle.page_parts.specs.Words.{same_bytes}
 
+-- ---- Ours: the names by which a script calls operations
+
+-- a name and its operation
 pub record OpName : Type 0 where
   pub name : List ℕ
   pub op : Op
 
+-- the operation of a name in a list
 abbrev pub op_in : List OpName → List ℕ → Option Op
 op_in [] x = None
 op_in (a ∷ more) x = cond (same_bytes a.name x) (Some a.op) (op_in more x)
 
+-- all names
 abbrev pub op_names : List OpName
 op_names =
     record { name = codes "log"; op = Log } ∷

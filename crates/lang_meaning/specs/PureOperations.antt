@@ -9,41 +9,48 @@ use Rattle.page_parts.specs.Spelling.{spelled, fault_text}
 use Rattle.page_parts.specs.Kinds.{func_in, text_in, list_in, deadline_in, fault_in, kind_text}
 use Rattle.lang_meaning.specs.Evaluation.{Answer, need, limited_value}
 
+-- ---- Ours: operations on values alone
+
 -- an argument, by its place
 abbrev pub argument : List Value → ℕ → Value
 argument args place = unwrap_or (slice_get args place) UnitValue
 
--- the printed form as a text
+-- `text`: the printed form as a text
 abbrev pub text_answer : List (List ℕ) → Value → Answer
 text_answer names v = limited_value (TextValue (spelled names v))
 
+-- `kind`: the kind of a value by its word
 abbrev pub kind_answer : Value → Answer
 kind_answer v = Ok (TextValue (kind_text v))
 
--- the number of items of a list, or of bytes of a text
+-- `len`: the number of items of a list, or of bytes of a text
 abbrev pub length_answer : Value → Answer
 length_answer (TextValue bs) = Ok (IntValue (pos (length bs)))
 length_answer v = need (list_in v) TypeError (λ vs. Ok (IntValue (pos (length (items_of vs)))))
 
+-- `push`: a list with a value at its end
 abbrev pub push_answer : Value → Value → Answer
 push_answer l v = need (list_in l) TypeError (λ vs. limited_value (ListValue (values_of (and_last (items_of vs) v))))
 
--- a function with more bound arguments, behind those that it has
+-- `bind`: a function with more bound arguments, behind those that it has
 abbrev pub bind_answer : Value → Value → Answer
 bind_answer f l =
     need (func_in f) TypeError (λ f. need (list_in l) TypeError (λ vs.
     limited_value (FunValue f.function (values_of (items_of f.bound ++ items_of vs)))))
 
+-- `fault`: a fault with the name Error and this text
 abbrev pub fault_answer : Value → Answer
 fault_answer t = need (text_in t) TypeError (λ bs. Ok (FaultValue Error bs))
 
+-- `faultName`: the name of a fault
 abbrev pub fault_name_answer : Value → Answer
 fault_name_answer v = need (fault_in v) TypeError (λ x. Ok (TextValue (fault_text x.name)))
 
+-- `faultText`: the text of a fault
 abbrev pub fault_text_answer : Value → Answer
 fault_text_answer v = need (fault_in v) TypeError (λ x. Ok (TextValue x.text))
 
--- requestIdleCallback, "The IdleDeadline interface": a deadline that is fixed is that of a timeout
+-- requestIdleCallback, "The IdleDeadline interface": `didTimeout`: a deadline that is fixed is that of a timeout
 abbrev pub did_timeout_answer : Value → Answer
 did_timeout_answer d = need (deadline_in d) TypeError (λ t. Ok (BoolValue (is_there t)))
 

@@ -6,6 +6,8 @@ use Rattle.lang_meaning.specs.Following.{Follows}
 use Rattle.page_model.specs.State.{Page, State}
 use Rattle.page_model.specs.Turns.{Turned, GoesOn, Ended, Stuck}
 
+-- ---- Ours: a law by which a page can hand its lines on and keep none
+
 -- the page as it is with these events before its own (the last event stands first)
 abbrev pub after : List Stamped → Page → Page
 after es p = record p { events = p.events ++ es }
@@ -18,6 +20,7 @@ Adds es f = (p : Page) → f (after es p) ≡ after es (f p)
 abbrev pub AddsAll : List Stamped → (State → Done Page) → Type 0
 AddsAll es f = Follows (after es) f f
 
+-- how a turn ends, with these events before its own
 abbrev pub turned_after : List Stamped → Turned → Turned
 turned_after es (GoesOn m c) = GoesOn (hosted (after es) m) c
 turned_after es (Ended end m) = Ended end (hosted (after es) m)

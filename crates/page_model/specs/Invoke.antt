@@ -15,39 +15,49 @@ use Rattle.page_parts.specs.Kinds.{Func}
 use Rattle.lang_meaning.specs.Machine.{Done, Gives, Throws, Returns, OutOfFuel, and_then, afterwards, finish, branch, take_unit, Caller}
 use Rattle.page_model.specs.State.{Role, ScriptRole, OfKind, Registration, NotifyRejected, Page, State, on_page, the_registration, emit, queue_task}
 
--- How functions are called here, and what is done when a callback has returned: a checkpoint where no script call is open.
+-- How functions are called here, and what is done when a callback has returned: a checkpoint exactly where no script call is open (HTML, "Calling scripts: clean up after running script").
 pub record Ways : Type 0 where
   pub call : Caller Page
   pub after : State → Done Page
+
+-- ---- Ours: each callback that is handed in is a registration with a number of its own
 
 -- a registration is made, with the next number and its line
 abbrev pub register_as : RegKind → Registration → Page → Page
 register_as kind x p = emit (Reg (suc (length p.registrations)) kind) (record p { registrations = and_last p.registrations x })
 
+-- a registration with these two callbacks and nothing else
 abbrev pub register : RegKind → Option Func → Option Func → Page → Page
 register kind f g p = register_as kind (record { role = OfKind kind; callback = f; second_callback = g; timer_id = 0; promise = 0; signal = None }) p
+
+-- ---- HTML, "Calling scripts: clean up after running script", and when an exception is reported. Ours: the lines
 
 -- when a throw is reported: of the script before the checkpoint; of a `then` handler or a posted callback never; of any other after the checkpoint
 pub data WhenReported : Type 0 where
   BeforeCheckpoint AfterCheckpoint Never : WhenReported
 
+-- when a throw of this kind of callback is reported
 abbrev pub when_reported : Role → WhenReported
 when_reported ScriptRole = BeforeCheckpoint
 when_reported (OfKind PostKind) = Never
 when_reported (OfKind ThenKind) = Never
 when_reported (OfKind kind) = AfterCheckpoint
 
+-- the line of a report
 abbrev pub report : Value → Page → Page
 report v p = emit (Report (spelled p.names v)) p
 
+-- a report before the checkpoint, where it belongs there
 abbrev pub report_before : WhenReported → Value → Page → Page
 report_before BeforeCheckpoint v p = report v p
 report_before when v p = p
 
+-- a report after the checkpoint, where it belongs there
 abbrev pub report_after : WhenReported → Value → Page → Page
 report_after AfterCheckpoint v p = report v p
 report_after when v p = p
 
+-- the line of a throw
 abbrev pub thrown : Value → Page → Page
 thrown v p = emit (Throw (spelled p.names v)) p
 
@@ -59,10 +69,12 @@ end_of_callback after when (Throws v m) =
     and_then (after (on_page (report_before when v) (on_page (thrown v) m))) (λ u m. Throws v (on_page (report_after when v) m))
 end_of_callback after when (OutOfFuel m) = OutOfFuel m
 
+-- the second callback of a registration, or the first
 abbrev pub callback_of : Bool → Registration → Option Func
 callback_of true r = r.second_callback
 callback_of false r = r.callback
 
+-- a callback is called with arguments, after its bound ones; an absent one does nothing
 abbrev pub call_back : Caller Page → Option Func → List Value → State → Done Page
 call_back call None args m = finish m
 call_back call (Some f) args m = call f.function (items_of f.bound ++ args) m
@@ -74,14 +86,17 @@ invoke w r second args m =
     end_of_callback w.after (when_reported registration.role)
     (call_back w.call (callback_of second registration) args (on_page (emit (Call r)) m))
 
+-- ---- ECMA-262, "NewPromiseReactionJob" and "NewPromiseResolveThenableJob"; HTML, "Microtask checkpoint"
+
 -- inside a checkpoint nothing more is done when a callback has returned
 abbrev pub in_checkpoint : Caller Page → Ways
 in_checkpoint call = record { call = call; after = finish }
 
+-- the current scheduling state is this one
 abbrev pub with_scheduling : Option ℕ → State → State
 with_scheduling s m = on_page (λ p. record p { scheduling = s }) m
 
--- the handler's value resolves the derived promise, and a throw rejects it
+-- the value of a handler resolves the derived promise, and a throw rejects it
 abbrev pub settle_derived : ℕ → Done Page → Done Page
 settle_derived into (Gives v m) = finish (on_page (promises.resolve into v) m)
 settle_derived into (Returns v m) = finish (on_page (promises.resolve into v) m)
@@ -94,25 +109,31 @@ react_then call r None x how m = finish (on_page (promises.settle x.into how) m)
 react_then call r (Some f) x how m =
     settle_derived x.into (invoke (in_checkpoint call) r (has_failed how) (settled_value how ∷ []) (with_scheduling x.state m))
 
+-- a reaction: that of an inner subscription settles the promise that was resolved with this one, any other is a `then` reaction
 abbrev pub react_by : Caller Page → Option ℕ → Reaction → Settled → State → Done Page
 react_by call None x how m = finish (on_page (promises.follow x.into how) m)
 react_by call (Some r) x how m = react_then call r (callback_of (has_failed how) (the_registration m.host r)) x how m
 
+-- a reaction to a promise that is settled by then
 abbrev pub react : Caller Page → Reaction → Option Settled → State → Done Page
 react call x None m = finish m
 react call x (Some how) m = react_by call x.registration x how m
 
+-- the reaction by which a promise follows the one that it was resolved with
 abbrev pub inner_subscription : ℕ → Reaction
 inner_subscription into = record { registration = None; into = into; state = None }
 
+-- what a microtask does. Ours: a callback of `queueMicrotask` has no scheduling state, and a reaction runs with the state in which it was made
 abbrev pub run_job : Caller Page → Todo → State → Done Page
 run_job call (Micro r) m = invoke (in_checkpoint call) r false [] (with_scheduling None m)
 run_job call (OfPromise (React of x)) m = react call x (promise_at m.host of).outcome m
 run_job call (OfPromise (Adopt into from)) m = finish (on_page (promises.subscribe from (inner_subscription into)) m)
 
+-- a job leaves the queue, with its `run` line
 abbrev pub begin_job : WaitingJob → List WaitingJob → State → State
 begin_job job others m = on_page (λ p. emit (Run job.number) (record p { notices = record p.notices { jobs = others } })) m
 
+-- the oldest job takes a unit of fuel and runs, and then come the others
 abbrev pub run_oldest : Caller Page → List WaitingJob → (State → Done Page) → State → Done Page
 run_oldest call [] more m = finish m
 run_oldest call (job ∷ others) more m = take_unit m (λ m. afterwards (run_job call job.what (begin_job job others m)) more)
@@ -122,20 +143,24 @@ abbrev pub run_jobs : Caller Page → ℕ → State → Done Page
 run_jobs call zero m = OutOfFuel m
 run_jobs call (suc n) m = run_oldest call m.host.notices.jobs (run_jobs call n) m
 
--- the list of newly rejected promises, if it is not empty, is taken by a task
+-- HTML, "Unhandled promise rejections" (notify about rejected promises): the promises about to be notified about, if there are any, are taken by a task
 abbrev pub notify_rejected : Page → Page
 notify_rejected p =
     cond (is_empty p.notices.rejected) p
     (queue_task Dom (NotifyRejected p.notices.rejected) (record p { notices = record p.notices { rejected = [] } }))
 
+-- ---- HTML, "Microtask checkpoint" (perform a microtask checkpoint)
+
+-- Ours: inside a checkpoint the nesting level is 0 and there is no scheduling state
 abbrev pub checkpoint_begun : Page → Page
 checkpoint_begun p = record p { performing = true; level = 0; scheduling = None }
 
--- the task and the scheduling state are what they were in `before`
+-- the checkpoint ends with the notification; the nesting level and the scheduling state are what they were before
 abbrev pub checkpoint_ended : Page → Page → Page
 checkpoint_ended before p =
     record (notify_rejected p) { performing = false; level = before.level; scheduling = before.scheduling }
 
+-- all jobs are run, and then the checkpoint ends
 abbrev pub perform_checkpoint : Caller Page → State → Done Page
 perform_checkpoint call m =
     and_then (run_jobs call (suc m.fuel) (on_page checkpoint_begun m)) (λ u after. finish (on_page (checkpoint_ended m.host) after))
@@ -144,9 +169,12 @@ perform_checkpoint call m =
 abbrev pub checkpoint : Caller Page → State → Done Page
 checkpoint call m = branch m.host.performing m finish (perform_checkpoint call)
 
--- In a task no script call is open, so a checkpoint comes after each callback. In an operation one is open.
+-- ---- HTML, "Calling scripts: clean up after running script"
+
+-- in a task no script call is open when a callback has returned, so a checkpoint is performed
 abbrev pub in_task : Caller Page → Ways
 in_task call = record { call = call; after = checkpoint call }
 
+-- in an operation a script call is open, so none is performed
 abbrev pub in_script : Caller Page → Ways
 in_script call = record { call = call; after = finish }

@@ -32,6 +32,8 @@ use Rattle.page_model.specs.PageTime.{init_timer, run_after, clear_timer, reques
 use Rattle.page_model.specs.Invoke.{Ways, register, register_as, in_script}
 use Rattle.page_model.specs.PageSignals.{abort, change, is_aborted, is_aborted_source, reason_value, watch, give_priority, priority_value}
 
+-- ---- Ours: how an operation answers, and how it tests its arguments
+
 -- a change of the page, and unit
 abbrev pub does : (Page → Page) → State → Done Page
 does f m = finish (on_page f m)
@@ -44,12 +46,15 @@ answers v f m = let after = on_page f m in Gives (v after.host) after
 abbrev pub is_left : ℕ → Bool
 is_left made = nat_lt made 4294967295
 
+-- whether a registration is left
 abbrev pub registration_left : Page → Bool
 registration_left p = is_left (length p.registrations)
 
+-- whether a promise is left
 abbrev pub promise_left : Page → Bool
 promise_left p = is_left (length p.notices.promises)
 
+-- whether a signal is left
 abbrev pub signal_left : Page → Bool
 signal_left p = is_left (length p.signals)
 
@@ -57,6 +62,7 @@ signal_left p = is_left (length p.signals)
 abbrev pub where_left : Bool → State → (State → Done Page) → Done Page
 where_left left m next = branch left m next (throw_fault RangeError)
 
+-- the priority that a text names
 abbrev pub priority_in : Value → Option Priority
 priority_in v = elim (text_in v) [
   | None ↦ None
@@ -78,33 +84,40 @@ abbrev pub signal_or_unit : Value → Option (Option ℕ)
 signal_or_unit UnitValue = Some None
 signal_or_unit v = elim (signal_in v) [ None ↦ None | Some s ↦ Some (Some s) ]
 
--- ---- time
+-- ---- Ours: `busy` lets time pass
 
+-- time advances by so many microseconds
 abbrev pub busy_for : ℤ → State → Done Page
 busy_for n m = branch (int_within (pos 0) (pos 1000000000) n) m (does (λ p. record p { now = p.now + not_below_zero n })) (throw_fault RangeError)
 
+-- `busy`: a unit of fuel is taken first, whatever the argument
 abbrev pub busy : Value → State → Done Page
 busy n m = take_unit m (λ m. given (int_in n) TypeError m busy_for)
 
--- ---- jobs and promises
+-- ---- HTML, "Microtask queuing"; ECMA-262, "Promise Objects"
 
+-- a microtask callback is registered and queued
 abbrev pub micro_registered : Func → Page → Page
 micro_registered f p =
     let made = register MicroKind (Some f) None p in
     on_notices (Notices.queue_micro (last_registration made)) made
 
+-- `queueMicrotask`
 abbrev pub queue_microtask : Value → State → Done Page
 queue_microtask f m =
     given (func_in f) TypeError m (λ f m. where_left (registration_left m.host) m (does (micro_registered f)))
 
+-- the last promise as a value
 abbrev pub last_promise_value : Page → Value
 last_promise_value p = PromiseValue (last_promise p)
 
+-- a new promise that the script may settle
 abbrev pub script_promise : Page → Page
 script_promise p =
     let made = new_promise p in
     record made { script_promises = and_last made.script_promises (last_promise made) }
 
+-- `resolve` and `reject`: TypeError where the promise was not made by `promise`
 abbrev pub settle_own : (ℕ → Value → Page → Page) → Value → Value → State → Done Page
 settle_own settle p v m =
     given (promise_in p) TypeError m (λ n m. branch (has_number m.host.script_promises n) m (does (settle n v)) (throw_fault TypeError))
@@ -113,32 +126,39 @@ settle_own settle p v m =
 abbrev pub new_settled : (ℕ → Value → Page → Page) → Value → Page → Page
 new_settled settle v p = let made = new_promise p in settle (last_promise made) v made
 
+-- the same as an operation, which answers that promise
 abbrev pub settled_promise : (ℕ → Value → Page → Page) → Value → State → Done Page
 settled_promise settle v m = where_left (promise_left m.host) m (answers last_promise_value (new_settled settle v))
 
+-- `resolved`: a promise as it is, and any other value in a new promise
 abbrev pub resolved_value : Value → State → Done Page
 resolved_value v m = elim (promise_in v) [ Some n ↦ Gives v m | None ↦ settled_promise promises.resolve v m ]
 
+-- the derived promise and the `then` registration are made, and the promise gets the reaction
 abbrev pub then_made : ℕ → Value → Value → Page → Page
 then_made n f g p =
     let made = register ThenKind (func_in f) (func_in g) (new_promise p) in
     promises.subscribe n (record { registration = Some (last_registration made); into = last_promise made; state = made.scheduling }) made
 
+-- `then`: handlers that are no functions are absent
 abbrev pub then_value : Value → Value → Value → State → Done Page
 then_value v f g m =
     given (promise_in v) TypeError m (λ n m. where_left (promise_left m.host && registration_left m.host) m (answers last_promise_value (then_made n f g)))
 
--- ---- timers
+-- ---- HTML, "Timers"
 
+-- a timer is registered under the id that it will get
 abbrev pub timer_registered : RegKind → Func → Page → Page
 timer_registered kind f p =
     register_as kind (record { role = OfKind kind; callback = Some f; second_callback = None; timer_id = suc p.timers.ids_made; promise = 0; signal = None }) p
 
+-- a timer is registered and initialised
 abbrev pub timer_set : RegKind → Bool → Func → ℤ → Page → Page
 timer_set kind repeats f timeout p =
     let made = timer_registered kind f p in
     init_timer None (last_registration made) repeats timeout made
 
+-- `setTimeout` and `setInterval`, which answer the id
 abbrev pub set_timer : RegKind → Bool → Value → Value → State → Done Page
 set_timer kind repeats f ms m =
     given (func_in f) TypeError m (λ f m. given (int_in ms) TypeError m (λ ms m.
@@ -149,71 +169,88 @@ set_timer kind repeats f ms m =
 abbrev pub with_handle : Value → (ℕ → Page → Page) → State → Done Page
 with_handle v f m = given (int_in v) TypeError m (λ n m. elim n [ pos k ↦ does (f k) m | negsuc k ↦ finish m ])
 
--- ---- frames and idle callbacks
+-- ---- HTML, "Animation frames"; requestIdleCallback, "The requestIdleCallback() method" and "The IdleDeadline interface"
 
+-- a frame callback is registered and requested
 abbrev pub frame_requested : Func → Page → Page
 frame_requested f p =
     let made = register FrameKind (Some f) None p in
     request_frame (last_registration made) made
 
+-- `requestAnimationFrame`, which answers the handle
 abbrev pub request_animation_frame : Value → State → Done Page
 request_animation_frame f m =
     given (func_in f) TypeError m (λ f m. where_left (registration_left m.host && is_left m.host.frames.made) m
     (answers (λ p. IntValue (pos p.frames.made)) (frame_requested f)))
 
+-- an idle callback is registered and requested
 abbrev pub idle_requested : Func → ℕ → Page → Page
 idle_requested f ms p =
     let made = register IdleKind (Some f) None p in
     request_idle ms (last_registration made) made
 
+-- `requestIdleCallback`, which answers the handle. Ours: RangeError above 1,000,000,000 milliseconds
 abbrev pub request_idle_callback : Value → Value → State → Done Page
 request_idle_callback f ms m =
     given (func_in f) TypeError m (λ f m. given (int_in ms) TypeError m (λ ms m.
     where_left (int_le ms (pos 1000000000) && registration_left m.host && is_left m.host.idle.made) m
     (answers (λ p. IntValue (pos p.idle.made)) (idle_requested f (not_below_zero ms)))))
 
+-- `timeRemaining`
 abbrev pub remaining : Value → State → Done Page
 remaining d m = given (deadline_in d) TypeError m (λ t m. Gives (IntValue (pos (time_remaining t m.host))) m)
 
--- ---- signals
+-- ---- DOM, "Interface AbortController" and "Interface AbortSignal"; Prioritized Task Scheduling, "TaskController" and "TaskSignal"
 
+-- a change of the signals
 abbrev pub with_signals : (AbortGraph.Signals Value → AbortGraph.Signals Value) → Page → Page
 with_signals f p = record p { signals = f p.signals }
 
+-- the number of the last signal
 abbrev pub last_signal : Page → ℕ
 last_signal p = length p.signals
 
+-- the controller of the last signal, as a value
 abbrev pub controller_value : Page → Value
 controller_value p = ControllerValue (last_signal p)
 
+-- the last signal as a value
 abbrev pub signal_value : Page → Value
 signal_value p = SignalValue (last_signal p)
 
+-- `controller`. Ours: a controller has the number of its signal
 abbrev pub make_controller : State → Done Page
 make_controller m = where_left (signal_left m.host) m (answers controller_value (with_signals AbortGraph.make))
 
+-- a new signal with a priority
 abbrev pub task_signal_made : Priority → Page → Page
 task_signal_made priority p = let made = with_signals AbortGraph.make p in give_priority (last_signal made) priority made
 
+-- `taskController`
 abbrev pub make_task_controller : Value → State → Done Page
 make_task_controller v m =
     given (priority_in v) TypeError m (λ priority m. where_left (signal_left m.host) m (answers controller_value (task_signal_made priority)))
 
+-- the reason of an abort: a new AbortError where none is given
 abbrev pub reason_given : Value → Value
 reason_given v = cond (is_unit v) (a_fault AbortError) v
 
+-- `abort` of a controller
 abbrev pub abort_by : Ways → Value → Value → State → Done Page
 abort_by w c reason m = given (controller_in c) TypeError m (λ s m. abort w s (reason_given reason) m)
 
+-- a signal's priority is changed: TypeError where it has none, NotAllowedError while a change is in progress
 abbrev pub change_by : Ways → ℕ → Priority → State → Done Page
 change_by w s priority m =
     branch (is_there (priority_of m.host.prios s)) m
     (λ m. branch (is_changing m.host.prios s) m (throw_fault NotAllowedError) (change w priority (length m.host.prios) s))
     (throw_fault TypeError)
 
+-- `setPriority` of a controller
 abbrev pub set_priority_by : Ways → Value → Value → State → Done Page
 set_priority_by w c v m = given (controller_in c) TypeError m (λ s m. given (priority_in v) TypeError m (λ priority m. change_by w s priority m))
 
+-- `abortedSignal`
 abbrev pub aborted_signal : Value → State → Done Page
 aborted_signal v m =
     where_left (signal_left m.host) m (answers signal_value (with_signals (AbortGraph.make_aborted (reason_given v))))
@@ -223,9 +260,11 @@ abbrev pub all_signals : List Value → Option (List ℕ)
 all_signals [] = Some []
 all_signals (v ∷ vs) = elim (signal_in v) [ None ↦ None | Some s ↦ elim (all_signals vs) [ None ↦ None | Some ss ↦ Some (s ∷ ss) ] ]
 
+-- the numbers of the signals in a list value
 abbrev pub signals_in : Value → Option (List ℕ)
 signals_in v = elim (list_in v) [ None ↦ None | Some vs ↦ all_signals (items_of vs) ]
 
+-- `anySignal`
 abbrev pub make_any : Value → State → Done Page
 make_any l m = given (signals_in l) TypeError m (λ ss m. where_left (signal_left m.host) m (answers signal_value (with_signals (AbortGraph.any ss))))
 
@@ -236,6 +275,7 @@ any_made ss priority follows p =
     let given_one = give_priority (last_signal made) priority made in
     elim follows [ None ↦ given_one | Some on ↦ record given_one { prios = TaskSignals.depend (last_signal made) on given_one.prios } ]
 
+-- the same as an operation, which answers the signal
 abbrev pub any_with_priority : List ℕ → Priority → Option ℕ → State → Done Page
 any_with_priority ss priority follows m = where_left (signal_left m.host) m (answers signal_value (any_made ss priority follows))
 
@@ -243,11 +283,13 @@ any_with_priority ss priority follows m = where_left (signal_left m.host) m (ans
 abbrev pub followed_through : Page → ℕ → ℕ
 followed_through p s = unwrap_or (TaskSignals.followed p.prios s) s
 
+-- `taskAny` with a signal. Ours: the new signal gets the priority that the followed one has now
 abbrev pub any_following : List ℕ → ℕ → State → Done Page
 any_following ss s m =
     let on = followed_through m.host s in
     given (priority_of m.host.prios on) TypeError m (λ priority m. any_with_priority ss priority (Some on) m)
 
+-- `taskAny`: a fixed priority, or a signal's
 abbrev pub make_task_any : Value → Value → State → Done Page
 make_task_any l x m =
     given (signals_in l) TypeError m (λ ss m. elim (priority_in x) [
@@ -255,45 +297,53 @@ make_task_any l x m =
       | None ↦ given (signal_in x) TypeError m (any_following ss)
     ])
 
+-- a new signal that is aborted after so many milliseconds
 abbrev pub timeout_signal_made : ℕ → Page → Page
 timeout_signal_made ms p =
     let made = register SignalKind None None (with_signals AbortGraph.make p) in
     run_after ms (QueueSignal (last_registration made) (last_signal made))
     (emit (Arm (last_registration made) (made.now + ms * 1000) 0) made)
 
+-- `timeoutSignal`
 abbrev pub make_timeout_signal : Value → State → Done Page
 make_timeout_signal ms m =
     given (delay_in ms) TypeError m (λ ms m. where_left (signal_left m.host && registration_left m.host) m (answers signal_value (timeout_signal_made ms)))
 
+-- what is read of a signal
 abbrev pub of_signal : Value → (ℕ → Page → Value) → State → Done Page
 of_signal v read m = given (signal_in v) TypeError m (λ s m. Gives (read s m.host) m)
 
--- ---- listeners
+-- ---- DOM, "Interface EventTarget". Ours: each listener has a number, by which it is removed
 
+-- the window for unit, or a signal
 abbrev pub target_in : Value → Option Target
 target_in UnitValue = Some Window
 target_in v = elim (signal_in v) [ None ↦ None | Some s ↦ Some (AtSignal s) ]
 
+-- a listener is registered and added
 abbrev pub listener_added : Target → List ℕ → Func → Page → Page
 listener_added target name f p =
     let made = register ListenerKind (Some f) None p in
     record made { listeners = add target name (last_registration made) made.listeners }
 
+-- `listen`, which answers the registration
 abbrev pub listen : Value → Value → Value → State → Done Page
 listen t name f m =
     given (target_in t) TypeError m (λ target m. given (text_in name) TypeError m (λ name m. given (func_in f) TypeError m (λ f m.
     where_left (registration_left m.host) m (answers (λ p. IntValue (pos (last_registration p))) (listener_added target name f)))))
 
+-- `unlisten`: a listener is removed with a `drop` line, where it is there
 abbrev pub listener_removed : ℕ → Page → Page
 listener_removed r p =
     cond (is_listening r p.listeners) (emit (Drop r) (record p { listeners = off r p.listeners })) p
 
--- ---- scheduler tasks
+-- ---- Prioritized Task Scheduling, "Scheduler: postTask and yield" and "Scheduling tasks and continuations"
 
 -- a promise that is rejected with a fault, as the answer
 abbrev pub rejected_with : Value → State → Done Page
 rejected_with reason m = settled_promise promises.reject reason m
 
+-- what is there, or a promise that is rejected with TypeError
 abbrev pub given_or_rejected : {X : Type 0} → Option X → State → (X → State → Done Page) → Done Page
 given_or_rejected None m next = rejected_with (a_fault TypeError) m
 given_or_rejected (Some x) m next = next x m
@@ -303,10 +353,12 @@ abbrev pub priority_or_unit : Value → Option (Option Priority)
 priority_or_unit UnitValue = Some None
 priority_or_unit v = elim (priority_in v) [ None ↦ None | Some priority ↦ Some (Some priority) ]
 
+-- the reason of an abort source
 abbrev pub source_reason : Page → Option ℕ → Value
 source_reason p None = UnitValue
 source_reason p (Some s) = reason_value p s
 
+-- a signal as priority source, where it has a priority; else fixed user-visible
 abbrev pub signal_source : Page → Option ℕ → PrioSource
 signal_source p None = Fixed UserVisible
 signal_source p (Some s) = cond (is_there (priority_of p.prios s)) (OfSignal s) (Fixed UserVisible)
@@ -324,14 +376,17 @@ promised kind f signal p =
     let registered = register_as kind x made in
     watch signal (last_registration registered) registered
 
+-- a delayed `postTask` is started, with its `arm` line
 abbrev pub post_delayed : ℕ → ℕ → PrioSource → Page → Page
 post_delayed ms r source p = run_after ms (EnqueuePost r source) (emit (Arm r (p.now + ms * 1000) 0) p)
 
+-- a `postTask` is registered, and its task is enqueued now or after a delay
 abbrev pub post_queued : Func → PrioSource → Option ℕ → ℕ → Page → Page
 post_queued f source signal ms p =
     let made = promised PostKind (Some f) signal p in
     cond (ms == 0) (enqueue (last_registration made) source false) (post_delayed ms (last_registration made) source) made
 
+-- `postTask` with arguments of the right kinds: an aborted signal rejects the promise
 abbrev pub post_accepted : Func → Option Priority → Option ℕ → ℕ → State → Done Page
 post_accepted f priority signal ms m =
     branch (is_aborted_source m.host signal) m
@@ -339,16 +394,19 @@ post_accepted f priority signal ms m =
     (λ m. where_left (promise_left m.host && registration_left m.host) m
     (answers last_promise_value (post_queued f (prio_source_of m.host priority signal) signal ms)))
 
+-- `postTask`: an argument of a wrong kind rejects the promise, the first one first
 abbrev pub post_task : Value → Value → Value → Value → State → Done Page
 post_task f priority signal ms m =
     given_or_rejected (func_in f) m (λ f m. given_or_rejected (priority_or_unit priority) m (λ priority m.
     given_or_rejected (signal_or_unit signal) m (λ signal m. given_or_rejected (delay_in ms) m (λ ms m. post_accepted f priority signal ms m))))
 
+-- a continuation is registered and enqueued
 abbrev pub continuation_queued : SchedulingState → Page → Page
 continuation_queued s p =
     let made = promised YieldKind None s.abort_source p in
     enqueue (last_registration made) s.prio_source true made
 
+-- `yieldTask` in a scheduling state: its abort source, where it is aborted, rejects the promise. Ours: what a continuation inherits, since the draft still moves
 abbrev pub yield_in : SchedulingState → State → Done Page
 yield_in s m =
     branch (is_aborted_source m.host s.abort_source) m
@@ -356,19 +414,23 @@ yield_in s m =
     (λ m. where_left (promise_left m.host && registration_left m.host) m
     (answers last_promise_value (continuation_queued s)))
 
+-- `yieldTask` in the current scheduling state
 abbrev pub yield_task : State → Done Page
 yield_task m = yield_in (current_state m.host) m
 
--- ---- hosts
+-- ---- Ours: `host` asks a closure of the host
 
+-- the latency of a closure, 0 where no line gives it
 abbrev pub latency_of : List Latency → ℕ → ℕ
 latency_of [] k = 0
 latency_of (a ∷ more) k = cond (a.closure == k) a.latency (latency_of more k)
 
+-- the closure of this number
 abbrev pub closure_at : Page → ℤ → Option HostClosure
 closure_at p (pos k) = slice_get p.hosts k
 closure_at p (negsuc k) = None
 
+-- whether a closure was never asked
 abbrev pub is_fresh : HostMark → Bool
 is_fresh Live = true
 is_fresh QueuedMark = false
@@ -380,9 +442,11 @@ abbrev pub fitting : Option HostClosure → ℤ → Option HostClosure
 fitting None x = None
 fitting (Some c) x = cond (int_within c.low c.high x) (Some c) None
 
+-- a closure after it was asked
 abbrev pub queued_mark : HostClosure → HostClosure
 queued_mark c = record c { mark = QueuedMark }
 
+-- an answer is registered and pending until the latency has passed, and the closure is taken
 abbrev pub host_queued : ℕ → HostClosure → ℤ → Option ℕ → Page → Page
 host_queued k c x signal p =
     let made = promised HostKind None signal p in
@@ -394,6 +458,7 @@ host_queued k c x signal p =
       host_answers = and_last made.host_answers (record { due = due; task = record { registration = r; closure = k; number = x } });
     })
 
+-- a closure that was asked before rejects with NotAllowedError, and an aborted signal with its reason
 abbrev pub host_accepted : ℕ → HostClosure → ℤ → Option ℕ → State → Done Page
 host_accepted k c x signal m =
     branch (is_fresh c.mark) m
@@ -402,19 +467,22 @@ host_accepted k c x signal m =
     (λ m. where_left (promise_left m.host && registration_left m.host) m (answers last_promise_value (host_queued k c x signal))))
     (rejected_with (a_fault NotAllowedError))
 
+-- a number that the closure does not take, or a closure that is not there, rejects with RangeError
 abbrev pub host_asked : ℤ → ℤ → Option ℕ → State → Done Page
 host_asked k x signal m = elim (fitting (closure_at m.host k) x) [
   | None ↦ rejected_with (a_fault RangeError) m
   | Some c ↦ host_accepted (not_below_zero k) c x signal m
 ]
 
+-- `host`: an argument of a wrong kind rejects the promise
 abbrev pub host : Value → Value → Value → State → Done Page
 host k x signal m =
     given_or_rejected (int_in k) m (λ k m. given_or_rejected (int_in x) m (λ x m.
     given_or_rejected (signal_or_unit signal) m (λ signal m. host_asked k x signal m)))
 
--- ---- the table of operations
+-- ---- the table of operations; what a row does stands above, under its section
 
+-- what each operation does, by its arguments
 abbrev pub operation : Ways → Op → List Value → State → Done Page
 operation w Log args m = does (λ p. emit (events.Log (spelled p.names (argument args 0))) p) m
 operation w TextOf args m = answered (text_answer m.host.names (argument args 0)) m

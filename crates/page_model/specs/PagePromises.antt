@@ -6,19 +6,25 @@ use Rattle.page_parts.specs.Promises.{Settled, Fulfilled, Failed, Reaction, Prom
 use Rattle.page_parts.specs.Notices.{the_promise, make, settle_promise, follow_promise, subscribe_promise, is_outstanding}
 use Rattle.page_model.specs.State.{NotifyHandled, Page, on_notices, queue_task}
 
+-- ---- ECMA-262, "Promise Objects": on the page, with the lines
+
+-- promise number n is resolved with a value or rejected with a reason
 abbrev pub settle : ℕ → Settled → Page → Page
 settle n how p = on_notices (settle_promise p.names n how) p
 
+-- it is resolved with a value
 abbrev pub resolve : ℕ → Value → Page → Page
 resolve n v p = settle n (Fulfilled v) p
 
+-- it is rejected with a reason
 abbrev pub reject : ℕ → Value → Page → Page
 reject n v p = settle n (Failed v) p
 
+-- it follows the outcome of the promise that it was resolved with
 abbrev pub follow : ℕ → Settled → Page → Page
 follow n how p = on_notices (follow_promise p.names n how) p
 
--- a promise gets a handler; where it was outstanding, a task is queued
+-- ECMA-262, "PerformPromiseThen"; HTML, "Unhandled promise rejections": a promise gets a handler; where it was outstanding, a task is queued which fires `rejectionhandled`
 abbrev pub subscribe : ℕ → Reaction → Page → Page
 subscribe n r p = cond (is_outstanding n p.notices) (queue_task Dom (NotifyHandled n)) (λ q. q) (on_notices (subscribe_promise n r) p)
 
@@ -26,8 +32,10 @@ subscribe n r p = cond (is_outstanding n p.notices) (queue_task Dom (NotifyHandl
 abbrev pub new_promise : Page → Page
 new_promise p = record p { notices = make p.notices }
 
+-- the number of the last promise
 abbrev pub last_promise : Page → ℕ
 last_promise p = length p.notices.promises
 
+-- promise number n
 abbrev pub promise_at : Page → ℕ → PromiseRecord
 promise_at p n = the_promise p.notices n

@@ -16,7 +16,7 @@ use Rattle.page_parts.specs.TaskSignals.{rank, priority_of}
 use Rattle.page_parts.specs.Sources.{same_source}
 use Rattle.page_model.specs.State.{Registration, Completion, QueueTimer, Completing, Task, InvokeIdle, PrioSource, Fixed, OfSignal, SchedTask, SchedulingState, Page, emit, queue_task}
 
--- ---- timers
+-- ---- HTML, "Timers": run steps after a timeout, timer initialisation steps, clearTimeout() and clearInterval()
 
 -- steps that run some milliseconds on
 abbrev pub run_after : ℕ → Completion → Page → Page
@@ -24,6 +24,7 @@ run_after ms completion p =
     let timers = Timers.run_after ms p.now p.timers in
     record p { timers = timers; completions = and_last p.completions (record { start = timers.starts_made; completion = completion }) }
 
+-- what initialising gave is set, with the completion steps that queue the timer's task and the `arm` line
 abbrev pub timer_armed : Option ℕ → Armed → (registration : ℕ) → Bool → ℤ → Page → Page
 timer_armed again a r repeats timeout p =
     emit (Arm r a.due a.level)
@@ -39,6 +40,7 @@ timer_armed again a r repeats timeout p =
 abbrev pub init_timer : Option ℕ → (registration : ℕ) → Bool → ℤ → Page → Page
 init_timer again r repeats timeout p = timer_armed again (armed again timeout p.level p.now p.timers) r repeats timeout p
 
+-- an id leaves the map
 abbrev pub clear_id : ℕ → Page → Page
 clear_id id p = record p { timers = Timers.clear id p.timers }
 
@@ -51,60 +53,69 @@ registration_with_id id r (x ∷ more) = cond (x.timer_id == id) r (registration
 abbrev pub clear_timer : ℕ → Page → Page
 clear_timer id p = cond (Timers.has_id id p.timers) (emit (Drop (registration_with_id id 1 p.registrations)) (clear_id id p)) p
 
+-- the completion steps of an active timer
 abbrev pub completion_of : List Completing → ℕ → Option Completion
 completion_of cs start = option_map (λ c. c.completion) (find (λ c. c.start == start) cs)
 
+-- an active timer has completed: it and its completion steps are gone
 abbrev pub without_timer : ℕ → Page → Page
 without_timer start p = record p { timers = Timers.completed start p.timers; completions = without (λ c. c.start == start) p.completions }
 
--- ---- sources and tasks
+-- ---- HTML, "Event loops: processing model": the oldest runnable task of a task queue
 
 -- the first task of a source's queue
 abbrev pub first_task : Source → List Task → Option Task
 first_task source tasks = find (λ t. same_source t.source source) tasks
 
--- ---- frames
+-- ---- HTML, "Animation frames". Ours: the times of rendering opportunities
 
--- the next rendering opportunity: none where no frame callback waits or a render task does
+-- the next rendering opportunity, a multiple of the period: none where no frame callback waits or a render task does
 abbrev pub next_frame : Page → Option ℕ
 next_frame p =
     cond (is_empty p.frames.callbacks || is_there (first_task Render p.tasks)) None
     (Some (next_multiple p.period (max p.frames_since p.last_opportunity)))
 
+-- a frame callback is requested; where the map was empty, it is non-empty from now on
 abbrev pub request_frame : ℕ → Page → Page
 request_frame r p = record p { frames_since = cond (is_empty p.frames.callbacks) p.now p.frames_since; frames = Frames.request r p.frames }
 
+-- a frame callback leaves the map
 abbrev pub without_frame : ℕ → Page → Page
 without_frame handle p = record p { frames = Frames.cancel handle p.frames }
 
+-- `cancelAnimationFrame`: the callback leaves the map with a `drop` line, where it is there
 abbrev pub cancel_frame : ℕ → Page → Page
 cancel_frame handle p = elim (callback_in p.frames.callbacks handle) [ None ↦ p | Some c ↦ emit (Drop c.registration) (without_frame handle p) ]
 
--- ---- idle periods
+-- ---- requestIdleCallback, "Start an idle period algorithm". Ours: the deadline, and when a start is delayed
 
 -- the deadline of an idle period with this start: where a frame callback waits, the last opportunity plus the period counts too
 abbrev pub deadline : ℕ → Page → ℕ
 deadline start p =
     IdleCallbacks.deadline start (next_due p.timers) (cond (is_empty p.frames.callbacks) None (Some (p.last_opportunity + p.period)))
 
--- the idle moment, where it counts
+-- the moment at which the next idle period could start; it counts only where an idle callback waits and the period would have some length
 abbrev pub idle_moment : Page → Option ℕ
 idle_moment p =
     let t = max p.now p.period_end in
     cond (waits p.idle && nat_lt t (deadline t p)) (Some t) None
 
+-- an idle period starts: its line, the pending callbacks become runnable, and a task is queued that invokes them
 abbrev pub period_begun : ℕ → Page → Page
 period_begun end p = queue_task Idle InvokeIdle (emit (Period end) (record p { idle = IdleCallbacks.started p.idle; period_end = end }))
 
--- an idle period starts, unless its start is delayed
+-- an idle period starts, unless its start is delayed: no idle callback waits, the deadline is not after now, or the period before has not ended
 abbrev pub start_period : Page → Page
 start_period p =
     cond (waits p.idle && nat_lt p.now (deadline p.last_idle_start p) && nat_le p.period_end p.now) (period_begun (deadline p.last_idle_start p) p) p
 
--- the idle step of a turn
+-- the idle step of a turn: the last idle period start is now, also where the start is then delayed
 abbrev pub idle_step : Page → Page
 idle_step p = start_period (record p { last_idle_start = p.now })
 
+-- ---- requestIdleCallback, "The requestIdleCallback() method" and "Invoke idle callback timeout algorithm"
+
+-- an idle timeout is started for the callback requested last, with its `arm` line
 abbrev pub idle_timeout : ℕ → ℕ → Page → Page
 idle_timeout ms r p =
     emit (Arm r (p.now + ms * 1000) 0)
@@ -114,28 +125,31 @@ idle_timeout ms r p =
 abbrev pub request_idle : ℕ → ℕ → Page → Page
 request_idle ms r p = cond (ms == 0) (λ q. q) (idle_timeout ms r) (record p { idle = IdleCallbacks.request r p.idle })
 
+-- the callback of a handle, where it waits
 abbrev pub idle_callback : ℕ → Page → Option Callback
 idle_callback handle p = IdleCallbacks.waiting_callback handle p.idle
 
+-- an idle callback leaves both lists
 abbrev pub without_idle : ℕ → Page → Page
 without_idle handle p = record p { idle = IdleCallbacks.cancel handle p.idle }
 
+-- `cancelIdleCallback`: the callback leaves both lists with a `drop` line, where it is there; its idle timeout stays
 abbrev pub cancel_idle : ℕ → Page → Page
 cancel_idle handle p = elim (idle_callback handle p) [ None ↦ p | Some c ↦ emit (Drop c.registration) (without_idle handle p) ]
 
--- what is left of a deadline: a period's is computed again
+-- requestIdleCallback, "The IdleDeadline interface": microseconds that are left of a deadline, never below 0; a period's deadline is computed again
 abbrev pub time_remaining : Option ℕ → Page → ℕ
 time_remaining None p = deadline p.last_idle_start p - p.now
 time_remaining (Some t) p = t - p.now
 
--- ---- scheduler tasks
+-- ---- Prioritized Task Scheduling, "Selecting the task queue": effective priority
 
 -- the priority of a source now
 abbrev pub priority_now : Page → PrioSource → Priority
 priority_now p (Fixed priority) = priority
 priority_now p (OfSignal s) = unwrap_or (priority_of p.prios s) UserVisible
 
--- the effective priority of a scheduler task now
+-- the effective priority of a scheduler task now: twice the rank of its priority, and one more for a continuation
 abbrev pub effective : Page → SchedTask → ℕ
 effective p t = 2 * rank (priority_now p t.source) + cond t.continuation 1 0
 
@@ -143,6 +157,7 @@ effective p t = 2 * rank (priority_now p t.source) + cond t.continuation 1 0
 abbrev pub goes_before : Page → SchedTask → SchedTask → Bool
 goes_before p a b = nat_lt (effective p b) (effective p a) || ((effective p a == effective p b) && nat_lt a.order b.order)
 
+-- the first of these and the best so far
 abbrev pub first_sched_from : Page → SchedTask → List SchedTask → SchedTask
 first_sched_from p a [] = a
 first_sched_from p a (b ∷ more) = first_sched_from p (cond (goes_before p b a) b a) more
@@ -152,9 +167,13 @@ abbrev pub first_of : Page → List SchedTask → Option SchedTask
 first_of p [] = None
 first_of p (a ∷ more) = Some (first_sched_from p a more)
 
+-- the scheduler task that is next
 abbrev pub first_sched : Page → Option SchedTask
 first_sched p = first_of p p.sched_tasks
 
+-- ---- Prioritized Task Scheduling, "Scheduling tasks and continuations"
+
+-- the queue of a priority source, in its line
 abbrev pub queue_name : PrioSource → QueueName
 queue_name (Fixed priority) = FixedQueue priority
 queue_name (OfSignal s) = SignalQueue s
@@ -168,9 +187,11 @@ enqueue r source continuation p =
       sched_tasks = and_last p.sched_tasks (record { registration = r; source = source; continuation = continuation; order = suc p.tasks_made });
     })
 
+-- a registration's scheduler task leaves its queue
 abbrev pub without_sched : ℕ → Page → Page
 without_sched r p = record p { sched_tasks = without (λ t. t.registration == r) p.sched_tasks }
 
+-- with no current scheduling state there is no abort source, and the priority is fixed user-visible
 abbrev pub no_state : SchedulingState
 no_state = record { abort_source = None; prio_source = Fixed UserVisible }
 

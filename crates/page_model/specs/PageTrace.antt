@@ -8,6 +8,8 @@ use Rattle.page_parts.specs.WrittenChoices.{written}
 use Rattle.page_parts.specs.TraceText.{text_of, choices_in}
 use Rattle.page_model.specs.Turns.{Turned, GoesOn, Ended, Stuck, run, events_of_run}
 
+-- ---- Ours: the trace of a run
+
 -- the page's trace: the text of the run under the written choices
 unfoldable pub page_trace : Program → Setup → List HostClosure → List (Result ℤ ℤ) → List ℕ
 page_trace program setup hosts answers = text_of (events_of_run (run program setup hosts (written setup answers)))

@@ -10,6 +10,9 @@ use Rattle.page_parts.specs.Setup.{Arrival}
 use Rattle.page_model.specs.PageSignals.{is_aborted_source}
 use Rattle.page_model.specs.PageTime.{without_timer, completion_of, next_frame, enqueue}
 
+-- ---- HTML, "Event loops: processing model": what goes on in parallel. Ours: its order, and that it is done only at the top of a turn
+
+-- what goes on beside the script: an arrival, a host answer, an active timer, an idle timeout, a rendering opportunity
 pub data ItemKind : Type 0 where
   ArrivalItem : Arrival → ItemKind
   HostItem : HostAnswer → ItemKind
@@ -17,10 +20,12 @@ pub data ItemKind : Type 0 where
   IdleItem : IdleTimer → ItemKind
   FrameItem : ItemKind
 
+-- a parallel item, and when it is due
 pub record Item : Type 0 where
   pub due : ℕ
   pub what : ItemKind
 
+-- the next rendering opportunity, where there is one
 abbrev pub frame_items : Option ℕ → List Item
 frame_items None = []
 frame_items (Some t) = record { due = t; what = FrameItem } ∷ []
@@ -39,10 +44,12 @@ abbrev pub first_item_from : Item → List Item → Item
 first_item_from a [] = a
 first_item_from a (b ∷ more) = first_item_from (cond (nat_lt b.due a.due) b a) more
 
+-- the first item of a list
 abbrev pub first_item_of : List Item → Option Item
 first_item_of [] = None
 first_item_of (a ∷ more) = Some (first_item_from a more)
 
+-- the item that is due first
 abbrev pub first_item : Page → Option Item
 first_item p = first_item_of (items_in_order p)
 
@@ -53,10 +60,12 @@ complete (EnqueuePost r source) p =
     cond (is_aborted_source p (the_registration p r).signal) (λ q. q) (enqueue r source false) (emit (Due r) p)
 complete (QueueSignal r s) p = queue_task Timer (TimeOutSignal s) (emit (Due r) p)
 
+-- the same where completion steps are there
 abbrev pub complete_at : Option Completion → Page → Page
 complete_at None p = p
 complete_at (Some c) p = complete c p
 
+-- what taking an item does: all but a delayed `postTask` queue a task; a rendering opportunity sets the last render opportunity time to now
 abbrev pub take_item : ItemKind → Page → Page
 take_item (ArrivalItem a) p = queue_task a.source (FireAtWindow a.name a.value) (record p { arrivals = without_first p.arrivals })
 take_item (HostItem a) p =
@@ -82,5 +91,6 @@ take_due (suc n) p = elim (due_item p.now (first_item p)) [ None ↦ p | Some a 
 abbrev pub item_count : Page → ℕ
 item_count p = suc (length p.arrivals + length p.host_answers + length p.timers.active + length p.idle_timers)
 
+-- the parallel items that are due are taken
 abbrev pub parallel : Page → Page
 parallel p = take_due (item_count p) p

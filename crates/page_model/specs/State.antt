@@ -18,6 +18,9 @@ use Rattle.page_parts.specs.AbortGraph.{Signals}
 use Rattle.page_parts.specs.TaskSignals.{Prios}
 use Rattle.page_parts.specs.Listeners.{Listener}
 
+-- ---- Ours: what a page keeps; each part names its section
+
+-- what a registration is for: the script itself, or a kind of the trace
 pub data Role : Type 0 where
   ScriptRole : Role
   OfKind : RegKind → Role
@@ -30,6 +33,8 @@ pub record Registration : Type 0 where
   pub timer_id : ℕ
   pub promise : ℕ
   pub signal : Option ℕ
+
+-- ---- HTML, "Event loops: processing model" and "Task sources": tasks
 
 -- a timer of setTimeout or setInterval: its registration, id, handle, level, whether it repeats, and its timeout as given
 pub record TimerTask : Type 0 where
@@ -46,7 +51,8 @@ pub record HostTask : Type 0 where
   pub closure : ℕ
   pub number : ℤ
 
--- the steps of a task
+-- the steps of a task: run the script; the task of a timer; abort a signal by its timeout; fire an arrival's event at the window; answer a host; a frame with its timestamp;
+-- invoke idle callbacks; an idle timeout by its handle; notify about rejected promises, or about one that was handled after all
 pub data Steps : Type 0 where
   RunScript : Steps
   RunTimer : TimerTask → Steps
@@ -59,23 +65,29 @@ pub data Steps : Type 0 where
   NotifyRejected : List ℕ → Steps
   NotifyHandled : ℕ → Steps
 
+-- a task: its number over all sources, its source and its steps
 pub record Task : Type 0 where
   pub number : ℕ
   pub source : Source
   pub steps : Steps
 
+-- ---- Prioritized Task Scheduling, "Scheduling tasks and continuations"
+
+-- the priority source of a scheduler task: a fixed priority, or a signal's priority at each moment
 pub data PrioSource : Type 0 where
   Fixed : Priority → PrioSource
   OfSignal : ℕ → PrioSource
 
--- a scheduler task; its order is its task number
+-- a scheduler task: its registration, its priority source, whether it is a continuation, and its enqueue order, which is its task number
 pub record SchedTask : Type 0 where
   pub registration : ℕ
   pub source : PrioSource
   pub continuation : Bool
   pub order : ℕ
 
--- what an active timer does when it completes
+-- ---- HTML, "Timers": run steps after a timeout: completion steps
+
+-- what an active timer does when it completes: it queues the task of a timer, enqueues a delayed `postTask`, or queues the task that aborts a signal by its timeout
 pub data Completion : Type 0 where
   QueueTimer : TimerTask → Completion
   EnqueuePost : (registration : ℕ) → PrioSource → Completion
@@ -86,19 +98,23 @@ pub record Completing : Type 0 where
   pub start : ℕ
   pub completion : Completion
 
+-- an idle timeout: when it is due, the handle of its callback and its registration
 pub record IdleTimer : Type 0 where
   pub due : ℕ
   pub handle : ℕ
   pub registration : ℕ
 
+-- an answer of a host closure that is pending: when it is due and what was asked
 pub record HostAnswer : Type 0 where
   pub due : ℕ
   pub task : HostTask
 
+-- Prioritized Task Scheduling, "Scheduling tasks and continuations": the scheduling state: the signal that aborts what is scheduled under it, and its priority source
 pub record SchedulingState : Type 0 where
   pub abort_source : Option ℕ
   pub prio_source : PrioSource
 
+-- the page: all that a run keeps besides the variables and the fuel of the script
 pub record Page : Type 0 where
   -- the run
   pub now : ℕ
@@ -144,6 +160,7 @@ pub record Page : Type 0 where
 abbrev pub State : Type 0
 State = Machine Page
 
+-- a change of the page, in the whole state
 abbrev pub on_page : (Page → Page) → State → State
 on_page f m = record m { host = f m.host }
 
@@ -151,9 +168,11 @@ on_page f m = record m { host = f m.host }
 abbrev pub no_registration : Registration
 no_registration = record { role = ScriptRole; callback = None; second_callback = None; timer_id = 0; promise = 0; signal = None }
 
+-- registration number r
 abbrev pub the_registration : Page → ℕ → Registration
 the_registration p r = numbered p.registrations r no_registration
 
+-- the number of the last registration
 abbrev pub last_registration : Page → ℕ
 last_registration p = length p.registrations
 
@@ -161,11 +180,12 @@ last_registration p = length p.registrations
 abbrev pub emit : Event → Page → Page
 emit e p = record p { events = record { time = p.now; event = e } ∷ p.events }
 
+-- events are written one after another
 abbrev pub emit_each : List Event → Page → Page
 emit_each [] p = p
 emit_each (e ∷ es) p = emit_each es (emit e p)
 
--- a call on the notices, with its lines
+-- a call on the promises and jobs of the page, with its lines
 abbrev pub on_notices : (Notices → Noticed) → Page → Page
 on_notices f p = let d = f p.notices in emit_each d.lines (record p { notices = d.notices })
 

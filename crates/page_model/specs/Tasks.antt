@@ -21,11 +21,13 @@ use Rattle.page_model.specs.PageTime.{init_timer, clear_id, without_frame, deadl
 use Rattle.page_model.specs.Invoke.{Ways, invoke, settle_derived, checkpoint}
 use Rattle.page_model.specs.PageSignals.{each_in_turn, dispatch, abort, unwatch}
 
--- ---- timers
+-- ---- HTML, "Timers": the task of the timer initialisation steps
 
+-- an interval is initialised again under its id
 abbrev pub initialised_again : TimerTask → State → Done Page
 initialised_again t m = finish (on_page (init_timer (Some t.id) t.registration t.repeats t.timeout) m)
 
+-- after its callback an interval is initialised again, and any other timer removes its id
 abbrev pub timer_goes_on : TimerTask → State → Done Page
 timer_goes_on t m = branch t.repeats m (initialised_again t) (λ m. finish (on_page (clear_id t.id) m))
 
@@ -33,14 +35,15 @@ timer_goes_on t m = branch t.repeats m (initialised_again t) (λ m. finish (on_p
 abbrev pub where_live : TimerTask → (State → Done Page) → State → Done Page
 where_live t next m = branch (is_live t.id t.handle m.host.timers) m next finish
 
--- a timer's task tests its id, invokes the callback and makes the same test again
+-- a timer's task tests its id, invokes the callback and makes the same test again. Its nesting level is the current one meanwhile.
 abbrev pub run_timer : Ways → TimerTask → State → Done Page
 run_timer w t m =
     where_live t (λ m. afterwards (invoke w t.registration false [] m) (where_live t (timer_goes_on t)))
     (on_page (λ p. record p { level = t.level }) m)
 
--- ---- frames
+-- ---- HTML, "Animation frames": run the animation frame callbacks
 
+-- a callback that is still in the map is removed and invoked with the timestamp
 abbrev pub frame_callback : Ways → ℕ → Option Callback → State → Done Page
 frame_callback w t None m = finish m
 frame_callback w t (Some c) m = invoke w c.registration false (IntValue (pos t) ∷ []) (on_page (without_frame c.handle) m)
@@ -50,11 +53,13 @@ abbrev pub run_frame : Ways → ℕ → State → Done Page
 run_frame w t m =
     each_in_turn (keys m.host.frames) (λ key m. frame_callback w t (callback_in m.host.frames.callbacks key) m) (on_page (emit (Frame t)) m)
 
--- ---- idle callbacks
+-- ---- requestIdleCallback, "Invoke idle callbacks algorithm". Ours where a present draft differs
 
+-- Ours: an idle callback runs with a scheduling state of fixed priority background
 abbrev pub background : SchedulingState
 background = record { abort_source = None; prio_source = Fixed Background }
 
+-- an idle callback leaves the lists and is invoked with its deadline
 abbrev pub call_idle : Ways → Callback → Option ℕ → State → Done Page
 call_idle w c t m = invoke w c.registration false (DeadlineValue t ∷ []) (on_page (with_state background) (on_page (without_idle c.handle) m))
 
@@ -62,36 +67,43 @@ call_idle w c t m = invoke w c.registration false (DeadlineValue t ∷ []) (on_p
 abbrev pub invoke_idle_again : Page → Page
 invoke_idle_again p = cond (is_empty p.idle.runnable) p (queue_task Idle InvokeIdle p)
 
+-- the first runnable callback is called, with the `idle` line of the deadline computed now
 abbrev pub idle_called : Ways → List Callback → State → Done Page
 idle_called w [] m = finish m
 idle_called w (c ∷ others) m =
     afterwards (call_idle w c None (on_page (λ p. emit (IdleLine (deadline p.last_idle_start p)) p) m))
     (λ m. finish (on_page invoke_idle_again m))
 
+-- the task that invokes idle callbacks: it does nothing once the deadline has come, and the list stays
 abbrev pub invoke_idle : Ways → State → Done Page
 invoke_idle w m =
     branch (nat_lt m.host.now (deadline m.host.last_idle_start m.host)) m (λ m. idle_called w m.host.idle.runnable m) finish
 
+-- requestIdleCallback, "Invoke idle callback timeout algorithm": a callback that still waits is called, with a deadline fixed at now
 abbrev pub timed_out : Ways → Option Callback → State → Done Page
 timed_out w None m = finish m
 timed_out w (Some c) m = call_idle w c (Some m.host.now) m
 
--- ---- rejections
+-- ---- HTML, "Unhandled promise rejections" (notify about rejected promises)
 
+-- the reason of a rejected promise
 abbrev pub promise_reason : Page → ℕ → Value
 promise_reason p n = elim (promise_at p n).outcome [ None ↦ UnitValue | Some how ↦ settled_value how ]
 
+-- a promise that is still unhandled joins the outstanding ones
 abbrev pub outstanding_if_unhandled : ℕ → Page → Page
 outstanding_if_unhandled n p = record p { notices = Notices.note_outstanding n p.notices }
 
+-- for a promise that is still unhandled `unhandledrejection` is fired at the window
 abbrev pub notify_one : Ways → ℕ → State → Done Page
 notify_one w n m =
     branch (promise_at m.host n).handled m finish (λ m.
     afterwards (dispatch w Window (codes "unhandledrejection") (PromiseValue n ∷ promise_reason m.host n ∷ []) (on_page (emit (Unhandled n)) m))
     (λ m. finish (on_page (outstanding_if_unhandled n) m)))
 
--- ---- all tasks but those of the scheduler
+-- ---- HTML, "Event loops: processing model": performing a task; those of the scheduler stand below
 
+-- the steps of a task; those of a host answer stand where its choice is taken
 abbrev pub perform_steps : Ways → Steps → State → Done Page
 perform_steps w RunScript m = invoke w 1 false [] m
 perform_steps w (RunTimer t) m = run_timer w t m
@@ -105,7 +117,7 @@ perform_steps w (NotifyRejected ps) m = each_in_turn ps (notify_one w) m
 perform_steps w (NotifyHandled n) m =
     dispatch w Window (codes "rejectionhandled") (PromiseValue n ∷ promise_reason m.host n ∷ []) (on_page (emit (Handled n)) m)
 
--- ---- scheduler tasks
+-- ---- Prioritized Task Scheduling, "Scheduling tasks and continuations"
 
 -- a continuation resolves its promise; it runs no script
 abbrev pub continued : ℕ → Page → Page
@@ -122,15 +134,18 @@ run_post w t m =
     (settle_derived (the_registration m.host t.registration).promise (invoke w t.registration false [] (on_page (post_state t) m)))
     (λ m. finish (on_page (unwatch t.registration) m))
 
+-- a scheduler task: a continuation, or a posted callback
 abbrev pub perform_sched : Ways → SchedTask → State → Done Page
 perform_sched w t m = branch t.continuation m (λ m. finish (on_page (continued t.registration) m)) (run_post w t)
 
--- ---- net tasks
+-- ---- Ours: the answer of a host closure
 
+-- a closure is fired
 abbrev pub fire_closure : ℕ → Option HostClosure → Page → Page
 fire_closure k None p = p
 fire_closure k (Some c) p = record p { hosts = slice_set p.hosts k (fired c) }
 
+-- the promise is resolved with an Ok answer and rejected with an Err answer
 abbrev pub settle_answer : ℕ → Result ℤ ℤ → Page → Page
 settle_answer n (Ok v) p = promises.resolve n (IntValue v) p
 settle_answer n (Err v) p = promises.reject n (IntValue v) p
@@ -142,8 +157,8 @@ answer_host t answer p =
     (settle_answer (the_registration p t.registration).promise answer
     (fire_closure t.closure (slice_get p.hosts t.closure) (emit (Host t.closure t.number answer) p)))
 
--- ---- after a task
+-- ---- HTML, "Event loops: processing model"
 
--- no task is current, and a checkpoint is performed
+-- no task is current, and a microtask checkpoint is performed
 abbrev pub after_task : Caller Page → State → Done Page
 after_task call m = checkpoint call (on_page (λ p. record p { level = 0; scheduling = None }) m)

@@ -27,12 +27,22 @@ use Rattle.page_model.specs.Parallel.{first_item, item_count, parallel}
 use Rattle.page_parts.specs.WrittenChoices.{Runnable, Choices, PickedSource, PickedReading, PickedAnswer, next_source, next_reading, next_answer}
 use Rattle.page_model.specs.View.{view}
 
+-- ---- HTML, "Event loops: processing model". Ours: fuel, waits, and how a run ends
+
+-- A turn has five steps.
+-- 1: the parallel items that are due are taken, but in the first turn.
+-- 2: where no task is runnable, the run ends, or the clock is waited for and the turn begins again, or the idle moment has come.
+-- 3: the run ends where the time is up or no fuel is left; else a unit of fuel is taken.
+-- 4: the first task of the chosen source is performed, and then a microtask checkpoint.
+-- 5: where no task is runnable then, an idle period may start.
+
 -- how a turn ends: the run goes on, has ended, or is stuck at a choice
 pub data Turned : Type 0 where
   GoesOn : State → Choices → Turned
   Ended : End → State → Turned
   Stuck : State → Turned
 
+-- the run ends, with its line
 abbrev pub ends : End → State → Turned
 ends end m = Ended end (on_page (emit (EndLine end)) m)
 
@@ -43,6 +53,7 @@ goes_on c next (Returns v m) = GoesOn (next m) c
 goes_on c next (Throws v m) = GoesOn (next m) c
 goes_on c next (OutOfFuel m) = ends FuelEnd m
 
+-- one way or the other
 abbrev pub choose_turned : Bool → (State → Turned) → (State → Turned) → State → Turned
 choose_turned true then else m = then m
 choose_turned false then else m = else m
@@ -55,6 +66,7 @@ step_five m = cond (is_empty (view m.host)) (on_page idle_step) (λ m. m) m
 abbrev pub task_done : Caller Page → Choices → Done Page → Turned
 task_done call c done = goes_on c step_five (afterwards done (after_task call))
 
+-- a task is taken out of its queue
 abbrev pub without_task : ℕ → Page → Page
 without_task n p = record p { tasks = without (λ t. t.number == n) p.tasks }
 
@@ -63,6 +75,7 @@ abbrev pub not_dropped : Option HostClosure → Option HostClosure
 not_dropped None = None
 not_dropped (Some c) = elim c.mark [ Live ↦ Some c | QueuedMark ↦ Some c | Fired ↦ Some c | Dropped ↦ None ]
 
+-- a net task with the answer that was chosen; without a legal one the run is stuck
 abbrev pub answered : Caller Page → HostTask → Option PickedAnswer → State → Turned
 answered call t None m = Stuck m
 answered call t (Some a) m = task_done call a.left (finish (on_page (answer_host t a.answer) m))
@@ -72,14 +85,17 @@ abbrev pub perform_host : Caller Page → HostTask → Option HostClosure → St
 perform_host call t None m c = task_done call c (finish m)
 perform_host call t (Some k) m c = answered call t (next_answer k.kind t.number c) m
 
+-- a task is performed; that of a host answer takes a choice
 abbrev pub perform_task : Caller Page → Task → Option HostTask → State → Choices → Turned
 perform_task call task None m c = task_done call c (perform_steps (in_task call) task.steps m)
 perform_task call task (Some t) m c = perform_host call t (not_dropped (slice_get m.host.hosts t.closure)) m c
 
+-- the first task of a queue is removed and performed
 abbrev pub perform_first : Caller Page → Option Task → State → Choices → Turned
 perform_first call None m c = Stuck m
 perform_first call (Some task) m c = perform_task call task (host_task_of task.steps) (on_page (without_task task.number) m) c
 
+-- the scheduler task that is next is removed and performed
 abbrev pub perform_first_sched : Caller Page → Option SchedTask → State → Choices → Turned
 perform_first_sched call None m c = Stuck m
 perform_first_sched call (Some t) m c = task_done call c (perform_sched (in_task call) t (on_page (without_sched t.registration) m))
@@ -89,9 +105,11 @@ abbrev pub perform : Caller Page → Source → State → Choices → Turned
 perform call Sched m c = perform_first_sched call (first_sched m.host) m c
 perform call source m c = perform_first call (first_task source m.host.tasks) m c
 
+-- the line of a turn
 abbrev pub turn_line : Option Source → State → State
 turn_line source m = on_page (λ p. emit (Turn p.turns source) p) m
 
+-- the line of the turn, and the first task of the chosen source
 abbrev pub perform_picked : Caller Page → Option PickedSource → State → Turned
 perform_picked call None m = Stuck m
 perform_picked call (Some s) m = perform call s.source (turn_line (Some s.source) m) s.left
@@ -101,6 +119,7 @@ abbrev pub step_four : Caller Page → List Runnable → State → Choices → T
 step_four call [] m c = GoesOn (step_five (turn_line None m)) c
 step_four call (r ∷ rs) m c = perform_picked call (next_source (r ∷ rs) c) m
 
+-- one more turn, with so much fuel left
 abbrev pub counted_turn : ℕ → State → State
 counted_turn left m = on_page (λ p. record p { turns = suc p.turns }) (record m { fuel = left })
 
@@ -109,6 +128,7 @@ abbrev pub with_turn_fuel : Caller Page → ℕ → State → Choices → Turned
 with_turn_fuel call zero m c = ends FuelEnd m
 with_turn_fuel call (suc left) m c = step_four call (view m.host) (counted_turn left m) c
 
+-- step 3: the run ends where the time is up or no fuel is left
 abbrev pub step_three : Caller Page → ℕ → Choices → State → Turned
 step_three call until c m = choose_turned (nat_le until m.host.now) (ends ClockEnd) (λ m. with_turn_fuel call m.fuel m c) m
 
@@ -121,9 +141,11 @@ is_pending p =
 abbrev pub target : Page → Option ℕ
 target p = least (option_map (λ a. a.due) (first_item p)) (idle_moment p)
 
+-- the page at another time
 abbrev pub at_time : ℕ → Page → Page
 at_time t p = record p { now = t }
 
+-- a wait: the reading of the clock becomes the time, and the turn begins again
 abbrev pub waited : ℕ → Option PickedReading → (State → Choices → Turned) → State → Turned
 waited t None again m = Stuck m
 waited t (Some r) again m = again (on_page (λ p. emit (Wait t) (at_time r.reading p)) m) r.left
@@ -135,6 +157,7 @@ step_two_at until t again next c m =
     (λ m. ends ClockEnd (on_page (λ p. at_time (max p.now until) p) m))
     (choose_turned (nat_lt m.host.now t) (waited t (next_reading t c) again) next) m
 
+-- step 2 with a target, where there is one
 abbrev pub step_two_by : ℕ → Option ℕ → (State → Choices → Turned) → (State → Turned) → Choices → State → Turned
 step_two_by until None again next c m = ends DoneEnd m
 step_two_by until (Some t) again next c m = step_two_at until t again next c m
@@ -147,6 +170,7 @@ step_two until again next c m = choose_turned (is_pending m.host) (step_two_by u
 abbrev pub step_one : State → State
 step_one m = cond (m.host.turns == 0) m (on_page parallel m)
 
+-- step 2 where no task is runnable, and else step 3
 abbrev pub after_step_one : Caller Page → ℕ → (State → Choices → Turned) → Choices → State → Turned
 after_step_one call until again c m = choose_turned (is_empty (view m.host)) (step_two until again (step_three call until c) c) (step_three call until c) m
 
@@ -175,6 +199,7 @@ abbrev pub the_script : Program → Registration
 the_script program =
     record { role = ScriptRole; callback = Some (record { function = length program.names; bound = no_values }); second_callback = None; timer_id = 0; promise = 0; signal = None }
 
+-- the page before the first turn: the script is task 1, on the dom source, and the time is 0
 abbrev pub first_page : Program → Setup → List HostClosure → Page
 first_page program setup hosts =
     record {
@@ -211,6 +236,7 @@ first_page program setup hosts =
       latencies = setup.latencies;
     }
 
+-- the whole state before the first turn: the global variables are unit
 abbrev pub first_state : Program → Setup → List HostClosure → State
 first_state program setup hosts =
     record { globals = first_globals program; open_calls = []; fuel = setup.fuel; host = first_page program setup hosts }
@@ -220,6 +246,7 @@ unfoldable pub run : Program → Setup → List HostClosure → Choices → Turn
 run program setup hosts c =
     turns (call_from_outside program page_operations) setup.until (suc setup.fuel) (first_state program setup hosts) c
 
+-- the state in which a turn or run ends
 abbrev pub state_of : Turned → State
 state_of (GoesOn m c) = m
 state_of (Ended end m) = m

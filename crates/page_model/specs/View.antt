@@ -7,10 +7,14 @@ use Rattle.page_parts.specs.WrittenChoices.{Runnable}
 use Rattle.page_model.specs.State.{Page}
 use Rattle.page_model.specs.PageTime.{first_task, first_sched}
 
+-- ---- HTML, "Event loops: processing model": the runnable tasks
+
+-- the number of a source's first task; of the scheduler's, the order of the task that is next
 abbrev pub first_number : Page → Source → Option ℕ
 first_number p Sched = option_map (λ t. t.order) (first_sched p)
 first_number p source = option_map (λ t. t.number) (first_task source p.tasks)
 
+-- the source with that number, where it has a task
 abbrev pub runnable_at : Page → Source → Option Runnable
 runnable_at p source = option_map (λ n. record { source = source; first = n }) (first_number p source)
 

@@ -3,11 +3,15 @@ use Rattle.std.specs.Prelude.{ℕ, suc, ◌+◌, min, Bool, not, ◌&&◌, List,
 use Rattle.page_parts.specs.Words.{and_last, is_empty}
 use Rattle.page_parts.specs.Frames.{Callback, callback_in, without_handle}
 
+-- ---- requestIdleCallback, "The requestIdleCallback() method". Ours where a present draft differs, here and below
+
+-- the list of idle request callbacks (pending), the list of runnable idle callbacks, and how many handles were ever given
 pub record Idle : Type 0 where
   pub pending : List Callback
   pub runnable : List Callback
   pub made : ℕ
 
+-- before the script runs there is no idle callback
 abbrev pub no_idle : Idle
 no_idle = record { pending = []; runnable = []; made = 0 }
 
@@ -23,6 +27,8 @@ waiting_callback handle i = callback_in (i.runnable ++ i.pending) handle
 abbrev pub cancel : ℕ → Idle → Idle
 cancel handle i = record i { pending = without_handle handle i.pending; runnable = without_handle handle i.runnable }
 
+-- ---- requestIdleCallback, "Start an idle period algorithm". Ours: the deadline
+
 -- the pending callbacks are appended to the runnable list
 abbrev pub started : Idle → Idle
 started i = record i { runnable = i.runnable ++ i.pending; pending = [] }
@@ -31,10 +37,12 @@ started i = record i { runnable = i.runnable ++ i.pending; pending = [] }
 abbrev pub waits : Idle → Bool
 waits i = not (is_empty i.pending && is_empty i.runnable)
 
+-- a number, lowered to another where there is one
 abbrev pub at_most : ℕ → Option ℕ → ℕ
 at_most n None = n
 at_most n (Some m) = min n m
 
--- The deadline of an idle period with this start: 50 milliseconds on, lowered to the next due time of a timer, and to the next rendering where one is awaited.
+-- the deadline of an idle period with this start: 50 milliseconds on, lowered to the next due time of a timer, and to the next rendering where one is awaited. Ours: the draft leaves it to the
+-- user agent.
 abbrev pub deadline : ℕ → Option ℕ → Option ℕ → ℕ
 deadline start timer render = at_most (at_most (start + 50000) timer) render

@@ -5,22 +5,29 @@ use Rattle.page_types.specs.declared.FaultName.{FaultName}
 use Rattle.page_parts.specs.Words.{same_bytes, same_int}
 use Rattle.page_parts.specs.Spelling.{fault_text}
 
+-- ---- Ours: kinds, equality and limits of the values of the script language
+
+-- whether a value is unit
 abbrev pub is_unit : Value → Bool
 is_unit UnitValue = true
 is_unit v = false
 
+-- the Bool that a value is, else nothing; the same for each kind below
 abbrev pub bool_in : Value → Option Bool
 bool_in (BoolValue b) = Some b
 bool_in v = None
 
+-- the integer
 abbrev pub int_in : Value → Option ℤ
 int_in (IntValue n) = Some n
 int_in v = None
 
+-- the bytes of a text
 abbrev pub text_in : Value → Option (List ℕ)
 text_in (TextValue bs) = Some bs
 text_in v = None
 
+-- the items of a list
 abbrev pub list_in : Value → Option Values
 list_in (ListValue vs) = Some vs
 list_in v = None
@@ -30,30 +37,37 @@ pub record Func : Type 0 where
   pub function : ℕ
   pub bound : Values
 
+-- the function that a value is
 abbrev pub func_in : Value → Option Func
 func_in (FunValue f vs) = Some (record { function = f; bound = vs })
 func_in v = None
 
+-- the number of a promise
 abbrev pub promise_in : Value → Option ℕ
 promise_in (PromiseValue n) = Some n
 promise_in v = None
 
+-- the number of a signal
 abbrev pub signal_in : Value → Option ℕ
 signal_in (SignalValue n) = Some n
 signal_in v = None
 
+-- the number of a controller, which is that of its signal
 abbrev pub controller_in : Value → Option ℕ
 controller_in (ControllerValue n) = Some n
 controller_in v = None
 
+-- the deadline: nothing inside for that of a period, else the time at which it is fixed
 abbrev pub deadline_in : Value → Option (Option ℕ)
 deadline_in (DeadlineValue t) = Some t
 deadline_in v = None
 
+-- a fault: its name and its text
 pub record Fault : Type 0 where
   pub name : FaultName
   pub text : List ℕ
 
+-- the fault that a value is
 abbrev pub fault_in : Value → Option Fault
 fault_in (FaultValue name bs) = Some (record { name = name; text = bs })
 fault_in v = None
@@ -63,21 +77,24 @@ abbrev pub there_and : {X : Type 0} → Option X → (X → Bool) → Bool
 there_and None test = false
 there_and (Some x) test = test x
 
+-- whether two deadlines are equal
 abbrev pub same_deadline : Option ℕ → Option ℕ → Bool
 same_deadline None None = true
 same_deadline (Some a) (Some b) = a == b
 same_deadline a b = false
 
+-- whether no value is left
 abbrev pub none_left : Values → Bool
 none_left no_values = true
 none_left (with_value v vs) = false
 
+-- the test of the first value and the rest, and false where there is none
 abbrev pub split_and : Values → (Value → Values → Bool) → Bool
 split_and no_values test = false
 split_and (with_value v vs) test = test v vs
 
--- equality by structure
 abbrev mutual
+  -- whether two values are equal by structure
   pub same : Value → Value → Bool
   same UnitValue b = is_unit b
   same (BoolValue x) b = there_and (bool_in b) (λ y. cond x y (not y))
@@ -91,12 +108,13 @@ abbrev mutual
   same (DeadlineValue x) b = there_and (deadline_in b) (same_deadline x)
   same (FaultValue name x) b = there_and (fault_in b) (λ y. same_bytes (fault_text name) (fault_text y.name) && same_bytes x y.text)
 
+  -- the same of values in a row
   pub same_all : Values → Values → Bool
   same_all no_values ys = none_left ys
   same_all (with_value x xs) ys = split_and ys (λ y ys'. same x y && same_all xs ys')
 
--- 1, the bytes of a text, and the weights of items and bound arguments
 abbrev mutual
+  -- the weight of a value: 1, plus the bytes of a text, plus the weights of items and bound arguments
   pub weight : Value → ℕ
   weight UnitValue = 1
   weight (BoolValue x) = 1
@@ -110,12 +128,13 @@ abbrev mutual
   weight (DeadlineValue x) = 1
   weight (FaultValue name x) = 1 + length x
 
+  -- the weights of values together
   pub all_weights : Values → ℕ
   all_weights no_values = 0
   all_weights (with_value x xs) = weight x + all_weights xs
 
--- how deep lists and bound lists nest
 abbrev mutual
+  -- how deep lists and bound lists nest; the bound list of a function counts, as an empty list does
   pub nesting : Value → ℕ
   nesting UnitValue = 0
   nesting (BoolValue x) = 0
@@ -129,14 +148,16 @@ abbrev mutual
   nesting (DeadlineValue x) = 0
   nesting (FaultValue name x) = 0
 
+  -- the greatest nesting among values, 0 of none
   pub greatest_nesting : Values → ℕ
   greatest_nesting no_values = 0
   greatest_nesting (with_value x xs) = max (nesting x) (greatest_nesting xs)
 
--- the value, unless it is too heavy
+-- the value, unless it weighs more than 65,536 or nests deeper than 64
 abbrev pub within_limits : Value → Option Value
 within_limits v = cond (nat_le (weight v) 65536 && nat_le (nesting v) 64) (Some v) None
 
+-- the word that `kind` answers
 abbrev pub kind_text : Value → List ℕ
 kind_text UnitValue = codes "unit"
 kind_text (BoolValue x) = codes "bool"
@@ -150,5 +171,6 @@ kind_text (ControllerValue x) = codes "controller"
 kind_text (DeadlineValue x) = codes "deadline"
 kind_text (FaultValue name x) = codes "fault"
 
+-- a fault that is made here: its text is empty
 abbrev pub a_fault : FaultName → Value
 a_fault name = FaultValue name []

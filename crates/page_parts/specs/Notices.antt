@@ -5,21 +5,28 @@ use Rattle.page_parts.specs.Words.{and_last, without, has_number, numbered, with
 use Rattle.page_parts.specs.Spelling.{spelled}
 use Rattle.page_parts.specs.Promises.{Settled, Fulfilled, Failed, Reaction, PromiseRecord, PromiseJob, React, Adopt, Change, pending_promise, resolve, reject, follow, subscribe}
 
+-- ---- ECMA-262, "Jobs"; HTML, "Microtask checkpoint": the queue of microtasks
+
+-- what a job does: it calls the callback of a `queueMicrotask` registration, or it is a job of a promise
 pub data Todo : Type 0 where
   Micro : ℕ → Todo
   OfPromise : PromiseJob → Todo
 
+-- a job that waits, with its number
 pub record WaitingJob : Type 0 where
   pub number : ℕ
   pub what : Todo
 
+-- all promises in the order of their numbers; the jobs that wait, and how many were ever queued;
+-- the promises about to be notified about, and the outstanding rejected ones (HTML, "Unhandled promise rejections")
 pub record Notices : Type 0 where
   pub promises : List PromiseRecord
   pub jobs : List WaitingJob
   pub jobs_made : ℕ
-  pub rejected : List ℕ  -- about to be notified
+  pub rejected : List ℕ
   pub outstanding : List ℕ
 
+-- before the script runs there is no promise and no job
 abbrev pub no_notices : Notices
 no_notices = record { promises = []; jobs = []; jobs_made = 0; rejected = []; outstanding = [] }
 
@@ -28,12 +35,17 @@ pub record Noticed : Type 0 where
   pub notices : Notices
   pub lines : List Event
 
+-- ---- ECMA-262, "Promise Objects"
+
+-- promise number n
 abbrev pub the_promise : Notices → ℕ → PromiseRecord
 the_promise s n = numbered s.promises n pending_promise
 
 -- a new pending promise; its number is the length of the list afterwards
 abbrev pub make : Notices → Notices
 make s = record s { promises = and_last s.promises pending_promise }
+
+-- ---- ECMA-262, "Jobs", "NewPromiseReactionJob" and "NewPromiseResolveThenableJob"
 
 -- the word of a job in its line
 abbrev pub queued_as : Todo → Queued
@@ -53,10 +65,12 @@ queue_job what s =
       lines = Job (suc s.jobs_made) (queued_as what) ∷ [];
     }
 
+-- jobs of promises are queued in order
 abbrev pub queue_jobs : List PromiseJob → Notices → Noticed
 queue_jobs [] s = record { notices = s; lines = [] }
 queue_jobs (j ∷ more) s = followed_by (queue_job (OfPromise j) s) (queue_jobs more)
 
+-- the line of a settled promise: nothing for a pending one
 abbrev pub settle_line : List (List ℕ) → ℕ → Option Settled → List Event
 settle_line names n None = []
 settle_line names n (Some (Fulfilled v)) = Settle n true (spelled names v) ∷ []
@@ -70,15 +84,22 @@ promise_changed names n c s =
       lines = cond c.settled (settle_line names n c.promise.outcome) [];
     }
 
+-- the change of promise number n, and then its jobs in order
 abbrev pub changed : List (List ℕ) → ℕ → Change → Notices → Noticed
 changed names n c s = followed_by (promise_changed names n c s) (queue_jobs c.jobs)
 
+-- ---- ECMA-262, "Promise Resolve Functions": each with its lines
+
+-- a promise is resolved with a value or rejected with a reason
 abbrev pub settle_promise : List (List ℕ) → ℕ → Settled → Notices → Noticed
 settle_promise names n (Fulfilled v) s = changed names n (resolve n (the_promise s n) v) s
 settle_promise names n (Failed v) s = changed names n (reject n (the_promise s n) v) s
 
+-- a promise follows the outcome of the one that it was resolved with
 abbrev pub follow_promise : List (List ℕ) → ℕ → Settled → Notices → Noticed
 follow_promise names n how s = changed names n (follow n (the_promise s n) how) s
+
+-- ---- ECMA-262, "PerformPromiseThen"; HTML, "Unhandled promise rejections": a promise that is handled
 
 -- A promise gets a handler, so it leaves the list of those to be notified about and the outstanding ones.
 abbrev pub subscribe_promise : ℕ → Reaction → Notices → Noticed
@@ -86,12 +107,14 @@ subscribe_promise n r s =
     changed [] n (subscribe n (the_promise s n) r)
     (record s { rejected = without (λ m. m == n) s.rejected; outstanding = without (λ m. m == n) s.outstanding })
 
+-- whether a promise was notified about and stayed unhandled
 abbrev pub is_outstanding : ℕ → Notices → Bool
 is_outstanding n s = has_number s.outstanding n
 
+-- HTML, "Microtask queuing": a microtask callback is queued
 abbrev pub queue_micro : ℕ → Notices → Noticed
 queue_micro r s = queue_job (Micro r) s
 
--- a promise that is still unhandled joins the outstanding list
+-- HTML, "Unhandled promise rejections" (notify about rejected promises): a promise that is still unhandled joins the outstanding ones
 abbrev pub note_outstanding : ℕ → Notices → Notices
 note_outstanding n s = cond (the_promise s n).handled s (record s { outstanding = and_last s.outstanding n })

@@ -3,22 +3,27 @@ use Rattle.std.specs.Prelude.{ℕ, List}
 use Rattle.page_types.specs.Values.{Value}
 use Rattle.page_types.specs.declared.Source.{Source}
 
+-- ---- Ours: what stands in the arrivals file
+
+-- an arrival: when it comes, on which task source, the name of its event and the value that listeners get
 pub record Arrival : Type 0 where
   pub at : ℕ
   pub source : Source
   pub name : List ℕ
   pub value : Value
 
+-- which task source is served: that of the oldest first task, the first in a list, or a fair one, by which a source that was passed over K times goes first
 pub data Policy : Type 0 where
   Fifo : Policy
   Rank : List Source → Policy
   Fair : ℕ → Policy
 
--- the latency of a host closure
+-- how many microseconds a host closure takes to answer
 pub record Latency : Type 0 where
   pub closure : ℕ
   pub latency : ℕ
 
+-- the setup of a run: policy, units of fuel, the moment at which the run ends at the latest, refresh rate in hertz, how late each wait is, latencies and arrivals
 pub record Setup : Type 0 where
   pub policy : Policy
   pub fuel : ℕ

@@ -7,6 +7,9 @@ use Rattle.page_types.specs.declared.Priority.{Priority}
 use Rattle.page_types.specs.declared.Priority.TheVariants.{Background, UserVisible, UserBlocking}
 use Rattle.page_parts.specs.Words.{decimal_of, int_decimal}
 
+-- ---- Ours: each value has one spelling, which `text`, `log` and the trace use
+
+-- the name of a fault: names of ECMA-262's error objects and of Web IDL's DOMException
 abbrev pub fault_text : FaultName → List ℕ
 fault_text Error = codes "Error"
 fault_text TypeError = codes "TypeError"
@@ -15,6 +18,7 @@ fault_text AbortError = codes "AbortError"
 fault_text TimeoutError = codes "TimeoutError"
 fault_text NotAllowedError = codes "NotAllowedError"
 
+-- the text of a priority (Prioritized Task Scheduling, "Scheduler: postTask and yield")
 abbrev pub priority_text : Priority → List ℕ
 priority_text Background = codes "background"
 priority_text UserVisible = codes "user-visible"
@@ -24,23 +28,27 @@ priority_text UserBlocking = codes "user-blocking"
 abbrev pub escaped : ℕ → List ℕ
 escaped b = cond (b == 34) (92 ∷ 34 ∷ []) (cond (b == 92) (92 ∷ 92 ∷ []) (cond (b == 10) (92 ∷ 110 ∷ []) (b ∷ [])))
 
+-- all bytes of a text, escaped
 abbrev pub all_escaped : List ℕ → List ℕ
 all_escaped [] = []
 all_escaped (b ∷ bs) = escaped b ++ all_escaped bs
 
+-- a text between quotation marks
 abbrev pub quoted : List ℕ → List ℕ
 quoted bs = 34 ∷ all_escaped bs ++ 34 ∷ []
 
+-- the deadline of a period, or one fixed at a time
 abbrev pub deadline_text : Option ℕ → List ℕ
 deadline_text None = codes "deadline"
 deadline_text (Some t) = codes "deadline@" ++ decimal_of t
 
+-- a Bool by its word
 abbrev pub bool_text : Bool → List ℕ
 bool_text true = codes "true"
 bool_text false = codes "false"
 
--- the spelling of a value, where names are those of the functions
 abbrev mutual
+  -- the spelling of a value, where names are those of the functions
   pub spelled : List (List ℕ) → Value → List ℕ
   spelled names UnitValue = codes "unit"
   spelled names (BoolValue b) = bool_text b
@@ -59,6 +67,7 @@ abbrev mutual
   all_spelled names no_values = []
   all_spelled names (with_value v vs) = spelled names v ++ more_spelled names vs
 
+  -- the further values, each behind a comma
   pub more_spelled : List (List ℕ) → Values → List ℕ
   more_spelled names no_values = []
   more_spelled names (with_value v vs) = 44 ∷ spelled names v ++ more_spelled names vs

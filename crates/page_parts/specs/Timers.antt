@@ -2,15 +2,19 @@
 use Rattle.std.specs.Prelude.{ℕ, suc, ◌+◌, ◌-◌, ◌*◌, ◌%◌, ◌^◌, Bool, false, cond, ◌&&◌, ◌||◌, List, [], ◌∷◌, Option, Some, None, ℤ, pos, negsuc, nat_lt, ◌==◌, find, unwrap_or, option_map}
 use Rattle.page_parts.specs.Words.{and_last, without, is_there}
 
--- an id of the map, with its unique handle
+-- ---- HTML, "Timers"
+
+-- an entry of the map of setTimeout and setInterval ids: an id with its unique handle
 pub record TimerId : Type 0 where
   pub id : ℕ
   pub handle : ℕ
 
+-- an entry of the map of active timers: its start number and the moment at which it is due
 pub record ActiveTimer : Type 0 where
   pub start : ℕ
   pub due : ℕ
 
+-- the map of ids, the map of active timers, and how many ids, handles and starts were ever given
 pub record Timers : Type 0 where
   pub ids : List TimerId
   pub active : List ActiveTimer  -- in the order of start
@@ -18,8 +22,11 @@ pub record Timers : Type 0 where
   pub handles_made : ℕ
   pub starts_made : ℕ
 
+-- before the script runs there is no timer
 abbrev pub no_timers : Timers
 no_timers = record { ids = []; active = []; ids_made = 0; handles_made = 0; starts_made = 0 }
+
+-- ---- HTML, "Timers": timer initialisation steps. Web IDL, "long": the timeout wraps into 32 bits with a sign
 
 -- the remainder of an integer modulo 2 ^ 32
 abbrev pub modulo_word : ℤ → ℕ
@@ -30,19 +37,24 @@ modulo_word (negsuc n) = 2 ^ 32 - 1 - n % 2 ^ 32
 abbrev pub milliseconds : ℤ → ℕ
 milliseconds timeout = cond (nat_lt (modulo_word timeout) (2 ^ 31)) (modulo_word timeout) 0
 
--- a nesting level above 5 makes it 4 at least
+-- a nesting level above 5 makes a timeout 4 milliseconds at least
 abbrev pub clamped : ℕ → ℕ → ℕ
 clamped nesting ms = cond (nat_lt 5 nesting && nat_lt ms 4) 4 ms
+
+-- ---- HTML, "Timers": run steps after a timeout
 
 -- an active timer is set, with the next start number
 abbrev pub run_after : ℕ → ℕ → Timers → Timers
 run_after ms now t =
     record t { starts_made = suc t.starts_made; active = and_last t.active (record { start = suc t.starts_made; due = now + ms * 1000 }) }
 
+-- ---- HTML, "Timers": timer initialisation steps
+
+-- the map of ids with this handle at the id
 abbrev pub with_id : ℕ → ℕ → List TimerId → List TimerId
 with_id id handle ids = and_last (without (λ e. e.id == id) ids) (record { id = id; handle = handle })
 
--- what initialising a timer gives
+-- what initialising a timer gives: its id, its unique handle, its start number, its due time and its nesting level
 pub record Armed : Type 0 where
   pub id : ℕ
   pub handle : ℕ
@@ -61,6 +73,7 @@ armed again timeout nesting now t =
       level = suc nesting;
     }
 
+-- the timer's id and handle are set in the map, and its active timer is set
 abbrev pub with_armed : Option ℕ → Armed → Timers → Timers
 with_armed again a t =
     record {
@@ -71,11 +84,15 @@ with_armed again a t =
       starts_made = a.start;
     }
 
+-- the entry of an id in the map
 abbrev pub id_entry : ℕ → Timers → Option TimerId
 id_entry id t = find (λ e. e.id == id) t.ids
 
+-- whether an id is in the map
 abbrev pub has_id : ℕ → Timers → Bool
 has_id id t = is_there (id_entry id t)
+
+-- ---- HTML, "Timers": clearTimeout() and clearInterval(), and the two tests of a timer's task
 
 -- the id leaves the map, and the active timers stay
 abbrev pub clear : ℕ → Timers → Timers
@@ -85,18 +102,23 @@ clear id t = record t { ids = without (λ e. e.id == id) t.ids }
 abbrev pub is_live : ℕ → ℕ → Timers → Bool
 is_live id handle t = elim (id_entry id t) [ None ↦ false | Some e ↦ e.handle == handle ]
 
--- the first active timer: the one of least due time, and among those the one of least start
+-- ---- HTML, "Timers": run steps after a timeout: completion in the order of due time, then of start
+
+-- the one of least due time among these, and of least start among those
 abbrev pub first_from : ActiveTimer → List ActiveTimer → ActiveTimer
 first_from a [] = a
 first_from a (b ∷ more) = first_from (cond (nat_lt b.due a.due || ((b.due == a.due) && nat_lt b.start a.start)) b a) more
 
+-- the first of a list of active timers
 abbrev pub first_of : List ActiveTimer → Option ActiveTimer
 first_of [] = None
 first_of (a ∷ more) = Some (first_from a more)
 
+-- the active timer that completes first
 abbrev pub first_timer : Timers → Option ActiveTimer
 first_timer t = first_of t.active
 
+-- the due time of that timer, none where none is active
 abbrev pub next_due : Timers → Option ℕ
 next_due t = option_map (λ a. a.due) (first_timer t)
 

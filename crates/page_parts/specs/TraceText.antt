@@ -11,6 +11,9 @@ use Rattle.page_parts.specs.Words.{decimal_of, int_decimal}
 use Rattle.page_parts.specs.Spelling.{priority_text}
 use Rattle.page_parts.specs.WrittenChoices.{Choices, Recorded}
 
+-- ---- Ours: each event has one line
+
+-- a source by its word; `none` for a turn without a task
 abbrev pub source_text : Option Source → List ℕ
 source_text None = codes "none"
 source_text (Some User) = codes "user"
@@ -21,11 +24,13 @@ source_text (Some Render) = codes "render"
 source_text (Some Sched) = codes "sched"
 source_text (Some Idle) = codes "idle"
 
+-- why a run ended, by its word
 abbrev pub end_text : End → List ℕ
 end_text DoneEnd = codes "done"
 end_text FuelEnd = codes "fuel"
 end_text ClockEnd = codes "clock"
 
+-- what a registration is for, by its word
 abbrev pub kind_text : RegKind → List ℕ
 kind_text TimeoutKind = codes "timeout"
 kind_text IntervalKind = codes "interval"
@@ -43,25 +48,31 @@ kind_text SignalKind = codes "signal"
 abbrev pub field : List ℕ → List ℕ
 field bs = 32 ∷ bs
 
+-- a number behind a space
 abbrev pub number_field : ℕ → List ℕ
 number_field n = field (decimal_of n)
 
+-- an integer behind a space
 abbrev pub int_field : ℤ → List ℕ
 int_field n = field (int_decimal n)
 
+-- what a job was queued for
 abbrev pub queued_text : Queued → List ℕ
 queued_text (MicroJob r) = codes " micro" ++ number_field r
 queued_text (ReactJob n) = codes " react" ++ number_field n
 queued_text (AdoptJob n) = codes " adopt" ++ number_field n
 
+-- the queue of a scheduler task: a priority, or a signal
 abbrev pub queue_text : QueueName → List ℕ
 queue_text (FixedQueue priority) = field (priority_text priority)
 queue_text (SignalQueue s) = codes " s" ++ decimal_of s
 
+-- whether a promise was fulfilled or a closure answered Ok
 abbrev pub how_text : Bool → List ℕ
 how_text true = codes " ok"
 how_text false = codes " err"
 
+-- the answer of a host closure
 abbrev pub answer_text : Result ℤ ℤ → List ℕ
 answer_text (Ok v) = how_text true ++ int_field v
 answer_text (Err v) = how_text false ++ int_field v
@@ -93,9 +104,11 @@ event_text (Unhandled n) = codes "unhandled" ++ number_field n
 event_text (Handled n) = codes "handled" ++ number_field n
 event_text (EndLine end) = codes "end" ++ field (end_text end)
 
+-- a line: the time, the event, LF
 abbrev pub line_text : Stamped → List ℕ
 line_text e = decimal_of e.time ++ 32 ∷ event_text e.event ++ 10 ∷ []
 
+-- the lines of events in a row
 abbrev pub lines_text : List Stamped → List ℕ
 lines_text [] = []
 lines_text (e ∷ es) = line_text e ++ lines_text es
@@ -104,31 +117,38 @@ lines_text (e ∷ es) = line_text e ++ lines_text es
 abbrev pub text_of : List Stamped → List ℕ
 text_of es = codes "trace 1\n" ++ lines_text es
 
--- ---- the choices that stand in a trace
+-- ---- Ours: the choices that stand in a trace
 
+-- the source of a `turn` line, before those that follow
 abbrev pub source_in : Event → List Source → List Source
 source_in (Turn n (Some s)) more = s ∷ more
 source_in e more = more
 
+-- the time of a `wait` line, before those that follow
 abbrev pub reading_in : Stamped → Event → List ℕ → List ℕ
 reading_in at (Wait t) more = at.time ∷ more
 reading_in at e more = more
 
+-- the answer of a `host` line, before those that follow
 abbrev pub answer_in : Event → List (Result ℤ ℤ) → List (Result ℤ ℤ)
 answer_in (Host k x answer) more = answer ∷ more
 answer_in e more = more
 
+-- the sources that were served
 abbrev pub sources_in : List Stamped → List Source
 sources_in [] = []
 sources_in (e ∷ es) = source_in e.event (sources_in es)
 
+-- the readings of the clock
 abbrev pub readings_in : List Stamped → List ℕ
 readings_in [] = []
 readings_in (e ∷ es) = reading_in e e.event (readings_in es)
 
+-- the answers of host closures
 abbrev pub answers_in : List Stamped → List (Result ℤ ℤ)
 answers_in [] = []
 answers_in (e ∷ es) = answer_in e.event (answers_in es)
 
+-- the choices of a trace, each list in the order of the lines
 abbrev pub choices_in : List Stamped → Choices
 choices_in es = Recorded (sources_in es) (readings_in es) (answers_in es)

@@ -7,16 +7,20 @@ use Rattle.page_types.specs.declared.HostKind.{HostKind}
 use Rattle.page_parts.specs.Setup.{Policy, Fifo, Rank, Fair, Setup}
 use Rattle.page_parts.specs.Sources.{default_list, source_number, same_source}
 
+-- ---- HTML, "Event loops: processing model" leaves open which task queue is served. Ours: the policies by which it is chosen
+
 -- a source with a runnable task, and the number of its first task
 pub record Runnable : Type 0 where
   pub source : Source
   pub first : ℕ
 
+-- whether a source has a runnable task
 abbrev pub is_runnable : List Runnable → Source → Bool
 is_runnable rs source = elim (find (λ r. same_source r.source source) rs) [ None ↦ false | Some r ↦ true ]
 
--- ---- the written policy
+-- ---- Ours: the written policy
 
+-- the source of least first task, among these and the best so far
 abbrev pub least_first : Source → ℕ → List Runnable → Source
 least_first best n [] = best
 least_first best n (r ∷ rs) = cond (nat_lt r.first n) (least_first r.source r.first rs) (least_first best n rs)
@@ -30,6 +34,7 @@ by_fifo (r ∷ rs) = least_first r.source r.first rs
 abbrev pub by_rank : List Source → List Runnable → Source
 by_rank sources rs = unwrap_or (find (is_runnable rs) sources) User
 
+-- the count of a source
 abbrev pub count_of : List ℕ → Source → ℕ
 count_of counts source = slice_index counts (source_number source)
 
@@ -37,10 +42,12 @@ count_of counts source = slice_index counts (source_number source)
 abbrev pub counts_now : List Runnable → List ℕ → List ℕ
 counts_now rs counts = map (λ s. cond (is_runnable rs s) (count_of counts s) 0) default_list
 
+-- the source of greatest count, among these and the best so far; the earlier one where counts are equal
 abbrev pub greatest_from : List ℕ → Source → List Source → Source
 greatest_from counts best [] = best
 greatest_from counts best (s ∷ more) = greatest_from counts (cond (nat_lt (count_of counts best) (count_of counts s)) s best) more
 
+-- the source of greatest count in a list
 abbrev pub greatest : List ℕ → List Source → Option Source
 greatest counts [] = None
 greatest counts (s ∷ more) = Some (greatest_from counts s more)
@@ -49,6 +56,7 @@ greatest counts (s ∷ more) = Some (greatest_from counts s more)
 abbrev pub by_fair : ℕ → List ℕ → List Runnable → Source
 by_fair k counts rs = unwrap_or (greatest counts (filter (λ s. is_runnable rs s && nat_le k (count_of counts s)) default_list)) (by_rank default_list rs)
 
+-- the counts after a choice: 0 for the chosen source, one more for each other source with a runnable task
 abbrev pub counts_after : List Runnable → Source → List ℕ → List ℕ
 counts_after rs chosen counts = map (λ s. cond (same_source s chosen) 0 (cond (is_runnable rs s) (suc (count_of counts s)) 0)) default_list
 
@@ -58,7 +66,7 @@ policy_source Fifo counts rs = by_fifo rs
 policy_source (Rank sources) counts rs = by_rank sources rs
 policy_source (Fair k) counts rs = by_fair k (counts_now rs counts) rs
 
--- ---- choices
+-- ---- Ours: what a run does not decide by itself
 
 -- A run goes by three lists, each used on its own; or by the written policy and lateness, with a list of host answers.
 pub data Choices : Type 0 where
@@ -69,14 +77,17 @@ pub data Choices : Type 0 where
 abbrev pub written : Setup → List (Result ℤ ℤ) → Choices
 written setup answers = Written setup.policy (replicate 7 0) setup.late answers
 
+-- a source, and the choices that are left
 pub record PickedSource : Type 0 where
   pub source : Source
   pub left : Choices
 
+-- a reading of the clock, and the choices that are left
 pub record PickedReading : Type 0 where
   pub reading : ℕ
   pub left : Choices
 
+-- an answer of a host closure, and the choices that are left
 pub record PickedAnswer : Type 0 where
   pub answer : Result ℤ ℤ
   pub left : Choices
@@ -97,6 +108,7 @@ next_reading target (Recorded sources (t ∷ readings) answers) =
 next_reading target (Written policy counts [] answers) = Some (record { reading = target; left = Written policy counts [] answers })
 next_reading target (Written policy counts (l ∷ late) answers) = Some (record { reading = target + l; left = Written policy counts late answers })
 
+-- the first answer of a list, where it meets the relation
 abbrev pub first_answer : HostKind → ℤ → List (Result ℤ ℤ) → (List (Result ℤ ℤ) → Choices) → Option PickedAnswer
 first_answer kind x [] left = None
 first_answer kind x (a ∷ answers) left = cond (meets kind x a) (Some (record { answer = a; left = left answers })) None

@@ -5,16 +5,20 @@ use Rattle.page_types.specs.declared.End.{End}
 use Rattle.page_types.specs.declared.RegKind.{RegKind}
 use Rattle.page_types.specs.declared.Priority.{Priority}
 
+-- ---- Ours: the standards write no trace
+
+-- what a job was queued for: a microtask callback (its registration), a reaction (the promise that was settled), or a resolution with another promise (the promise that was resolved)
 pub data Queued : Type 0 where
   MicroJob : ℕ → Queued
   ReactJob : ℕ → Queued
   AdoptJob : ℕ → Queued
 
+-- the queue of a scheduler task in its line: that of a fixed priority, or that of a signal
 pub data QueueName : Type 0 where
   FixedQueue : Priority → QueueName
   SignalQueue : ℕ → QueueName
 
--- Values stand in events by their spelling, as bytes.
+-- one event, with the fields of its line in their order. Values stand in events by their spelling, as bytes.
 pub data Event : Type 0 where
   Turn : ℕ → Option Source → Event
   Call : ℕ → Event

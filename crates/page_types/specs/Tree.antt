@@ -5,13 +5,15 @@ use Rattle.page_types.specs.declared.ProductSign.{ProductSign}
 use Rattle.page_types.specs.declared.CompareSign.{CompareSign}
 use Rattle.page_types.specs.declared.UnarySign.{UnarySign}
 
+-- ---- Ours: the grammar of the script language
+
 -- a name, and the byte at which it stands
 pub record Named : Type 0 where
   pub name : List ℕ
   pub at : ℕ
 
--- One variant for each level of the grammar and for each branch of its lowest level.
 mutual
+  -- an expression: one variant for each level of the grammar, from `||` down to what stands behind a value, and one for each branch of its lowest level
   pub data Expr : Type 0 where
     Or : Expr → Exprs → Expr
     And : Expr → Exprs → Expr
@@ -30,19 +32,23 @@ mutual
     Paren : Expr → Expr
     ListLiteral : Exprs → Expr
 
+  -- expressions in a row: operands of one level, arguments, items or places
   pub data Exprs : Type 0 where
     no_exprs : Exprs
     with_expr : Expr → Exprs → Exprs
 
+  -- the further terms of a sum, each with the sign before it
   pub data SumParts : Type 0 where
     no_terms : SumParts
     with_term : SumSign → Expr → SumParts → SumParts
 
+  -- the further factors of a product, each with the sign before it
   pub data ProductParts : Type 0 where
     no_factors : ProductParts
     with_factor : ProductSign → Expr → ProductParts → ProductParts
 
 mutual
+  -- a statement, one variant for each branch of the grammar
   pub data Stmt : Type 0 where
     VarStmt : Named → Expr → Stmt
     AssignStmt : Named → Expr → Stmt
@@ -53,18 +59,22 @@ mutual
     ThrowStmt : Expr → Stmt
     TryStmt : Block → Named → Block → Stmt
 
+  -- statements in a row
   pub data Block : Type 0 where
     no_stmts : Block
     with_stmt : Stmt → Block → Block
 
+  -- the `else if` parts of an `if`, each with its condition and block
   pub data ElseIfs : Type 0 where
     no_else_ifs : ElseIfs
     with_else_if : Expr → Block → ElseIfs → ElseIfs
 
+  -- the `else` part of an `if`, where there is one
   pub data ElsePart : Type 0 where
     no_else : ElsePart
     else_block : Block → ElsePart
 
+-- what a script consists of: a function with its parameters and body, or a statement outside functions
 pub data Item : Type 0 where
   FnItem : Named → List Named → Block → Item
   StmtItem : Stmt → Item

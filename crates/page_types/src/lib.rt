@@ -98,7 +98,7 @@ pub enum UnarySign {
     Not,
 }
 
-/// A task source (HTML, "Event loops: definitions"). `Sched` stands for all queues of the scheduler.
+/// A task source (HTML, "Task sources"). `Sched` stands for all queues of the scheduler.
 #[derive(Clone, Copy, PartialEq, Eq, Debug)]
 pub enum Source {
     User,
@@ -118,7 +118,7 @@ pub enum End {
     Clock,
 }
 
-/// What a registration is for.
+/// What a registration is for: each callback that a script hands in has a number of its own.
 #[derive(Clone, Copy, PartialEq, Eq, Debug)]
 pub enum RegKind {
     Timeout,
@@ -134,7 +134,7 @@ pub enum RegKind {
     Signal,
 }
 
-/// The priority of a scheduler task (Prioritized Task Scheduling, "TaskPriority").
+/// The priority of a scheduler task (Prioritized Task Scheduling, "Scheduler: postTask and yield").
 #[derive(Clone, Copy, PartialEq, Eq, Debug)]
 pub enum Priority {
     Background,
