@@ -107,7 +107,7 @@ variable m x = or_else (value_in (locals m.open_calls) x) (value_in m.globals x)
 -- the variables with v for x
 abbrev pub with_value_in : List Variable → List ℕ → Value → List Variable
 with_value_in [] x v = []
-with_value_in (a ∷ more) x v = cond (same_bytes a.name x) (record { name = x; value = v } ∷ more) (a ∷ with_value_in more x v)
+with_value_in (a ∷ more) x v = cond (same_bytes a.name x) (record a { value = v } ∷ more) (a ∷ with_value_in more x v)
 
 -- the local variables of the innermost open call with v for x
 abbrev pub with_local : List (List Variable) → List ℕ → Value → List (List Variable)
