@@ -1,0 +1,4 @@
+pub mod Files
+pub mod MemFiles
+pub mod MemBytes
+pub mod Stream

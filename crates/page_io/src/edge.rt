@@ -1,0 +1,145 @@
+ghost use Rattle.std.specs.Prelude.{◌≡◌, ◌≤◌, ◌<◌, ℕ, None, length, IsErrOf, OnOk};
+ghost use Rattle.page_types.specs.Counts.{HasCause, Rose, refusals_after};
+ghost use Rattle.std.specs.Io.KnownBytes.{Appends};
+ghost use Rattle.page_io.specs.Files.{faults_after};
+ghost use Rattle.page_io.specs.Stream.{Stream};
+
+use crate::{Failed, FetchFault, Fetched, Folder, Sink};
+use std::io::{ErrorKind, Read, Write};
+use std::marker::Model;
+use std::rt::Files;
+use std::{fs, io};
+
+/// The files of the system. It tells no content, and each fault raises the count of every name. It is seen as that count.
+#[derive(Drop)]
+pub struct RealFolder<'a, R: Files> {
+    rt: &'a R,
+    faults: u64,
+}
+
+impl<'a, R: Files> Model for RealFolder<'a, R> {
+    ghost Value = { ℕ };
+
+    ghost view = { λ folder. folder.faults };
+}
+
+impl<'a, R: Files> RealFolder<'a, R> {
+    /// Takes no memory.
+    pub fn new(rt: &'a R) -> RealFolder<'a, R>
+        ensures { result ≡ 0 }
+    {
+        RealFolder { rt, faults: 0 }
+    }
+
+    // Appends the first `most` bytes of a file, and answers how many there were.
+    fn read_start(&self, name: &str, most: u64, into: &mut Vec<u8>) -> io::Result<usize> {
+        fs::open(self.rt, name)?.take(most).read_to_end(into)
+    }
+}
+
+impl<'a, R: Files> Folder for RealFolder<'a, R> {
+    ghost file = { λ _ _. None };
+
+    ghost faults = { λ folder _. folder };
+
+    fn fetch(&mut self, name: &str, limit: usize, into: &mut Vec<u8>) -> Result<Fetched, FetchFault>
+        ensures later { self.old ≤ self.new }
+        ensures cause { IsErrOf result FetchFault.Failed → Rose self.old self.new }
+        ensures count { self.new ≡ faults_after self.old result }
+    {
+        match self.read_start(name, (limit as u64).saturating_add(1), into) {
+            Ok(count) if count <= limit => Ok(Fetched::Whole),
+            Ok(_) => Ok(Fetched::TooLong),
+            Err(error) if error.kind() == ErrorKind::OutOfMemory => Err(FetchFault::OutOfMemory),
+            Err(_) => {
+                self.faults = self.faults.saturating_add(1);
+                Err(FetchFault::Failed)
+            }
+        }
+    }
+}
+
+/// A stream of the system. As a sink it tells no content. It is seen as what its writer holds, where that is known, and the
+/// count of its faults.
+#[derive(Drop)]
+pub struct StdSink<W: Write> {
+    out: W,
+    faults: u64,
+}
+
+impl<W: Write> Model for StdSink<W> {
+    ghost Value = { Stream };
+
+    ghost view = { λ sink. record { written = W.contents sink.out; faults = sink.faults } };
+}
+
+impl<W: Write> StdSink<W> {
+    /// Takes no memory.
+    pub fn new(out: W) -> StdSink<W>
+        ensures { result ≡ record { written = W.contents out; faults = 0 } }
+    {
+        StdSink { out, faults: 0 }
+    }
+}
+
+impl<W: Write> Sink for StdSink<W> {
+    ghost bytes = { λ _. None };
+
+    ghost faults = { λ sink. sink.faults };
+
+    fn put(&mut self, piece: &[u8]) -> Result<(), Failed>
+        requires { 0 < length piece.now }
+        ensures cause { HasCause self.old.faults self.new.faults result }
+        ensures count { self.new.faults ≡ refusals_after self.old.faults result }
+        ensures written { OnOk result (Appends self.old.written self.new.written piece.now) }
+    {
+        if write_through(&mut self.out, piece).is_err() {
+            self.faults = self.faults.saturating_add(1);
+            return Err(Failed);
+        }
+        Ok(())
+    }
+}
+
+// Writes a piece. The flush shows a full device at the put that met it.
+fn write_through<W: Write>(out: &mut W, piece: &[u8]) -> io::Result<()>
+    ensures { OnOk result (Appends (W.contents out.old) (W.contents out.new) piece.now) }
+{
+    out.write_all(piece)?;
+    out.flush()
+}
+
+#[cfg(test)]
+mod tests {
+    use super::*;
+    use std::env;
+    use std::test::Fail;
+
+    #[test]
+    fn real_folder_fetches_a_file_of_the_system(rt: HostRuntime) -> Result<(), Fail> {
+        let mut path = env::temp_dir(&rt)?;
+        path.push(format!(in rt.alloc(); "page_io_{}", std::process::id(rt.process()))?)?;
+        fs::write(&rt, path.as_path(), "log(1);")?;
+        let name = path.to_str().ok_or("not text")?;
+        let mut folder = RealFolder::new(&rt);
+        let mut into = Vec::new(rt.alloc());
+
+        assert_eq!(rt; folder.fetch(name, 7, &mut into), Ok(Fetched::Whole));
+        assert_eq!(rt; into.as_slice(), b"log(1);".as_slice());
+        assert_eq!(rt; folder.fetch(name, 2, &mut into), Ok(Fetched::TooLong));
+        assert_eq!(rt; into.as_slice(), b"log(1);log".as_slice());
+        fs::remove_file(&rt, path.as_path())?;
+        assert_eq!(rt; folder.fetch(name, 7, &mut into), Err(FetchFault::Failed));
+        assert_eq!(rt; into.len(), 10);
+        Ok(())
+    }
+
+    #[test]
+    fn std_sink_writes_until_its_stream_is_full(rt: HostRuntime) {
+        let mut page = [0u8; 8];
+        let mut sink = StdSink::new(&mut page[..]);
+        assert_eq!(rt; sink.put(b"ret\n"), Ok(()));
+        assert_eq!(rt; sink.put(b"run 1\n"), Err(Failed));
+        assert_eq!(rt; page.as_slice(), b"ret\nrun ".as_slice());
+    }
+}

@@ -1,0 +1,25 @@
+ghost use Rattle.std.specs.Prelude.{◌≡◌, ℕ, ◌<◌, List, Option, OnOk, OnErr, length};
+ghost use Rattle.page_types.specs.Counts.{HasCause};
+ghost use Rattle.page_types.specs.Told.{appended, AppendsStartOf};
+
+/// A piece was not taken, or not all of it.
+#[derive(Clone, Copy, PartialEq, Eq, Debug)]
+pub struct Failed;
+
+/// Takes bytes, a piece at a time.
+pub trait Sink {
+    /// The bytes that it holds, where it tells them.
+    ghost bytes: { Self → Option (List ℕ) };
+
+    /// How often a put has failed. It never falls, and stays at the end of a `u64`.
+    ghost faults: { Self → ℕ };
+
+    /// Appends a piece, which is not empty.
+    ///
+    /// It fails only where the count of faults rose, and then a start of the piece was appended.
+    fn put(&mut self, piece: &[u8]) -> Result<(), Failed>
+        requires { 0 < length piece.now }
+        ensures ok { OnOk result (bytes self.new ≡ appended (bytes self.old) piece.now) }
+        ensures failed { OnErr result (AppendsStartOf (bytes self.old) (bytes self.new) piece.now) }
+        ensures cause { HasCause (faults self.old) (faults self.new) result };
+}
