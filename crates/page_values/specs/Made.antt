@@ -1,0 +1,13 @@
+-- What comes of making a value.
+use Rattle.std.specs.Prelude.{◌≡◌, Option, Some, None, Result, Ok, Err}
+use Rattle.page_types.specs.Values as Model
+use Rattle.page_values.specs.Seen.{seen}
+use Rattle.page_values.specs.declared.Value.{Value}
+use Rattle.page_values.specs.declared.faults.ValueFault.{ValueFault}
+use Rattle.page_values.specs.declared.faults.ValueFault.TheVariants.{Is, OutOfMemory}
+
+-- The value that is wanted, or the refusal where there is none. Memory may run out in any case.
+abbrev pub IsMade : Result Value ValueFault → Option Model.Value → Type 0
+IsMade (Ok v) wanted = wanted ≡ Some (seen v)
+IsMade (Err (Is heavy)) wanted = wanted ≡ None
+IsMade (Err OutOfMemory) wanted = Unit {0}
