@@ -1,0 +1,4 @@
+pub mod Giving
+pub mod Doing
+pub mod SinkText
+mod Appending

@@ -1,0 +1,6 @@
+pub mod Spellings
+pub mod EventSeen
+pub mod Line
+pub mod Given
+pub mod Acts
+pub mod Sinks

@@ -1,0 +1,16 @@
+-- A line of a trace: its head, or an event. And its text.
+use Rattle.std.specs.Prelude.{ℕ, List, [], ◌∷◌, ◌++◌, codes}
+use Rattle.page_types.specs.Events.{Stamped}
+use Rattle.page_parts.specs.TraceText.{line_text}
+
+pub data Line : Type 0 where
+  Head : Line
+  Of : Stamped → Line
+
+abbrev pub text_of_line : Line → List ℕ
+text_of_line Head = codes "trace 1\n"
+text_of_line (Of e) = line_text e
+
+abbrev pub text_of_lines : List Line → List ℕ
+text_of_lines [] = []
+text_of_lines (line ∷ lines) = text_of_line line ++ text_of_lines lines

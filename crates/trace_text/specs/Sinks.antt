@@ -1,0 +1,15 @@
+-- How a sink of lines goes on: a line is appended, and of one that failed a start.
+use Rattle.std.specs.Prelude.{◌≡◌, ℕ, List, ◌++◌, Option, Some}
+use Rattle.page_types.specs.Told.{IsStartOf}
+use Rattle.trace_text.specs.Line.{text_of_line}
+use Rattle.trace_text.specs.Given.{Keeping, Seen}
+
+abbrev pub sink_keeping : Keeping (List ℕ)
+sink_keeping = record {
+  rule = λ bytes line. Some (bytes ++ text_of_line line);
+  left = λ bytes line after. (part : List ℕ) × IsStartOf part (text_of_line line) × (after ≡ bytes ++ part);
+}
+
+-- what is seen of the lines that a sink takes: the sink's bytes and faults, and that no line ever differs
+abbrev pub seen_through : {O : Type 0} → (O → Option (List ℕ)) → (O → ℕ) → O → Seen (List ℕ)
+seen_through bytes faults out = record { told = bytes out; faults = faults out; refusals = 0 }

@@ -1,0 +1,74 @@
+//! Lines that go to a sink.
+
+ghost use Rattle.std.specs.Prelude.{◌≡◌};
+
+use crate::writing::write_line;
+use crate::{Lines, NoLine, Stamped};
+use page_io::Sink;
+use std::alloc::Global;
+use std::marker::Model;
+
+/// Hands each line, with its line feed, to one `put` of the sink that it owns.
+#[derive(Drop)]
+pub struct LineSink<O: Sink> {
+    alloc: Global,
+    out: O,
+}
+
+impl<O: Sink> Model for LineSink<O> {
+    ghost Value = { O };
+
+    ghost view = { λ lines. lines.out };
+}
+
+impl<O: Sink> LineSink<O> {
+    /// Lines that go to this sink. Takes no memory.
+    pub fn new(alloc: Global, out: O) -> LineSink<O>
+        ensures { result ≡ out }
+    {
+        LineSink { alloc, out }
+    }
+
+    /// The sink, as it stands. Takes no memory.
+    pub fn into_sink(self) -> O
+        ensures { result ≡ self }
+    {
+        let LineSink { alloc: _, out } = self;
+        out
+    }
+}
+
+impl<O: Sink> Lines for LineSink<O> {
+    ghost use Rattle.std.specs.Prelude.{◌≢◌, ℕ, List, [], ◌∷◌};
+    ghost use Rattle.std.specs.Result.{result_err};
+    ghost use Rattle.trace_text.specs.declared.lines.NoLine.TheVariants.{OutOfMemory};
+    ghost use Rattle.trace_text.specs.Given.{Gives};
+    ghost use Rattle.trace_text.specs.Line.{Head};
+    ghost use Rattle.trace_text.specs.Sinks.{seen_through, sink_keeping};
+
+    ghost Told = { List ℕ };
+
+    ghost seen = { seen_through O.bytes O.faults };
+
+    ghost keeping = { sink_keeping };
+
+    /// It takes no memory.
+    fn head(&mut self) -> Result<(), NoLine>
+        ensures gives { Gives sink_keeping (seen_through O.bytes O.faults self.old) (Head ∷ []) (result_err result) (seen_through O.bytes O.faults self.new) }
+        ensures no_memory { result ≢ Err OutOfMemory }
+    {
+        match self.out.put(b"trace 1\n") {
+            Ok(()) => Ok(()),
+            Err(_) => Err(NoLine::Failed),
+        }
+    }
+
+    fn emit(&mut self, e: &Stamped) -> Result<(), NoLine> {
+        let mut line = Vec::new(self.alloc);
+        write_line(e, &mut line)?;
+        match self.out.put(&line) {
+            Ok(()) => Ok(()),
+            Err(_) => Err(NoLine::Failed),
+        }
+    }
+}
