@@ -1,0 +1,64 @@
+//! Reading a token from the front.
+
+ghost use Rattle.std.specs.Prelude.{◌≡◌, ◌∷◌, List, IfSome, IsNone, codes, ℕ, ℤ};
+ghost use Rattle.lang_parse.specs.Symbols.{Symbol, NameAt, NumberOf, TextOf, SignOf, symbols_of};
+ghost use Rattle.lang_parse.specs.Readings.{NoNumberFollows};
+
+use lang_tokens::{Token, TokenKind};
+
+/// What follows a sign.
+pub(crate) fn after_sign<'a>(tokens: &'a [Token], sign: &[u8]) -> Option<&'a [Token]>
+    ensures found { IfSome result (λ rest. symbols_of tokens.now ≡ SignOf sign.now ∷ symbols_of rest.now) }
+    ensures none { IsNone result → (rest : List Symbol) → symbols_of tokens.now ≡ SignOf sign.now ∷ rest → ⊥ }
+{
+    let (first, rest) = tokens.split_first()?;
+    match first.kind {
+        TokenKind::Sign if first.content.bytes() == sign => Some(rest),
+        _ => None,
+    }
+}
+
+/// The offset of the name `log`, and what follows it.
+pub(crate) fn after_log(tokens: &[Token]) -> Option<(usize, &[Token])>
+    ensures found { IfSome result (λ r. symbols_of tokens.now ≡ NameAt (codes "log") r.0 ∷ symbols_of r.1.now) }
+    ensures none { IsNone result → (at : ℕ) (rest : List Symbol) → symbols_of tokens.now ≡ NameAt (codes "log") at ∷ rest → ⊥ }
+{
+    let (first, rest) = tokens.split_first()?;
+    match first.kind {
+        TokenKind::Name if first.content.bytes() == b"log".as_slice() => Some((first.at, rest)),
+        _ => None,
+    }
+}
+
+/// A number, and what follows it.
+pub(crate) fn after_number(tokens: &[Token]) -> Option<(i64, &[Token])>
+    ensures found { IfSome result (λ r. symbols_of tokens.now ≡ NumberOf r.0 ∷ symbols_of r.1.now) }
+    ensures none { IsNone result → (n : ℤ) (rest : List Symbol) → symbols_of tokens.now ≡ NumberOf n ∷ rest → ⊥ }
+{
+    let (first, rest) = tokens.split_first()?;
+    match first.kind {
+        TokenKind::Number(n) => Some((n, rest)),
+        _ => None,
+    }
+}
+
+/// A number behind a `+`, and what follows it.
+pub(crate) fn after_plus_number(tokens: &[Token]) -> Option<(i64, &[Token])>
+    ensures found { IfSome result (λ r. symbols_of tokens.now ≡ SignOf (codes "+") ∷ NumberOf r.0 ∷ symbols_of r.1.now) }
+    ensures none { IsNone result → NoNumberFollows (symbols_of tokens.now) }
+{
+    let rest = after_sign(tokens, b"+")?;
+    after_number(rest)
+}
+
+/// The value of a text, and what follows it.
+pub(crate) fn after_text(tokens: &[Token]) -> Option<(&[u8], &[Token])>
+    ensures found { IfSome result (λ r. symbols_of tokens.now ≡ TextOf r.0.now ∷ symbols_of r.1.now) }
+    ensures none { IsNone result → (bytes : List ℕ) (rest : List Symbol) → symbols_of tokens.now ≡ TextOf bytes ∷ rest → ⊥ }
+{
+    let (first, rest) = tokens.split_first()?;
+    match first.kind {
+        TokenKind::Text => Some((first.content.bytes(), rest)),
+        _ => None,
+    }
+}
