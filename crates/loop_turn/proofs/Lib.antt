@@ -1,0 +1,2 @@
+pub mod LogLaw
+pub mod LineSteps

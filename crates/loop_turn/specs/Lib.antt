@@ -1,0 +1,3 @@
+pub mod LogRuns
+pub mod LogEvents
+pub mod Stops

@@ -1,0 +1,23 @@
+-- Runs of log scripts: the scripts that are run so far.
+use Rattle.std.specs.Prelude.{◌≡◌, List, [], ◌∷◌, map}
+use Rattle.page_types.specs.Tree.{Item}
+use Rattle.page_types.specs.declared.End.{End}
+use Rattle.page_parts.specs.WrittenChoices.{written}
+use Rattle.page_model.specs.Turns.{Turned, GoesOn, Ended, Stuck, run, events_of_run}
+use Rattle.arrivals_text.specs.Arrivals.{default_setup}
+use Rattle.lang_parse.specs.LogScript.{program_of}
+use Rattle.trace_text.specs.Line.{Line, Head, Of}
+
+-- the run of a tree without functions, under the default setup and with no host closure
+abbrev pub default_run : List Item → Turned
+default_run tree = run (program_of tree) default_setup [] (written default_setup [])
+
+-- the lines of a run
+abbrev pub lines_of_run : Turned → List Line
+lines_of_run t = Head ∷ map Of (events_of_run t)
+
+-- a run has ended so
+abbrev pub EndsAs : End → Turned → Type 0
+EndsAs end (GoesOn m c) = ⊥
+EndsAs end (Ended e m) = e ≡ end
+EndsAs end (Stuck m) = ⊥
