@@ -1,0 +1,96 @@
+-- What each answer says of the files and of what was written.
+use Rattle.std.specs.Prelude.{◌≡◌, ◌⊎◌, ⊤, ℕ, List, [], Option, Result, Ok, Err, IfSome}
+use Rattle.page_types.specs.Tree.{Item}
+use Rattle.page_types.specs.Told.{appended, AppendsStartOf}
+use Rattle.page_types.specs.declared.End.TheVariants as end
+use Rattle.page_parts.specs.Setup.{Setup}
+use Rattle.page_parts.specs.WrittenChoices.{written}
+use Rattle.page_types.specs.declared.End.{End}
+use Rattle.page_parts.specs.TraceText.{text_of}
+use Rattle.page_model.specs.Turns.{run, events_of_run}
+use Rattle.page_model.specs.PageTrace.{page_trace}
+use Rattle.arrivals_text.specs.Arrivals.{setup_of}
+use Rattle.lang_parse.specs.LogScript.{IsScript, IsLogTree, program_of}
+use Rattle.loop_turn.specs.declared.stop.RunStop.{RunStop}
+use Rattle.loop_turn.specs.declared.stop.RunStop.TheVariants as stop
+use Rattle.loop_turn.specs.LogRuns.{default_run, EndsAs}
+use Rattle.page_cli.specs.declared.answer.Answer.{Answer}
+use Rattle.page_cli.specs.declared.answer.Answer.TheVariants.{Done, Usage, NoParse, BadArrivals, ReadFault, WriteFault, OutOfMemory}
+
+-- The script has a tree by the grammar, of the kind that is run so far, and the arrivals have a setup.
+pub record IsRun (script arrivals : List ℕ) (tree : List Item) (setup : Setup) : Type 0 where
+  pub is_script : IsScript script tree
+  pub is_log : IsLogTree tree
+  pub is_setup : setup_of arrivals ≡ Ok setup
+
+-- the script has a tree of the kind that is run so far
+abbrev pub HasTree : List ℕ → Type 0
+HasTree script = (tree : List Item) × IsScript script tree × IsLogTree tree
+
+abbrev pub HasNoTree : List ℕ → Type 0
+HasNoTree script = (tree : List Item) → IsScript script tree → IsLogTree tree → ⊥
+
+-- The trace of this script and these arrivals was written, the whole of it and no more: the page's trace of the
+-- script's tree and the setup of the arrivals, with no host closure. The run has ended for nothing is left to do.
+pub record WroteTrace (script arrivals : List ℕ) (old new : Option (List ℕ)) : Type 0 where
+  pub tree : List Item
+  pub setup : Setup
+  pub is_run : IsRun script arrivals tree setup
+  pub ended : EndsAs end.Done (run (program_of tree) setup [] (written setup []))
+  pub trace : new ≡ appended old (page_trace (program_of tree) setup [] [])
+
+-- a start of that trace was written
+pub record WroteStart (script arrivals : List ℕ) (old new : Option (List ℕ)) : Type 0 where
+  pub tree : List Item
+  pub setup : Setup
+  pub is_run : IsRun script arrivals tree setup
+  pub start : AppendsStartOf old new (page_trace (program_of tree) setup [] [])
+
+-- what an answer says of the two files
+abbrev pub AnswersFiles : Answer → List ℕ → List ℕ → Option (List ℕ) → Option (List ℕ) → Type 0
+AnswersFiles Done script arrivals old new = WroteTrace script arrivals old new
+AnswersFiles Usage script arrivals old new = ⊥
+AnswersFiles NoParse script arrivals old new = HasNoTree script × (new ≡ old)
+AnswersFiles (BadArrivals line) script arrivals old new = HasTree script × (setup_of arrivals ≡ Err line) × (new ≡ old)
+AnswersFiles (ReadFault file) script arrivals old new = new ≡ old
+AnswersFiles WriteFault script arrivals old new = WroteStart script arrivals old new
+AnswersFiles OutOfMemory script arrivals old new = (new ≡ old) ⊎ WroteStart script arrivals old new
+
+-- the same, where the folder tells both files
+abbrev pub AnswersTold : Answer → Option (List ℕ) → Option (List ℕ) → Option (List ℕ) → Option (List ℕ) → Type 0
+AnswersTold answer script arrivals old new = IfSome script (λ s. IfSome arrivals (λ a. AnswersFiles answer s a old new))
+
+-- with a refusal nothing is written
+abbrev pub IsRefusal : Answer → Type 0
+IsRefusal Done = ⊥
+IsRefusal Usage = ⊤
+IsRefusal NoParse = ⊤
+IsRefusal (BadArrivals line) = ⊤
+IsRefusal (ReadFault file) = ⊤
+IsRefusal WriteFault = ⊥
+IsRefusal OutOfMemory = ⊥
+
+-- ---- runs
+
+-- what a run can answer whose lines compare nothing
+abbrev pub CanStop : Result End RunStop → Type 0
+CanStop (Ok end) = ⊤
+CanStop (Err stop.WriteFault) = ⊤
+CanStop (Err stop.Differs) = ⊥
+CanStop (Err stop.OutOfMemory) = ⊤
+
+abbrev pub answer_to : Result End RunStop → Answer
+answer_to (Ok end) = Done
+answer_to (Err stop.WriteFault) = WriteFault
+answer_to (Err stop.Differs) = OutOfMemory
+answer_to (Err stop.OutOfMemory) = OutOfMemory
+
+-- the answers to the run of a tree under the setup of all defaults
+abbrev pub AnswersRun : List Item → Answer → Option (List ℕ) → Option (List ℕ) → Type 0
+AnswersRun tree Done old new = EndsAs end.Done (default_run tree) × (new ≡ appended old (text_of (events_of_run (default_run tree))))
+AnswersRun tree Usage old new = ⊥
+AnswersRun tree NoParse old new = ⊥
+AnswersRun tree (BadArrivals line) old new = ⊥
+AnswersRun tree (ReadFault file) old new = ⊥
+AnswersRun tree WriteFault old new = AppendsStartOf old new (text_of (events_of_run (default_run tree)))
+AnswersRun tree OutOfMemory old new = AppendsStartOf old new (text_of (events_of_run (default_run tree)))

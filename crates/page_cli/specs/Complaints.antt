@@ -1,0 +1,32 @@
+-- What the error output gets.
+use Rattle.std.specs.Prelude.{◌≡◌, ◌≤◌, ◌⊎◌, ℕ, List, [], ◌++◌, Option, Some, None, Result, OnOk, OnErr, codes}
+use Rattle.page_types.specs.Counts.{Rose}
+use Rattle.page_types.specs.Told.{appended, AppendsStartOf}
+use Rattle.page_parts.specs.Words.{decimal_of}
+use Rattle.page_cli.specs.declared.answer.Answer.{Answer}
+use Rattle.page_cli.specs.declared.answer.Answer.TheVariants.{Done, Usage, NoParse, BadArrivals, ReadFault, WriteFault, OutOfMemory}
+use Rattle.page_cli.specs.Forms.{RunForm, name_of}
+
+abbrev pub name_in : Option RunForm → (RunForm → List ℕ) → List ℕ
+name_in None name = []
+name_in (Some form) name = name form
+
+-- the line of an answer
+abbrev pub complaint : Option RunForm → Answer → List ℕ
+complaint form Done = []
+complaint form Usage = codes "usage: pageloop run S A | check S A T | storm N | stat T\n"
+complaint form NoParse = codes "pageloop: script: no parse\n"
+complaint form (BadArrivals line) = codes "pageloop: arrivals: line " ++ (decimal_of line ++ codes "\n")
+complaint form (ReadFault file) = codes "pageloop: read fault: " ++ (name_in form (name_of file) ++ codes "\n")
+complaint form WriteFault = codes "pageloop: write fault\n"
+complaint form OutOfMemory = codes "pageloop: out of memory\n"
+
+-- A piece was put: the whole of it; or a start, where the count of faults rose.
+pub record Puts {E : Type 0} (old : Option (List ℕ)) (before : ℕ) (piece : List ℕ) (result : Result (Unit {0}) E) (new : Option (List ℕ)) (now : ℕ) : Type 0 where
+  pub later : before ≤ now
+  pub whole : OnOk result (new ≡ appended old piece)
+  pub start : OnErr result (Rose before now × AppendsStartOf old new piece)
+
+-- the same, whatever the call answered
+abbrev pub PutsOrFails : Option (List ℕ) → ℕ → List ℕ → Option (List ℕ) → ℕ → Type 0
+PutsOrFails old before piece new now = (new ≡ appended old piece) ⊎ (Rose before now × AppendsStartOf old new piece)

@@ -1,0 +1,5 @@
+pub mod Statuses
+pub mod Forms
+pub mod Names
+pub mod Answering
+pub mod Complaints

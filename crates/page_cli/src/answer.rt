@@ -1,0 +1,47 @@
+//! How the program answers.
+
+ghost use Rattle.std.specs.Prelude.{◌≡◌};
+ghost use Rattle.page_cli.specs.Statuses.{status_of};
+
+/// One of the files that the words name.
+#[derive(Clone, Copy, Debug, PartialEq, Eq)]
+pub enum WhichFile {
+    Script,
+    Arrivals,
+}
+
+/// How the program answers. Each answer has its status.
+#[derive(Clone, Copy, Debug, PartialEq, Eq)]
+pub enum Answer {
+    /// The run ended for nothing is left to do.
+    Done,
+    /// The words are of no form.
+    Usage,
+    /// The script has no tree.
+    NoParse,
+    /// The arrivals are refused at this line, counted from 1.
+    BadArrivals { line: usize },
+    /// A file could not be read.
+    ReadFault { file: WhichFile },
+    /// A line could not be written.
+    WriteFault,
+    /// Memory is wanting.
+    OutOfMemory,
+}
+
+impl Answer {
+    /// The exit status.
+    pub fn status(self) -> u8
+        ensures { result ≡ status_of self }
+    {
+        match self {
+            Answer::Done => 0,
+            Answer::Usage => 2,
+            Answer::NoParse => 3,
+            Answer::BadArrivals { .. } => 4,
+            Answer::ReadFault { .. } => 74,
+            Answer::WriteFault => 75,
+            Answer::OutOfMemory => 70,
+        }
+    }
+}

@@ -1,0 +1,90 @@
+//! The one line that goes to the error output.
+
+ghost use Rattle.std.specs.Prelude.{◌≡◌, ◌+◌, ◌<◌, ◌^◌, ◌++◌, ℕ, codes};
+ghost use Rattle.page_parts.specs.Words.{digits, decimal_of};
+ghost use Rattle.page_cli.specs.Forms.{name_of};
+ghost use Rattle.page_cli.specs.Names.{names_seen};
+ghost use Rattle.page_cli.specs.Complaints.{complaint, name_in, Puts, PutsOrFails};
+
+use crate::answer::{Answer, WhichFile};
+use crate::names::Names;
+use page_io::{Failed, Sink};
+
+/// Puts a piece, which may be empty. Takes no memory.
+fn put<E: Sink>(err: &mut E, piece: &[u8]) -> Result<(), Failed>
+    ensures { Puts (E.bytes err.old) (E.faults err.old) piece.now result (E.bytes err.new) (E.faults err.new) }
+{
+    if piece.is_empty() {
+        return Ok(());
+    }
+    err.put(piece)
+}
+
+/// Puts the decimal of a number, digit by digit. Takes no memory.
+fn put_decimal<E: Sink>(err: &mut E, n: usize) -> Result<(), Failed>
+    ensures { Puts (E.bytes err.old) (E.faults err.old) (decimal_of n) result (E.bytes err.new) (E.faults err.new) }
+{
+    put_digits(err, n)
+}
+
+fn put_digits<E: Sink>(err: &mut E, n: usize) -> Result<(), Failed>
+    ensures { (most : ℕ) → n < 10 ^ (most + 1) → Puts (E.bytes err.old) (E.faults err.old) (digits most n) result (E.bytes err.new) (E.faults err.new) }
+{
+    if n < 10 {
+        return put(err, &[b'0' + n as u8]);
+    }
+    put_digits(err, n / 10)?;
+    put(err, &[b'0' + (n % 10) as u8])
+}
+
+/// Puts the line of an answer.
+fn put_complaint<E: Sink>(err: &mut E, answer: Answer, names: Option<Names>) -> Result<(), Failed>
+    ensures { Puts (E.bytes err.old) (E.faults err.old) (complaint (names_seen names.entry) answer) result (E.bytes err.new) (E.faults err.new) }
+{
+    match answer {
+        Answer::Done => Ok(()),
+        Answer::Usage => put(
+            err,
+            b"usage: pageloop run S A | check S A T | storm N | stat T\n",
+        ),
+        Answer::NoParse => put(err, b"pageloop: script: no parse\n"),
+        Answer::BadArrivals { line } => put_line_number(err, line),
+        Answer::ReadFault { file } => put_read_fault(err, name_of(file, names).as_bytes()),
+        Answer::WriteFault => put(err, b"pageloop: write fault\n"),
+        Answer::OutOfMemory => put(err, b"pageloop: out of memory\n"),
+    }
+}
+
+fn put_line_number<E: Sink>(err: &mut E, line: usize) -> Result<(), Failed>
+    ensures { Puts (E.bytes err.old) (E.faults err.old) (codes "pageloop: arrivals: line " ++ (decimal_of line ++ codes "\n")) result (E.bytes err.new) (E.faults err.new) }
+{
+    put(err, b"pageloop: arrivals: line ")?;
+    put_decimal(err, line)?;
+    put(err, b"\n")
+}
+
+fn put_read_fault<E: Sink>(err: &mut E, name: &[u8]) -> Result<(), Failed>
+    ensures { Puts (E.bytes err.old) (E.faults err.old) (codes "pageloop: read fault: " ++ (name.now ++ codes "\n")) result (E.bytes err.new) (E.faults err.new) }
+{
+    put(err, b"pageloop: read fault: ")?;
+    put(err, name)?;
+    put(err, b"\n")
+}
+
+/// The name that the words give to a file, and nothing where they have no form.
+fn name_of<'a>(file: WhichFile, names: Option<Names<'a>>) -> &'a str
+    ensures { result.now ≡ name_in (names_seen names.entry) (name_of file) }
+{
+    match (names, file) {
+        (None, _) => "",
+        (Some(names), WhichFile::Script) => names.script,
+        (Some(names), WhichFile::Arrivals) => names.arrivals,
+    }
+}
+
+/// Gives the line of an answer to the error output. A fault of that changes no answer.
+pub(crate) fn complain<E: Sink>(err: &mut E, answer: Answer, names: Option<Names>)
+    ensures { PutsOrFails (E.bytes err.old) (E.faults err.old) (complaint (names_seen names.entry) answer) (E.bytes err.new) (E.faults err.new) }
+{
+    let _ = put_complaint(err, answer, names);
+}

@@ -1,0 +1,12 @@
+//! The top call.
+#![tactic(auto)]
+
+pub mod answer;
+mod complaint;
+mod main_call;
+pub mod names;
+mod reading;
+mod running;
+
+pub use answer::{Answer, WhichFile};
+pub use main_call::{MainEnd, page_main};

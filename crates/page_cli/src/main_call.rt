@@ -1,0 +1,147 @@
+//! The top call.
+
+ghost use Rattle.std.specs.Prelude.{◌≡◌, ◌↔◌, ◌⊎◌, map, None, string_bytes, IfSome};
+ghost use Rattle.page_types.specs.Counts.{Rose};
+ghost use Rattle.page_cli.specs.declared.answer.WhichFile.{WhichFile};
+ghost use Rattle.page_cli.specs.Statuses.{status_of};
+ghost use Rattle.page_cli.specs.Forms.{form_of, name_of};
+ghost use Rattle.page_cli.specs.Names.{names_seen};
+ghost use Rattle.page_cli.specs.Answering.{AnswersTold, WroteTrace, IsRefusal};
+ghost use Rattle.page_cli.specs.Complaints.{complaint, PutsOrFails};
+
+use crate::answer::{Answer, WhichFile};
+use crate::complaint::complain;
+use crate::names::Names;
+use crate::reading::fetched;
+use crate::running::{Answered, run_files};
+use page_io::{FetchFault, Folder, Sink};
+use std::alloc::Global;
+
+/// How the program ended, and the sink as it stands.
+#[derive(Drop)]
+pub struct MainEnd<O> {
+    /// The exit status.
+    pub status: u8,
+    /// The answer that the status stands for.
+    pub answer: Answer,
+    pub out: O,
+}
+
+/// The names in the words, where they have a form.
+fn names_in(words: &[String]) -> Option<Names<'_>>
+    ensures { names_seen result ≡ form_of (map string_bytes words.now) }
+{
+    match words {
+        [run, script, arrivals] if run.as_str() == "run" => Some(Names {
+            script: script.as_str(),
+            arrivals: arrivals.as_str(),
+        }),
+        _ => None,
+    }
+}
+
+/// The answer to a fetch that gave no file.
+fn answer_to(fault: FetchFault, file: WhichFile) -> Answer
+    ensures failed { (other : WhichFile) → result ≡ Answer.ReadFault other → (other ≡ file) × (fault ≡ FetchFault.Failed) }
+    ensures other { (result ≡ Answer.ReadFault file) ⊎ (result ≡ Answer.OutOfMemory) }
+{
+    match fault {
+        FetchFault::Failed => Answer::ReadFault { file },
+        FetchFault::OutOfMemory => Answer::OutOfMemory,
+    }
+}
+
+/// Fetches the two files in the order of the words, and runs them.
+fn run_named<F: Folder, O: Sink>(alloc: Global, folder: &mut F, names: Names, out: O) -> Answered<O>
+    ensures answers { AnswersTold result.answer (F.file folder.old names.entry.script.now) (F.file folder.old names.entry.arrivals.now) (O.bytes out) (O.bytes result.out) }
+    ensures refused { IsRefusal result.answer → O.bytes result.out ≡ O.bytes out }
+    ensures read { (file : WhichFile) → result.answer ≡ Answer.ReadFault file →
+        Rose (F.faults folder.old (name_of file (record { script = names.entry.script.now; arrivals = names.entry.arrivals.now }))) (F.faults folder.new (name_of file (record { script = names.entry.script.now; arrivals = names.entry.arrivals.now }))) }
+    ensures write { result.answer ≡ Answer.WriteFault → Rose (O.faults out) (O.faults result.out) }
+    ensures usage { result.answer ≡ Answer.Usage → ⊥ }
+{
+    let script = match fetched(alloc, folder, names.script) {
+        Ok(bytes) => bytes,
+        Err(fault) => {
+            return Answered {
+                answer: answer_to(fault, WhichFile::Script),
+                out,
+            };
+        }
+    };
+    let arrivals = match fetched(alloc, folder, names.arrivals) {
+        Ok(bytes) => bytes,
+        Err(fault) => {
+            return Answered {
+                answer: answer_to(fault, WhichFile::Arrivals),
+                out,
+            };
+        }
+    };
+    run_files(alloc, &script, &arrivals, out)
+}
+
+/// The answer to the words, by the names that they give.
+fn answer_to_words<F: Folder, O: Sink>(
+    alloc: Global,
+    folder: &mut F,
+    names: Option<Names>,
+    out: O,
+) -> Answered<O>
+    ensures answers { IfSome (names_seen names.entry) (λ form.
+        AnswersTold result.answer (F.file folder.old form.script) (F.file folder.old form.arrivals) (O.bytes out) (O.bytes result.out)) }
+    ensures usage { (result.answer ≡ Answer.Usage) ↔ (names_seen names.entry ≡ None) }
+    ensures refused { IsRefusal result.answer → O.bytes result.out ≡ O.bytes out }
+    ensures read { (file : WhichFile) → result.answer ≡ Answer.ReadFault file → IfSome (names_seen names.entry) (λ form.
+        Rose (F.faults folder.old (name_of file form)) (F.faults folder.new (name_of file form))) }
+    ensures write { result.answer ≡ Answer.WriteFault → Rose (O.faults out) (O.faults result.out) }
+{
+    match names {
+        None => Answered {
+            answer: Answer::Usage,
+            out,
+        },
+        Some(names) => run_named(alloc, folder, names, out),
+    }
+}
+
+/// All that the program does. The words are those behind the program's name.
+///
+/// `run S A` fetches the script S and the arrivals A, runs the script, and writes the trace to `out`. The order of
+/// refusals is: words, the fetch of S, the fetch of A, script, arrivals, writes. A refusal writes nothing to `out`. The
+/// line of the answer goes to `err`, whose faults change no answer. Want of memory may come at any point.
+pub fn page_main<F: Folder, O: Sink, E: Sink>(
+    alloc: Global,
+    words: &Vec<String>,
+    folder: &mut F,
+    out: O,
+    err: &mut E,
+) -> MainEnd<O>
+    ensures status { result.status ≡ status_of result.answer }
+
+    // With status 0 the bytes written are exactly the page's trace of the script's tree and the setup of the arrivals.
+    ensures trace { result.status ≡ 0 → IfSome (form_of (map string_bytes words.now.items)) (λ form.
+        IfSome (F.file folder.old form.script) (λ script. IfSome (F.file folder.old form.arrivals) (λ arrivals.
+        WroteTrace script arrivals (O.bytes out) (O.bytes result.out)))) }
+
+    // Each other answer comes only where its cause stands, with what it leaves.
+    ensures answers { IfSome (form_of (map string_bytes words.now.items)) (λ form.
+        AnswersTold result.answer (F.file folder.old form.script) (F.file folder.old form.arrivals) (O.bytes out) (O.bytes result.out)) }
+    ensures usage { (result.answer ≡ Answer.Usage) ↔ (form_of (map string_bytes words.now.items) ≡ None) }
+    ensures refused { IsRefusal result.answer → O.bytes result.out ≡ O.bytes out }
+    ensures read { (file : WhichFile) → result.answer ≡ Answer.ReadFault file → IfSome (form_of (map string_bytes words.now.items)) (λ form.
+        Rose (F.faults folder.old (name_of file form)) (F.faults folder.new (name_of file form))) }
+    ensures write { result.answer ≡ Answer.WriteFault → Rose (O.faults out) (O.faults result.out) }
+
+    // The line of the answer whole, or a start of it where the count of faults of `err` rose.
+    ensures err { PutsOrFails (E.bytes err.old) (E.faults err.old) (complaint (form_of (map string_bytes words.now.items)) result.answer) (E.bytes err.new) (E.faults err.new) }
+{
+    let names = names_in(words);
+    let answered = answer_to_words(alloc, folder, names, out);
+    complain(err, answered.answer, names);
+    MainEnd {
+        status: answered.answer.status(),
+        answer: answered.answer,
+        out: answered.out,
+    }
+}
