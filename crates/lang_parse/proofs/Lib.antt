@@ -1,1 +1,2 @@
 pub mod LogForms
+pub mod OneTree

@@ -96,7 +96,7 @@ abbrev first_byte : List Symbol → ℕ
 first_byte [] = 0
 first_byte (k ∷ ks) = sign_byte k
 
-plus-close : (a b : List Symbol) → SignOf (codes "+") ∷ a ≡ SignOf (codes ")") ∷ b → ⊥
+pub plus-close : (a b : List Symbol) → SignOf (codes "+") ∷ a ≡ SignOf (codes ")") ∷ b → ⊥
 plus-close a b e = let h : 43 ≡ 41 = ap first_byte e in omega (arith, h)
 
 -- numbers behind `+`, up to a closing bracket: any other reading ends where no number follows

@@ -10,4 +10,4 @@ mod reading;
 
 pub use fault::{NoParse, ParseFault};
 pub use log_script::{LogScript, LogStatement, Logged};
-pub use parser::parse;
+pub use parser::{one_tree, parse};

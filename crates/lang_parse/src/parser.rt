@@ -2,7 +2,7 @@
 
 ghost use Rattle.std.specs.Prelude.{◌≡◌, ◌++◌, List, IfOk, IfErr, IfSome, IsNone};
 ghost use Rattle.page_types.specs.Tree.{Item};
-ghost use Rattle.lang_parse.specs.Symbols.{symbols_of, SignOf, NumberOf};
+ghost use Rattle.lang_parse.specs.Symbols.{Symbol, symbols_of, SignOf, NumberOf};
 ghost use Rattle.lang_parse.specs.Grammar.{HasTree};
 ghost use Rattle.lang_parse.specs.LogScript.{IsLogTree, log_tree};
 ghost use Rattle.lang_parse.specs.LogSeen.{script_seen, logged_seen, statement_seen, logged_symbols, statement_symbols, plus_symbols, IsNoParse};
@@ -82,3 +82,8 @@ pub fn parse(alloc: Global, tokens: &Tokens) -> Result<LogScript, ParseFault>
     }
     Ok(LogScript { statements })
 }
+
+/// The law that a text has at most one tree: two trees of log scripts with the same tokens are one.
+pub fn one_tree()
+    ensures { (ks : List Symbol) (one other : List Item) → IsLogTree one → IsLogTree other → HasTree ks one → HasTree ks other → one ≡ other }
+{}
