@@ -7,6 +7,8 @@ pub mod fault;
 pub mod log_script;
 mod parser;
 mod reading;
+#[cfg(test)]
+mod tests;
 
 pub use fault::{NoParse, ParseFault};
 pub use log_script::{LogScript, LogStatement, Logged};
