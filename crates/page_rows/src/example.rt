@@ -1,0 +1,105 @@
+//! One run of the program over files in memory.
+
+use page_cli::page_main;
+use page_io::{MemFolder, MemSink};
+use std::alloc::{AllocError, Global};
+use std::test::Fail;
+
+/// Room for more bytes than an example writes.
+const ROOM: usize = 4096;
+
+/// The status of want of memory, of which there is none here.
+const OUT_OF_MEMORY: u8 = 70;
+
+/// The words that run the script `s` under the arrivals `a`.
+const RUN: [&str; 3] = ["run", "s", "a"];
+
+/// What the program is given.
+#[derive(Clone, Copy)]
+pub(crate) struct Example<'a> {
+    pub(crate) words: &'a [&'a str],
+    pub(crate) script: Option<&'a [u8]>,
+    pub(crate) arrivals: Option<&'a [u8]>,
+    /// The numbers, from 1, of the fetches that fail.
+    pub(crate) failing_fetches: &'a [u64],
+    /// The numbers, from 1, of the pieces of `out` that are not taken, and how many bytes of each are kept.
+    pub(crate) failing_out: &'a [(u64, usize)],
+    /// The same of `err`.
+    pub(crate) failing_err: &'a [(u64, usize)],
+}
+
+/// What the program gave.
+#[derive(Drop)]
+pub(crate) struct Ended {
+    pub(crate) status: u8,
+    pub(crate) out: String,
+    pub(crate) err: String,
+}
+
+impl<'a> Example<'a> {
+    /// Words, a script and arrivals, with nothing that fails.
+    pub(crate) fn new(words: &'a [&'a str], script: &'a [u8], arrivals: &'a [u8]) -> Example<'a> {
+        Example {
+            words,
+            script: Some(script),
+            arrivals: Some(arrivals),
+            failing_fetches: &[],
+            failing_out: &[],
+            failing_err: &[],
+        }
+    }
+
+    /// A script and arrivals that are run.
+    pub(crate) fn of_files(script: &'a [u8], arrivals: &'a [u8]) -> Example<'a> {
+        Example::new(&RUN, script, arrivals)
+    }
+
+    /// The sum of 1 and 2 under arrivals that set nothing.
+    pub(crate) fn of_sum() -> Example<'a> {
+        Example::of_files(b"log(1 + 2);", b"page 1\n")
+    }
+
+    /// Runs the program. It is an error if that answers want of memory.
+    pub(crate) fn run(&self, alloc: Global) -> Result<Ended, Fail> {
+        let words = owned_words(alloc, self.words)?;
+        let mut folder = self.folder(alloc)?;
+        let out = sink(alloc, self.failing_out)?;
+        let mut err = sink(alloc, self.failing_err)?;
+        let end = page_main(alloc, &words, &mut folder, out, &mut err);
+        if end.status == OUT_OF_MEMORY {
+            return Err(Fail::new("out of memory"));
+        }
+        Ok(Ended {
+            status: end.status,
+            out: text(alloc, &end.out)?,
+            err: text(alloc, &err)?,
+        })
+    }
+
+    fn folder(&self, alloc: Global) -> Result<MemFolder, AllocError> {
+        let mut files = Vec::new(alloc);
+        for (name, content) in [("s", self.script), ("a", self.arrivals)] {
+            if let Some(bytes) = content {
+                files.push((String::from_str(alloc, name)?, bytes.to_vec(alloc)?))?;
+            }
+        }
+        Ok(MemFolder::new(files, self.failing_fetches.to_vec(alloc)?))
+    }
+}
+
+fn owned_words(alloc: Global, words: &[&str]) -> Result<Vec<String>, AllocError> {
+    let mut owned = Vec::new(alloc);
+    for word in words {
+        owned.push(String::from_str(alloc, word)?)?;
+    }
+    Ok(owned)
+}
+
+fn sink(alloc: Global, fails: &[(u64, usize)]) -> Result<MemSink, AllocError> {
+    MemSink::new(alloc, ROOM, fails.to_vec(alloc)?)
+}
+
+fn text(alloc: Global, sink: &MemSink) -> Result<String, Fail> {
+    let text = std::str::from_utf8(sink.bytes())?;
+    Ok(String::from_str(alloc, text)?)
+}
