@@ -1,0 +1,51 @@
+ghost use Rattle.std.specs.Prelude.{◌≡◌, ◌^◌, ◌<◌};
+ghost use Rattle.std.specs.Option.{option_map};
+ghost use Rattle.page_parts.specs.IdleCallbacks.{deadline as deadline_of, at_most as not_after};
+
+use page_base::Micros;
+
+const LONGEST_PERIOD: u64 = 50_000;
+
+/// The deadline of an idle period that began at `start`, in microseconds: 50 milliseconds later, or before that the next due
+/// time of a timer, or the next rendering where one is awaited (requestIdleCallback, "Start an idle period algorithm").
+///
+/// Takes no memory.
+pub fn deadline(start: Micros, timer: Option<Micros>, render: Option<Micros>) -> Micros
+    requires { start.0 < 2 ^ 63 }
+    ensures { result.0 ≡ deadline_of start.0 (option_map (λ moment. moment.0) timer) (option_map (λ moment. moment.0) render) }
+{
+    let longest = Micros(start.0 + LONGEST_PERIOD);
+    at_most(at_most(longest, timer), render)
+}
+
+fn at_most(moment: Micros, other: Option<Micros>) -> Micros
+    ensures { result.0 ≡ not_after moment.0 (option_map (λ moment. moment.0) other) }
+{
+    match other {
+        Some(other) => moment.min(other),
+        None => moment,
+    }
+}
+
+#[cfg(test)]
+mod tests {
+    use super::*;
+
+    #[test]
+    fn a_period_ends_before_the_next_timer_and_rendering(rt: HostRuntime) {
+        let table = [
+            (0, None, None, 50_000),
+            (60_000, None, None, 110_000),
+            (0, Some(Micros(20_000)), None, 20_000),
+            (0, Some(Micros(60_000)), None, 50_000),
+            (0, Some(Micros(20_000)), Some(Micros(16_666)), 16_666),
+        ];
+        for (start, timer, render, end) in table {
+            assert_eq!(rt;
+                deadline(Micros(start), timer, render),
+                Micros(end),
+                "from {start}"
+            );
+        }
+    }
+}

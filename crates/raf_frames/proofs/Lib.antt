@@ -1,0 +1,2 @@
+pub mod CallbackLemmas
+pub mod NextLemmas

@@ -1,0 +1,8 @@
+//! The map of animation frame callbacks, and the frame that runs them.
+#![tactic(auto)]
+
+mod fault;
+mod frames;
+
+pub use fault::MemoryFault;
+pub use frames::Frames;

@@ -1,0 +1,4 @@
+pub mod FirstLemmas
+pub mod HeapLemmas
+pub mod IdLemmas
+pub mod OrderLemmas

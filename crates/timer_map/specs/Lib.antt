@@ -1,0 +1,4 @@
+pub mod Due
+pub mod InOrder
+pub mod Kept
+pub mod Seen

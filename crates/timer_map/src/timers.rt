@@ -1,0 +1,277 @@
+ghost use Rattle.std.specs.Prelude.{◌≡◌, ◌+◌, ◌^◌, ◌<◌, IfOk, OnOk, OnErr};
+ghost use Rattle.std.specs.Option.{option_map, ForNone};
+ghost use Rattle.page_parts.specs.Timers.{no_timers, armed as armed_of, with_armed, run_after, has_id, clear as cleared, is_live, next_due as next_due_of};
+ghost use Rattle.timer_map.specs.Due.{due_timer, after_due};
+ghost use Rattle.timer_map.specs.Seen.{seen_armed};
+
+use crate::MemoryFault;
+use crate::armed::{Armed, clamped, milliseconds};
+use crate::ids::{id_and_last, set_handle};
+use crate::waiting::{ActiveTimer, Waiting};
+use indexmap::IndexMap;
+use page_base::Micros;
+use std::alloc::Global;
+use std::cmp::Reverse;
+use std::collections::BinaryHeap;
+use std::marker::Model;
+
+/// The map of setTimeout and setInterval ids, and the active timers (HTML, "Timers").
+///
+/// Ids, unique handles and start numbers are counted from 1. An active timer stays where its id is cleared.
+#[derive(Drop)]
+pub struct Timers {
+    ids: IndexMap<u32, u64>,
+    active: Waiting,
+    ids_made: u32,
+    handles_made: u64,
+    starts_made: u64,
+}
+
+impl Model for Timers {
+    ghost use Rattle.page_parts.specs.Timers.{Timers as TimerMap};
+
+    ghost Value = { TimerMap };
+
+    ghost use Rattle.std.specs.BinaryHeap.{heap_items};
+    ghost use Rattle.timer_map.specs.Seen.{ids_of, timers_of};
+    ghost use Rattle.timer_map.specs.InOrder.{in_order};
+    ghost use Rattle.timer_map.specs.Kept.{IsKept};
+
+    ghost view = { λ timers. record {
+      ids = ids_of timers.ids.entries;
+      active = in_order timers.starts_made (timers_of (heap_items timers.active));
+      ids_made = timers.ids_made;
+      handles_made = timers.handles_made;
+      starts_made = timers.starts_made;
+    } };
+
+    ghost invariant = { λ timers. IsKept timers.starts_made (heap_items timers.active) };
+}
+
+impl Timers {
+    /// No timer. Takes no memory.
+    pub fn new(alloc: Global) -> Timers
+        ensures { result ≡ no_timers }
+    {
+        Timers {
+            ids: IndexMap::new(alloc),
+            active: BinaryHeap::new(alloc),
+            ids_made: 0,
+            handles_made: 0,
+            starts_made: 0,
+        }
+    }
+
+    /// Initialises a timer (HTML, "Timers": timer initialisation steps): under the id of `again`, or under the next one where
+    /// there is none, with the next unique handle, and sets its active timer.
+    ///
+    /// The timeout is in milliseconds, taken modulo 2^32 into the range from -2147483648 to 2147483647. Below 0 it becomes 0,
+    /// and 4 where it is below that and the nesting level is above 5. The task's level is one more than that. Whether the
+    /// timer repeats changes nothing here. An error leaves all as it was.
+    pub fn init(
+        &mut self,
+        again: Option<u32>,
+        _repeat: bool,
+        timeout: i64,
+        nesting: u32,
+        now: Micros,
+    ) -> Result<Armed, MemoryFault>
+        requires id { ForNone again (self.old.ids_made + 1 < 2 ^ 32) }
+        requires handle { self.old.handles_made + 1 < 2 ^ 64 }
+        requires start { self.old.starts_made + 1 < 2 ^ 64 }
+        requires level { nesting + 1 < 2 ^ 32 }
+        requires moment { now.0 < 2 ^ 63 }
+        ensures armed { IfOk result (λ armed. seen_armed armed ≡ armed_of again timeout nesting now.0 self.old) }
+        ensures set { OnOk result (self.new ≡ with_armed again (armed_of again timeout nesting now.0 self.old) self.old) }
+        ensures err { OnErr result (self.new ≡ self.old) }
+    {
+        let (id, ids_made) = id_and_last(again, self.ids_made);
+        let armed = Armed {
+            id,
+            handle: self.handles_made + 1,
+            start: self.starts_made + 1,
+            due: Micros(now.0 + clamped(nesting, milliseconds(timeout)) * 1000),
+            level: nesting + 1,
+        };
+        self.ids.reserve(1)?;
+        self.active.push(Reverse(ActiveTimer {
+            due: armed.due,
+            start: armed.start,
+        }))?;
+        set_handle(&mut self.ids, armed.id, armed.handle);
+        self.ids_made = ids_made;
+        self.handles_made = armed.handle;
+        self.starts_made = armed.start;
+        Ok(armed)
+    }
+
+    /// Sets an active timer that is due so many milliseconds from now, and answers its start number (HTML, "Timers": run
+    /// steps after a timeout).
+    ///
+    /// An error leaves all as it was.
+    pub fn after(&mut self, ms: u64, now: Micros) -> Result<u64, MemoryFault>
+        requires start { self.old.starts_made + 1 < 2 ^ 64 }
+        requires milliseconds { ms < 2 ^ 32 }
+        requires moment { now.0 < 2 ^ 63 }
+        ensures start { IfOk result (λ start. start ≡ self.old.starts_made + 1) }
+        ensures set { OnOk result (self.new ≡ run_after ms now.0 self.old) }
+        ensures err { OnErr result (self.new ≡ self.old) }
+    {
+        let start = self.starts_made + 1;
+        let due = Micros(now.0 + ms * 1000);
+        self.active.push(Reverse(ActiveTimer { due, start }))?;
+        self.starts_made = start;
+        Ok(start)
+    }
+
+    /// Takes an id out of the map. Its active timer stays, and comes due.
+    ///
+    /// True exactly where the id was in the map. Takes no memory.
+    pub fn clear(&mut self, id: u32) -> bool
+        ensures was { result ≡ has_id id self.old }
+        ensures gone { self.new ≡ cleared id self.old }
+    {
+        self.ids.shift_remove(&id).is_some()
+    }
+
+    /// Whether the id is in the map with this handle. Takes no memory.
+    pub fn live(&self, id: u32, handle: u64) -> bool
+        ensures { result ≡ is_live id handle self.now }
+    {
+        self.ids.get(&id).copied() == Some(handle)
+    }
+
+    /// The least due time of an active timer, none exactly where none is active. Takes no memory.
+    pub fn next_due(&self) -> Option<Micros>
+        ensures { option_map (λ moment. moment.0) result ≡ next_due_of self.now }
+    {
+        let first = self.active.peek()?;
+        Some(first.0.due)
+    }
+
+    /// Completes the active timer that is due first, and of those that was started first: it leaves, and its start number is
+    /// answered.
+    ///
+    /// None exactly where no active timer is due, and then nothing changes. Takes no memory.
+    pub fn complete(&mut self, now: Micros) -> Option<u64>
+        ensures start { result ≡ option_map (λ timer. timer.start) (due_timer now.0 self.old) }
+        ensures gone { self.new ≡ after_due now.0 self.old }
+    {
+        if self.next_due()? > now {
+            return None;
+        }
+        let completed = self.active.pop()?;
+        Some(completed.0.start)
+    }
+}
+
+#[cfg(test)]
+mod tests {
+    use super::*;
+    use std::test::Fail;
+
+    // A timer of nesting level 0 or deeper, at the start of a page.
+    fn first_armed(alloc: Global, timeout: i64, nesting: u8) -> Result<Armed, MemoryFault> {
+        let mut timers = Timers::new(alloc);
+        timers.init(None, false, timeout, u32::from(nesting), Micros(0))
+    }
+
+    #[test]
+    fn a_timeout_wraps_and_is_clamped(rt: HostRuntime) -> Result<(), Fail> {
+        let table = [
+            (2_147_483_647, 0, 2_147_483_647_000),
+            (2_147_483_648, 0, 0),
+            (4_294_967_301, 0, 5000),
+            (-1, 0, 0),
+            (3, 5, 3000),
+            (3, 6, 4000),
+            (5, 6, 5000),
+        ];
+        for (timeout, nesting, due) in table {
+            let armed = first_armed(rt.alloc(), timeout, nesting)?;
+            assert_eq!(rt; armed.due, Micros(due), "for {timeout} at {nesting}");
+        }
+        Ok(())
+    }
+
+    #[test]
+    fn nested_timers_of_0_are_due_at_0_six_times_and_then_every_4_milliseconds(
+        rt: HostRuntime,
+    ) -> Result<(), Fail> {
+        let mut timers = Timers::new(rt.alloc());
+        let mut now = Micros(0);
+        let mut nesting = 0;
+        for due in [0, 0, 0, 0, 0, 0, 4000, 8000] {
+            assert!(rt; timers.ids_made < 9 && timers.handles_made < 9 && timers.starts_made < 9);
+            assert!(rt; nesting < 9 && now.0 < 9000);
+            let armed = timers.init(None, false, 0, nesting, now)?;
+            assert_eq!(rt; armed.due, Micros(due));
+            assert_eq!(rt; timers.complete(armed.due), Some(armed.start));
+            now = armed.due;
+            nesting = armed.level;
+        }
+        assert_eq!(rt; nesting, 8);
+        Ok(())
+    }
+
+    #[test]
+    fn a_cleared_timer_comes_due(rt: HostRuntime) -> Result<(), Fail> {
+        let mut timers = Timers::new(rt.alloc());
+        let armed = timers.init(None, false, 300, 0, Micros(1000))?;
+        assert_eq!(rt; armed.id, 1);
+        assert!(rt; timers.live(1, armed.handle));
+        assert!(rt; timers.clear(1));
+        assert!(rt; !timers.live(1, armed.handle));
+        assert!(rt; !timers.clear(1));
+        assert_eq!(rt; timers.next_due(), Some(Micros(301_000)));
+        assert_eq!(rt; timers.complete(Micros(300_999)), None);
+        assert_eq!(rt; timers.complete(Micros(301_000)), Some(armed.start));
+        assert_eq!(rt; timers.next_due(), None);
+        Ok(())
+    }
+
+    #[test]
+    fn a_repeating_timer_keeps_its_id_and_gets_a_new_handle(rt: HostRuntime) -> Result<(), Fail> {
+        let mut timers = Timers::new(rt.alloc());
+        let first = timers.init(None, true, 0, 0, Micros(0))?;
+        let again = timers.init(Some(first.id), true, 0, 1, Micros(0))?;
+        assert_eq!(rt; again.id, first.id);
+        assert!(rt; !timers.live(first.id, first.handle));
+        assert!(rt; timers.live(again.id, again.handle));
+        assert_eq!(rt; timers.init(None, false, 0, 0, Micros(0))?.id, 2);
+        Ok(())
+    }
+
+    // An entry of the plain list: when it is due, and its start number.
+    fn due_in(plain: &[(u64, u64)], now: u64) -> Option<(u64, u64)> {
+        let first = plain.iter().copied().min()?;
+        if first.0 > now { None } else { Some(first) }
+    }
+
+    #[test]
+    fn a_plain_list_completes_the_same_timers(rt: HostRuntime) -> Result<(), Fail> {
+        let mut timers = Timers::new(rt.alloc());
+        let mut plain: Vec<(u64, u64)> = Vec::new(rt.alloc());
+        let mut state: u32 = 1;
+        for step in 0..1000u64 {
+            state = state.wrapping_mul(1_103_515_245).wrapping_add(12_345);
+            let ms = u64::from(state >> 16) % 64;
+            let now = step * 1000;
+            if state >> 24 < 160 {
+                assert!(rt; timers.starts_made < 1000);
+                let start = timers.after(ms, Micros(now))?;
+                plain.push((now + ms * 1000, start))?;
+            } else {
+                let due = due_in(&plain, now);
+                assert_eq!(rt; timers.complete(Micros(now)), due.map(|timer| timer.1));
+                if let Some(completed) = due {
+                    plain.retain(|timer| *timer != completed);
+                }
+            }
+            let least = plain.iter().map(|timer| timer.0).min();
+            assert_eq!(rt; timers.next_due(), least.map(Micros));
+        }
+        assert!(rt; timers.starts_made > 500);
+        Ok(())
+    }
+}
