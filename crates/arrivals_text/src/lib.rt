@@ -34,3 +34,26 @@ pub fn read_page(bytes: &[u8]) -> Result<PageSetup, BadLine>
         _ => Err(BadLine { line: 1 }),
     }
 }
+
+#[cfg(test)]
+mod tests {
+    use super::*;
+
+    #[test]
+    fn only_the_line_page_1_is_taken(rt: HostRuntime) {
+        let files: [(&[u8], Result<PageSetup, BadLine>); 9] = [
+            (b"page 1", Ok(PageSetup)),
+            (b"page 1\n", Ok(PageSetup)),
+            (b"", Err(BadLine { line: 1 })),
+            (b"\n", Err(BadLine { line: 1 })),
+            (b"page", Err(BadLine { line: 1 })),
+            (b"page 2", Err(BadLine { line: 1 })),
+            (b"page 1 \n", Err(BadLine { line: 1 })),
+            (b"page 10\nfuel 5\n", Err(BadLine { line: 1 })),
+            (b"page 1\nfuel 5\n", Err(BadLine { line: 2 })),
+        ];
+        for (file, wanted) in files {
+            assert_eq!(rt; read_page(file), wanted, "of {file:?}");
+        }
+    }
+}

@@ -5,6 +5,8 @@
 
 mod run;
 mod stop;
+#[cfg(test)]
+mod tests;
 
 pub use run::{Ended, run_page};
 pub use stop::RunStop;
