@@ -1,0 +1,6 @@
+pub mod Closures
+pub mod Firing
+pub mod KeptAnswers
+pub mod RecordedPort
+pub mod ToldClosure
+pub mod ToldTable

@@ -1,0 +1,14 @@
+-- A port that answers from a record.
+use Rattle.std.specs.Prelude.{ℕ, ℤ, List, Result, map}
+use Rattle.page_parts.specs.HostClosures.{HostClosure}
+use Rattle.host_jobs.specs.declared.answer.Recorded.{Recorded}
+
+-- its closures, the answers that it still keeps, and how often it has refused
+pub record RecordedPort : Type 0 where
+  pub closures : List HostClosure
+  pub answers : List (Result ℤ ℤ)
+  pub refusals : ℕ
+
+-- the answers of a record, without the closures and the numbers beside them
+abbrev pub answers_of : List Recorded → List (Result ℤ ℤ)
+answers_of recorded = map (λ r. r.answer) recorded

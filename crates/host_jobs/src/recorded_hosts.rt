@@ -1,0 +1,171 @@
+ghost use Rattle.std.specs.Prelude.{◌≡◌, List, map, drop, IfOk};
+ghost use Rattle.page_types.specs.Counts.{raised};
+ghost use Rattle.host_jobs.specs.RecordedPort.{RecordedPort, answers_of};
+ghost use Rattle.host_jobs.specs.ToldTable.{closures_of};
+
+use crate::closure::Closure;
+use crate::{HostPort, HostTable, NoHost, Recorded, slot};
+use std::alloc::{AllocError, Global};
+use std::marker::Model;
+
+/// A port that answers from a record, and calls nothing. It is seen as its closures, the answers that it still keeps, and
+/// how often it has refused.
+#[derive(Drop)]
+pub struct RecordedHosts {
+    closures: Vec<Closure>,
+    answers: Vec<Recorded>,
+    next: usize,
+    refusals: u64,
+}
+
+impl Model for RecordedHosts {
+    ghost use Rattle.std.specs.Prelude.{map, drop, ◌≤◌, vec_len};
+    ghost use Rattle.host_jobs.specs.RecordedPort.{RecordedPort, answers_of};
+    ghost use Rattle.host_jobs.specs.ToldClosure.{told};
+
+    ghost Value = { RecordedPort };
+
+    ghost view = { λ port. record {
+      closures = map told port.closures.items;
+      answers = answers_of (drop port.next port.answers.items);
+      refusals = port.refusals;
+    } };
+
+    ghost invariant = { λ port. port.next ≤ vec_len port.answers };
+}
+
+impl RecordedHosts {
+    /// A port with the kinds, ranges and marks of a table's closures, and the answers of a record in their order; the
+    /// closures and numbers beside these don't count. Want of memory is the only error.
+    pub fn new(
+        alloc: Global,
+        table: &HostTable,
+        answers: Vec<Recorded>,
+    ) -> Result<RecordedHosts, AllocError>
+        ensures { IfOk result (λ port. port ≡ record { closures = closures_of table.now; answers = answers_of answers.items; refusals = 0 }) }
+    {
+        Ok(RecordedHosts {
+            closures: slot::closures(alloc, &table.slots)?,
+            answers,
+            next: 0,
+            refusals: 0,
+        })
+    }
+
+    // Counts a refusal.
+    fn refuse(&mut self) -> NoHost
+        ensures { self.new ≡ record self.old { refusals = raised self.old.refusals } }
+    {
+        self.refusals = self.refusals.saturating_add(1);
+        NoHost
+    }
+}
+
+impl HostPort for RecordedHosts {
+    ghost use Rattle.std.specs.Prelude.{Some};
+
+    ghost closures = { λ port. port.closures };
+
+    ghost kept = { λ port. Some port.answers };
+
+    ghost refusals = { λ port. port.refusals };
+
+    fn live(&self, k: u32) -> bool {
+        let index = k as usize;
+        index < self.closures.len() && self.closures[index].is_live()
+    }
+
+    fn known(&self, k: u32) -> bool {
+        (k as usize) < self.closures.len()
+    }
+
+    fn fits(&self, k: u32, x: i64) -> bool {
+        let index = k as usize;
+        index < self.closures.len() && self.closures[index].takes(x)
+    }
+
+    /// Refuses exactly where the next answer is absent or does not meet the relation of closure `k` on `x`. Takes no memory.
+    fn fire_live(&mut self, k: u32, x: i64) -> Result<Result<i64, i64>, NoHost> {
+        let index = k as usize;
+        let Some(recorded) = self.answers.get(self.next) else {
+            return Err(self.refuse());
+        };
+        let answer = recorded.answer;
+        if !self.closures[index].allows(x, answer) {
+            return Err(self.refuse());
+        }
+        self.closures[index].mark_fired();
+        self.next += 1;
+        Ok(answer)
+    }
+
+    fn give_up(&mut self, k: u32) {
+        let index = k as usize;
+        if index < self.closures.len() {
+            self.closures[index].give_up();
+        }
+    }
+}
+
+#[cfg(test)]
+mod tests {
+    use super::*;
+    use crate::{HostKind, HostOnce};
+    use std::test::Fail;
+
+    // Asks a port as a page does.
+    fn ask<P: HostPort>(port: &mut P, k: u32, x: i64) -> Option<Result<Result<i64, i64>, NoHost>> {
+        if port.known(k) && port.live(k) && port.fits(k, x) {
+            Some(port.fire_live(k, x))
+        } else {
+            None
+        }
+    }
+
+    #[test]
+    fn takes_the_next_answer_where_it_meets_the_relation(rt: HostRuntime) -> Result<(), Fail> {
+        let mut table = HostTable::new(rt.alloc());
+        let any = Box::new(rt.alloc(), |_x: i64| Ok(41))?;
+        let fail = Box::new(rt.alloc(), |x: i64| Err(x))?;
+        table.push(HostOnce::new(HostKind::Any, -9, 9, any))?;
+        assert!(rt; table.slots.len() < 2);
+        table.push(HostOnce::new(HostKind::Fail, i64::MIN, i64::MAX, fail))?;
+        let mut answers = Vec::new(rt.alloc());
+        for answer in [Ok(-3), Err(7)] {
+            answers.push(Recorded { k: 5, x: 0, answer })?;
+        }
+        let mut port = RecordedHosts::new(rt.alloc(), &table, answers)?;
+
+        assert_eq!(rt; ask(&mut port, 0, 10), None, "not in its range");
+        assert_eq!(rt; ask(&mut port, 0, 7), Some(Ok(Ok(-3))));
+        assert_eq!(rt; ask(&mut port, 0, 7), None, "fired");
+        assert_eq!(rt; ask(&mut port, 1, 8), Some(Err(NoHost)), "Err(7) on 8");
+        assert_eq!(rt; ask(&mut port, 1, 7), Some(Ok(Err(7))));
+        assert_eq!(rt;
+            ask(&mut table, 0, 7),
+            Some(Ok(Ok(41))),
+            "not called before"
+        );
+        assert_eq!(rt; ask(&mut table, 2, 7), None, "no such closure");
+        Ok(())
+    }
+
+    #[test]
+    fn a_given_up_closure_is_asked_no_more(rt: HostRuntime) -> Result<(), Fail> {
+        let mut table = HostTable::new(rt.alloc());
+        let any = Box::new(rt.alloc(), |_x: i64| Ok(41))?;
+        table.push(HostOnce::new(HostKind::Any, -9, 9, any))?;
+        let mut port = RecordedHosts::new(rt.alloc(), &table, Vec::new(rt.alloc()))?;
+
+        assert_eq!(rt;
+            ask(&mut port, 0, 7),
+            Some(Err(NoHost)),
+            "no answer is left"
+        );
+        port.give_up(0);
+        table.give_up(0);
+        assert_eq!(rt; ask(&mut port, 0, 7), None);
+        assert_eq!(rt; ask(&mut table, 0, 7), None);
+        Ok(())
+    }
+}
