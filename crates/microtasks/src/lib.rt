@@ -1,0 +1,89 @@
+//! The queue of jobs that wait for the next microtask checkpoint: first in, first out.
+#![tactic(auto)]
+
+ghost use Rattle.std.specs.Prelude.{◌≡◌, ◌++◌, [], ◌∷◌, List, OnOk, OnErr, IfSome, IfNone};
+ghost use Rattle.microtasks.specs.declared.MemoryFault.TheVariants as memory;
+
+use std::alloc::{AllocFailed, Global};
+use std::collections::VecDeque;
+use std::marker::Model;
+use thiserror::Error;
+
+/// Why a job was not queued.
+#[derive(Clone, Copy, Debug, PartialEq, Eq, Error)]
+pub enum MemoryFault {
+    #[error("out of memory")]
+    OutOfMemory,
+}
+
+impl<T: Drop> From<AllocFailed<T>> for MemoryFault {
+    ghost from_gives = { λ _ e. e ≡ memory.OutOfMemory };
+
+    fn from(_e: AllocFailed<T>) -> MemoryFault {
+        MemoryFault::OutOfMemory
+    }
+}
+
+/// A queue of jobs. It is seen as the list of those that wait, the oldest first.
+#[derive(Drop)]
+pub struct Jobs<J> {
+    waiting: VecDeque<J>,
+}
+
+impl<J> Model for Jobs<J> {
+    ghost use Rattle.std.specs.Prelude.{List};
+
+    ghost Value = { List J };
+
+    ghost view = { λ jobs. jobs.waiting.items };
+}
+
+impl<J> Jobs<J> {
+    /// A queue in which no job waits. It keeps the allocator and takes no memory yet.
+    pub fn new(alloc: Global) -> Jobs<J>
+        ensures { result ≡ [] }
+    {
+        Jobs {
+            waiting: VecDeque::new(alloc),
+        }
+    }
+
+    /// Queues a job behind all others. For want of memory the queue stays as it was.
+    pub fn push(&mut self, job: J) -> Result<(), MemoryFault>
+    where
+        J: Drop,
+        ensures ok { OnOk result (self.new ≡ self.old ++ job ∷ []) }
+        ensures err { OnErr result (self.new ≡ self.old) }
+    {
+        self.waiting.push_back(job)?;
+        Ok(())
+    }
+
+    /// Takes the oldest job out, and answers None exactly where no job waits. Takes no memory.
+    pub fn pop(&mut self) -> Option<J>
+        ensures oldest { IfSome result (λ job. self.old ≡ job ∷ self.new) }
+        ensures empty { IfNone result (self.old ≡ []) }
+        ensures stays { IfNone result (self.new ≡ []) }
+    {
+        self.waiting.pop_front()
+    }
+}
+
+#[cfg(test)]
+mod tests {
+    use super::*;
+
+    #[test]
+    fn gives_jobs_in_the_order_in_which_they_came(rt: HostRuntime) -> Result<(), MemoryFault> {
+        let mut jobs = Jobs::<u32>::new(rt.alloc());
+        assert_eq!(rt; jobs.pop(), None);
+        jobs.push(7)?;
+        jobs.push(8)?;
+        assert_eq!(rt; jobs.pop(), Some(7));
+        jobs.push(9)?;
+        assert_eq!(rt; jobs.pop(), Some(8));
+        assert_eq!(rt; jobs.pop(), Some(9));
+        assert_eq!(rt; jobs.pop(), None);
+        Ok(())
+    }
+}

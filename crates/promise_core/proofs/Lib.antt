@@ -1,0 +1,4 @@
+pub mod Records
+pub mod HeldLemmas
+pub mod Telling
+pub mod Sequences

@@ -1,0 +1,4 @@
+pub mod Seen
+pub mod Held
+pub mod Changes
+pub mod Calls
