@@ -66,4 +66,4 @@ ends_next ss i h = ap lines_left (drop_all i ss h)
 -- ---- the lines of a run
 
 pub run-lines : (ss : List spec.LogStatement) → lines_of_run (default_run (log_tree ss)) ≡ Head ∷ map Of (script_events ss)
-run-lines ss = ap (λ es. Head ∷ map Of es) (run-events ss)
+run-lines ss = ap (λ es. Head ∷ map Of es) (run-events [] ss)

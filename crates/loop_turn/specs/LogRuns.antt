@@ -2,15 +2,20 @@
 use Rattle.std.specs.Prelude.{◌≡◌, List, [], ◌∷◌, map}
 use Rattle.page_types.specs.Tree.{Item}
 use Rattle.page_types.specs.declared.End.{End}
+use Rattle.page_parts.specs.HostClosures.{HostClosure}
 use Rattle.page_parts.specs.WrittenChoices.{written}
 use Rattle.page_model.specs.Turns.{Turned, GoesOn, Ended, Stuck, run, events_of_run}
 use Rattle.arrivals_text.specs.Arrivals.{default_setup}
 use Rattle.lang_parse.specs.LogScript.{program_of}
 use Rattle.trace_text.specs.Line.{Line, Head, Of}
 
--- the run of a tree without functions, under the default setup and with no host closure
+-- the run of a tree without functions, under the default setup and with these host closures
+abbrev pub hosted_run : List HostClosure → List Item → Turned
+hosted_run hosts tree = run (program_of tree) default_setup hosts (written default_setup [])
+
+-- the same with no host closure; a log script asks for none
 abbrev pub default_run : List Item → Turned
-default_run tree = run (program_of tree) default_setup [] (written default_setup [])
+default_run tree = hosted_run [] tree
 
 -- the lines of a run
 abbrev pub lines_of_run : Turned → List Line

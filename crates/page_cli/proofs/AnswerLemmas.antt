@@ -3,7 +3,10 @@ use Rattle.std.proofs.Common.{◌≡◌, ◌≤◌, ◌+◌, ℕ, zero, suc, Lis
 use Rattle.std.specs.Prelude.{IfSome, option_map, ◌==◌, codes}
 use Rattle.page_types.specs.Tree.{Item}
 use Rattle.page_types.specs.declared.End.{End}
+use Rattle.page_types.specs.Told.{appended, AppendsStartOf}
+use Rattle.page_parts.specs.HostClosures.{HostClosure}
 use Rattle.page_parts.specs.Setup.{Setup}
+use Rattle.page_parts.specs.TraceText.{text_of}
 use Rattle.page_model.specs.PageTrace.{page_trace}
 use Rattle.page_io.specs.Files.{Fetches}
 use Rattle.page_io.specs.declared.fetched.Fetched.{Fetched}
@@ -13,12 +16,12 @@ use Rattle.trace_text.specs.Sinks.{sink_keeping}
 use Rattle.trace_text.proofs.SinkText.{Gives-sink_trace, Gives-sink_trace_stop}
 use Rattle.arrivals_text.specs.Arrivals.{default_setup, behind_start, in_first_line, setup_of}
 use Rattle.lang_tokens.specs.Tokens.{tokens_of}
-use Rattle.lang_parse.specs.LogScript.{IsScript, LogStatement, log_tree}
+use Rattle.lang_parse.specs.LogScript.{IsScript, LogStatement, log_tree, program_of}
 use Rattle.loop_turn.specs.declared.stop.RunStop.{RunStop}
 use Rattle.loop_turn.specs.declared.stop.RunStop.TheVariants as stop
 use Rattle.loop_turn.specs.LogRuns.{default_run, lines_of_run}
 use Rattle.loop_turn.specs.Stops.{line_fault}
-use Rattle.loop_turn.proofs.LogLaw.{run-ends}
+use Rattle.loop_turn.proofs.LogLaw.{run-events, run-ends}
 use Rattle.page_model.specs.Turns.{events_of_run}
 use Rattle.page_cli.specs.declared.answer.Answer.{Answer}
 use Rattle.page_cli.specs.declared.answer.Answer.TheVariants.{Done, Usage, NoParse, BadArrivals, ReadFault, WriteFault, OutOfMemory}
@@ -118,7 +121,7 @@ no_tokens bytes at e tree is log = ok_is_no_err (sym is.tokens_are ∙ e)
 -- ---- the run
 
 pub run-answers : (ss : List LogStatement) (outcome : Result End RunStop) {old new : Seen (List ℕ)} → Gives sink_keeping old (lines_of_run (default_run (log_tree ss))) (line_fault outcome) new → AnswersRun (log_tree ss) (answer_to outcome) old.told new.told
-run-answers ss (Ok end) h = (run-ends ss, Gives-sink_trace (events_of_run (default_run (log_tree ss))) h)
+run-answers ss (Ok end) h = (run-ends [] ss, Gives-sink_trace (events_of_run (default_run (log_tree ss))) h)
 run-answers ss (Err stop.WriteFault) h = Gives-sink_trace_stop (events_of_run (default_run (log_tree ss))) h
 run-answers ss (Err stop.Differs) h = Gives-sink_trace_stop (events_of_run (default_run (log_tree ss))) h
 run-answers ss (Err stop.OutOfMemory) h = Gives-sink_trace_stop (events_of_run (default_run (log_tree ss))) h
@@ -130,15 +133,25 @@ can_stop ss (Err stop.WriteFault) o n h = tt
 can_stop ss (Err stop.Differs) o n h = let d = h.differs in omega (arith, o, n, d)
 can_stop ss (Err stop.OutOfMemory) o n h = tt
 
-pub files-answers : (ss : List LogStatement) (answer : Answer) (script arrivals : List ℕ) (old new : Option (List ℕ)) → IsScript script (log_tree ss) → setup_of arrivals ≡ Ok default_setup → AnswersRun (log_tree ss) answer old new → AnswersFiles answer script arrivals old new
+-- the text of the run is the same whatever the host closures
+any_hosts : (ss : List LogStatement) (hosts : List HostClosure) → text_of (events_of_run (default_run (log_tree ss))) ≡ page_trace (program_of (log_tree ss)) default_setup hosts []
 unfolding page_trace
-files-answers ss Done script arrivals old new is set h = record { tree = log_tree ss; setup = default_setup; is_run = record { is_script = is; is_log = (ss, refl); is_setup = set }; ended = h.0; trace = h.1 }
+any_hosts ss hosts = ap text_of (run-events [] ss ∙ sym (run-events hosts ss))
+
+any_trace : (ss : List LogStatement) (old new : Option (List ℕ)) → new ≡ appended old (text_of (events_of_run (default_run (log_tree ss)))) → (hosts : List HostClosure) → new ≡ appended old (page_trace (program_of (log_tree ss)) default_setup hosts [])
+any_trace ss old new h hosts = h ∙ ap (appended old) (any_hosts ss hosts)
+
+any_start : (ss : List LogStatement) (old new : Option (List ℕ)) → AppendsStartOf old new (text_of (events_of_run (default_run (log_tree ss)))) → (hosts : List HostClosure) → AppendsStartOf old new (page_trace (program_of (log_tree ss)) default_setup hosts [])
+any_start ss old new h hosts = subst (AppendsStartOf old new) (any_hosts ss hosts) h
+
+pub files-answers : (ss : List LogStatement) (answer : Answer) (script arrivals : List ℕ) (old new : Option (List ℕ)) → IsScript script (log_tree ss) → setup_of arrivals ≡ Ok default_setup → AnswersRun (log_tree ss) answer old new → AnswersFiles answer script arrivals old new
+files-answers ss Done script arrivals old new is set h = record { tree = log_tree ss; setup = default_setup; is_run = record { is_script = is; is_log = (ss, refl); is_setup = set }; ended = λ hosts. run-ends hosts ss; trace = any_trace ss old new h.1 }
 files-answers ss Usage script arrivals old new is set h = h
 files-answers ss NoParse script arrivals old new is set h = absurd h
 files-answers ss (BadArrivals line) script arrivals old new is set h = absurd h
 files-answers ss (ReadFault file) script arrivals old new is set h = absurd h
-files-answers ss WriteFault script arrivals old new is set h = record { tree = log_tree ss; setup = default_setup; is_run = record { is_script = is; is_log = (ss, refl); is_setup = set }; start = h }
-files-answers ss OutOfMemory script arrivals old new is set h = inr (record { tree = log_tree ss; setup = default_setup; is_run = record { is_script = is; is_log = (ss, refl); is_setup = set }; start = h })
+files-answers ss WriteFault script arrivals old new is set h = record { tree = log_tree ss; setup = default_setup; is_run = record { is_script = is; is_log = (ss, refl); is_setup = set }; start = any_start ss old new h }
+files-answers ss OutOfMemory script arrivals old new is set h = inr (record { tree = log_tree ss; setup = default_setup; is_run = record { is_script = is; is_log = (ss, refl); is_setup = set }; start = any_start ss old new h })
 
 -- ---- the files as they are told
 

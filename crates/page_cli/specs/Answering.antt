@@ -3,6 +3,7 @@ use Rattle.std.specs.Prelude.{◌≡◌, ◌⊎◌, ⊤, ℕ, List, [], Option, 
 use Rattle.page_types.specs.Tree.{Item}
 use Rattle.page_types.specs.Told.{appended, AppendsStartOf}
 use Rattle.page_types.specs.declared.End.TheVariants as end
+use Rattle.page_parts.specs.HostClosures.{HostClosure}
 use Rattle.page_parts.specs.Setup.{Setup}
 use Rattle.page_parts.specs.WrittenChoices.{written}
 use Rattle.page_types.specs.declared.End.{End}
@@ -31,20 +32,21 @@ abbrev pub HasNoTree : List ℕ → Type 0
 HasNoTree script = (tree : List Item) → IsScript script tree → IsLogTree tree → ⊥
 
 -- The trace of this script and these arrivals was written, the whole of it and no more: the page's trace of the
--- script's tree and the setup of the arrivals, with no host closure. The run has ended for nothing is left to do.
+-- script's tree and the setup of the arrivals, whatever the host closures, for which a log script does not ask. The run has
+-- ended for nothing is left to do.
 pub record WroteTrace (script arrivals : List ℕ) (old new : Option (List ℕ)) : Type 0 where
   pub tree : List Item
   pub setup : Setup
   pub is_run : IsRun script arrivals tree setup
-  pub ended : EndsAs end.Done (run (program_of tree) setup [] (written setup []))
-  pub trace : new ≡ appended old (page_trace (program_of tree) setup [] [])
+  pub ended : (hosts : List HostClosure) → EndsAs end.Done (run (program_of tree) setup hosts (written setup []))
+  pub trace : (hosts : List HostClosure) → new ≡ appended old (page_trace (program_of tree) setup hosts [])
 
 -- a start of that trace was written
 pub record WroteStart (script arrivals : List ℕ) (old new : Option (List ℕ)) : Type 0 where
   pub tree : List Item
   pub setup : Setup
   pub is_run : IsRun script arrivals tree setup
-  pub start : AppendsStartOf old new (page_trace (program_of tree) setup [] [])
+  pub start : (hosts : List HostClosure) → AppendsStartOf old new (page_trace (program_of tree) setup hosts [])
 
 -- what an answer says of the two files
 abbrev pub AnswersFiles : Answer → List ℕ → List ℕ → Option (List ℕ) → Option (List ℕ) → Type 0

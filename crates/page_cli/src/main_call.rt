@@ -2,6 +2,7 @@
 
 ghost use Rattle.std.specs.Prelude.{◌≡◌, ◌↔◌, ◌⊎◌, map, None, string_bytes, IfSome};
 ghost use Rattle.page_types.specs.Counts.{Rose};
+ghost use Rattle.host_jobs.specs.ToldTable.{closures_of};
 ghost use Rattle.page_cli.specs.declared.answer.WhichFile.{WhichFile};
 ghost use Rattle.page_cli.specs.Statuses.{status_of};
 ghost use Rattle.page_cli.specs.Forms.{form_of, name_of};
@@ -14,6 +15,7 @@ use crate::complaint::complain;
 use crate::names::Names;
 use crate::reading::fetched;
 use crate::running::{Answered, run_files};
+use host_jobs::HostTable;
 use page_io::{FetchFault, Folder, Sink};
 use std::alloc::Global;
 
@@ -109,11 +111,13 @@ fn answer_to_words<F: Folder, O: Sink>(
 ///
 /// `run S A` fetches the script S and the arrivals A, runs the script, and writes the trace to `out`. The order of
 /// refusals is: words, the fetch of S, the fetch of A, script, arrivals, writes. A refusal writes nothing to `out`. The
-/// line of the answer goes to `err`, whose faults change no answer. Want of memory may come at any point.
+/// line of the answer goes to `err`, whose faults change no answer. Want of memory may come at any point. The host table
+/// stays as it is, since a log script asks for no answer of a host.
 pub fn page_main<F: Folder, O: Sink, E: Sink>(
     alloc: Global,
     words: &Vec<String>,
     folder: &mut F,
+    _hosts: &mut HostTable,
     out: O,
     err: &mut E,
 ) -> MainEnd<O>
@@ -132,6 +136,9 @@ pub fn page_main<F: Folder, O: Sink, E: Sink>(
     ensures read { (file : WhichFile) → result.answer ≡ Answer.ReadFault file → IfSome (form_of (map string_bytes words.now.items)) (λ form.
         Rose (F.faults folder.old (name_of file form)) (F.faults folder.new (name_of file form))) }
     ensures write { result.answer ≡ Answer.WriteFault → Rose (O.faults out) (O.faults result.out) }
+
+    // No host closure was fired or dropped.
+    ensures hosts { closures_of _hosts.new ≡ closures_of _hosts.old }
 
     // The line of the answer whole, or a start of it where the count of faults of `err` rose.
     ensures err { PutsOrFails (E.bytes err.old) (E.faults err.old) (complaint (form_of (map string_bytes words.now.items)) result.answer) (E.bytes err.new) (E.faults err.new) }

@@ -1,5 +1,6 @@
 //! One run of the program over files in memory.
 
+use host_jobs::HostTable;
 use page_cli::page_main;
 use page_io::{MemFolder, MemSink};
 use std::alloc::{AllocError, Global};
@@ -65,7 +66,8 @@ impl<'a> Example<'a> {
         let mut folder = self.folder(alloc)?;
         let out = sink(alloc, self.failing_out)?;
         let mut err = sink(alloc, self.failing_err)?;
-        let end = page_main(alloc, &words, &mut folder, out, &mut err);
+        let mut hosts = HostTable::new(alloc);
+        let end = page_main(alloc, &words, &mut folder, &mut hosts, out, &mut err);
         if end.status == OUT_OF_MEMORY {
             return Err(Fail::new("out of memory"));
         }

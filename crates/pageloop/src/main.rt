@@ -1,8 +1,13 @@
-//! The program: the real folder and the standard streams are handed to the top call.
+//! The program: the real folder, the standard streams and the host closures are handed to the top call.
 #![tactic(auto)]
 
+mod hosts;
+
+use host_jobs::{HostKind, HostOnce, HostTable};
+use hosts::{GREATEST_HALF, GREATEST_ROOT, double, fail, negate, square};
 use page_cli::page_main;
 use page_io::{RealFolder, StdSink};
+use std::alloc::AllocError;
 use std::process::ExitCode;
 use std::rt::Env;
 use std::{env, io};
@@ -19,14 +24,36 @@ fn words(rt: &(impl Env + AllocGlobal)) -> io::Result<Vec<String>> {
     Ok(words)
 }
 
-fn main(rt: HostRuntime) -> ExitCode {
+/// Makes the 64 host closures, runs the program, and answers its status. Want of memory for what the program starts with is
+/// the only error.
+///
+/// Number k of the closures squares, doubles, negates or fails as k modulo 4 is 0, 1, 2 or 3.
+fn run(rt: HostRuntime) -> Result<u8, AllocError> {
     let alloc = rt.alloc();
     let Ok(words) = words(&rt) else {
-        return ExitCode::from(OUT_OF_MEMORY);
+        return Ok(OUT_OF_MEMORY);
     };
+    let mut hosts = HostTable::new(alloc);
+    for _ in 0..16u32 {
+        let job = Box::new(alloc, square)?;
+        hosts.push(HostOnce::new(HostKind::Square, -GREATEST_ROOT, GREATEST_ROOT, job))?;
+        let job = Box::new(alloc, double)?;
+        hosts.push(HostOnce::new(HostKind::Double, -GREATEST_HALF, GREATEST_HALF, job))?;
+        let job = Box::new(alloc, negate)?;
+        hosts.push(HostOnce::new(HostKind::Negate, -i64::MAX, i64::MAX, job))?;
+        let job = Box::new(alloc, fail)?;
+        hosts.push(HostOnce::new(HostKind::Fail, i64::MIN, i64::MAX, job))?;
+    }
     let mut folder = RealFolder::new(&rt);
     let out = StdSink::new(io::writer(&rt));
     let mut err = StdSink::new(rt.stderr());
-    let end = page_main(alloc, &words, &mut folder, out, &mut err);
-    ExitCode::from(end.status)
+    let end = page_main(alloc, &words, &mut folder, &mut hosts, out, &mut err);
+    Ok(end.status)
+}
+
+fn main(rt: HostRuntime) -> ExitCode {
+    match run(rt) {
+        Ok(status) => ExitCode::from(status),
+        Err(_) => ExitCode::from(OUT_OF_MEMORY),
+    }
 }

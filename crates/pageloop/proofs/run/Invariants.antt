@@ -1,0 +1,6 @@
+use Rattle.std.proofs.Common.{◌≤◌, ◌*◌, length}
+use Rattle.host_jobs.specs.ToldTable.{closures_of}
+use Rattle.pageloop.proofs.run.Given as goal
+
+abbrev pub invariant-loop : goal.invariant-loop
+invariant-loop l = (length (closures_of l.hosts) ≤ 4 * l.counter) × (l.counter ≤ 16)
