@@ -1,0 +1,13 @@
+use Rattle.std.proofs.Common.{◌<◌, ℕ, List, [], length, ap, ◌∙◌, arith}
+use Rattle.std.proofs.lemmas.Bool.Decides.{nat_tests}
+use Rattle.page_parts.specs.AbortGraph as parts
+use Rattle.abort_graph.specs.Seen.{signal_seen}
+use Rattle.abort_graph.proofs.SignalLemmas.{changed, with_none}
+use Rattle.abort_graph.proofs.signals.Signals.take_algorithms.Goals as goal
+
+pub returns-clause-none : goal.returns-clause-none
+returns-clause-none g c =
+    let r = c.index_mut.result.now in
+    let within : c.index_of-at.result < length c.self.inside.signals.items = grind (arith, nat_tests, c.if-at-len.false, c.len.ensures, c.self.inside.signals.ok.0) in
+    changed with_none c.self.inside.signals.items c.args.s c.index_of-at.result r _ c.index_of-at.ensures within c.index_mut.ensures.value (ap (λ (xs : List ℕ). record (signal_seen r) { algorithms = xs }) c.take.ensures.none)
+    ∙ ap (parts.with_algorithms c.args.s []) c.self.view_is

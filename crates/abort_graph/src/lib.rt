@@ -1,0 +1,16 @@
+//! Abort signals: their reasons, how they depend on one another, and their abort algorithms (DOM, "Interface AbortSignal").
+//!
+//! Nothing is called here: an abort tells which signals to run the abort steps of, and their algorithms are numbers that are
+//! handed over.
+#![tactic(auto)]
+
+mod algorithms;
+mod fault;
+mod marked;
+mod numbers;
+mod signal;
+mod signals;
+
+pub use fault::MemoryFault;
+pub use marked::Marked;
+pub use signals::Signals;
