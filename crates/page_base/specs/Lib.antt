@@ -1,1 +1,4 @@
 pub mod Decimals
+pub mod Readings
+pub mod Clocks
+pub mod Laws

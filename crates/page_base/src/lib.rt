@@ -1,11 +1,13 @@
-//! What every part of a page counts and reads by: moments of time, task sources, and numbers in text.
+//! What every part of a page counts and reads by: moments of time, task sources, clocks, and numbers in text.
 #![tactic(auto)]
 
+mod clock;
 mod cursor;
+mod laws;
+mod moment;
 
+pub use clock::{Clock, NoReading, RecordedClock, ScriptClock};
 pub use cursor::Cursor;
+pub use laws::{recorded_clock_is_recorded, script_clock_is_written};
+pub use moment::Micros;
 pub use page_types::{End, Source};
-
-/// Microseconds: a moment, counted from the start of a run, or a span of time.
-#[derive(Clone, Copy, PartialEq, Eq, PartialOrd, Ord, Debug)]
-pub struct Micros(pub u64);

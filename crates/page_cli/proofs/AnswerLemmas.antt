@@ -14,7 +14,9 @@ use Rattle.page_io.specs.declared.fetched.Fetched.TheVariants.{Whole, TooLong}
 use Rattle.trace_text.specs.Given.{Seen, Gives}
 use Rattle.trace_text.specs.Sinks.{sink_keeping}
 use Rattle.trace_text.proofs.SinkText.{Gives-sink_trace, Gives-sink_trace_stop}
-use Rattle.arrivals_text.specs.Arrivals.{default_setup, behind_start, in_first_line, setup_of}
+use Rattle.arrivals_text.specs.Arrivals.{default_setup}
+use Rattle.arrivals_text.specs.Fields.{behind_start}
+use Rattle.arrivals_text.specs.FirstPage.{in_first_line, setup_of}
 use Rattle.lang_tokens.specs.Tokens.{tokens_of}
 use Rattle.lang_parse.specs.LogScript.{IsScript, LogStatement, log_tree, program_of}
 use Rattle.loop_turn.specs.declared.stop.RunStop.{RunStop}

@@ -10,7 +10,7 @@ use Rattle.page_types.specs.declared.End.{End}
 use Rattle.page_parts.specs.TraceText.{text_of}
 use Rattle.page_model.specs.Turns.{run, events_of_run}
 use Rattle.page_model.specs.PageTrace.{page_trace}
-use Rattle.arrivals_text.specs.Arrivals.{setup_of}
+use Rattle.arrivals_text.specs.FirstPage.{setup_of}
 use Rattle.lang_parse.specs.LogScript.{IsScript, IsLogTree, program_of}
 use Rattle.loop_turn.specs.declared.stop.RunStop.{RunStop}
 use Rattle.loop_turn.specs.declared.stop.RunStop.TheVariants as stop

@@ -9,7 +9,7 @@ ghost use Rattle.page_cli.specs.Answering.{AnswersFiles, AnswersRun, CanStop, Is
 
 use crate::answer::Answer;
 use crate::reading::read_script;
-use arrivals_text::read_page;
+use arrivals_text::read_first_page;
 use lang_parse::{LogScript, ParseFault};
 use loop_turn::{RunStop, run_page};
 use page_base::End;
@@ -78,7 +78,7 @@ pub(crate) fn run_files<O: Sink>(
             };
         }
     };
-    match read_page(arrivals) {
+    match read_first_page(arrivals) {
         Ok(_) => run_script(alloc, &script, out),
         Err(fault) => Answered {
             answer: Answer::BadArrivals { line: fault.line },

@@ -1,0 +1,4 @@
+pub mod Runnables
+pub mod Legal
+pub mod Counting
+pub mod Written

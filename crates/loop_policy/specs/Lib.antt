@@ -1,0 +1,5 @@
+pub mod Views
+pub mod Policies
+pub mod Rules
+pub mod Choosing
+pub mod Laws
