@@ -1,19 +1,18 @@
 -- The settings of lines that follow each other are within the limits.
-use Rattle.std.proofs.Common.{◌≡◌, ℕ, ◌≤◌, ◌<◌, ◌&&◌, Bool, true, false, cond, List, [], ◌∷◌, ◌++◌, map, filter, Option, Some, None, Result, Ok, Err, refl, ap, sym, ◌∙◌, subst, arith, nat_le, nat_lt, All}
+use Rattle.std.proofs.Common.{◌≡◌, ℕ, ◌≤◌, ◌&&◌, Bool, true, false, List, [], ◌∷◌, map, filter, Option, Some, None, Result, Ok, Err, refl, ap, ◌∙◌, subst, arith}
 use Rattle.std.specs.List.{filter_map, cons_option}
 use Rattle.std.specs.Option.{IfSome}
-use Rattle.std.proofs.lemmas.Bool.Decides.{nat_tests}
 use Rattle.std.proofs.lemmas.List.Elements.{All-nil}
 use Rattle.page_parts.specs.Setup.{Latency, Arrival}
 use Rattle.page_base.specs.Readings.{AreShort}
 use Rattle.loop_policy.specs.Policies.{is_policy}
 use Rattle.arrivals_text.specs.Arrivals.{Line, PageLine, PolicyLine, FuelLine, UntilLine, RefreshLine, LateLine, RoomLine, HostLine, ArrivalLine, Settings, line_at, says_something, place_of, may_follow, rank_of, follow, last_or, policy_in, fuel_in, until_in, refresh_in, late_in, room_in, latency_in, arrival_in, settings_after, default_settings, lines_of}
-use Rattle.arrivals_text.specs.Limits.{is_below, are_latencies, is_arrival, is_not_after, are_arrivals}
+use Rattle.arrivals_text.specs.Limits.{is_below, are_latencies, is_not_after, are_arrivals}
 use Rattle.arrivals_text.specs.Reading.{IsWithin, goes, settled}
 use Rattle.arrivals_text.specs.declared.place.Place.{Place}
 use Rattle.arrivals_text.specs.declared.place.Place.TheVariants as place
 use Rattle.arrivals_text.proofs.Within.{LineWithin, line_within}
-use Rattle.arrivals_text.proofs.Pages.{Spells, lines_read}
+use Rattle.arrivals_text.proofs.Pages.{lines_read}
 
 abbrev AllWithin : List Line → Type 0
 AllWithin [] = Unit {0}

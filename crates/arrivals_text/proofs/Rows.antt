@@ -1,15 +1,13 @@
 -- What was read, before what is read of the rest.
-use Rattle.std.proofs.Common.{◌≡◌, ℕ, Bool, true, false, ◌&&◌, List, [], ◌∷◌, ◌++◌, map, Option, Some, None, refl, ap, sym, ◌∙◌, append_assoc, arith, length, get_or, nat_eq, append-nil}
+use Rattle.std.proofs.Common.{◌≡◌, ℕ, true, ◌&&◌, List, [], ◌∷◌, ◌++◌, map, Option, Some, None, refl, ap, sym, ◌∙◌, append_assoc, arith, length, get_or, nat_eq, append-nil}
 use Rattle.std.specs.Option.{option_map}
 use Rattle.std.specs.List.{list_any, list_all}
-use Rattle.std.specs.Char.{is_ascii_alphabetic, is_ascii_digit}
 use Rattle.page_types.specs.declared.Source.{Source}
 use Rattle.page_parts.specs.Setup.{Rank}
 use Rattle.page_parts.specs.Sources.{default_list, same_source}
 use Rattle.loop_policy.specs.Policies.{lists_each}
-use Rattle.page_values.specs.Names.{is_name, is_name_byte, is_letter}
+use Rattle.page_values.specs.Names.{is_name, is_name_byte}
 use Rattle.arrivals_text.proofs.Parts.{words_first, words_last}
-use Rattle.std.specs.Bool.{IsTrue}
 use Rattle.std.proofs.lemmas.Bool.Decides.{nat_tests}
 use Rattle.page_values.specs.Texts.{is_text, is_text_byte}
 use Rattle.arrivals_text.specs.Fields.{all_of, cut_at, words_of, where_true, parts_at}

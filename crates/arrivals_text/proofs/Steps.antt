@@ -1,14 +1,10 @@
 -- A file, line by line.
-use Rattle.std.proofs.Common.{◌≡◌, ℕ, zero, suc, ◌+◌, ◌≤◌, ◌<◌, ◌&&◌, Bool, true, false, cond, List, [], ◌∷◌, ◌++◌, length, take, map, filter, Option, Some, None, Result, Ok, Err, refl, ap, sym, ◌∙◌, subst, arith, append_assoc, append-nil}
+use Rattle.std.proofs.Common.{◌≡◌, ℕ, ◌+◌, true, false, cond, List, [], ◌∷◌, ◌++◌, Option, Some, None, Result, Ok, Err, refl, ap, sym, ◌∙◌, arith, append_assoc, append-nil}
 use Rattle.std.specs.List.{filter_map}
 use Rattle.std.proofs.lemmas.List.Elements.{filter_map-append}
-use Rattle.page_parts.specs.Words.{is_empty}
-use Rattle.page_parts.specs.Setup.{Setup}
-use Rattle.arrivals_text.specs.Fields.{◌>>=◌, where_true}
-use Rattle.arrivals_text.specs.Arrivals.{Line, Settings, settings_after, default_settings, last_or, policy_in, fuel_in, until_in, refresh_in, late_in, room_in, latency_in, arrival_in, line_at, says_something, place_of, may_follow, follow}
+use Rattle.arrivals_text.specs.Arrivals.{Line, Settings, settings_after, last_or, policy_in, fuel_in, until_in, refresh_in, late_in, room_in, latency_in, arrival_in}
 use Rattle.arrivals_text.specs.Reading.{step, last_place, is_start, further, goes, settled, IsTaken}
 use Rattle.arrivals_text.specs.declared.place.Place.{Place}
-use Rattle.arrivals_text.specs.declared.place.Place.TheVariants as place
 
 last_or-append : {X : Type 0} (d : X) (xs ys : List X) → last_or d (xs ++ ys) ≡ last_or (last_or d xs) ys
 last_or-append d [] ys = refl

@@ -1,6 +1,6 @@
 -- What a file sets is within the limits.
-use Rattle.std.proofs.Common.{◌≡◌, ℕ, zero, suc, ◌+◌, ◌≤◌, ◌<◌, ◌&&◌, ◌||◌, Bool, true, false, cond, List, [], ◌∷◌, ◌++◌, length, map, filter, find, Option, Some, None, Result, Ok, Err, refl, ap, sym, ◌∙◌, subst, arith, nat_le, nat_lt, All, codes}
-use Rattle.std.specs.List.{filter_map, list_any, list_all}
+use Rattle.std.proofs.Common.{◌≡◌, ℕ, ◌≤◌, ◌&&◌, ◌||◌, Bool, true, false, cond, List, [], ◌∷◌, length, map, find, Option, Some, None, refl, ap, arith, nat_le, All, codes}
+use Rattle.std.specs.List.{list_any}
 use Rattle.std.specs.Option.{option_map, IfSome}
 use Rattle.std.proofs.lemmas.Bool.Decides.{nat_tests}
 use Rattle.std.proofs.lemmas.List.Elements.{All-nil, All-cons}
@@ -9,18 +9,15 @@ use Rattle.page_types.specs.declared.Source.TheVariants.{User, Net, Dom, Timer, 
 use Rattle.page_types.specs.Values.{Value, UnitValue, BoolValue, IntValue, TextValue}
 use Rattle.page_parts.specs.Words.{is_empty}
 use Rattle.page_parts.specs.Setup.{Policy, Fifo, Rank, Fair, Latency, Arrival}
-use Rattle.page_parts.specs.Sources.{default_list, same_source}
+use Rattle.page_parts.specs.Sources.{same_source}
 use Rattle.page_parts.specs.TraceText.{source_text}
 use Rattle.page_base.specs.Decimals.{number_at, number_of, digits_of, is_canonical, after_digits}
 use Rattle.page_base.specs.Readings.{AreShort}
 use Rattle.page_values.specs.Names.{is_name}
 use Rattle.loop_policy.specs.Policies.{is_policy, lists_each}
 use Rattle.arrivals_text.specs.Fields.{◌>>=◌, where_true, or_else, all_of, behind, is_word, cut_at, words_of, number_in, source_among, sources_at, rank_at, fair_at, policy_at, late_at, latency_at, text_at, parts_at, int_at, value_at, arrival_at}
-use Rattle.arrivals_text.specs.Arrivals.{Line, PageLine, PolicyLine, FuelLine, UntilLine, RefreshLine, LateLine, RoomLine, HostLine, ArrivalLine, line_at, says_something, place_of, may_follow, rank_of, follow, last_or, policy_in, fuel_in, until_in, refresh_in, late_in, room_in, latency_in, arrival_in, settings_after, default_settings}
-use Rattle.arrivals_text.specs.Limits.{is_below, are_latencies, may_arrive, is_arrival, is_not_after, are_arrivals}
-use Rattle.arrivals_text.specs.Reading.{IsWithin}
-use Rattle.arrivals_text.specs.declared.place.Place.{Place}
-use Rattle.arrivals_text.specs.declared.place.Place.TheVariants as place
+use Rattle.arrivals_text.specs.Arrivals.{Line, PageLine, PolicyLine, FuelLine, UntilLine, RefreshLine, LateLine, RoomLine, HostLine, ArrivalLine, line_at}
+use Rattle.arrivals_text.specs.Limits.{may_arrive, is_arrival}
 
 -- ---- what holds of an answer, where there is one
 

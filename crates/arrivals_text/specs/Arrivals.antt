@@ -1,5 +1,5 @@
 -- The setup that an arrivals file sets.
-use Rattle.std.specs.Prelude.{◌≡◌, ℕ, ◌+◌, ◌≤◌, ◌<◌, Bool, true, false, cond, not, ◌&&◌, ◌||◌, ◌==◌, nat_lt, nat_le, List, [], ◌∷◌, ◌++◌, map, filter, take, length, Option, Some, None, option_map, filter_map, codes}
+use Rattle.std.specs.Prelude.{◌≡◌, ℕ, ◌+◌, ◌≤◌, ◌<◌, Bool, true, false, cond, not, ◌&&◌, ◌==◌, nat_lt, nat_le, List, [], ◌∷◌, ◌++◌, map, filter, take, length, Option, Some, None, option_map, filter_map, codes}
 use Rattle.std.specs.List.{slice_split}
 use Rattle.page_parts.specs.Words.{is_empty}
 use Rattle.page_parts.specs.Setup.{Policy, Rank, Latency, Arrival, Setup}

@@ -1,13 +1,12 @@
 -- The fields of a line of an arrivals file.
-use Rattle.std.specs.Prelude.{ℕ, zero, suc, ◌+◌, ◌-◌, ◌^◌, Bool, true, false, cond, not, ◌&&◌, ◌||◌, ◌==◌, nat_le, List, [], ◌∷◌, length, Option, Some, None, option_map, ℤ, pos, negsuc, codes, find, map}
-use Rattle.std.specs.List.{slice_split, list_any}
+use Rattle.std.specs.Prelude.{ℕ, zero, suc, Bool, true, false, cond, not, ◌&&◌, ◌||◌, ◌==◌, nat_le, List, [], ◌∷◌, length, Option, Some, None, option_map, ℤ, pos, negsuc, codes, find, map}
+use Rattle.std.specs.List.{slice_split}
 use Rattle.page_types.specs.declared.Source.{Source}
 use Rattle.page_types.specs.declared.Source.TheVariants.{User, Net, Dom}
 use Rattle.page_types.specs.Values.{Value, UnitValue, BoolValue, IntValue, TextValue}
 use Rattle.page_parts.specs.Words.{is_empty, same_bytes}
 use Rattle.page_parts.specs.Setup.{Policy, Fifo, Rank, Fair, Latency, Arrival}
 use Rattle.page_parts.specs.Sources.{default_list}
-use Rattle.page_parts.specs.Spelling.{bool_text, spelled}
 use Rattle.page_parts.specs.TraceText.{source_text}
 use Rattle.page_base.specs.Decimals.{number_at, after_digits}
 use Rattle.page_values.specs.Names.{is_name}

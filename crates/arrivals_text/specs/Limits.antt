@@ -1,7 +1,6 @@
 -- The limits of what a file sets.
 use Rattle.std.specs.Prelude.{ℕ, Bool, true, false, ◌&&◌, nat_lt, nat_le, List, [], ◌∷◌, length}
 use Rattle.std.specs.List.{list_any}
-use Rattle.page_types.specs.declared.Source.{Source}
 use Rattle.page_types.specs.declared.Source.TheVariants.{User, Net, Dom}
 use Rattle.page_types.specs.Values.{Value, UnitValue, BoolValue, IntValue, TextValue}
 use Rattle.page_parts.specs.Setup.{Latency, Arrival}

@@ -1,7 +1,5 @@
 -- What the code's setup is seen as.
-use Rattle.std.specs.Prelude.{ℕ, List, map}
-use Rattle.page_parts.specs.Setup.{Latency, Arrival}
-use Rattle.page_values.specs.Seen.{seen}
+use Rattle.std.specs.Prelude.{map}
 use Rattle.loop_policy.specs.Policies.{policy_of}
 use Rattle.arrivals_text.specs.Arrivals.{Settings, Line, PageLine, PolicyLine, FuelLine, UntilLine, RefreshLine, LateLine, RoomLine, HostLine, ArrivalLine}
 use Rattle.arrivals_text.specs.declared.setup.PageSetup.{PageSetup}

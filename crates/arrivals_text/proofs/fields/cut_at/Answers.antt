@@ -1,4 +1,4 @@
-use Rattle.std.proofs.Common.{◌∙◌, ap, Some, take, ◌+◌}
+use Rattle.std.proofs.Common.{◌+◌}
 use Rattle.arrivals_text.proofs.Parts.{cut_by, rest_is}
 use Rattle.arrivals_text.proofs.fields.cut_at.Goals as goal
 

@@ -1,4 +1,4 @@
-use Rattle.std.proofs.Common.{subst, ap, sym, ◌∙◌, arith, ◌+◌}
+use Rattle.std.proofs.Common.{subst, ap, sym, ◌∙◌, arith}
 use Rattle.arrivals_text.specs.Arrivals.{lines_of}
 use Rattle.arrivals_text.specs.Reading.{step, goes, settled, draft_of, IsTaken}
 use Rattle.arrivals_text.proofs.Steps.{goes_next}

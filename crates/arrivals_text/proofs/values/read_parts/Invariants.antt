@@ -1,4 +1,4 @@
-use Rattle.std.proofs.Common.{◌≡◌, length, map}
+use Rattle.std.proofs.Common.{◌≡◌, length}
 use Rattle.std.specs.Bool.{IsTrue}
 use Rattle.page_values.specs.Texts.{is_text}
 use Rattle.arrivals_text.specs.Fields.{parts_at}
