@@ -1,0 +1,4 @@
+pub mod Trees
+pub mod Sizes
+pub mod Fits
+pub mod Places

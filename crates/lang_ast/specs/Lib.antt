@@ -1,0 +1,9 @@
+pub mod Seen
+pub mod Sizes
+pub mod Steps
+pub mod Operations
+pub mod Names
+pub mod NameFaults
+pub mod Calls
+pub mod Programs
+pub mod SeenProgram

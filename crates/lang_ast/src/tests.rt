@@ -1,0 +1,214 @@
+ghost use Rattle.std.specs.Prelude.{IsTrue};
+ghost use Rattle.page_values.specs.Texts.{is_text};
+
+use crate::host::{Host, HostStep, Outcome};
+use crate::operations::{argument_count, is_busy, operation_named};
+use crate::program::Program;
+use crate::tree::{Item, Named, Tree};
+use page_types::Op;
+use page_values::{Str, Value};
+use std::alloc::Global;
+use std::test::Fail;
+
+const TICKET: u64 = 7;
+
+/// Why the host below stopped.
+#[derive(Clone, Copy, PartialEq, Eq, Debug)]
+struct Refused;
+
+/// A host that wants unit called at an operation, and refuses to go on where this is thrown back. It takes one
+/// operation at a time.
+#[derive(Drop)]
+struct OneCall {
+    alloc: Global,
+    is_open: bool,
+    refusals: u64,
+    last: Option<Refused>,
+}
+
+impl Host for OneCall {
+    ghost use Rattle.std.specs.Prelude.{Bool, true, false, cond, [], ◌∷◌};
+    ghost use Rattle.page_types.specs.Values.{UnitValue};
+    ghost use Rattle.lang_meaning.specs.HostSteps.{StepValue, StepThrow, StepInvoke};
+
+    type Stop = Refused;
+
+    ghost Told = { Bool };
+
+    ghost told = { λ host. host.is_open };
+
+    ghost rules = { record {
+      op = λ op args told. record { step = cond told (StepThrow UnitValue) (StepInvoke UnitValue [] 7); host = true };
+      resume = λ ticket end told. record { step = StepValue UnitValue; host = false };
+    } };
+
+    ghost tickets = { λ told. cond told (7 ∷ []) [] };
+
+    ghost left = { λ told ticket. 0 };
+
+    ghost busy_room = { λ told. 0 };
+
+    ghost function_count = { λ host. 0 };
+
+    ghost refusals = { λ host. host.refusals };
+
+    ghost last_stop = { λ host. host.last };
+
+    fn op(&mut self, _op: Op, _args: Vec<Value>) -> Result<HostStep, Refused> {
+        if self.is_open {
+            return Ok(HostStep::Throw(Value::Unit));
+        }
+        self.is_open = true;
+        Ok(HostStep::Invoke {
+            callback: Value::Unit,
+            args: Vec::new(self.alloc),
+            ticket: TICKET,
+        })
+    }
+
+    fn resume(&mut self, _ticket: u64, outcome: Outcome) -> Result<HostStep, Refused> {
+        self.is_open = false;
+        match outcome {
+            Outcome::Value(_) => Ok(HostStep::Value(Value::Unit)),
+            Outcome::Throw(_) => {
+                self.refusals = self.refusals.saturating_add(1);
+                self.last = Some(Refused);
+                Err(Refused)
+            }
+        }
+    }
+}
+
+#[test]
+fn a_host_wants_a_callback_and_goes_on_or_refuses(rt: HostRuntime) -> Result<(), Fail> {
+    let mut host = OneCall {
+        alloc: rt.alloc(),
+        is_open: false,
+        refusals: 0,
+        last: None,
+    };
+    let wanted = host.op(Op::NowOp, Vec::new(rt.alloc()));
+    assert!(rt; matches!(&wanted, Ok(HostStep::Invoke { ticket: TICKET, .. })));
+    let given = host.resume(TICKET, Outcome::Value(Value::Int(1)));
+    assert!(rt; matches!(&given, Ok(HostStep::Value(Value::Unit))));
+    assert_eq!(rt; host.refusals, 0);
+
+    let wanted = host.op(Op::NowOp, Vec::new(rt.alloc()));
+    assert!(rt; matches!(&wanted, Ok(HostStep::Invoke { ticket: TICKET, .. })));
+    let refused = host.resume(TICKET, Outcome::Throw(Value::Unit));
+    assert!(rt; matches!(&refused, Err(Refused)));
+    assert_eq!(rt; host.refusals, 1);
+    assert_eq!(rt; host.last, Some(Refused));
+    Ok(())
+}
+
+fn text(alloc: Global, bytes: &[u8]) -> Result<Str, Fail>
+    requires { IsTrue (is_text bytes.now) }
+{
+    Ok(Str::new(bytes.to_vec(alloc)?))
+}
+
+fn is_taken(alloc: Global, bytes: &[u8]) -> Result<bool, Fail>
+    requires { IsTrue (is_text bytes.now) }
+{
+    Ok(Named::new(text(alloc, bytes)?, 7).is_some())
+}
+
+#[test]
+fn names_are_letters_and_digits_at_most_64(rt: HostRuntime) -> Result<(), Fail> {
+    let alloc = rt.alloc();
+    assert!(rt; is_taken(alloc, b"a")?);
+    assert!(rt; is_taken(alloc, b"_")?);
+    assert!(rt; is_taken(alloc, b"Z9_z")?);
+    assert!(rt; !is_taken(alloc, b"")?);
+    assert!(rt; !is_taken(alloc, b"9a")?);
+    assert!(rt; !is_taken(alloc, b"a b")?);
+    assert!(rt; !is_taken(alloc, b"a-")?);
+    assert!(rt; is_taken(alloc, &[b'x'; 64])?);
+    assert!(rt; !is_taken(alloc, &[b'x'; 65])?);
+    Ok(())
+}
+
+// The operations with the number of the arguments that the table of the script language gives them.
+#[test]
+fn operations_have_their_counts(rt: HostRuntime) {
+    let table: [(Op, usize); 45] = [
+        (Op::Log, 1),
+        (Op::TextOf, 1),
+        (Op::KindOf, 1),
+        (Op::Len, 1),
+        (Op::Push, 2),
+        (Op::Bind, 2),
+        (Op::MakeFault, 1),
+        (Op::FaultNameOf, 1),
+        (Op::FaultTextOf, 1),
+        (Op::NowOp, 0),
+        (Op::Busy, 1),
+        (Op::QueueMicrotask, 1),
+        (Op::MakePromise, 0),
+        (Op::ResolveOp, 2),
+        (Op::RejectOp, 2),
+        (Op::Resolved, 1),
+        (Op::Rejected, 1),
+        (Op::Then, 3),
+        (Op::SetTimeout, 2),
+        (Op::SetInterval, 2),
+        (Op::ClearTimeout, 1),
+        (Op::ClearInterval, 1),
+        (Op::RequestFrame, 1),
+        (Op::CancelFrame, 1),
+        (Op::RequestIdle, 2),
+        (Op::CancelIdle, 1),
+        (Op::DidTimeout, 1),
+        (Op::TimeRemaining, 1),
+        (Op::PostTask, 4),
+        (Op::YieldTask, 0),
+        (Op::MakeController, 0),
+        (Op::MakeTaskController, 1),
+        (Op::SignalOf, 1),
+        (Op::AbortOp, 2),
+        (Op::SetPriority, 2),
+        (Op::AbortedSignal, 1),
+        (Op::AnySignal, 1),
+        (Op::TaskAny, 2),
+        (Op::TimeoutSignal, 1),
+        (Op::Aborted, 1),
+        (Op::ReasonOf, 1),
+        (Op::PriorityOf, 1),
+        (Op::Listen, 3),
+        (Op::Unlisten, 1),
+        (Op::HostOp, 3),
+    ];
+    for (op, count) in table {
+        assert_eq!(rt; argument_count(op), count, "of {op:?}");
+        assert_eq!(rt; is_busy(op), op == Op::Busy, "of {op:?}");
+    }
+}
+
+#[test]
+fn operations_are_found_by_their_names(rt: HostRuntime) -> Result<(), Fail> {
+    let alloc = rt.alloc();
+    assert_eq!(rt; operation_named(&text(alloc, b"log")?), Some(Op::Log));
+    assert_eq!(rt; operation_named(&text(alloc, b"host")?), Some(Op::HostOp));
+    assert_eq!(rt;
+        operation_named(&text(alloc, b"faultText")?),
+        Some(Op::FaultTextOf)
+    );
+    assert_eq!(rt; operation_named(&text(alloc, b"lgo")?), None);
+    assert_eq!(rt; operation_named(&text(alloc, b"Log")?), None);
+    assert_eq!(rt; operation_named(&text(alloc, b"all")?), None);
+    assert_eq!(rt; operation_named(&text(alloc, b"")?), None);
+    Ok(())
+}
+
+#[test]
+fn a_script_with_nothing_has_only_its_own_body(rt: HostRuntime) -> Result<(), Fail> {
+    let alloc = rt.alloc();
+    let items: Vec<Item> = Vec::new(alloc);
+    let program = Program::new(alloc, Tree { items })?;
+    assert_eq!(rt; program.function_count(), 0);
+    assert!(rt; program.function(0).is_none());
+    assert!(rt; program.items().is_empty());
+    assert!(rt; program.names().names().is_empty());
+    Ok(())
+}

@@ -1,0 +1,5 @@
+pub mod Adding
+pub mod Keys
+pub mod Known
+pub mod Firsts
+pub mod LawLemmas

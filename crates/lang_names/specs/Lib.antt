@@ -1,0 +1,5 @@
+pub mod Collected
+pub mod Told
+pub mod Known
+pub mod Knows
+pub mod Laws

@@ -1,0 +1,4 @@
+pub mod CellTests
+pub mod Places
+pub mod Linked
+pub mod Pools
