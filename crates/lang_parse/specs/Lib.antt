@@ -3,3 +3,7 @@ pub mod Grammar
 pub mod LogScript
 pub mod LogSeen
 pub mod Readings
+pub mod Parts
+pub mod Deciding
+pub mod NameSets
+pub mod Faults

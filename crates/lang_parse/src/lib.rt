@@ -1,15 +1,30 @@
-//! The parser. It reads log scripts so far: statements that log a text, or numbers joined by `+`.
+//! The parser: the tree of a script's tokens.
 //!
-//! The definitions in `specs/` are those of the whole grammar.
+//! The definitions in `specs/` are those of the whole grammar. Log scripts, which are run so far, have a reader of
+//! their own.
 #![tactic(auto)]
 
+mod building;
+mod error;
+mod expressions;
 pub mod fault;
+mod globals;
+mod leaves;
+mod limits;
+mod log_parser;
 pub mod log_script;
+#[cfg(test)]
+mod log_tests;
+mod operators;
 mod parser;
+mod parts;
 mod reading;
+mod statements;
 #[cfg(test)]
 mod tests;
+mod toplevel;
 
 pub use fault::{NoParse, ParseFault};
+pub use log_parser::parse_log_script;
 pub use log_script::{LogScript, LogStatement, Logged};
-pub use parser::{one_tree, parse};
+pub use parser::{MOST_FUNCTIONS, MOST_GLOBALS, one_tree, parse};

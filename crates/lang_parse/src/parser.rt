@@ -1,89 +1,48 @@
-//! The parser of log scripts.
+//! The tree of a script.
 
-ghost use Rattle.std.specs.Prelude.{◌≡◌, ◌++◌, List, IfOk, IfErr, IfSome, IsNone};
+ghost use Rattle.std.specs.Prelude.{◌≡◌, List, IfOk, IfErr};
 ghost use Rattle.page_types.specs.Tree.{Item};
-ghost use Rattle.lang_parse.specs.Symbols.{Symbol, symbols_of, SignOf, NumberOf};
+ghost use Rattle.lang_ast.specs.Seen.{seen_tree};
+ghost use Rattle.lang_parse.specs.Symbols.{Symbol, symbols_of};
 ghost use Rattle.lang_parse.specs.Grammar.{HasTree};
-ghost use Rattle.lang_parse.specs.LogScript.{IsLogTree, log_tree};
-ghost use Rattle.lang_parse.specs.LogSeen.{script_seen, logged_seen, statement_seen, logged_symbols, statement_symbols, plus_symbols, IsNoParse};
-ghost use Rattle.lang_parse.specs.Readings.{NoNumberFollows, LoggedEnds, NothingLogged, StatementEnds, NoStatement};
+ghost use Rattle.lang_parse.specs.LogSeen.{IsNoParse};
 
 use crate::fault::{NoParse, ParseFault};
-use crate::log_script::{LogScript, LogStatement, Logged};
-use crate::reading::{after_log, after_number, after_plus_number, after_sign, after_text};
-use lang_tokens::{Token, Tokens};
-use std::alloc::{AllocError, Global};
+use crate::globals::{function_count, global_count};
+use crate::limits::is_shallow;
+use crate::toplevel::items;
+use lang_ast::Tree;
+use lang_tokens::Tokens;
+use std::alloc::Global;
 
-/// Numbers, each behind a `+`, and what follows them.
-fn more_numbers(alloc: Global, tokens: &[Token]) -> Result<(Vec<i64>, &[Token]), AllocError>
-    ensures found { IfOk result (λ r. symbols_of tokens.now ≡ plus_symbols r.0.items ++ symbols_of r.1.now) }
-    ensures ends { IfOk result (λ r. NoNumberFollows (symbols_of r.1.now)) }
-{
-    let mut numbers = Vec::new(alloc);
-    let mut rest = tokens;
-    while let Some((n, after)) = after_plus_number(rest) {
-        numbers.push(n)?;
-        rest = after;
-    }
-    Ok((numbers, rest))
-}
+/// How many functions a script may have.
+pub const MOST_FUNCTIONS: usize = 4096;
 
-/// What stands between the brackets of a log statement, and what follows it.
-fn logged(alloc: Global, tokens: &[Token]) -> Result<(Logged, &[Token]), ParseFault>
-    ensures found { IfOk result (λ r. symbols_of tokens.now ≡ logged_symbols (logged_seen r.0) ++ symbols_of r.1.now) }
-    ensures ends { IfOk result (λ r. LoggedEnds (symbols_of tokens.now) (symbols_of r.1.now)) }
-    ensures none { IfErr result (λ e. IsNoParse e → NothingLogged (symbols_of tokens.now)) }
-{
-    if let Some((text, rest)) = after_text(tokens) {
-        return Ok((Logged::Text(text.to_vec(alloc)?), rest));
-    }
-    let Some((first, rest)) = after_number(tokens) else {
-        return Err(ParseFault::Is(NoParse));
-    };
-    let (others, rest) = more_numbers(alloc, rest)?;
-    Ok((Logged::Sum { first, others }, rest))
-}
+/// How many different names `var` and `catch` may give outside functions.
+pub const MOST_GLOBALS: usize = 4096;
 
-/// A log statement, and what follows it.
-fn statement(alloc: Global, tokens: &[Token]) -> Result<(LogStatement, &[Token]), ParseFault>
-    ensures found { IfOk result (λ r. symbols_of tokens.now ≡ statement_symbols (statement_seen r.0) ++ symbols_of r.1.now) }
-    ensures ends { IfOk result (λ r. StatementEnds (symbols_of tokens.now) (symbols_of r.1.now)) }
-    ensures none { IfErr result (λ e. IsNoParse e → NoStatement (symbols_of tokens.now)) }
-{
-    let Some((at, rest)) = after_log(tokens) else {
-        return Err(ParseFault::Is(NoParse));
-    };
-    let Some(rest) = after_sign(rest, b"(") else {
-        return Err(ParseFault::Is(NoParse));
-    };
-    let (what, rest) = logged(alloc, rest)?;
-    let Some(rest) = after_sign(rest, b")") else {
-        return Err(ParseFault::Is(NoParse));
-    };
-    let Some(rest) = after_sign(rest, b";") else {
-        return Err(ParseFault::Is(NoParse));
-    };
-    Ok((LogStatement { at, what }, rest))
-}
-
-/// The log script that has these tokens.
+/// The tree that has these tokens.
 ///
-/// `NoParse` comes exactly where no log script has them.
-pub fn parse(alloc: Global, tokens: &Tokens) -> Result<LogScript, ParseFault>
-    ensures found { IfOk result (λ script. HasTree (symbols_of tokens.now.items) (log_tree (script_seen script))) }
-    ensures none { IfErr result (λ e. IsNoParse e → (tree : List Item) → IsLogTree tree → HasTree (symbols_of tokens.now.items) tree → ⊥) }
+/// `NoParse` comes exactly where no tree has them. A name or a text that no script can spell counts as want of memory.
+pub fn parse(alloc: Global, tokens: &Tokens) -> Result<Tree, ParseFault>
+    ensures found { IfOk result (λ tree. HasTree (symbols_of tokens.now.items) (seen_tree tree)) }
+    ensures none { IfErr result (λ e. IsNoParse e → (tree : List Item) → HasTree (symbols_of tokens.now.items) tree → ⊥) }
 {
-    let mut statements = Vec::new(alloc);
-    let mut rest = tokens.items();
-    while !rest.is_empty() {
-        let (statement, after) = statement(alloc, rest)?;
-        statements.push(statement)?;
-        rest = after;
+    let listed = tokens.items();
+    if !is_shallow(listed) {
+        return Err(ParseFault::Is(NoParse));
     }
-    Ok(LogScript { statements })
+    let items = items(alloc, listed)?;
+    if function_count(&items) > MOST_FUNCTIONS {
+        return Err(ParseFault::Is(NoParse));
+    }
+    if global_count(alloc, &items)? > MOST_GLOBALS {
+        return Err(ParseFault::Is(NoParse));
+    }
+    Ok(Tree { items })
 }
 
-/// The law that a text has at most one tree: two trees of log scripts with the same tokens are one.
+/// The law that a text has at most one tree.
 pub fn one_tree()
-    ensures { (ks : List Symbol) (one other : List Item) → IsLogTree one → IsLogTree other → HasTree ks one → HasTree ks other → one ≡ other }
+    ensures { (ks : List Symbol) (one other : List Item) → HasTree ks one → HasTree ks other → one ≡ other }
 {}

@@ -1,7 +1,7 @@
 //! Reading a token from the front.
 
 ghost use Rattle.std.specs.Prelude.{◌≡◌, ◌∷◌, List, IfSome, IsNone, codes, ℕ, ℤ};
-ghost use Rattle.lang_parse.specs.Symbols.{Symbol, NameAt, NumberOf, TextOf, SignOf, symbols_of};
+ghost use Rattle.lang_parse.specs.Symbols.{Symbol, NameAt, WordOf, NumberOf, TextOf, SignOf, symbols_of};
 ghost use Rattle.lang_parse.specs.Readings.{NoNumberFollows};
 
 use lang_tokens::{Token, TokenKind};
@@ -59,6 +59,30 @@ pub(crate) fn after_text(tokens: &[Token]) -> Option<(&[u8], &[Token])>
     let (first, rest) = tokens.split_first()?;
     match first.kind {
         TokenKind::Text => Some((first.content.bytes(), rest)),
+        _ => None,
+    }
+}
+
+/// What follows a word of the grammar.
+pub(crate) fn after_word<'a>(tokens: &'a [Token], word: &[u8]) -> Option<&'a [Token]>
+    ensures found { IfSome result (λ rest. symbols_of tokens.now ≡ WordOf word.now ∷ symbols_of rest.now) }
+    ensures none { IsNone result → (rest : List Symbol) → symbols_of tokens.now ≡ WordOf word.now ∷ rest → ⊥ }
+{
+    let (first, rest) = tokens.split_first()?;
+    match first.kind {
+        TokenKind::Word if first.content.bytes() == word => Some(rest),
+        _ => None,
+    }
+}
+
+/// A name's token, and what follows it.
+pub(crate) fn after_name(tokens: &[Token]) -> Option<(&Token, &[Token])>
+    ensures found { IfSome result (λ r. symbols_of tokens.now ≡ NameAt r.0.now.content r.0.now.at ∷ symbols_of r.1.now) }
+    ensures none { IsNone result → (x : List ℕ) (at : ℕ) (rest : List Symbol) → symbols_of tokens.now ≡ NameAt x at ∷ rest → ⊥ }
+{
+    let (first, rest) = tokens.split_first()?;
+    match first.kind {
+        TokenKind::Name => Some((first, rest)),
         _ => None,
     }
 }

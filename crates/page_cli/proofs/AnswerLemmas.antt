@@ -1,24 +1,32 @@
 -- From what the parts promise to what the top call answers.
 use Rattle.std.proofs.Common.{◌≡◌, ◌≤◌, ◌+◌, ℕ, zero, suc, List, [], ◌∷◌, ◌++◌, length, take, Bool, true, false, cond, Option, Some, None, Result, Ok, Err, refl, sym, ◌∙◌, ap, subst, inl, inr, arith}
-use Rattle.std.specs.Prelude.{IfSome, option_map, ◌==◌, codes}
+use Rattle.std.specs.Prelude.{IfSome, codes, ℤ, slice_get, Vec}
+use Rattle.std.specs.declared.alloc.Global.{Global}
 use Rattle.page_types.specs.Tree.{Item}
 use Rattle.page_types.specs.declared.End.{End}
 use Rattle.page_types.specs.Told.{appended, AppendsStartOf}
 use Rattle.page_parts.specs.HostClosures.{HostClosure}
-use Rattle.page_parts.specs.Setup.{Setup}
 use Rattle.page_parts.specs.TraceText.{text_of}
 use Rattle.page_model.specs.PageTrace.{page_trace}
-use Rattle.page_io.specs.Files.{Fetches}
-use Rattle.page_io.specs.declared.fetched.Fetched.{Fetched}
-use Rattle.page_io.specs.declared.fetched.Fetched.TheVariants.{Whole, TooLong}
 use Rattle.trace_text.specs.Given.{Seen, Gives}
 use Rattle.trace_text.specs.Sinks.{sink_keeping}
 use Rattle.trace_text.proofs.SinkText.{Gives-sink_trace, Gives-sink_trace_stop}
 use Rattle.arrivals_text.specs.Arrivals.{default_setup}
-use Rattle.arrivals_text.specs.Fields.{behind_start}
-use Rattle.arrivals_text.specs.FirstPage.{in_first_line, setup_of}
+use Rattle.arrivals_text.specs.FirstPage.{setup_of}
 use Rattle.lang_tokens.specs.Tokens.{tokens_of}
-use Rattle.lang_parse.specs.LogScript.{IsScript, LogStatement, log_tree, program_of}
+use Rattle.lang_tokens.specs.declared.token.Token.{Token}
+use Rattle.lang_tokens.specs.declared.token.Tokens.{Tokens}
+use Rattle.lang_tokens.specs.declared.fault.TokensFault.{TokensFault}
+use Rattle.lang_tokens.specs.declared.fault.TokensFault.TheVariants as token
+use Rattle.lang_parse.specs.declared.fault.ParseFault.{ParseFault}
+use Rattle.lang_parse.specs.declared.fault.ParseFault.TheVariants as parse
+use Rattle.lang_parse.specs.Symbols.{symbols_of}
+use Rattle.lang_parse.specs.Grammar.{HasTree}
+use Rattle.lang_parse.specs.LogSeen.{IsNoParse}
+use Rattle.lang_ast.specs.declared.role.Role.TheVariants as role
+use Rattle.lang_ast.specs.Names.{Occurrence, mention, in_expr, in_terms, in_stmt, in_items, inside}
+use Rattle.lang_ast.specs.NameFaults.{fault_of, fault_in, fault_at, IsResolved}
+use Rattle.lang_parse.specs.LogScript.{IsScript, IsLogTree, Logged, LogText, LogSum, LogStatement, plus_each, logged_tree, log_stmt, log_tree, program_of}
 use Rattle.loop_turn.specs.declared.stop.RunStop.{RunStop}
 use Rattle.loop_turn.specs.declared.stop.RunStop.TheVariants as stop
 use Rattle.loop_turn.specs.LogRuns.{default_run, lines_of_run}
@@ -26,96 +34,58 @@ use Rattle.loop_turn.specs.Stops.{line_fault}
 use Rattle.loop_turn.proofs.LogLaw.{run-events, run-ends}
 use Rattle.page_model.specs.Turns.{events_of_run}
 use Rattle.page_cli.specs.declared.answer.Answer.{Answer}
-use Rattle.page_cli.specs.declared.answer.Answer.TheVariants.{Done, Usage, NoParse, BadArrivals, ReadFault, WriteFault, OutOfMemory}
-use Rattle.page_cli.specs.Answering.{IsRun, HasNoTree, WroteStart, AnswersFiles, AnswersTold, AnswersRun, CanStop, answer_to}
+use Rattle.page_cli.specs.declared.answer.Answer.TheVariants.{Done, Usage, NoParse, BadName, BadArrivals, TooLong, ReadFault, WriteFault, OutOfMemory}
+use Rattle.page_cli.specs.declared.answer.WhichFile.TheVariants.{Script, Arrivals}
+use Rattle.page_cli.specs.declared.reading.FileFault.{FileFault}
+use Rattle.page_cli.specs.declared.reading.FileFault.TheVariants as file
+use Rattle.page_cli.specs.declared.script_fault.ScriptFault.{ScriptFault}
+use Rattle.page_cli.specs.declared.script_fault.ScriptFault.TheVariants as script
+use Rattle.page_cli.specs.Refusals.{Refuses, GivesFile, of_tokens, of_parse, refusal, answer_to_file}
+use Rattle.page_cli.specs.Answering.{Fits, IsRun, HasNoTree, HasLogTree, WroteStart, AnswersFiles, AnswersTold, AnswersRun, CanStop, answer_to}
 
--- ---- files that are longer than the limit
+-- ---- the names in a log script
 
-take-whole : (n : ℕ) (bs : List ℕ) → length bs ≤ n → take n bs ≡ bs
-take-whole zero [] h = refl
-take-whole zero (b ∷ bs) h = absurd (omega arith)
-take-whole (suc n) [] h = refl
-take-whole (suc n) (b ∷ bs) h = ap (λ z. b ∷ z) (take-whole n bs (omega arith))
+-- numbers have no names
+plus-names : (ns : List ℤ) → in_terms (plus_each ns) ≡ []
+plus-names [] = refl
+plus-names (n ∷ ns) = plus-names ns
 
--- a list of which a part is as short as this is no longer than the part
-take-short : (n : ℕ) (bs : List ℕ) → length (take (suc n) bs) ≤ n → length bs ≤ n
-take-short zero [] h = omega arith
-take-short zero (b ∷ bs) h = absurd (omega arith)
-take-short (suc n) [] h = omega arith
-take-short (suc n) (b ∷ bs) h = let s = take-short n bs (omega arith) in omega arith
+logged-names : (l : Logged) → in_expr (logged_tree l) ≡ []
+logged-names (LogText bs) = refl
+logged-names (LogSum n []) = refl
+logged-names (LogSum n (m ∷ ms)) = plus-names ms
 
-pub fetched-content : (told : Option (List ℕ)) (limit : ℕ) (old new : List ℕ) (r : Fetched) → old ≡ [] → Fetches told limit old (Ok r) new → IfSome told (λ content. new ≡ take (limit + 1) content)
-fetched-content None limit old new r e h = tt
-fetched-content (Some content) limit old new Whole e h = h.1 ∙ ap (λ z. z ++ content) e ∙ sym (take-whole (limit + 1) content (omega (arith, h.0)))
-fetched-content (Some content) limit old new TooLong e h = h.1 ∙ ap (λ z. z ++ take (limit + 1) content) e
+-- where `log` stands
+abbrev log_at : ℕ → Occurrence
+log_at at = record { scope = None; mention = record { role = role.Called 1; name = codes "log"; at = at } }
 
-script-whole : (content : List ℕ) → length (take 1048577 content) ≤ 1048576 → take 1048577 content ≡ content
-script-whole content h = take-whole 1048577 content (let s = take-short 1048576 content h in omega arith)
+abbrev logs_at : List LogStatement → List Occurrence
+logs_at [] = []
+logs_at (s ∷ ss) = log_at s.at ∷ logs_at ss
 
-is_script-whole : (content : List ℕ) (tree : List Item) → IsScript (take 1048577 content) tree → IsScript content tree
-is_script-whole content tree h = let P : List ℕ → Type 0 = λ z. IsScript z tree in subst P (script-whole content h.size) h
+statement-names : (s : LogStatement) → in_stmt (log_stmt s) ≡ mention (role.Called 1) (record { name = codes "log"; at = s.at }) ∷ []
+statement-names s = ap (λ ms. mention (role.Called 1) (record { name = codes "log"; at = s.at }) ∷ (ms ++ [])) (logged-names s.what)
 
-is_script-taken : (content : List ℕ) (tree : List Item) → IsScript content tree → IsScript (take 1048577 content) tree
-is_script-taken content tree h =
-    let P : List ℕ → Type 0 = λ z. IsScript z tree in
-    subst P (sym (take-whole 1048577 content (let size = h.size in omega arith))) h
+log-names : (n : ℕ) (ss : List LogStatement) → in_items n (log_tree ss) ≡ logs_at ss
+log-names n [] = refl
+log-names n (s ∷ ss) = ap (λ ms. inside None ms ++ in_items n (log_tree ss)) (statement-names s) ∙ ap (λ os. log_at s.at ∷ os) (log-names n ss)
 
-option_map-cond : (b : Bool) (k : ℕ) (o : Option (List ℕ)) → cond b (option_map (take k) o) None ≡ option_map (take k) (cond b o None)
-option_map-cond true k o = refl
-option_map-cond false k o = refl
+-- `log` is an operation of one argument
+log-is_fine : (all before : List Occurrence) (at : ℕ) → fault_of all before (log_at at) ≡ None
+log-is_fine all before at = refl
 
-zero_plus : (k : ℕ) → 0 + k ≡ k
-zero_plus k = omega arith
+log-in : (all before : List Occurrence) (ss : List LogStatement) (place : ℕ) → fault_in all before (slice_get (logs_at ss) place) ≡ None
+log-in all before [] place = refl
+log-in all before (s ∷ ss) zero = log-is_fine all before s.at
+log-in all before (s ∷ ss) (suc place) = log-in all before ss place
 
-one_more : (n k : ℕ) → suc n + k ≡ suc (n + k)
-one_more n k = omega arith
-
-take-none : (n : ℕ) → take {A = ℕ} n [] ≡ []
-take-none zero = refl
-take-none (suc n) = refl
-
-behind_start-take : (start bytes : List ℕ) (k : ℕ) → behind_start start (take (length start + k) bytes) ≡ option_map (take k) (behind_start start bytes)
-behind_start-take [] bytes k = ap (λ n. Some (take n bytes)) (zero_plus k)
-behind_start-take (c ∷ start) [] k = ap (behind_start (c ∷ start)) (take-none (length (c ∷ start) + k))
-behind_start-take (c ∷ start) (b ∷ bytes) k =
-    ap (λ n. behind_start (c ∷ start) (take n (b ∷ bytes))) (one_more (length start) k)
-    ∙ ap (λ o. cond (b == c) o None) (behind_start-take start bytes k)
-    ∙ option_map-cond (b == c) k (behind_start start bytes)
-
-first_line-take : (o : Option (List ℕ)) → in_first_line (option_map (take 1048571) o) ≡ in_first_line o
-first_line-take None = refl
-first_line-take (Some []) = refl
-first_line-take (Some (b ∷ [])) = refl
-first_line-take (Some (b ∷ d ∷ more)) = refl
-
-setup-taken : (arrivals : List ℕ) → setup_of (take 1048577 arrivals) ≡ setup_of arrivals
-setup-taken arrivals = ap in_first_line (behind_start-take (codes "page 1") arrivals 1048571) ∙ first_line-take (behind_start (codes "page 1") arrivals)
-
-is_run-whole : (script arrivals : List ℕ) (tree : List Item) (setup : Setup) → IsRun (take 1048577 script) (take 1048577 arrivals) tree setup → IsRun script arrivals tree setup
-is_run-whole script arrivals tree setup h = record {
-  is_script = is_script-whole script tree h.is_script;
-  is_log = h.is_log;
-  is_setup = sym (setup-taken arrivals) ∙ h.is_setup;
-}
-
-wrote_start-whole : (script arrivals : List ℕ) {old new : Option (List ℕ)} → WroteStart (take 1048577 script) (take 1048577 arrivals) old new → WroteStart script arrivals old new
-wrote_start-whole script arrivals h = record { tree = h.tree; setup = h.setup; is_run = is_run-whole script arrivals h.tree h.setup h.is_run; start = h.start }
-
--- what is answered to the bytes that were fetched is answered to the files
-pub answers-whole : (answer : Answer) (script arrivals : List ℕ) (old new : Option (List ℕ)) → AnswersFiles answer (take 1048577 script) (take 1048577 arrivals) old new → AnswersFiles answer script arrivals old new
-answers-whole Done script arrivals old new h = record { tree = h.tree; setup = h.setup; is_run = is_run-whole script arrivals h.tree h.setup h.is_run; ended = h.ended; trace = h.trace }
-answers-whole Usage script arrivals old new h = h
-answers-whole NoParse script arrivals old new h = (λ tree is log. h.0 tree (is_script-taken script tree is) log, h.1)
-answers-whole (BadArrivals line) script arrivals old new h = ((h.0.0, is_script-whole script h.0.0 h.0.1, h.0.2), sym (setup-taken arrivals) ∙ h.1, h.2)
-answers-whole (ReadFault file) script arrivals old new h = h
-answers-whole WriteFault script arrivals old new h = wrote_start-whole script arrivals h
-answers-whole OutOfMemory script arrivals old new (inl h) = inl h
-answers-whole OutOfMemory script arrivals old new (inr h) = inr (wrote_start-whole script arrivals h)
+pub log-resolved : (ss : List LogStatement) → IsResolved (log_tree ss)
+log-resolved ss place = ap (λ os. fault_at os place) (log-names 0 ss) ∙ log-in (logs_at ss) (take place (logs_at ss)) ss place
 
 -- ---- tokens
 
 pub no_tokens : (bytes : List ℕ) (at : ℕ) → tokens_of bytes ≡ Err at → HasNoTree bytes
-no_tokens bytes at e tree is log = ok_is_no_err (sym is.tokens_are ∙ e)
+no_tokens bytes at e tree is = ok_is_no_err (sym is.tokens_are ∙ e)
   where
     ok_is_no_err : {X : Type 0} {x : X} {n : ℕ} → (let r : Result X ℕ = Ok x in r) ≡ Err n → ⊥
     ok_is_no_err {X} q = let P : Result X ℕ → Type 0 = λ r. elim r [ Ok y ↦ Unit {0} | Err m ↦ ⊥ ] in subst P q tt
@@ -146,21 +116,73 @@ any_trace ss old new h hosts = h ∙ ap (appended old) (any_hosts ss hosts)
 any_start : (ss : List LogStatement) (old new : Option (List ℕ)) → AppendsStartOf old new (text_of (events_of_run (default_run (log_tree ss)))) → (hosts : List HostClosure) → AppendsStartOf old new (page_trace (program_of (log_tree ss)) default_setup hosts [])
 any_start ss old new h hosts = subst (AppendsStartOf old new) (any_hosts ss hosts) h
 
-pub files-answers : (ss : List LogStatement) (answer : Answer) (script arrivals : List ℕ) (old new : Option (List ℕ)) → IsScript script (log_tree ss) → setup_of arrivals ≡ Ok default_setup → AnswersRun (log_tree ss) answer old new → AnswersFiles answer script arrivals old new
-files-answers ss Done script arrivals old new is set h = record { tree = log_tree ss; setup = default_setup; is_run = record { is_script = is; is_log = (ss, refl); is_setup = set }; ended = λ hosts. run-ends hosts ss; trace = any_trace ss old new h.1 }
-files-answers ss Usage script arrivals old new is set h = h
-files-answers ss NoParse script arrivals old new is set h = absurd h
-files-answers ss (BadArrivals line) script arrivals old new is set h = absurd h
-files-answers ss (ReadFault file) script arrivals old new is set h = absurd h
-files-answers ss WriteFault script arrivals old new is set h = record { tree = log_tree ss; setup = default_setup; is_run = record { is_script = is; is_log = (ss, refl); is_setup = set }; start = any_start ss old new h }
-files-answers ss OutOfMemory script arrivals old new is set h = inr (record { tree = log_tree ss; setup = default_setup; is_run = record { is_script = is; is_log = (ss, refl); is_setup = set }; start = any_start ss old new h })
+log-run : (ss : List LogStatement) (script arrivals : List ℕ) → IsScript script (log_tree ss) → Fits arrivals → setup_of arrivals ≡ Ok default_setup → IsRun script arrivals (log_tree ss) default_setup
+log-run ss script arrivals is fits set = record { is_script = is; is_resolved = log-resolved ss; is_log = (ss, refl); fits = fits; is_setup = set }
+
+pub files-answers : (ss : List LogStatement) (answer : Answer) (script arrivals : List ℕ) (old new : Option (List ℕ)) → IsScript script (log_tree ss) → Fits arrivals → setup_of arrivals ≡ Ok default_setup → AnswersRun (log_tree ss) answer old new → AnswersFiles answer script arrivals old new
+files-answers ss Done script arrivals old new is fits set h = record { tree = log_tree ss; setup = default_setup; is_run = log-run ss script arrivals is fits set; ended = λ hosts. run-ends hosts ss; trace = any_trace ss old new h.1 }
+files-answers ss Usage script arrivals old new is fits set h = h
+files-answers ss NoParse script arrivals old new is fits set h = absurd h
+files-answers ss (BadName fault) script arrivals old new is fits set h = absurd h
+files-answers ss (BadArrivals line) script arrivals old new is fits set h = absurd h
+files-answers ss (TooLong file) script arrivals old new is fits set h = absurd h
+files-answers ss (ReadFault file) script arrivals old new is fits set h = absurd h
+files-answers ss WriteFault script arrivals old new is fits set h = record { tree = log_tree ss; setup = default_setup; is_run = log-run ss script arrivals is fits set; start = any_start ss old new h }
+files-answers ss OutOfMemory script arrivals old new is fits set h = inr (record { tree = log_tree ss; setup = default_setup; is_run = log-run ss script arrivals is fits set; start = any_start ss old new h })
+
+pub log-tree : (ss : List LogStatement) (script : List ℕ) → IsScript script (log_tree ss) → HasLogTree script
+log-tree ss script is = record { tree = log_tree ss; is_script = is; is_resolved = log-resolved ss; is_log = (ss, refl) }
+
+-- a script without tokens
+pub tokens-refuse : (e : TokensFault) (bytes : List ℕ) → ((at : ℕ) → (let r : Result Tokens TokensFault = Err e in r) ≡ Err (token.Is (record { at = at })) → tokens_of bytes ≡ Err at) → Refuses (of_tokens e) bytes
+tokens-refuse (token.Is bad) bytes h = inl (no_tokens bytes bad.at (h bad.at refl))
+tokens-refuse token.OutOfMemory bytes h = tt
+
+-- a script that has a tree and is no log script
+pub log-refuses : (e : ParseFault) (bytes : List ℕ) (tree : List Item) → IsScript bytes tree → IsResolved tree → (IsNoParse e → (other : List Item) → IsScript bytes other → IsLogTree other → ⊥) → Refuses (of_parse e) bytes
+log-refuses (parse.Is fault) bytes tree is resolved none = inr (record { tree = tree; is_script = is; is_resolved = resolved; no_log = none tt })
+log-refuses parse.OutOfMemory bytes tree is resolved none = tt
+
+-- a tree that is told of tokens is told of the bytes
+pub script-of : (bytes : List ℕ) (tokens : List Token) (tree : List Item) → length bytes ≤ 1048576 → tokens_of bytes ≡ Ok tokens → HasTree (symbols_of tokens) tree → IsScript bytes tree
+script-of bytes tokens tree size e h = record { size = size; tokens = tokens; tokens_are = e; has_tree = h }
+
+same_ok : (tokens others : List Token) → (let r : Result (List Token) ℕ = Ok tokens in r) ≡ Ok others → others ≡ tokens
+same_ok tokens others e = cc
+
+-- no tree of the tokens is none of the bytes
+pub none-of : (bytes : List ℕ) (tokens : List Token) → tokens_of bytes ≡ Ok tokens → ((other : List Item) → IsLogTree other → HasTree (symbols_of tokens) other → ⊥) → (other : List Item) → IsScript bytes other → IsLogTree other → ⊥
+none-of bytes tokens e none other is log = none other log (let P : List Token → Type 0 = λ ts. HasTree (symbols_of ts) other in subst P (same_ok tokens is.tokens (sym e ∙ is.tokens_are)) is.has_tree)
+
+-- the answer to a script that is not run
+pub refused-answers : (fault : ScriptFault) (script arrivals : List ℕ) (told : Option (List ℕ)) → Fits script → Fits arrivals → Refuses fault script → AnswersFiles (refusal fault) script arrivals told told
+refused-answers script.NoParse script arrivals told fits also h = (fits, also, h, refl)
+refused-answers (script.Name fault) script arrivals told fits also h = (also, h, refl)
+refused-answers script.OutOfMemory script arrivals told fits also h = inl refl
 
 -- ---- the files as they are told
 
-pub told-answers : (answer : Answer) (told_script told_arrivals : Option (List ℕ)) (script arrivals : List ℕ) (old new : Option (List ℕ)) → IfSome told_script (λ content. script ≡ take 1048577 content) → IfSome told_arrivals (λ content. arrivals ≡ take 1048577 content) →
-    AnswersFiles answer script arrivals old new → AnswersTold answer told_script told_arrivals old new
+-- the script was not read
+pub told-script : (fault : FileFault) (told_script told_arrivals : Option (List ℕ)) (out : Option (List ℕ)) → IfSome told_script (λ content. GivesFile content (Err fault)) → AnswersTold (answer_to_file fault Script) told_script told_arrivals out out
+told-script fault None told_arrivals out s = tt
+told-script fault (Some script) None out s = tt
+told-script file.Failed (Some script) (Some arrivals) out s = refl
+told-script file.TooLong (Some script) (Some arrivals) out s = (s, refl)
+told-script file.OutOfMemory (Some script) (Some arrivals) out s = inl refl
+
+-- the arrivals were not read
+pub told-arrivals : (fault : FileFault) (script : Vec ℕ Global) (told_script told_arrivals : Option (List ℕ)) (out : Option (List ℕ)) → length script.items ≤ 1048576 → IfSome told_script (λ content. GivesFile content (Ok script)) →
+    IfSome told_arrivals (λ content. GivesFile content (Err fault)) → AnswersTold (answer_to_file fault Arrivals) told_script told_arrivals out out
+told-arrivals fault script None told_arrivals out size s a = tt
+told-arrivals fault script (Some content) None out size s a = tt
+told-arrivals file.Failed script (Some content) (Some arrivals) out size s a = refl
+told-arrivals file.TooLong script (Some content) (Some arrivals) out size s a = ((let P : List ℕ → Type 0 = λ z. length z ≤ 1048576 in subst P s size, a), refl)
+told-arrivals file.OutOfMemory script (Some content) (Some arrivals) out size s a = inl refl
+
+pub told-answers : (answer : Answer) (told_script told_arrivals : Option (List ℕ)) (script arrivals : Vec ℕ Global) (old new : Option (List ℕ)) → IfSome told_script (λ content. GivesFile content (Ok script)) → IfSome told_arrivals (λ content. GivesFile content (Ok arrivals)) →
+    AnswersFiles answer script.items arrivals.items old new → AnswersTold answer told_script told_arrivals old new
 told-answers answer None told_arrivals script arrivals old new s a h = tt
 told-answers answer (Some script_file) None script arrivals old new s a h = tt
 told-answers answer (Some script_file) (Some arrivals_file) script arrivals old new s a h =
     let P : List ℕ → List ℕ → Type 0 = λ x y. AnswersFiles answer x y old new in
-    answers-whole answer script_file arrivals_file old new (subst (λ y. P (take 1048577 script_file) y) a (subst (λ x. P x arrivals) s h))
+    subst (λ y. P script_file y) a (subst (λ x. P x arrivals.items) s h)

@@ -1,5 +1,5 @@
 -- What each answer says of the files and of what was written.
-use Rattle.std.specs.Prelude.{◌≡◌, ◌⊎◌, ⊤, ℕ, List, [], Option, Result, Ok, Err, IfSome}
+use Rattle.std.specs.Prelude.{◌≡◌, ◌<◌, ◌≤◌, ◌⊎◌, ⊤, ℕ, length, List, [], Option, Result, Ok, Err, IfSome}
 use Rattle.page_types.specs.Tree.{Item}
 use Rattle.page_types.specs.Told.{appended, AppendsStartOf}
 use Rattle.page_types.specs.declared.End.TheVariants as end
@@ -15,21 +15,51 @@ use Rattle.lang_parse.specs.LogScript.{IsScript, IsLogTree, program_of}
 use Rattle.loop_turn.specs.declared.stop.RunStop.{RunStop}
 use Rattle.loop_turn.specs.declared.stop.RunStop.TheVariants as stop
 use Rattle.loop_turn.specs.LogRuns.{default_run, EndsAs}
+use Rattle.lang_ast.specs.Names.{occurrences}
+use Rattle.lang_ast.specs.NameFaults.{IsResolved, IsFirstFault}
+use Rattle.lang_names.specs.Told.{seen_fault}
+use Rattle.lang_names.specs.declared.fault.NameFault.{NameFault}
+use Rattle.page_cli.specs.declared.answer.WhichFile.{WhichFile}
+use Rattle.page_cli.specs.declared.answer.WhichFile.TheVariants.{Script, Arrivals}
 use Rattle.page_cli.specs.declared.answer.Answer.{Answer}
-use Rattle.page_cli.specs.declared.answer.Answer.TheVariants.{Done, Usage, NoParse, BadArrivals, ReadFault, WriteFault, OutOfMemory}
+use Rattle.page_cli.specs.declared.answer.Answer.TheVariants.{Done, Usage, NoParse, BadName, BadArrivals, TooLong, ReadFault, WriteFault, OutOfMemory}
 
--- The script has a tree by the grammar, of the kind that is run so far, and the arrivals have a setup.
+-- a file within its limit
+abbrev pub Fits : List ℕ → Type 0
+Fits bytes = length bytes ≤ 1048576
+
+-- The script has a tree by the grammar, of the kind that is run so far, and its names are resolved. The arrivals have a
+-- setup.
 pub record IsRun (script arrivals : List ℕ) (tree : List Item) (setup : Setup) : Type 0 where
   pub is_script : IsScript script tree
+  pub is_resolved : IsResolved tree
   pub is_log : IsLogTree tree
+  pub fits : Fits arrivals
   pub is_setup : setup_of arrivals ≡ Ok setup
 
--- the script has a tree of the kind that is run so far
-abbrev pub HasTree : List ℕ → Type 0
-HasTree script = (tree : List Item) × IsScript script tree × IsLogTree tree
-
+-- the script has no tree
 abbrev pub HasNoTree : List ℕ → Type 0
-HasNoTree script = (tree : List Item) → IsScript script tree → IsLogTree tree → ⊥
+HasNoTree script = (tree : List Item) → IsScript script tree → ⊥
+
+-- the script has a tree and its names are resolved, but it is not of the kind that is run so far
+pub record IsNotRun (script : List ℕ) : Type 0 where
+  pub tree : List Item
+  pub is_script : IsScript script tree
+  pub is_resolved : IsResolved tree
+  pub no_log : (other : List Item) → IsScript script other → IsLogTree other → ⊥
+
+-- the script has a tree, in which this name is at fault, and no name before it
+pub record HasBadName (script : List ℕ) (fault : NameFault) : Type 0 where
+  pub tree : List Item
+  pub is_script : IsScript script tree
+  pub first : IsFirstFault (occurrences tree) (seen_fault fault)
+
+-- the script has a tree of the kind that is run so far
+pub record HasLogTree (script : List ℕ) : Type 0 where
+  pub tree : List Item
+  pub is_script : IsScript script tree
+  pub is_resolved : IsResolved tree
+  pub is_log : IsLogTree tree
 
 -- The trace of this script and these arrivals was written, the whole of it and no more: the page's trace of the
 -- script's tree and the setup of the arrivals, whatever the host closures, for which a log script does not ask. The run has
@@ -48,12 +78,19 @@ pub record WroteStart (script arrivals : List ℕ) (old new : Option (List ℕ))
   pub is_run : IsRun script arrivals tree setup
   pub start : (hosts : List HostClosure) → AppendsStartOf old new (page_trace (program_of tree) setup hosts [])
 
+-- the first of the two files that is longer than its limit
+abbrev pub IsTooLong : WhichFile → List ℕ → List ℕ → Type 0
+IsTooLong Script script arrivals = 1048576 < length script
+IsTooLong Arrivals script arrivals = Fits script × (1048576 < length arrivals)
+
 -- what an answer says of the two files
 abbrev pub AnswersFiles : Answer → List ℕ → List ℕ → Option (List ℕ) → Option (List ℕ) → Type 0
 AnswersFiles Done script arrivals old new = WroteTrace script arrivals old new
 AnswersFiles Usage script arrivals old new = ⊥
-AnswersFiles NoParse script arrivals old new = HasNoTree script × (new ≡ old)
-AnswersFiles (BadArrivals line) script arrivals old new = HasTree script × (setup_of arrivals ≡ Err line) × (new ≡ old)
+AnswersFiles NoParse script arrivals old new = Fits script × Fits arrivals × (HasNoTree script ⊎ IsNotRun script) × (new ≡ old)
+AnswersFiles (BadName fault) script arrivals old new = Fits arrivals × HasBadName script fault × (new ≡ old)
+AnswersFiles (BadArrivals line) script arrivals old new = Fits arrivals × HasLogTree script × (setup_of arrivals ≡ Err line) × (new ≡ old)
+AnswersFiles (TooLong file) script arrivals old new = IsTooLong file script arrivals × (new ≡ old)
 AnswersFiles (ReadFault file) script arrivals old new = new ≡ old
 AnswersFiles WriteFault script arrivals old new = WroteStart script arrivals old new
 AnswersFiles OutOfMemory script arrivals old new = (new ≡ old) ⊎ WroteStart script arrivals old new
@@ -67,7 +104,9 @@ abbrev pub IsRefusal : Answer → Type 0
 IsRefusal Done = ⊥
 IsRefusal Usage = ⊤
 IsRefusal NoParse = ⊤
+IsRefusal (BadName fault) = ⊤
 IsRefusal (BadArrivals line) = ⊤
+IsRefusal (TooLong file) = ⊤
 IsRefusal (ReadFault file) = ⊤
 IsRefusal WriteFault = ⊥
 IsRefusal OutOfMemory = ⊥
@@ -92,7 +131,9 @@ abbrev pub AnswersRun : List Item → Answer → Option (List ℕ) → Option (L
 AnswersRun tree Done old new = EndsAs end.Done (default_run tree) × (new ≡ appended old (text_of (events_of_run (default_run tree))))
 AnswersRun tree Usage old new = ⊥
 AnswersRun tree NoParse old new = ⊥
+AnswersRun tree (BadName fault) old new = ⊥
 AnswersRun tree (BadArrivals line) old new = ⊥
+AnswersRun tree (TooLong file) old new = ⊥
 AnswersRun tree (ReadFault file) old new = ⊥
 AnswersRun tree WriteFault old new = AppendsStartOf old new (text_of (events_of_run (default_run tree)))
 AnswersRun tree OutOfMemory old new = AppendsStartOf old new (text_of (events_of_run (default_run tree)))

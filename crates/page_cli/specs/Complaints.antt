@@ -3,13 +3,21 @@ use Rattle.std.specs.Prelude.{◌≡◌, ◌≤◌, ◌⊎◌, ℕ, List, [], �
 use Rattle.page_types.specs.Counts.{Rose}
 use Rattle.page_types.specs.Told.{appended, AppendsStartOf}
 use Rattle.page_parts.specs.Words.{decimal_of}
+use Rattle.lang_names.specs.declared.fault.NameFault.{NameFault}
+use Rattle.lang_names.specs.declared.fault.NameFault.TheVariants as fault
 use Rattle.page_cli.specs.declared.answer.Answer.{Answer}
-use Rattle.page_cli.specs.declared.answer.Answer.TheVariants.{Done, Usage, NoParse, BadArrivals, ReadFault, WriteFault, OutOfMemory}
+use Rattle.page_cli.specs.declared.answer.Answer.TheVariants.{Done, Usage, NoParse, BadName, BadArrivals, TooLong, ReadFault, WriteFault, OutOfMemory}
 use Rattle.page_cli.specs.Forms.{RunForm, name_of}
 
 abbrev pub name_in : Option RunForm → (RunForm → List ℕ) → List ℕ
 name_in None name = []
 name_in (Some form) name = name form
+
+-- what is wrong with a name, and where
+abbrev pub name_complaint : NameFault → List ℕ
+name_complaint (fault.Unknown at) = codes "pageloop: unknown name at byte " ++ (decimal_of at ++ codes "\n")
+name_complaint (fault.Twice at) = codes "pageloop: name defined twice at byte " ++ (decimal_of at ++ codes "\n")
+name_complaint (fault.Arity at) = codes "pageloop: wrong argument count at byte " ++ (decimal_of at ++ codes "\n")
 
 -- the line of an answer
 abbrev pub complaint : Option RunForm → Answer → List ℕ
@@ -17,6 +25,8 @@ complaint form Done = []
 complaint form Usage = codes "usage: pageloop run S A | check S A T | storm N | stat T\n"
 complaint form NoParse = codes "pageloop: script: no parse\n"
 complaint form (BadArrivals line) = codes "pageloop: arrivals: line " ++ (decimal_of line ++ codes "\n")
+complaint form (BadName fault) = name_complaint fault
+complaint form (TooLong file) = codes "pageloop: too long: " ++ (name_in form (name_of file) ++ codes "\n")
 complaint form (ReadFault file) = codes "pageloop: read fault: " ++ (name_in form (name_of file) ++ codes "\n")
 complaint form WriteFault = codes "pageloop: write fault\n"
 complaint form OutOfMemory = codes "pageloop: out of memory\n"

@@ -3,3 +3,4 @@ pub mod Forms
 pub mod Names
 pub mod Answering
 pub mod Complaints
+pub mod Refusals

@@ -3,6 +3,8 @@
 ghost use Rattle.std.specs.Prelude.{◌≡◌};
 ghost use Rattle.page_cli.specs.Statuses.{status_of};
 
+use lang_names::NameFault;
+
 /// One of the files that the words name.
 #[derive(Clone, Copy, Debug, PartialEq, Eq)]
 pub enum WhichFile {
@@ -17,10 +19,14 @@ pub enum Answer {
     Done,
     /// The words are of no form.
     Usage,
-    /// The script has no tree.
+    /// The script has no tree, or one of a kind that is not run so far.
     NoParse,
+    /// A name in the script is at fault.
+    BadName { fault: NameFault },
     /// The arrivals are refused at this line, counted from 1.
     BadArrivals { line: usize },
+    /// A file is longer than its limit.
+    TooLong { file: WhichFile },
     /// A file could not be read.
     ReadFault { file: WhichFile },
     /// A line could not be written.
@@ -39,6 +45,8 @@ impl Answer {
             Answer::Usage => 2,
             Answer::NoParse => 3,
             Answer::BadArrivals { .. } => 4,
+            Answer::BadName { .. } => 5,
+            Answer::TooLong { .. } => 6,
             Answer::ReadFault { .. } => 74,
             Answer::WriteFault => 75,
             Answer::OutOfMemory => 70,

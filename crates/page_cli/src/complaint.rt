@@ -4,10 +4,11 @@ ghost use Rattle.std.specs.Prelude.{◌≡◌, ◌+◌, ◌<◌, ◌^◌, ◌++�
 ghost use Rattle.page_parts.specs.Words.{digits, decimal_of};
 ghost use Rattle.page_cli.specs.Forms.{name_of};
 ghost use Rattle.page_cli.specs.Names.{names_seen};
-ghost use Rattle.page_cli.specs.Complaints.{complaint, name_in, Puts, PutsOrFails};
+ghost use Rattle.page_cli.specs.Complaints.{complaint, name_complaint, name_in, Puts, PutsOrFails};
 
 use crate::answer::{Answer, WhichFile};
 use crate::names::Names;
+use lang_names::NameFault;
 use page_io::{Failed, Sink};
 
 /// Puts a piece, which may be empty. Takes no memory.
@@ -48,25 +49,50 @@ fn put_complaint<E: Sink>(err: &mut E, answer: Answer, names: Option<Names>) -> 
             b"usage: pageloop run S A | check S A T | storm N | stat T\n",
         ),
         Answer::NoParse => put(err, b"pageloop: script: no parse\n"),
-        Answer::BadArrivals { line } => put_line_number(err, line),
-        Answer::ReadFault { file } => put_read_fault(err, name_of(file, names).as_bytes()),
+        Answer::BadName { fault } => put_bad_name(err, fault),
+        Answer::BadArrivals { line } => put_numbered(err, b"pageloop: arrivals: line ", line),
+        Answer::TooLong { file } => put_named(
+            err,
+            b"pageloop: too long: ",
+            name_of(file, names).as_bytes(),
+        ),
+        Answer::ReadFault { file } => put_named(
+            err,
+            b"pageloop: read fault: ",
+            name_of(file, names).as_bytes(),
+        ),
         Answer::WriteFault => put(err, b"pageloop: write fault\n"),
         Answer::OutOfMemory => put(err, b"pageloop: out of memory\n"),
     }
 }
 
-fn put_line_number<E: Sink>(err: &mut E, line: usize) -> Result<(), Failed>
-    ensures { Puts (E.bytes err.old) (E.faults err.old) (codes "pageloop: arrivals: line " ++ (decimal_of line ++ codes "\n")) result (E.bytes err.new) (E.faults err.new) }
+/// Puts what is wrong with a name, and at which byte.
+fn put_bad_name<E: Sink>(err: &mut E, fault: NameFault) -> Result<(), Failed>
+    ensures { Puts (E.bytes err.old) (E.faults err.old) (name_complaint fault) result (E.bytes err.new) (E.faults err.new) }
 {
-    put(err, b"pageloop: arrivals: line ")?;
-    put_decimal(err, line)?;
+    match fault {
+        NameFault::Unknown { at } => put_numbered(err, b"pageloop: unknown name at byte ", at),
+        NameFault::Twice { at } => put_numbered(err, b"pageloop: name defined twice at byte ", at),
+        NameFault::Arity { at } => {
+            put_numbered(err, b"pageloop: wrong argument count at byte ", at)
+        }
+    }
+}
+
+/// Puts a line that ends with a number.
+fn put_numbered<E: Sink>(err: &mut E, words: &[u8], n: usize) -> Result<(), Failed>
+    ensures { Puts (E.bytes err.old) (E.faults err.old) (words.now ++ (decimal_of n ++ codes "\n")) result (E.bytes err.new) (E.faults err.new) }
+{
+    put(err, words)?;
+    put_decimal(err, n)?;
     put(err, b"\n")
 }
 
-fn put_read_fault<E: Sink>(err: &mut E, name: &[u8]) -> Result<(), Failed>
-    ensures { Puts (E.bytes err.old) (E.faults err.old) (codes "pageloop: read fault: " ++ (name.now ++ codes "\n")) result (E.bytes err.new) (E.faults err.new) }
+/// Puts a line that ends with a name.
+fn put_named<E: Sink>(err: &mut E, words: &[u8], name: &[u8]) -> Result<(), Failed>
+    ensures { Puts (E.bytes err.old) (E.faults err.old) (words.now ++ (name.now ++ codes "\n")) result (E.bytes err.new) (E.faults err.new) }
 {
-    put(err, b"pageloop: read fault: ")?;
+    put(err, words)?;
     put(err, name)?;
     put(err, b"\n")
 }

@@ -7,6 +7,7 @@ mod main_call;
 pub mod names;
 mod reading;
 mod running;
+mod script_fault;
 
 pub use answer::{Answer, WhichFile};
 pub use main_call::{MainEnd, page_main};

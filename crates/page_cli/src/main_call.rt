@@ -7,16 +7,17 @@ ghost use Rattle.page_cli.specs.declared.answer.WhichFile.{WhichFile};
 ghost use Rattle.page_cli.specs.Statuses.{status_of};
 ghost use Rattle.page_cli.specs.Forms.{form_of, name_of};
 ghost use Rattle.page_cli.specs.Names.{names_seen};
+ghost use Rattle.page_cli.specs.Refusals.{answer_to_file};
 ghost use Rattle.page_cli.specs.Answering.{AnswersTold, WroteTrace, IsRefusal};
 ghost use Rattle.page_cli.specs.Complaints.{complaint, PutsOrFails};
 
 use crate::answer::{Answer, WhichFile};
 use crate::complaint::complain;
 use crate::names::Names;
-use crate::reading::fetched;
+use crate::reading::{FileFault, fetched};
 use crate::running::{Answered, run_files};
 use host_jobs::HostTable;
-use page_io::{FetchFault, Folder, Sink};
+use page_io::{Folder, Sink};
 use std::alloc::Global;
 
 /// How the program ended, and the sink as it stands.
@@ -42,14 +43,14 @@ fn names_in(words: &[String]) -> Option<Names<'_>>
     }
 }
 
-/// The answer to a fetch that gave no file.
-fn answer_to(fault: FetchFault, file: WhichFile) -> Answer
-    ensures failed { (other : WhichFile) → result ≡ Answer.ReadFault other → (other ≡ file) × (fault ≡ FetchFault.Failed) }
-    ensures other { (result ≡ Answer.ReadFault file) ⊎ (result ≡ Answer.OutOfMemory) }
+/// The answer to a file that was not read.
+fn answer_to(fault: FileFault, file: WhichFile) -> Answer
+    ensures answer { result ≡ answer_to_file fault file }
 {
     match fault {
-        FetchFault::Failed => Answer::ReadFault { file },
-        FetchFault::OutOfMemory => Answer::OutOfMemory,
+        FileFault::Failed => Answer::ReadFault { file },
+        FileFault::TooLong => Answer::TooLong { file },
+        FileFault::OutOfMemory => Answer::OutOfMemory,
     }
 }
 
@@ -110,7 +111,7 @@ fn answer_to_words<F: Folder, O: Sink>(
 /// All that the program does. The words are those behind the program's name.
 ///
 /// `run S A` fetches the script S and the arrivals A, runs the script, and writes the trace to `out`. The order of
-/// refusals is: words, the fetch of S, the fetch of A, script, arrivals, writes. A refusal writes nothing to `out`. The
+/// refusals is: words, the fetch of S and its length, the fetch of A and its length, script, names, arrivals, writes. A refusal writes nothing to `out`. The
 /// line of the answer goes to `err`, whose faults change no answer. Want of memory may come at any point. The host table
 /// stays as it is, since a log script asks for no answer of a host.
 pub fn page_main<F: Folder, O: Sink, E: Sink>(

@@ -1,16 +1,18 @@
 //! Running what the two files say.
 
-ghost use Rattle.std.specs.Prelude.{◌≡◌};
+ghost use Rattle.std.specs.Prelude.{◌≡◌, ◌≤◌, length};
 ghost use Rattle.page_types.specs.Counts.{Rose};
 ghost use Rattle.page_cli.specs.declared.answer.WhichFile.{WhichFile};
 ghost use Rattle.lang_parse.specs.LogScript.{log_tree};
 ghost use Rattle.lang_parse.specs.LogSeen.{script_seen};
+ghost use Rattle.page_cli.specs.Refusals.{refusal};
 ghost use Rattle.page_cli.specs.Answering.{AnswersFiles, AnswersRun, CanStop, IsRefusal, answer_to};
 
 use crate::answer::Answer;
 use crate::reading::read_script;
+use crate::script_fault::ScriptFault;
 use arrivals_text::read_first_page;
-use lang_parse::{LogScript, ParseFault};
+use lang_parse::LogScript;
 use loop_turn::{RunStop, run_page};
 use page_base::End;
 use page_io::Sink;
@@ -38,6 +40,18 @@ fn answer_to(outcome: Result<End, RunStop>) -> Answer
     }
 }
 
+/// The answer to a script that is not run.
+fn refusal(fault: ScriptFault) -> Answer
+    ensures answer { result ≡ refusal fault }
+    ensures other { (file : WhichFile) → result ≡ Answer.ReadFault file → ⊥ }
+{
+    match fault {
+        ScriptFault::NoParse => Answer::NoParse,
+        ScriptFault::Name(fault) => Answer::BadName { fault },
+        ScriptFault::OutOfMemory => Answer::OutOfMemory,
+    }
+}
+
 /// Runs a script.
 fn run_script<O: Sink>(alloc: Global, script: &LogScript, out: O) -> Answered<O>
     ensures answers { AnswersRun (log_tree (script_seen script.now)) result.answer (O.bytes out) (O.bytes result.out) }
@@ -58,6 +72,8 @@ pub(crate) fn run_files<O: Sink>(
     arrivals: &[u8],
     out: O,
 ) -> Answered<O>
+    requires script { length script.now ≤ 1048576 }
+    requires arrivals { length arrivals.now ≤ 1048576 }
     ensures answers { AnswersFiles result.answer script.now arrivals.now (O.bytes out) (O.bytes result.out) }
     ensures refused { IsRefusal result.answer → O.bytes result.out ≡ O.bytes out }
     ensures fault { result.answer ≡ Answer.WriteFault → Rose (O.faults out) (O.faults result.out) }
@@ -65,15 +81,9 @@ pub(crate) fn run_files<O: Sink>(
 {
     let script = match read_script(alloc, script) {
         Ok(script) => script,
-        Err(ParseFault::Is(_)) => {
+        Err(fault) => {
             return Answered {
-                answer: Answer::NoParse,
-                out,
-            };
-        }
-        Err(ParseFault::OutOfMemory) => {
-            return Answered {
-                answer: Answer::OutOfMemory,
+                answer: refusal(fault),
                 out,
             };
         }

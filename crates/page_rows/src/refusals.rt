@@ -33,10 +33,18 @@ fn words_of_no_form_give_the_usage_line_and_status_2(rt: HostRuntime) -> Result<
 
 #[test]
 fn scripts_and_arrivals_are_refused_in_this_order(rt: HostRuntime) -> Result<(), Fail> {
-    let examples: [(&str, &str, u8, &str); 7] = [
+    let examples: [(&str, &str, u8, &str); 10] = [
         ("log(", "page 1\n", 3, NO_PARSE),
         ("log(", "", 3, NO_PARSE),
         ("log(", "page 1\nfuel 5\n", 3, NO_PARSE),
+        ("lgo(1); log(", "page 1\n", 3, NO_PARSE),
+        ("lgo(1);", "", 5, "pageloop: unknown name at byte 0\n"),
+        (
+            "fn f() { } lgo(1);",
+            "page 1\n",
+            5,
+            "pageloop: unknown name at byte 11\n",
+        ),
         ("log(1 + 2);", "", 4, "pageloop: arrivals: line 1\n"),
         ("", "", 4, "pageloop: arrivals: line 1\n"),
         ("", "page 2\n", 4, "pageloop: arrivals: line 1\n"),
@@ -48,6 +56,63 @@ fn scripts_and_arrivals_are_refused_in_this_order(rt: HostRuntime) -> Result<(),
             is_refusal(&ended, status, line),
             "{script} under {arrivals}"
         );
+    }
+    Ok(())
+}
+
+#[test]
+fn the_first_name_at_fault_is_told_with_its_byte_and_status_5(rt: HostRuntime) -> Result<(), Fail> {
+    let examples = [
+        ("lgo(1);", "pageloop: unknown name at byte 0\n"),
+        ("log(1, 2);", "pageloop: wrong argument count at byte 0\n"),
+        (
+            "var a = 1; var a = 2;",
+            "pageloop: name defined twice at byte 15\n",
+        ),
+        (
+            "log(1, 2); lgo(1);",
+            "pageloop: wrong argument count at byte 0\n",
+        ),
+        (
+            "fn f(a) { var a = b; }",
+            "pageloop: name defined twice at byte 14\n",
+        ),
+        ("var log = 1;", "pageloop: name defined twice at byte 4\n"),
+    ];
+    for (script, line) in examples {
+        let ended = Example::of_files(script.as_bytes(), b"page 1\n").run(rt.alloc())?;
+        assert!(rt; is_refusal(&ended, 5, line), "{script}");
+    }
+    Ok(())
+}
+
+#[test]
+fn scripts_of_other_kinds_are_not_run_so_far(rt: HostRuntime) -> Result<(), Fail> {
+    let examples = [
+        "var a = 1;",
+        "log(2 - 1);",
+        "setTimeout(f, 0); fn f() { }",
+        "while (1 == 1) { }",
+    ];
+    for script in examples {
+        let ended = Example::of_files(script.as_bytes(), b"page 1\n").run(rt.alloc())?;
+        assert!(rt; is_refusal(&ended, 3, NO_PARSE), "{script}");
+    }
+    Ok(())
+}
+
+#[test]
+fn a_file_that_is_too_long_is_named_with_status_6(rt: HostRuntime) -> Result<(), Fail> {
+    let long = vec![in rt.alloc(); b' '; 1_048_577]?;
+    let examples: [(&[u8], &[u8], &str); 4] = [
+        (long.as_slice(), b"page 1\n", "pageloop: too long: s\n"),
+        (b"log(", long.as_slice(), "pageloop: too long: a\n"),
+        (long.as_slice(), long.as_slice(), "pageloop: too long: s\n"),
+        (b"", long.as_slice(), "pageloop: too long: a\n"),
+    ];
+    for (number, (script, arrivals, line)) in examples.into_iter().enumerate() {
+        let ended = Example::of_files(script, arrivals).run(rt.alloc())?;
+        assert!(rt; is_refusal(&ended, 6, line), "example {number}");
     }
     Ok(())
 }

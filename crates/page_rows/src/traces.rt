@@ -43,19 +43,11 @@ fn a_script_and_its_arrivals_give_the_trace_and_status_0(rt: HostRuntime) -> Res
 }
 
 #[test]
-fn a_script_of_1_048_576_bytes_is_run_and_a_longer_one_has_no_parse(
-    rt: HostRuntime,
-) -> Result<(), Fail> {
-    let examples = [
-        (1_048_576, 0, EMPTY_TRACE, ""),
-        (1_048_577, 3, "", "pageloop: script: no parse\n"),
-    ];
-    for (length, status, trace, line) in examples {
-        let script = vec![in rt.alloc(); b' '; length]?;
-        let ended = Example::of_files(&script, b"page 1\n").run(rt.alloc())?;
-        assert_eq!(rt; ended.out.as_str(), trace, "out of {length}");
-        assert_eq!(rt; ended.err.as_str(), line, "err of {length}");
-        assert_eq!(rt; ended.status, status, "status of {length}");
-    }
+fn a_script_of_1_048_576_bytes_is_run(rt: HostRuntime) -> Result<(), Fail> {
+    let script = vec![in rt.alloc(); b' '; 1_048_576]?;
+    let ended = Example::of_files(&script, b"page 1\n").run(rt.alloc())?;
+    assert_eq!(rt; ended.out.as_str(), EMPTY_TRACE);
+    assert_eq!(rt; ended.err.as_str(), "");
+    assert_eq!(rt; ended.status, 0);
     Ok(())
 }

@@ -2,3 +2,5 @@ pub mod Giving
 pub mod Doing
 pub mod SinkText
 mod Appending
+mod LawExamples
+mod LawBreaks

@@ -4,3 +4,7 @@ pub mod Line
 pub mod Given
 pub mod Acts
 pub mod Sinks
+pub mod History
+pub mod CallLaws
+pub mod TimerLaws
+pub mod SchedulerLaws

@@ -1,4 +1,4 @@
-use Rattle.lang_parse.proofs.OneTree.{one_tree}
+use Rattle.lang_parse.proofs.Script.{one_tree}
 use Rattle.lang_parse.proofs.parser.one_tree.Goals as goal
 
 pub returns : goal.returns

@@ -1,6 +1,14 @@
-use Rattle.std.proofs.Common.{ap, Err}
-use Rattle.page_cli.proofs.AnswerLemmas.{no_tokens}
+use Rattle.std.proofs.lemmas.Result.{err_from_is_err_and}
+use Rattle.page_cli.proofs.AnswerLemmas.{tokens-refuse, log-refuses, script-of, none-of}
 use Rattle.page_cli.proofs.reading.read_script.Goals as goal
 
-pub returns-in-Err-Is-clause-none : goal.returns-in-Err-Is-clause-none
-returns-in-Err-Is-clause-none c = λ u. no_tokens _ c.in-Err-Is.field-0-0.at (c.in-Err-Is.ensures.bad c.in-Err-Is.field-0-0.at (ap Err c.in-Err-Is.field-0-is))
+pub returns-in_err-tokens-clause-fault : goal.returns-in_err-tokens-clause-fault
+returns-in_err-tokens-clause-fault c =
+    let p = err_from_is_err_and c.from_residual.result c.from_residual.ensures.1 in
+    rw (p.1, p.2) (tokens-refuse _ _ c.in_err-tokens.ensures.bad)
+
+pub returns-in_err-parse_log_script-clause-fault : goal.returns-in_err-parse_log_script-clause-fault
+returns-in_err-parse_log_script-clause-fault c =
+    let p = err_from_is_err_and c.from_residual-in_err-parse_log_script.result c.from_residual-in_err-parse_log_script.ensures.1 in
+    rw (p.1, p.2) (log-refuses _ _ _ (script-of _ _ _ c.requires c.in_ok-tokens.ensures.ok c.in_ok-tree.ensures.found) c.in_ok-resolve.ensures.resolved
+    (λ u. none-of _ _ c.in_ok-tokens.ensures.ok (c.in_err-parse_log_script.ensures.none u)))

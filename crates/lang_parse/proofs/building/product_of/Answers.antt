@@ -1,0 +1,8 @@
+use Rattle.std.proofs.Common.{◌≡◌, length, false, ap, ◌∙◌, subst}
+use Rattle.std.specs.Prelude.{◌==◌}
+use Rattle.lang_parse.proofs.Built.{product_built}
+use Rattle.lang_parse.proofs.building.product_of.Goals as goal
+
+pub returns : goal.returns
+returns c = product_built c.in_ok-new.field-0 c.args.first c.in_ok-new.ensures.ok c.args.others
+    (λ none. let k = subst (λ n. false ≡ (n == 0)) (c.args.others.ok.0 ∙ ap length none) c.if-is_empty.ensures in cc)

@@ -1,0 +1,4 @@
+pub mod Best
+pub mod Tasks
+pub mod Moves
+pub mod Calls

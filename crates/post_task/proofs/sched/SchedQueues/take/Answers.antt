@@ -1,0 +1,22 @@
+use Rattle.std.proofs.Common.{None, sym}
+use Rattle.post_task.specs.Levels.{all_queues}
+use Rattle.post_task.proofs.Best.{nothing}
+use Rattle.post_task.proofs.Calls.{head_inside, taken_kept, taken}
+use Rattle.post_task.proofs.sched.SchedQueues.take.Goals as goal
+
+pub pop_front-requires : goal.pop_front-requires
+pop_front-requires g c = head_inside c.args.pool.now (all_queues c.args.self.now.levels.items) c.in-Some.first c.requires.lists (sym c.in-Some.ensures)
+
+pub returns-in-Some-clause-kept : goal.returns-in-Some-clause-kept
+returns-in-Some-clause-kept g c =
+    record {
+      lists = taken_kept c.args.pool.now c.pop_front.new.self (all_queues c.args.self.now.levels.items) c.in-Some.first c.requires.lists (sym c.in-Some.ensures) c.pop_front.ensures.gone;
+      fixed = c.requires.fixed;
+    }
+
+pub returns-in-Some-clause-first : goal.returns-in-Some-clause-first
+returns-in-Some-clause-first g c =
+    taken c.args.pool.now c.pop_front.new.self (all_queues c.args.self.now.levels.items) c.in-Some.first c.pop_front.result c.requires.lists (sym c.in-Some.ensures) c.pop_front.ensures.gone c.pop_front.ensures.item
+
+pub returns-in-None-clause-first : goal.returns-in-None-clause-first
+returns-in-None-clause-first g c = (nothing c.args.pool.now (all_queues c.args.self.now.levels.items) None (sym c.in-None.ensures)).1

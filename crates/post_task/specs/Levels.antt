@@ -1,0 +1,113 @@
+-- Two lists of a pool for each priority source. Prioritized Task Scheduling, "Scheduling tasks and continuations": a queue for tasks and one for continuations
+use Rattle.std.specs.Prelude.{◌≡◌, ◌≢◌, ℕ, ◌<◌, Bool, true, false, cond, List, [], ◌∷◌, ◌++◌, map, length, Option, Some, None, IsSome, unwrap_or}
+use Rattle.std.specs.List.{find, flat_map}
+use Rattle.std.specs.Option.{option_map}
+use Rattle.page_types.specs.declared.Priority.{Priority}
+use Rattle.page_types.specs.declared.Priority.TheVariants.{UserVisible}
+use Rattle.cell_room.specs.declared.room.Cell.{Cell}
+use Rattle.task_pool.specs.Lists.{Entry, Lists, list_of}
+use Rattle.post_task.specs.declared.level.Level.{Level}
+use Rattle.post_task.specs.declared.level.PrioSource.{PrioSource}
+use Rattle.post_task.specs.declared.level.PrioSource.TheVariants.{Fixed, Signal}
+use Rattle.post_task.specs.Waiting.{Waiting, IsFirst, Inserted, ordered, same_source}
+
+-- a queue: its priority source, the priority of that source now, whether it is that of continuations, and its list
+pub record Queue : Type 0 where
+  pub source : PrioSource
+  pub priority : Priority
+  pub continuation : Bool
+  pub list : ℕ
+
+-- the queue of a priority source for continuations, or that for other tasks
+abbrev pub queue_in : Level → Bool → Queue
+queue_in level continuation = record { source = level.source; priority = level.priority; continuation = continuation; list = cond continuation level.continuations.0 level.plain.0 }
+
+-- the two queues of a priority source
+abbrev pub queues_of : Level → List Queue
+queues_of level = queue_in level false ∷ queue_in level true ∷ []
+
+-- all queues
+abbrev pub all_queues : List Level → List Queue
+all_queues levels = flat_map queues_of levels
+
+-- whether the lists are those of this source
+abbrev pub has_source : PrioSource → Level → Bool
+has_source source level = same_source level.source source
+
+-- the priority of a source now, where it has lists
+abbrev pub priority_in : List Level → PrioSource → Option Priority
+priority_in levels source = option_map (λ (level : Level). level.priority) (find (has_source source) levels)
+
+-- a fixed priority has lists from the start, a signal once they were made
+abbrev pub HasRoom : List Level → PrioSource → Type 0
+HasRoom levels (Fixed priority) = Unit {0}
+HasRoom levels (Signal s) = IsSome (priority_in levels (Signal s))
+
+-- the lists of a source once a signal's priority has changed
+abbrev pub moved_level : ℕ → Priority → Level → Level
+moved_level s priority level = cond (has_source (Signal s) level) (record level { priority = priority }) level
+
+-- no queue of these has this list
+abbrev pub Lone : ℕ → List Queue → Type 0
+Lone list [] = Unit {0}
+Lone list (queue ∷ rest) = (queue.list ≢ list) × Lone list rest
+
+module _ {T : Type 0} where
+  -- a task as it waits in a queue
+  abbrev pub in_queue : Queue → Entry T → Waiting T
+  in_queue queue entry =
+      record { cell = entry.cell; source = queue.source; priority = queue.priority; continuation = queue.continuation; order = entry.number; item = entry.item }
+
+  -- what waits in a queue
+  abbrev pub of_queue : Lists T → Queue → List (Waiting T)
+  of_queue pool queue = map (in_queue queue) (list_of pool queue.list)
+
+  -- what waits in these queues
+  abbrev pub waiting_in : Lists T → List Queue → List (Waiting T)
+  waiting_in pool queues = flat_map (of_queue pool) queues
+
+  -- all scheduler tasks that wait
+  abbrev pub waiting : List Level → Lists T → List (Waiting T)
+  waiting levels pool = waiting_in pool (all_queues levels)
+
+  -- a task that is enqueued: its priority is that of its source now
+  abbrev pub new_task : List Level → Cell → PrioSource → Bool → ℕ → T → Waiting T
+  new_task levels cell source continuation order item =
+      record { cell = cell; source = source; priority = unwrap_or (priority_in levels source) UserVisible; continuation = continuation; order = order; item = item }
+
+  -- the first task is taken
+  pub record TakesFirst (old new : List (Waiting T)) (given : ℕ × T) : Type 0 where
+    pub task : Waiting T
+    pub first : IsFirst task old
+    pub rest : Inserted task new old
+    pub is : given ≡ ordered task
+
+  -- each of these entries has a greater number
+  abbrev pub Above : ℕ → List (Entry T) → Type 0
+  Above number [] = Unit {0}
+  Above number (entry ∷ rest) = (number < entry.number) × Above number rest
+
+  -- the numbers rise
+  abbrev pub Rises : List (Entry T) → Type 0
+  Rises [] = Unit {0}
+  Rises (entry ∷ rest) = Above entry.number rest × Rises rest
+
+  -- the pool has made the queues' lists, each queue has a list of its own, and the orders in it rise
+  abbrev pub AreKept : Lists T → List Queue → Type 0
+  AreKept pool [] = Unit {0}
+  AreKept pool (queue ∷ rest) = (queue.list < length pool.lists) × Rises (list_of pool queue.list) × Lone queue.list rest × AreKept pool rest
+
+  -- the lists of the queues stand in this pool as their own calls left them, and each fixed priority has its lists
+  pub record Kept (levels : List Level) (pool : Lists T) : Type 0 where
+    pub lists : AreKept pool (all_queues levels)
+    pub fixed : (priority : Priority) → priority_in levels (Fixed priority) ≡ Some priority
+
+  -- a priority source has got two empty lists, which are new in the pool
+  pub record Added (old new : List Level) (before after : Lists T) (source : PrioSource) (priority : Priority) : Type 0 where
+    pub level : Level
+    pub is : new ≡ old ++ level ∷ []
+    pub source_is : level.source ≡ source
+    pub priority_is : level.priority ≡ priority
+    pub plain : level.plain.0 ≡ length before.lists
+    pub continuations : level.continuations.0 ≡ length (before.lists ++ [] ∷ [])
+    pub lists : after.lists ≡ (before.lists ++ [] ∷ []) ++ [] ∷ []

@@ -1,0 +1,11 @@
+//! The queues of scheduler tasks, all in one pool (Prioritized Task Scheduling, "Scheduling tasks and continuations").
+#![tactic(auto)]
+
+mod heads;
+mod level;
+mod sched;
+
+pub use level::PrioSource;
+pub use sched::SchedQueues;
+pub use task_pool::{MemoryFault, Pool, Steps, Ticket};
+pub use task_signal::Priority;

@@ -1,0 +1,152 @@
+-- Laws of every trace: priorities, and how a run ends.
+use Rattle.std.specs.Prelude.{◌≡◌, ℕ, ◌+◌, ◌*◌, Bool, true, false, cond, not, ◌&&◌, ◌||◌, List, [], ◌∷◌, filter, length, Option, Some, None, nat_lt, nat_le, ◌==◌, option_map}
+use Rattle.std.specs.List.{list_all}
+use Rattle.page_types.specs.declared.Priority.{Priority}
+use Rattle.page_types.specs.declared.Priority.TheVariants.{Background, UserVisible, UserBlocking}
+use Rattle.page_types.specs.declared.RegKind.{RegKind}
+use Rattle.page_types.specs.declared.RegKind.TheVariants as kind
+use Rattle.page_types.specs.declared.End.{End}
+use Rattle.page_types.specs.declared.End.TheVariants as end
+use Rattle.page_types.specs.Events.{QueueName, FixedQueue, SignalQueue, Event, Turn, Call, Arm, Run, Enq, Prio, EndLine, Stamped}
+use Rattle.trace_text.specs.History.{History, each_line, count_lines, is_turn, is_run, is_sched_turn, is_arm_of, is_due_of, is_some_and, is_host, is_scheduled, has_kind, kind_of, registered, registered_for, was_called, was_dropped, last_line}
+use Rattle.trace_text.specs.CallLaws.{is_answer}
+
+-- ---- Prioritized Task Scheduling, "Selecting the next task of the scheduler's task queues"
+
+abbrev pub rank_of : Priority → ℕ
+rank_of Background = 0
+rank_of UserVisible = 1
+rank_of UserBlocking = 2
+
+abbrev pub priority_in : ℕ → Event → Option Priority → Option Priority
+priority_in s (Prio t p) earlier = cond (t == s) (Some p) earlier
+priority_in s e earlier = earlier
+
+-- the priority of a signal now, by its last line
+abbrev pub priority_now : History → ℕ → Option Priority
+priority_now [] s = None
+priority_now (e ∷ past) s = priority_in s e.event (priority_now past s)
+
+abbrev pub queue_priority : History → QueueName → Option Priority
+queue_priority past (FixedQueue p) = Some p
+queue_priority past (SignalQueue s) = priority_now past s
+
+-- a task of the scheduler that was enqueued
+pub record Enqueued : Type 0 where
+  pub registration : ℕ
+  pub queue : QueueName
+  pub continuation : Bool
+  pub order : ℕ
+
+abbrev pub enqueued_in : Event → List Enqueued → List Enqueued
+enqueued_in (Enq r queue continuation n) more = record { registration = r; queue = queue; continuation = continuation; order = n } ∷ more
+enqueued_in e more = more
+
+abbrev pub enqueued : History → List Enqueued
+enqueued [] = []
+enqueued (e ∷ past) = enqueued_in e.event (enqueued past)
+
+-- those that wait: neither called nor dropped
+abbrev pub waiting : History → List Enqueued
+waiting past = filter (λ t. not (was_called past t.registration || was_dropped past t.registration)) (enqueued past)
+
+-- twice the priority now, and one more for a continuation
+abbrev pub effective : History → Enqueued → Option ℕ
+effective past t = option_map (λ p. 2 * rank_of p + cond t.continuation 1 0) (queue_priority past t.queue)
+
+abbrev pub goes_first : ℕ → ℕ → ℕ → ℕ → Bool
+goes_first priority order other_priority other_order = nat_lt other_priority priority || ((priority == other_priority) && nat_le order other_order)
+
+-- whether a task goes before another, or is that task
+abbrev pub precedes : History → Enqueued → Enqueued → Bool
+precedes past t u = is_some_and (λ n. is_some_and (λ m. goes_first n t.order m u.order) (effective past u)) (effective past t)
+
+-- the tasks of a registration that wait and go before every other that waits
+abbrev pub first_tasks : History → ℕ → List Enqueued
+first_tasks past r = filter (λ t. (t.registration == r) && list_all (precedes past t) (waiting past)) (waiting past)
+
+abbrev pub has_task : List Enqueued → Bool
+has_task [] = false
+has_task (t ∷ ts) = true
+
+-- directly behind a turn of the scheduler its first task is called, and it is called nowhere else
+abbrev pub scheduled_well : History → ℕ → Bool
+scheduled_well past r =
+    cond (last_line is_sched_turn past)
+    (has_kind is_scheduled past r && has_task (first_tasks past r))
+    (not (has_kind is_scheduled past r))
+
+abbrev pub is_later : History → ℕ → Bool
+is_later past n = list_all (λ t. nat_lt t.order n) (enqueued past)
+
+abbrev pub keeps_priorities : History → Event → Bool
+keeps_priorities past (Call r) = scheduled_well past r
+keeps_priorities past (Enq r queue continuation n) = not (last_line is_sched_turn past) && is_later past n
+keeps_priorities past e = not (last_line is_sched_turn past)
+
+abbrev pub holds_priority_order : List Stamped → Bool
+holds_priority_order es = each_line (λ past e. keeps_priorities past e.event) [] es
+
+-- A task of the scheduler is called directly behind a turn of the scheduler, and nothing else stands there. It waits, and
+-- is the one of least order among those of greatest effective priority now. The orders rise.
+abbrev pub PriorityOrder : List Stamped → Type 0
+PriorityOrder es = holds_priority_order es ≡ true
+
+-- ---- Ours: how a run ends
+
+abbrev pub is_over : RegKind → History → ℕ → Bool
+is_over kind.Timeout past r = was_called past r || was_dropped past r
+is_over kind.Interval past r = was_dropped past r
+is_over kind.Frame past r = was_called past r || was_dropped past r
+is_over kind.Idle past r = was_called past r || was_dropped past r
+is_over kind.Post past r = was_called past r || was_dropped past r
+is_over kind.Yield past r = was_called past r || was_dropped past r
+is_over kind.Micro past r = was_called past r || was_dropped past r
+is_over k past r = true
+
+abbrev pub is_over_as : History → ℕ → Option RegKind → Bool
+is_over_as past r None = true
+is_over_as past r (Some kind) = is_over kind past r
+
+-- every time a registration was armed it was due as well, but for a host that was dropped
+abbrev pub was_each_due : History → ℕ → Bool
+was_each_due past r = (count_lines (is_arm_of r) past == count_lines (is_due_of r) past) || (has_kind is_host past r && was_dropped past r)
+
+abbrev pub armed_in_line : Event → List ℕ → List ℕ
+armed_in_line (Arm r due level) more = r ∷ more
+armed_in_line e more = more
+
+-- the registrations that were armed
+abbrev pub armed_ever : History → List ℕ
+armed_ever [] = []
+armed_ever (e ∷ past) = armed_in_line e.event (armed_ever past)
+
+-- nothing is left over
+abbrev pub is_done : History → Bool
+is_done past =
+    list_all (λ r. is_over_as past r (kind_of past r)) (registered past) && list_all (was_each_due past) (armed_ever past)
+    && (count_lines is_answer past == length (filter (λ r. not (was_dropped past r)) (registered_for is_host past)))
+
+abbrev pub ends_truly : ℕ → History → ℕ → End → Bool
+ends_truly until past now end.Done = is_done past
+ends_truly until past now end.Fuel = true
+ends_truly until past now end.Clock = nat_le until now
+
+-- turns and jobs take a unit of fuel each
+abbrev pub has_fuel_for : ℕ → History → Bool
+has_fuel_for fuel past = nat_lt (count_lines is_turn past + count_lines is_run past) fuel
+
+abbrev pub keeps_end : (until fuel : ℕ) → History → ℕ → Event → Bool
+keeps_end until fuel past now (EndLine end) = ends_truly until past now end
+keeps_end until fuel past now (Turn n source) = nat_lt now until && has_fuel_for fuel past
+keeps_end until fuel past now (Run j) = has_fuel_for fuel past
+keeps_end until fuel past now e = true
+
+abbrev pub holds_ends_truly : (until fuel : ℕ) → List Stamped → Bool
+holds_ends_truly until fuel es = each_line (λ past e. keeps_end until fuel past e.time e.event) [] es
+
+-- A run that ends for nothing is left to do has left nothing: what runs once was called or dropped, each interval was
+-- dropped, whatever was armed was due, and each host answered that was not dropped. A run that ends by the clock ends at
+-- `until` or later, and no turn begins then. Turns and jobs together are no more than the fuel.
+abbrev pub EndsTruly : (until fuel : ℕ) → List Stamped → Type 0
+EndsTruly until fuel es = holds_ends_truly until fuel es ≡ true
