@@ -1,5 +1,5 @@
 use crate::{RunStop, run_page};
-use lang_parse::{LogScript, parse};
+use lang_parse::{LogScript, parse_log_script};
 use lang_tokens::tokens;
 use page_base::End;
 use page_io::MemSink;
@@ -8,7 +8,7 @@ use std::test::Fail;
 use trace_text::LineSink;
 
 fn script_of(alloc: Global, bytes: &[u8]) -> Result<LogScript, Fail> {
-    Ok(parse(alloc, &tokens(alloc, bytes)?)?)
+    Ok(parse_log_script(alloc, &tokens(alloc, bytes)?)?)
 }
 
 #[test]
