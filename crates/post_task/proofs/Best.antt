@@ -25,12 +25,13 @@ beats_itself : (h : Head) → Beats h h.effective h.order
 beats_itself h = (omega arith, λ e. omega arith)
 
 beats_also : (h b : Head) (e n : ℕ) → Beats h b.effective b.order → Beats b e n → Beats h e n
-beats_also h b e n p q =
-    (omega (arith, p.0, q.0),
-    λ same.
+beats_also h b e n p q = (
+  omega (arith, p.0, q.0),
+  λ same.
       let first : e ≡ b.effective = omega (arith, p.0, q.0) in
       let second : b.effective ≡ h.effective = omega (arith, p.0, q.0) in
-      omega (arith, p.1 second, q.1 first))
+      omega (arith, p.1 second, q.1 first),
+)
 
 -- what the better of two is
 record Better (best next : Option Head) (h : Head) : Type 0 where
@@ -144,13 +145,9 @@ module _ {T : Type 0} where
   from_queue pool [] best h is = inl is
   from_queue pool (q ∷ qs) best h is =
       elim (from_queue pool qs (better best (head_of pool q)) h is) [
-      | inl e ↦ elim (better_from best (head_of pool q) h e) [ inl o ↦ inl o | inr n ↦ inr (inl n) ]
-      | inr i ↦ inr (inr i)
+        | inl e ↦ elim (better_from best (head_of pool q) h e) [ inl o ↦ inl o | inr n ↦ inr (inl n) ]
+        | inr i ↦ inr (inr i)
       ]
-
-
-
-
 
   -- the queue that a head is from
   pub record FromQueue (pool : Lists T) (qs : List Queue) (h : Head) : Type 0 where
@@ -171,21 +168,21 @@ module _ {T : Type 0} where
   from_head pool [] h i = absurd i
   from_head pool (q ∷ qs) h i =
       elim i [
-      | inl e ↦
-          let x = entry_from (record { 0 = q.list }) (queue_rank q) (list_of pool q.list) h e in
-          record {
-            queue = q;
-            queued = inl refl;
-            entry = x.0;
-            rest = x.1;
-            is = x.2;
-            list = ap (λ (y : Head). y.list.0) (sym x.3);
-            rank_is = ap (λ (y : Head). y.effective) (sym x.3);
-            order = ap (λ (y : Head). y.order) (sym x.3);
-          }
-      | inr j ↦
-          let r = from_head pool qs h j in
-          record { queue = r.queue; queued = inr r.queued; entry = r.entry; rest = r.rest; is = r.is; list = r.list; rank_is = r.rank_is; order = r.order }
+        | inl e ↦
+            let x = entry_from (record { 0 = q.list }) (queue_rank q) (list_of pool q.list) h e in
+            record {
+              queue = q;
+              queued = inl refl;
+              entry = x.0;
+              rest = x.1;
+              is = x.2;
+              list = ap (λ (y : Head). y.list.0) (sym x.3);
+              rank_is = ap (λ (y : Head). y.effective) (sym x.3);
+              order = ap (λ (y : Head). y.order) (sym x.3);
+            }
+        | inr j ↦
+            let r = from_head pool qs h j in
+            record { queue = r.queue; queued = inr r.queued; entry = r.entry; rest = r.rest; is = r.is; list = r.list; rank_is = r.rank_is; order = r.order }
       ]
 
   pub among-append_left : (t : Waiting T) (xs ys : List (Waiting T)) → Among t xs → Among t (xs ++ ys)
@@ -204,24 +201,24 @@ module _ {T : Type 0} where
   among_queue pool [] q t i a = absurd i
   among_queue pool (p ∷ ps) q t i a =
       elim i [
-      | inl e ↦ among-append_left t (of_queue pool p) (waiting_in pool ps) (subst (λ (x : Queue). Among t (of_queue pool x)) (sym e) a)
-      | inr j ↦ among-append_right t (of_queue pool p) (waiting_in pool ps) (among_queue pool ps q t j a)
+        | inl e ↦ among-append_left t (of_queue pool p) (waiting_in pool ps) (subst (λ (x : Queue). Among t (of_queue pool x)) (sym e) a)
+        | inr j ↦ among-append_right t (of_queue pool p) (waiting_in pool ps) (among_queue pool ps q t j a)
       ]
 
   map_beaten : (h : Head) (q : Queue) (es : List (Entry T)) (u : Waiting T) → EachBeaten h (queue_rank q) es → Among u (map (in_queue q) es) → Beats h (effective u) u.order
   map_beaten h q [] u b i = absurd i
   map_beaten h q (e ∷ es) u b i =
       elim i [
-      | inl x ↦ subst (λ (y : Waiting T). Beats h (effective y) y.order) x b.0
-      | inr j ↦ map_beaten h q es u b.1 j
+        | inl x ↦ subst (λ (y : Waiting T). Beats h (effective y) y.order) x b.0
+        | inr j ↦ map_beaten h q es u b.1 j
       ]
 
   among_beaten : (pool : Lists T) (h : Head) (qs : List Queue) (u : Waiting T) → AllBeaten pool h qs → Among u (waiting_in pool qs) → Beats h (effective u) u.order
   among_beaten pool h [] u b i = absurd i
   among_beaten pool h (q ∷ qs) u b i =
       elim (among-append u (of_queue pool q) (waiting_in pool qs) i) [
-      | inl j ↦ map_beaten h q (list_of pool q.list) u b.0 j
-      | inr j ↦ among_beaten pool h qs u b.1 j
+        | inl j ↦ map_beaten h q (list_of pool q.list) u b.0 j
+        | inr j ↦ among_beaten pool h qs u b.1 j
       ]
 
   -- the best head is that of the first task
@@ -232,20 +229,20 @@ module _ {T : Type 0} where
   pub best : (pool : Lists T) (qs : List Queue) (h : Head) → AreKept pool qs → best_from pool None qs ≡ Some h → Best pool qs h
   best pool qs h k is =
       elim (from_queue pool qs None h is) [
-      | inl e ↦ absurd (no_head h e)
-      | inr i ↦
-          let f = from_head pool qs h i in
-          let beaten = (dominates pool qs None h k is).1 in
-          let here : Among (in_queue f.queue f.entry) (of_queue pool f.queue) =
-              subst (λ (es : List (Entry T)). Among (in_queue f.queue f.entry) (map (in_queue f.queue) es)) (sym f.is) (inl refl) in
-          record {
-            from = f;
-            first = record {
-              waits = among_queue pool qs f.queue (in_queue f.queue f.entry) f.queued here;
-              greatest = λ u a. let b = among_beaten pool h qs u beaten a in subst (λ (n : ℕ). effective u ≤ n) f.rank_is b.0;
-              least = λ u a same.
-                let b = among_beaten pool h qs u beaten a in
-                subst (λ (n : ℕ). n ≤ u.order) f.order (b.1 (same ∙ sym f.rank_is));
-            };
-          }
+        | inl e ↦ absurd (no_head h e)
+        | inr i ↦
+            let f = from_head pool qs h i in
+            let beaten = (dominates pool qs None h k is).1 in
+            let here : Among (in_queue f.queue f.entry) (of_queue pool f.queue) =
+            subst (λ (es : List (Entry T)). Among (in_queue f.queue f.entry) (map (in_queue f.queue) es)) (sym f.is) (inl refl) in
+            record {
+              from = f;
+              first = record {
+                waits = among_queue pool qs f.queue (in_queue f.queue f.entry) f.queued here;
+                greatest = λ u a. let b = among_beaten pool h qs u beaten a in subst (λ (n : ℕ). effective u ≤ n) f.rank_is b.0;
+                least = λ u a same.
+                    let b = among_beaten pool h qs u beaten a in
+                    subst (λ (n : ℕ). n ≤ u.order) f.order (b.1 (same ∙ sym f.rank_is));
+              };
+            }
       ]

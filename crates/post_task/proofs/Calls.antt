@@ -17,10 +17,10 @@ use Rattle.post_task.specs.declared.level.Level.{Level}
 use Rattle.post_task.specs.declared.level.PrioSource.{PrioSource}
 use Rattle.post_task.specs.declared.level.PrioSource.TheVariants.{Fixed, Signal}
 use Rattle.post_task.specs.Waiting.{Waiting, Among, Inserted, same_source, lacks_cell}
-use Rattle.post_task.specs.Levels.{Queue, queue_in, queues_of, all_queues, has_source, priority_in, in_queue, waiting_in, waiting, new_task, TakesFirst, Rises, AreKept, Kept}
+use Rattle.post_task.specs.Levels.{Queue, queue_in, queues_of, all_queues, has_source, priority_in, in_queue, waiting_in, waiting, new_task, TakesFirst, Rises, Lone, AreKept, Kept}
 use Rattle.post_task.specs.Heads.{best_from}
 use Rattle.post_task.proofs.Best.{InQueues, best}
-use Rattle.post_task.proofs.Tasks.{rises_without, rises_drop, rises_push, queue_below, kept_each, inside, rising, inserted, waiting_without}
+use Rattle.post_task.proofs.Tasks.{lone_in, rises_without, rises_drop, rises_push, queue_below, kept_each, inside, rising, inserted, waiting_without}
 
 same_priority-true : (a b : Priority) → same_priority a b ≡ true → a ≡ b
 same_priority-true Background Background h = refl
@@ -90,8 +90,8 @@ module _ {T : Type 0} where
   set_kept old new qs l es k h is r =
       kept_each old new qs (omega (arith, set_length old new l es is))
       (λ n rises. elim (cases_eq n l) [
-      | inl same ↦ let R : List (Entry T) → Type 0 = λ xs. Rises xs in subst R (sym (ap (λ (m : ℕ). list_of new m) same ∙ set_here old new l es h is)) r
-      | inr differs ↦ let R : List (Entry T) → Type 0 = λ xs. Rises xs in subst R (sym (set_elsewhere old new l es is n differs)) rises
+        | inl same ↦ let R : List (Entry T) → Type 0 = λ xs. Rises xs in subst R (sym (ap (λ (m : ℕ). list_of new m) same ∙ set_here old new l es h is)) r
+        | inr differs ↦ let R : List (Entry T) → Type 0 = λ xs. Rises xs in subst R (sym (set_elsewhere old new l es is n differs)) rises
       ])
       k
 
@@ -114,7 +114,7 @@ module _ {T : Type 0} where
       let at : list_of old h.list.0 ≡ f.entry ∷ f.rest = ap (λ (n : ℕ). list_of old n) f.list ∙ f.is in
       let some : result ≡ Some (numbered f.entry) = given ∙ ap (λ (es : List (Entry T)). option_map numbered (first_entry es)) at in
       let after_q : new.lists ≡ set old.lists f.queue.list f.rest =
-          after ∙ ap (λ (n : ℕ). set old.lists n (drop 1 (list_of old h.list.0))) f.list ∙ ap (λ (es : List (Entry T)). set old.lists f.queue.list (drop 1 es)) at in
+      after ∙ ap (λ (n : ℕ). set old.lists n (drop 1 (list_of old h.list.0))) f.list ∙ ap (λ (es : List (Entry T)). set old.lists f.queue.list (drop 1 es)) at in
       let within = inside old qs f.queue k f.queued in
       let P : Option (ℕ × T) → Type 0 = λ r. MatchOption r (waiting_in old qs ≡ []) (TakesFirst (waiting_in old qs) (waiting_in new qs)) in
       subst P (sym some)
@@ -142,10 +142,10 @@ module _ {T : Type 0} where
       let es = list_of old q.list in
       let rises : Rises (es ++ e ∷ []) = rises_push es e (rising old qs q k.lists queued) (queue_below old qs q e.number queued later) in
       let task_is : in_queue q e ≡ new_task levels e.cell source continuation e.number e.item =
-          ap (λ (s : PrioSource). record { cell = e.cell; source = s; priority = level.priority; continuation = continuation; order = e.number; item = e.item }) f.source_is
-          ∙ ap (λ (o : Option Level). record { cell = e.cell; source = source; priority = unwrap_or (option_map (λ (x : Level). x.priority) o) UserVisible; continuation = continuation; order = e.number; item = e.item }) (sym is) in
+      ap (λ (s : PrioSource). record { cell = e.cell; source = s; priority = level.priority; continuation = continuation; order = e.number; item = e.item }) f.source_is
+      ∙ ap (λ (o : Option Level). record { cell = e.cell; source = source; priority = unwrap_or (option_map (λ (x : Level). x.priority) o) UserVisible; continuation = continuation; order = e.number; item = e.item }) (sym is) in
       let one : Inserted (in_queue q e) (waiting levels old) (waiting levels new) =
-          inserted old old new qs q es [] e k.lists queued (set_elsewhere old new q.list (es ++ e ∷ []) after) (sym (append-nil es)) (set_here old new q.list (es ++ e ∷ []) within after) in (
+      inserted old old new qs q es [] e k.lists queued (set_elsewhere old new q.list (es ++ e ∷ []) after) (sym (append-nil es)) (set_here old new q.list (es ++ e ∷ []) within after) in (
         record { lists = set_kept old new qs q.list (es ++ e ∷ []) k.lists within after rises; fixed = k.fixed },
         subst (λ (w : Waiting T). Inserted w (waiting levels old) (waiting levels new)) task_is one,
       )
@@ -166,6 +166,22 @@ module _ {T : Type 0} where
       let e : Entry T = record { cell = ticket.0; number = order; item = item } in
       (enqueued old new levels source level continuation e k is later (subst (λ (n : ℕ). new.lists ≡ set old.lists n (list_of old n ++ e ∷ [])) at put)).1
   enqueued_waits old new levels source level continuation order l item (Err x) k is later at put = tt
+
+  -- ---- every other list is as it was
+
+  pub enqueued_others : (old new : Lists T) (levels : List Level) (source : PrioSource) (level : Level) (continuation : Bool) (order l : ℕ) (item : T) (result : Result Ticket T) → find (has_source source) levels ≡ Some level
+      → l ≡ (queue_in level continuation).list → IfOk result (λ ticket. new.lists ≡ set old.lists l (list_of old l ++ record { cell = ticket.0; number = order; item = item } ∷ [])) → OnErr result (new ≡ old)
+      → (k : ℕ) → Lone k (all_queues levels) → list_of new k ≡ list_of old k
+  enqueued_others old new levels source level continuation order l item (Ok ticket) is at put err k lone =
+      let e : Entry T = record { cell = ticket.0; number = order; item = item } in
+      let apart = lone_in k (all_queues levels) (queue_in level continuation) lone ((found_level levels source level is).queued continuation) in
+      set_elsewhere old new l (list_of old l ++ e ∷ []) put k (λ same. apart (sym (same ∙ at)))
+  enqueued_others old new levels source level continuation order l item (Err x) is at put err k lone = ap (λ (p : Lists T). list_of p k) err
+
+  pub taken_others : (old new : Lists T) (qs : List Queue) (h : Head) → AreKept old qs → best_from old None qs ≡ Some h → new.lists ≡ set old.lists h.list.0 (drop 1 (list_of old h.list.0)) → (k : ℕ) → Lone k qs → list_of new k ≡ list_of old k
+  taken_others old new qs h kept is after k lone =
+      let b = best old qs h kept is in
+      set_elsewhere old new h.list.0 (drop 1 (list_of old h.list.0)) after k (λ same. lone_in k qs b.from.queue lone b.from.queued (sym (same ∙ b.from.list)))
 
   -- ---- a task is taken out by its ticket
 

@@ -2,3 +2,4 @@ pub mod Best
 pub mod Tasks
 pub mod Moves
 pub mod Calls
+pub mod Waits

@@ -141,7 +141,7 @@ module _ {T : Type 0} where
   moved_entries s p q [] = refl
   moved_entries s p q (e ∷ es) =
       let here : in_queue (moved_queue s p q) e ≡ moved s p (in_queue q e) =
-          elim (same_source q.source (Signal s)) as (λ t. in_queue (cond t (record q { priority = p }) q) e ≡ cond t (record (in_queue q e) { priority = p }) (in_queue q e)) [ true ↦ refl | false ↦ refl ] in
+      elim (same_source q.source (Signal s)) as (λ t. in_queue (cond t (record q { priority = p }) q) e ≡ cond t (record (in_queue q e) { priority = p }) (in_queue q e)) [ true ↦ refl | false ↦ refl ] in
       ap (λ (w : Waiting T). w ∷ map (in_queue (moved_queue s p q)) es) here ∙ ap (λ (w : List (Waiting T)). moved s p (in_queue q e) ∷ w) (moved_entries s p q es)
 
   pub waiting_moved : (s : ℕ) (p : Priority) (pool : Lists T) (qs : List Queue) → waiting_in pool (map (moved_queue s p) qs) ≡ map (moved s p) (waiting_in pool qs)
@@ -209,7 +209,7 @@ module _ {T : Type 0} where
       let lone_more : Lone more.list (all_queues old) = fresh_lone before more.list (all_queues old) k (omega (arith, second)) in
       let one : AreKept after (all_queues old ++ plain ∷ []) = kept_push after (all_queues old) plain kept (omega (arith, a.plain, sizes)) (empty plain.list (omega (arith, a.plain))) lone_plain in
       let two : AreKept after ((all_queues old ++ plain ∷ []) ++ more ∷ []) =
-          kept_push after (all_queues old ++ plain ∷ []) more one (omega (arith, second, sizes)) (empty more.list (omega (arith, second))) (lone_push more.list (all_queues old) plain lone_more (λ e. absurd (omega (arith, a.plain, second, e)))) in
+      kept_push after (all_queues old ++ plain ∷ []) more one (omega (arith, second, sizes)) (empty more.list (omega (arith, second))) (lone_push more.list (all_queues old) plain lone_more (λ e. absurd (omega (arith, a.plain, second, e)))) in
       let lists_are : all_queues new ≡ (all_queues old ++ plain ∷ []) ++ more ∷ [] = ap all_queues a.is ∙ all-append old a.level ∙ sym (append_assoc (all_queues old) (plain ∷ []) (more ∷ [])) in
       subst (λ (qs : List Queue). AreKept after qs) (sym lists_are) two
 
@@ -250,9 +250,9 @@ module _ {T : Type 0} where
       let h3 : priority_in l3 (Fixed UserBlocking) ≡ Some UserBlocking = ap (λ (ls : List Level). priority_in ls (Fixed UserBlocking)) c.is ∙ found_last l2 c.level (Fixed UserBlocking) c.source_is m2 ∙ ap (λ (x : Priority). Some x) c.priority_is in (
         record { lists = k3; fixed = λ f. each_priority l3 f f3 g3 h3 },
         added_waiting l2 l3 p2 p3 (Fixed UserBlocking) UserBlocking s3 c
-        ∙ added_waiting l1 l2 p1 p2 (Fixed UserVisible) UserVisible s2 b
-        ∙ added_waiting l0 l1 p0 p1 (Fixed Background) Background s1 a
-        ∙ ap (λ (ls : List Level). waiting ls p0) none,
+            ∙ added_waiting l1 l2 p1 p2 (Fixed UserVisible) UserVisible s2 b
+            ∙ added_waiting l0 l1 p0 p1 (Fixed Background) Background s1 a
+            ∙ ap (λ (ls : List Level). waiting ls p0) none,
       )
 
   -- ---- a signal gets its lists

@@ -83,14 +83,14 @@ module _ {T : Type 0} where
         front = map f front;
         back = map f back ++ waiting_in old qs;
         before =
-          ap (λ (es : List (Entry T)). map f es ++ waiting_in old qs) before
-          ∙ ap (λ (w : List (Waiting T)). w ++ waiting_in old qs) (map-append f front back)
-          ∙ append_assoc (map f front) (map f back) (waiting_in old qs);
+            ap (λ (es : List (Entry T)). map f es ++ waiting_in old qs) before
+            ∙ ap (λ (w : List (Waiting T)). w ++ waiting_in old qs) (map-append f front back)
+            ∙ append_assoc (map f front) (map f back) (waiting_in old qs);
         after =
-          ap (λ (es : List (Entry T)). map f es ++ waiting_in new qs) after
-          ∙ ap (λ (w : List (Waiting T)). map f (front ++ e ∷ back) ++ w) rest
-          ∙ ap (λ (w : List (Waiting T)). w ++ waiting_in old qs) (map-append f front (e ∷ back))
-          ∙ append_assoc (map f front) (map f (e ∷ back)) (waiting_in old qs);
+            ap (λ (es : List (Entry T)). map f es ++ waiting_in new qs) after
+            ∙ ap (λ (w : List (Waiting T)). map f (front ++ e ∷ back) ++ w) rest
+            ∙ ap (λ (w : List (Waiting T)). w ++ waiting_in old qs) (map-append f front (e ∷ back))
+            ∙ append_assoc (map f front) (map f (e ∷ back)) (waiting_in old qs);
       }
 
   pub inserted : (pool old new : Lists T) (qs : List Queue) (q : Queue) (front back : List (Entry T)) (e : Entry T) → AreKept pool qs → InQueues q qs → ((l : ℕ) → l ≢ q.list → list_of new l ≡ list_of old l)
@@ -98,20 +98,20 @@ module _ {T : Type 0} where
   inserted pool old new [] q front back e k i others before after = absurd i
   inserted pool old new (p ∷ ps) q front back e k i others before after =
       elim i [
-      | inl same ↦
-          let P : Queue → Type 0 = λ x. Lone x.list ps in
-          let Q : Queue → Type 0 = λ x. Inserted (in_queue q e) (waiting_in old (x ∷ ps)) (waiting_in new (x ∷ ps)) in
-          subst Q (sym same) (inserted_here old new q ps front back e (subst P same k.2) others before after)
-      | inr j ↦
-          let r = inserted pool old new ps q front back e k.3 j others before after in
-          let m = of_queue old p in
-          let here : of_queue new p ≡ m = ap (map (in_queue p)) (others p.list (λ x. lone_in p.list ps q k.2 j (sym x))) in
-          record {
-            front = m ++ r.front;
-            back = r.back;
-            before = ap (λ (w : List (Waiting T)). m ++ w) r.before ∙ sym (append_assoc m r.front r.back);
-            after = ap (λ (w : List (Waiting T)). w ++ waiting_in new ps) here ∙ ap (λ (w : List (Waiting T)). m ++ w) r.after ∙ sym (append_assoc m r.front (in_queue q e ∷ r.back));
-          }
+        | inl same ↦
+            let P : Queue → Type 0 = λ x. Lone x.list ps in
+            let Q : Queue → Type 0 = λ x. Inserted (in_queue q e) (waiting_in old (x ∷ ps)) (waiting_in new (x ∷ ps)) in
+            subst Q (sym same) (inserted_here old new q ps front back e (subst P same k.2) others before after)
+        | inr j ↦
+            let r = inserted pool old new ps q front back e k.3 j others before after in
+            let m = of_queue old p in
+            let here : of_queue new p ≡ m = ap (map (in_queue p)) (others p.list (λ x. lone_in p.list ps q k.2 j (sym x))) in
+            record {
+              front = m ++ r.front;
+              back = r.back;
+              before = ap (λ (w : List (Waiting T)). m ++ w) r.before ∙ sym (append_assoc m r.front r.back);
+              after = ap (λ (w : List (Waiting T)). w ++ waiting_in new ps) here ∙ ap (λ (w : List (Waiting T)). m ++ w) r.after ∙ sym (append_assoc m r.front (in_queue q e ∷ r.back));
+            }
       ]
 
   -- ---- a task is taken out by its cell
@@ -121,8 +121,8 @@ module _ {T : Type 0} where
   map_without c q (e ∷ es) =
       let r = map_without c q es in
       elim (in_cell c e) as (λ t. map (in_queue q) (cond (not t) (e ∷ without c es) (without c es)) ≡ cond (not t) (in_queue q e ∷ filter (lacks_cell c) (map (in_queue q) es)) (filter (lacks_cell c) (map (in_queue q) es))) [
-      | true ↦ r
-      | false ↦ ap (λ (w : List (Waiting T)). in_queue q e ∷ w) r
+        | true ↦ r
+        | false ↦ ap (λ (w : List (Waiting T)). in_queue q e ∷ w) r
       ]
 
   pub waiting_without : (c : Cell) (old new : Lists T) (qs : List Queue) → ((l : ℕ) → list_of new l ≡ without c (list_of old l)) → waiting_in new qs ≡ filter (lacks_cell c) (waiting_in old qs)
@@ -160,7 +160,7 @@ module _ {T : Type 0} where
   find_waiting c pool [] w h = absurd (no_task w h)
   find_waiting c pool (q ∷ qs) w h =
       let split : option_or (option_map (in_queue q) (find (in_cell c) (list_of pool q.list))) (find (has_cell c) (waiting_in pool qs)) ≡ Some w =
-          ap (λ (o : Option (Waiting T)). option_or o (find (has_cell c) (waiting_in pool qs))) (sym (map_find c q (list_of pool q.list))) ∙ sym (find-append (has_cell c) (of_queue pool q) (waiting_in pool qs)) ∙ h in
+      ap (λ (o : Option (Waiting T)). option_or o (find (has_cell c) (waiting_in pool qs))) (sym (map_find c q (list_of pool q.list))) ∙ sym (find-append (has_cell c) (of_queue pool q) (waiting_in pool qs)) ∙ h in
       elim (from_either c pool q (find (in_cell c) (list_of pool q.list)) (find (has_cell c) (waiting_in pool qs)) w refl split) [ inl f ↦ f | inr r ↦ find_waiting c pool qs w r ]
 
   none_then : (o : Option (Entry T)) (result : Option (ℕ × T)) → result ≡ option_map numbered o → (o ≢ None → ⊥) → result ≡ None

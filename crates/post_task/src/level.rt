@@ -40,7 +40,11 @@ impl Level {
     pub fn list(self, continuation: bool) -> ListId
         ensures { result.0 ≡ (queue_in self continuation).list }
     {
-        if continuation { self.continuations } else { self.plain }
+        if continuation {
+            self.continuations
+        } else {
+            self.plain
+        }
     }
 
     /// Sets the priority where the lists are those of this signal.

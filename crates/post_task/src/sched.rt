@@ -1,17 +1,17 @@
 ghost use Rattle.std.specs.Prelude.{◌≡◌, ◌≢◌, ℕ, ◌+◌, ◌^◌, ◌<◌, ◌≤◌, [], map, length, None, Some, IfOk, IfErr, OnOk, OnErr, OnSome, IfNone, IsOk, MatchOption};
 ghost use Rattle.std.specs.List.{filter, find};
 ghost use Rattle.std.specs.Option.{option_map};
-ghost use Rattle.task_pool.specs.Lists.{list_of, entry_of};
+ghost use Rattle.task_pool.specs.Lists.{Lists, list_of, entry_of, without};
 ghost use Rattle.post_task.specs.Waiting.{Waiting, Among, Inserted, IsFirst, ordered, has_cell, lacks_cell, moved};
-ghost use Rattle.post_task.specs.Levels.{waiting, priority_in, has_source, HasRoom, Kept, TakesFirst, new_task, moved_level, Added};
+ghost use Rattle.post_task.specs.Levels.{all_queues, Lone, waiting, priority_in, has_source, HasRoom, Kept, TakesFirst, new_task, moved_level, Added};
 ghost use Rattle.post_task.specs.Heads.{best_of};
 
 #[cfg(test)]
 mod tests;
 
+use crate::PrioSource;
 use crate::heads::{Head, best_with};
 use crate::level::Level;
-use crate::PrioSource;
 use std::alloc::Global;
 use std::marker::PhantomData;
 use std::sync::ledger::Ledger;
@@ -28,7 +28,12 @@ pub struct SchedQueues<T> {
 }
 
 // Two new lists for a priority source.
-fn add<T>(levels: &mut Vec<Level>, pool: &mut Pool<T>, source: PrioSource, priority: Priority) -> Result<(), MemoryFault>
+fn add<T>(
+    levels: &mut Vec<Level>,
+    pool: &mut Pool<T>,
+    source: PrioSource,
+    priority: Priority,
+) -> Result<(), MemoryFault>
     ensures added { OnOk result (Added levels.old.items levels.new.items pool.old pool.new source priority) }
     ensures err { OnErr result (levels.new.items ≡ levels.old.items) }
     ensures more { length pool.old.lists ≤ length pool.new.lists }
@@ -58,9 +63,24 @@ impl<T> SchedQueues<T> {
         ensures inserts { pool.new.inserts ≡ pool.old.inserts }
     {
         let mut levels = Vec::new(alloc);
-        add(&mut levels, pool, PrioSource::Fixed(Priority::Background), Priority::Background)?;
-        add(&mut levels, pool, PrioSource::Fixed(Priority::UserVisible), Priority::UserVisible)?;
-        add(&mut levels, pool, PrioSource::Fixed(Priority::UserBlocking), Priority::UserBlocking)?;
+        add(
+            &mut levels,
+            pool,
+            PrioSource::Fixed(Priority::Background),
+            Priority::Background,
+        )?;
+        add(
+            &mut levels,
+            pool,
+            PrioSource::Fixed(Priority::UserVisible),
+            Priority::UserVisible,
+        )?;
+        add(
+            &mut levels,
+            pool,
+            PrioSource::Fixed(Priority::UserBlocking),
+            Priority::UserBlocking,
+        )?;
         Ok(SchedQueues {
             levels,
             tasks: PhantomData,
@@ -71,7 +91,12 @@ impl<T> SchedQueues<T> {
     ///
     /// An error leaves the queues as they were. Every other list of the pool is as it was, after an error too; then the pool
     /// may have further empty lists, which nothing names.
-    pub fn make_room_for(&mut self, pool: &mut Pool<T>, s: u32, p: Priority) -> Result<(), MemoryFault>
+    pub fn make_room_for(
+        &mut self,
+        pool: &mut Pool<T>,
+        s: u32,
+        p: Priority,
+    ) -> Result<(), MemoryFault>
         requires { Kept self.old.levels.items pool.old }
         ensures kept { Kept self.new.levels.items pool.new }
         ensures room { OnOk result (priority_in self.new.levels.items (PrioSource.Signal s) ≡ Some p) }
@@ -90,7 +115,8 @@ impl<T> SchedQueues<T> {
         Ok(())
     }
 
-    /// Puts a task at the end of the list of its source, under its order, which is greater than that of every task that waits.
+    /// Puts a task at the end of the list of its source, under its order, which is greater than that of every task that waits. Every other list of the
+    /// pool is as it was.
     /// Two accesses at most.
     ///
     /// The item comes back only for want of memory, never where `spare` is above 0, and then all is as it was.
@@ -110,6 +136,7 @@ impl<T> SchedQueues<T> {
         ensures same { self.new.levels.items ≡ self.old.levels.items }
         ensures kept { Kept self.new.levels.items pool.new }
         ensures waits { IfOk result (λ ticket. Inserted (new_task self.old.levels.items ticket.0 source continuation order item) (waiting self.old.levels.items pool.old) (waiting self.new.levels.items pool.new)) }
+        ensures others { (l : ℕ) → Lone l (all_queues self.old.levels.items) → list_of pool.new l ≡ list_of pool.old l }
         ensures fresh { IfOk result (λ ticket. entry_of pool.old ticket.0 ≡ None) }
         ensures generation { IfOk result (λ ticket. ticket.0.generation ≡ pool.old.inserts) }
         ensures inserts { OnOk result (pool.new.inserts ≡ pool.old.inserts + 1) }
@@ -142,6 +169,7 @@ impl<T> SchedQueues<T> {
         ensures same { self.new.levels.items ≡ self.old.levels.items }
         ensures kept { Kept self.new.levels.items pool.new }
         ensures first { MatchOption result (waiting self.old.levels.items pool.old ≡ []) (TakesFirst (waiting self.old.levels.items pool.old) (waiting self.new.levels.items pool.new)) }
+        ensures others { (l : ℕ) → Lone l (all_queues self.old.levels.items) → list_of pool.new l ≡ list_of pool.old l }
         ensures spare { OnSome result (pool.new.spare ≡ pool.old.spare + 1) }
         ensures inserts { pool.new.inserts ≡ pool.old.inserts }
         ensures none { IfNone result (pool.new ≡ pool.old) }
@@ -155,13 +183,19 @@ impl<T> SchedQueues<T> {
 
     /// Takes a task out by its ticket, which these queues handed out; none exactly where the ticket is not live, and then nothing
     /// changes. Three accesses at most. Takes no memory.
-    pub fn remove<L: Ledger>(&mut self, pool: &mut Pool<T>, t: Ticket, steps: &mut Steps<L>) -> Option<(u64, T)>
+    pub fn remove<L: Ledger>(
+        &mut self,
+        pool: &mut Pool<T>,
+        t: Ticket,
+        steps: &mut Steps<L>,
+    ) -> Option<(u64, T)>
         requires kept { Kept self.old.levels.items pool.old }
         requires ours { entry_of pool.old t.0 ≢ None → find (has_cell t.0) (waiting self.old.levels.items pool.old) ≢ None }
         ensures same { self.new.levels.items ≡ self.old.levels.items }
         ensures kept { Kept self.new.levels.items pool.new }
         ensures item { result ≡ option_map ordered (find (has_cell t.0) (waiting self.old.levels.items pool.old)) }
         ensures gone { waiting self.new.levels.items pool.new ≡ filter (lacks_cell t.0) (waiting self.old.levels.items pool.old) }
+        ensures lists { pool.new.lists ≡ map (without t.0) pool.old.lists }
         ensures spare { OnSome result (pool.new.spare ≡ pool.old.spare + 1) }
         ensures inserts { pool.new.inserts ≡ pool.old.inserts }
         ensures none { IfNone result (pool.new ≡ pool.old) }
@@ -172,6 +206,15 @@ impl<T> SchedQueues<T> {
 
     /// All tasks of a signal have this priority from now on. Takes no memory.
     pub fn move_priority(&mut self, s: u32, p: Priority)
+        ensures levels { self.new.levels.items ≡ map (moved_level s p) self.old.levels.items }
+        ensures kept { (pool : Lists T) → Kept self.old.levels.items pool → Kept self.new.levels.items pool }
+        ensures waiting { (pool : Lists T) → waiting self.new.levels.items pool ≡ map (moved s p) (waiting self.old.levels.items pool) }
+    {
+        self.set_priority(s, p);
+    }
+
+    // The lists of a signal have this priority from now on.
+    fn set_priority(&mut self, s: u32, p: Priority)
         ensures { self.new.levels.items ≡ map (moved_level s p) self.old.levels.items }
     {
         for level in self.levels.iter_mut() {

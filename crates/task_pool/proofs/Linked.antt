@@ -1,15 +1,13 @@
 -- Entries that are linked in a room, and what a change of a link does to them.
-use Rattle.std.proofs.Common.{◌≡◌, ◌≢◌, ◌⊎◌, ℕ, zero, suc, ◌+◌, ◌≤◌, ◌<◌, Bool, true, false, cond, List, [], ◌∷◌, ◌++◌, length, map, Option, Some, None, refl, sym, ◌∙◌, ap, subst, inl, inr, arith}
+use Rattle.std.proofs.Common.{◌≡◌, ◌≢◌, ℕ, zero, suc, ◌≤◌, Bool, false, cond, List, [], ◌∷◌, ◌++◌, length, Option, Some, None, refl, sym, ◌∙◌, ap, inl, inr, arith}
 use Rattle.std.specs.Option.{option_map, option_or}
 use Rattle.cell_room.specs.declared.room.Cell.{Cell}
 use Rattle.task_pool.specs.declared.links.Node.{Node}
 use Rattle.task_pool.specs.declared.links.First.{First}
-use Rattle.task_pool.specs.declared.links.Ends.{Ends}
-use Rattle.task_pool.specs.Lists.{Entry, same_cell}
+use Rattle.task_pool.specs.Lists.{Entry}
 use Rattle.task_pool.specs.Links.{along, is_cell, with_before, with_after, first_at, Relinks, joined}
 use Rattle.task_pool.specs.InRoom.{first_cell, last_cell, first_of, ends_of, IsLinked, Apart, Once, IsIn}
 use Rattle.task_pool.proofs.CellTests.{same_cell-refl, same_cell-false}
-use Rattle.task_pool.proofs.Places.{apart_from, once-append, apart_not_in, in-append_left, in-append_right}
 
 cell_of : (c d : Cell) → Some c ≡ Some d → c ≡ d
 cell_of c d h = cc

@@ -1,8 +1,8 @@
 -- Lists in a room, once an entry has left or has come.
-use Rattle.std.proofs.Common.{◌≡◌, ◌≢◌, ◌⊎◌, ℕ, zero, suc, ◌+◌, ◌≤◌, ◌<◌, Bool, true, false, cond, List, [], ◌∷◌, ◌++◌, length, map, Option, Some, None, get_or, set, drop, refl, sym, ◌∙◌, ap, subst, inl, inr, arith, length-append}
+use Rattle.std.proofs.Common.{◌≡◌, ◌≢◌, ℕ, zero, suc, ◌+◌, ◌≤◌, ◌<◌, Bool, true, false, cond, List, [], ◌∷◌, ◌++◌, length, map, Option, Some, None, get_or, set, drop, refl, sym, ◌∙◌, ap, subst, inl, inr, arith, length-append}
 use Rattle.std.specs.List.{find}
 use Rattle.std.specs.Option.{option_map, option_or}
-use Rattle.std.proofs.lemmas.List.{length-map, length-set, get_or-set_same, get_or-set_other, get_or_past, map-set, get_or_default, map-append}
+use Rattle.std.proofs.lemmas.List.{length-map, get_or-set_same, get_or-set_other, map-set, get_or_default, map-append}
 use Rattle.std.proofs.Math.ListN.{get_or-map}
 use Rattle.std.proofs.lemmas.Bool.{cases_eq}
 use Rattle.cell_room.specs.declared.room.Cell.{Cell}
@@ -14,8 +14,8 @@ use Rattle.task_pool.specs.Lists.{Entry, in_cell, without, all_of, first_entry}
 use Rattle.task_pool.specs.Links.{along, reading, is_cell, with_before, with_after, first_at, Relinks, joined}
 use Rattle.task_pool.specs.InRoom.{first_cell, last_cell, first_of, ends_of, IsLinked, Apart, Once, IsIn, IsPoolOf, IsPool}
 use Rattle.task_pool.proofs.CellTests.{is_cell-false, cell_cases}
-use Rattle.task_pool.proofs.Places.{Placed, placed, apart_from, apart_unless_in, once-append, append-once, in-append_left, in-append_right, without-apart, without_one, without-once, apart_not_in, without-few, in-without, lists_without, find-apart, find_one, find_in, find_none, length_set}
-use Rattle.task_pool.proofs.Linked.{node_of, Kept, Away, frame_kept, frame_by, kept_apart, unchanged, changed, kept_relink, linked-append, append-linked, linked_in, differ, same_some, first_at-linked, first_of-append, last_in, first_in, away_from, relink_last, relink_first, along_linked, first_of-cell, last-append, ends_without}
+use Rattle.task_pool.proofs.Places.{placed, apart_from, apart_unless_in, once-append, append-once, in-append_left, in-append_right, without-apart, without_one, without-once, apart_not_in, without-few, in-without, lists_without, find-apart, find_one, find_in, find_none, length_set}
+use Rattle.task_pool.proofs.Linked.{node_of, Away, frame_kept, frame_by, kept_apart, unchanged, kept_relink, linked-append, append-linked, linked_in, differ, same_some, first_at-linked, first_of-append, last_in, first_in, away_from, relink_last, relink_first, along_linked, first_of-cell, last-append, ends_without}
 
 first_is : (a b : First) → Some a ≡ Some b → a ≡ b
 first_is a b h = cc
@@ -168,10 +168,10 @@ module _ {T : Type 0} where
         };
         found = find_in e.cell lists l e (λ k k_other. find-apart e.cell (get_or lists k []) (elsewhere k k_other)) (ap (find (in_cell e.cell)) split ∙ find_one a e b apart_a);
         there = λ k entry is.
-          elim (cases_eq k l) [
-          | inl same ↦ same_entry entry e (sym is ∙ ap (λ (n : ℕ). find (in_cell e.cell) (get_or lists n [])) same ∙ ap (find (in_cell e.cell)) split ∙ find_one a e b apart_a)
-          | inr differs ↦ absurd (no_entry entry (sym is ∙ find-apart e.cell (get_or lists k []) (elsewhere k differs)))
-          ];
+            elim (cases_eq k l) [
+              | inl same ↦ same_entry entry e (sym is ∙ ap (λ (n : ℕ). find (in_cell e.cell) (get_or lists n [])) same ∙ ap (find (in_cell e.cell)) split ∙ find_one a e b apart_a)
+              | inr differs ↦ absurd (no_entry entry (sym is ∙ find-apart e.cell (get_or lists k []) (elsewhere k differs)))
+            ];
         one =
             let sizes : length (get_or lists l []) ≡ length (a ++ e ∷ b) = ap length split in
             let after : length (all_of (map (without e.cell) lists)) ≡ length (all_of (set lists l (a ++ b))) = ap (λ (ls : List (List (Entry T))). length (all_of ls)) lists_are in

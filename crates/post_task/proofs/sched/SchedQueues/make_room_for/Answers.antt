@@ -8,15 +8,15 @@ use Rattle.post_task.proofs.Calls.{none_false}
 use Rattle.post_task.proofs.sched.SchedQueues.make_room_for.Goals as goal
 
 pub returns-then-is_some-clause-kept : goal.returns-then-is_some-clause-kept
-returns-then-is_some-clause-kept g c = rw c.move_priority.ensures (moved_kept c.args.s c.args.p c.args.self.now.levels.items c.args.pool.now c.requires)
+returns-then-is_some-clause-kept g c = rw c.move_priority.ensures.levels (moved_kept c.args.s c.args.p c.args.self.now.levels.items c.args.pool.now c.requires)
 
 pub returns-then-is_some-clause-room : goal.returns-then-is_some-clause-room
 returns-then-is_some-clause-room g c =
     let some : is_some (find (has_source (Signal c.args.s)) c.args.self.now.levels.items) ≡ true = sym (ap is_some c.level.ensures) ∙ sym c.is_some.ensures ∙ c.if-is_some.true in
-    rw c.move_priority.ensures (room_moved c.args.s c.args.p c.args.self.now.levels.items some)
+    rw c.move_priority.ensures.levels (room_moved c.args.s c.args.p c.args.self.now.levels.items some)
 
 pub returns-then-is_some-clause-waiting : goal.returns-then-is_some-clause-waiting
-returns-then-is_some-clause-waiting g c = rw c.move_priority.ensures (moved_waiting c.args.s c.args.p c.args.self.now.levels.items c.args.pool.now)
+returns-then-is_some-clause-waiting g c = rw c.move_priority.ensures.levels (moved_waiting c.args.s c.args.p c.args.self.now.levels.items c.args.pool.now)
 
 pub returns-in_err-add-clause-kept : goal.returns-in_err-add-clause-kept
 returns-in_err-add-clause-kept g c = rw c.in_err-add.ensures.err (still_kept c.args.self.now.levels.items c.args.pool.now c.add.new.pool c.in_err-add.ensures.more c.in_err-add.ensures.lists c.requires)

@@ -1,8 +1,8 @@
-use Rattle.std.proofs.Common.{◌≡◌, ◌<◌, length}
-use Rattle.post_task.specs.Levels.{moved_level}
-use Rattle.post_task.proofs.Moves.{moved_step}
+use Rattle.post_task.proofs.Moves.{moved_kept, moved_waiting}
 use Rattle.post_task.proofs.sched.SchedQueues.move_priority.Goals as goal
 
-pub loop-level-preserved : goal.loop-level-preserved
-loop-level-preserved g c =
-    moved_step (moved_level c.args.s c.args.p) _ c.loop-level.level-items c.loop-level.level-index c.set_priority.new.self _ c.loop-level.invariant c.loop-level-test.true c.set_priority.ensures
+pub returns-clause-kept : goal.returns-clause-kept
+returns-clause-kept g c pool k = rw c.set_priority.ensures (moved_kept c.args.s c.args.p c.args.self.now.levels.items pool k)
+
+pub returns-clause-waiting : goal.returns-clause-waiting
+returns-clause-waiting g c pool = rw c.set_priority.ensures (moved_waiting c.args.s c.args.p c.args.self.now.levels.items pool)

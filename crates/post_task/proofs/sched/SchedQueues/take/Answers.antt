@@ -1,7 +1,7 @@
 use Rattle.std.proofs.Common.{None, sym}
 use Rattle.post_task.specs.Levels.{all_queues}
 use Rattle.post_task.proofs.Best.{nothing}
-use Rattle.post_task.proofs.Calls.{head_inside, taken_kept, taken}
+use Rattle.post_task.proofs.Calls.{head_inside, taken_kept, taken, taken_others}
 use Rattle.post_task.proofs.sched.SchedQueues.take.Goals as goal
 
 pub pop_front-requires : goal.pop_front-requires
@@ -20,3 +20,7 @@ returns-in-Some-clause-first g c =
 
 pub returns-in-None-clause-first : goal.returns-in-None-clause-first
 returns-in-None-clause-first g c = (nothing c.args.pool.now (all_queues c.args.self.now.levels.items) None (sym c.in-None.ensures)).1
+
+pub returns-in-Some-clause-others : goal.returns-in-Some-clause-others
+returns-in-Some-clause-others g c =
+    taken_others c.args.pool.now c.pop_front.new.self (all_queues c.args.self.now.levels.items) c.in-Some.first c.requires.lists (sym c.in-Some.ensures) c.pop_front.ensures.gone

@@ -1,4 +1,4 @@
-use Rattle.std.proofs.Common.{◌≡◌, [], ◌∷◌, ◌++◌, List, ap}
+use Rattle.std.proofs.Common.{List, ap}
 use Rattle.task_pool.specs.Lists.{Entry}
 use Rattle.task_pool.specs.Links.{reading}
 use Rattle.cell_room.specs.Cells.{item_at}

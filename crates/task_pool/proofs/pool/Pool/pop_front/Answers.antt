@@ -1,4 +1,4 @@
-use Rattle.std.proofs.Common.{◌≡◌, ◌<◌, List, length, ap, sym, ◌∙◌}
+use Rattle.std.proofs.Common.{◌<◌, length, ap, ◌∙◌}
 use Rattle.std.specs.Option.{option_map}
 use Rattle.task_pool.specs.Links.{reading}
 use Rattle.task_pool.specs.Lists.{numbered}

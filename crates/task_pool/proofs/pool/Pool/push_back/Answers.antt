@@ -1,7 +1,5 @@
-use Rattle.std.proofs.Common.{◌≡◌, ◌+◌, ◌<◌, [], ◌∷◌, ◌++◌, List, length, ap, subst, sym, ◌∙◌}
+use Rattle.std.proofs.Common.{◌<◌, length, ◌∙◌}
 use Rattle.task_pool.specs.Links.{reading}
-use Rattle.task_pool.specs.Lists.{list_of}
-use Rattle.cell_room.specs.Cells.{item_at}
 use Rattle.task_pool.proofs.Pools.{pushed, absent-found}
 use Rattle.task_pool.proofs.pool.Pool.push_back.Goals as goal
 

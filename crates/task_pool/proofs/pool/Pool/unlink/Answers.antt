@@ -1,9 +1,8 @@
-use Rattle.std.proofs.Common.{◌≡◌, ◌+◌, ◌<◌, [], ◌∷◌, ◌++◌, List, Option, Some, None, length, get_or, ap, subst, sym, ◌∙◌, arith}
+use Rattle.std.proofs.Common.{◌≡◌, [], Some, get_or, ap, sym, ◌∙◌}
 use Rattle.std.specs.List.{find}
 use Rattle.std.specs.Option.{option_map}
 use Rattle.task_pool.specs.Links.{reading}
-use Rattle.task_pool.specs.Lists.{Entry, in_cell, numbered, list_of}
-use Rattle.cell_room.specs.Cells.{item_at}
+use Rattle.task_pool.specs.Lists.{Entry, in_cell, numbered}
 use Rattle.task_pool.proofs.Pools.{unlinked, absent-found, absent-without, absent-there, node_inside}
 use Rattle.task_pool.proofs.pool.Pool.unlink.Goals as goal
 
