@@ -1,11 +1,11 @@
 -- Blocks of statements as lists, and the parts of statements on the symbols.
-use Rattle.std.proofs.Common.{◌≡◌, ◌≤◌, List, [], ◌∷◌, ◌++◌, Option, Some, None, map, refl, sym, ap, ◌∙◌, subst, arith, append_assoc, codes}
+use Rattle.std.proofs.Common.{◌≡◌, List, [], ◌∷◌, ◌++◌, Option, Some, None, map, refl, sym, ap, ◌∙◌, arith, append_assoc, codes}
 use Rattle.std.specs.Option.{option_map}
-use Rattle.page_types.specs.Tree.{Named, Expr, Stmt, Block, no_stmts, with_stmt, ElseIfs, no_else_ifs, with_else_if, ElsePart, no_else, else_block}
+use Rattle.page_types.specs.Tree.{Expr, Stmt, Block, no_stmts, with_stmt, ElseIfs, no_else_ifs, with_else_if, ElsePart, no_else, else_block}
 use Rattle.lang_ast.specs.Seen.{block_of, else_ifs_of, else_of}
 use Rattle.lang_parse.specs.Symbols.{Symbol, WordOf, SignOf}
-use Rattle.lang_parse.specs.Grammar.{name_symbol, spelling, in_braces, in_brackets, stmt_spelling, stmts_spelling, else_ifs_spelling, else_spelling, IsExpr, IsStmt, AreStmts, AreElseIfs, IsElse}
-use Rattle.lang_parse.specs.Parts.{Reads, Behind, Closed, Both, Many, Perhaps, NameRead, StmtRead, Ended, Condition, BlockRead, ElseIf, Else, BracketedName}
+use Rattle.lang_parse.specs.Grammar.{spelling, in_braces, in_brackets, stmt_spelling, stmts_spelling, else_ifs_spelling, else_spelling, IsExpr, AreStmts, AreElseIfs, IsElse}
+use Rattle.lang_parse.specs.Parts.{Many, Perhaps, StmtRead, Ended, Condition, BlockRead, ElseIf, Else}
 
 -- ---- rows and lists
 

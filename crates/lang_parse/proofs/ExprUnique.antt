@@ -1,16 +1,15 @@
 -- Symbols begin with at most one expression of a level whose rest stops.
-use Rattle.std.proofs.Common.{◌≡◌, ℕ, zero, suc, ◌<◌, ◌≤◌, List, [], ◌∷◌, ◌++◌, length, refl, sym, ap, ◌∙◌, subst, arith, codes, true, false, length-append, inl, inr}
+use Rattle.std.proofs.Common.{◌≡◌, ℕ, zero, suc, ◌<◌, ◌≤◌, List, [], ◌∷◌, length, refl, sym, ap, ◌∙◌, subst, arith, codes, length-append, inl, inr}
 use Rattle.page_types.specs.Tree.{Expr, Unary, Paren, Call, ListLiteral}
 use Rattle.lang_parse.specs.Symbols.{Symbol, SignOf}
-use Rattle.lang_parse.specs.Grammar.{name_symbol, unary_sign, sum_sign, product_sign, compare_sign, spelling}
-use Rattle.page_types.specs.declared.UnarySign.{UnarySign}
-use Rattle.lang_parse.specs.Parts.{binding, Stops, Anything, Reads, Behind, Closed, Many, Perhaps, Signed, Listed, SomeListed, ListEnds, IsCloser, CommaItem, OrItem, AndItem, CompareItem, SumItem, ProductItem, Place}
-use Rattle.lang_parse.proofs.Generic.{Unique, Unique-any, Shrinks, split_unique, many_unique, behind_unique, closed_unique, perhaps_unique, Begins}
-use Rattle.lang_parse.proofs.Signs.{Stops-le, goes_on, bars_bind, ampersands_bind, compare_binds, sum_binds, product_binds, square_binds, bracket_binds, closing_binds, closing_square_binds, sum_sign_is, product_sign_is, compare_sign_is, unary_sign_is}
+use Rattle.lang_parse.specs.Grammar.{unary_sign, sum_sign, product_sign, compare_sign, spelling}
+use Rattle.lang_parse.specs.Parts.{Stops, Anything, Reads, Behind, Closed, Signed, Listed, SomeListed, ListEnds, IsCloser, CommaItem, OrItem, AndItem, CompareItem, SumItem, ProductItem, Place}
+use Rattle.lang_parse.proofs.Generic.{Unique, Shrinks, split_unique, many_unique, behind_unique, closed_unique, perhaps_unique, Begins}
+use Rattle.lang_parse.proofs.Signs.{Stops-le, goes_on, bars_bind, ampersands_bind, compare_binds, sum_binds, product_binds, square_binds, bracket_binds, closing_binds, closing_square_binds, sum_sign_is, product_sign_is, compare_sign_is}
 use Rattle.lang_ast.specs.Seen.{exprs_of}
 use Rattle.lang_parse.proofs.Levels.{split_or, split_and, split_compare, split_sum, split_product, split_post, behind_follows, sum_follows, product_follows, place_follows}
-use Rattle.lang_parse.proofs.Items.{split_some, comma_follows, comma_begins, closer_ends, closer_is, none_listed}
-use Rattle.lang_parse.proofs.Heads.{none_begins, none_begins_post, begins_post}
+use Rattle.lang_parse.proofs.Items.{split_some, comma_follows, comma_begins, closer_ends, closer_is}
+use Rattle.lang_parse.proofs.Heads.{none_begins, none_begins_post}
 use Rattle.lang_parse.proofs.Prims.{Shape, number, text, true_word, false_word, unit_word, name, call, paren, list, shape, of_number, of_text, of_true, of_false, of_unit, of_paren, of_list, of_name, of_call, UnaryShape, signed, plain, unary_shape, signed_leads, plain_leads, unary_not_post}
 
 -- the same of shorter symbols

@@ -1,13 +1,13 @@
 -- The symbols that an expression begins with.
-use Rattle.std.proofs.Common.{◌≡◌, ℕ, suc, ◌≤◌, List, [], ◌∷◌, ◌++◌, IsTrue, refl, sym, ap, ◌∙◌, subst, arith, append_assoc, codes}
-use Rattle.std.specs.Prelude.{Bool, true, false, ◌||◌, ⊤}
+use Rattle.std.proofs.Common.{◌≡◌, ℕ, ◌≤◌, List, [], ◌∷◌, ◌++◌, refl, sym, ◌∙◌, subst, arith, append_assoc, codes}
+use Rattle.std.specs.Prelude.{Bool, true, false, ◌||◌}
 use Rattle.page_types.specs.Tree.{Expr, Or, And, Compare, Sum, Product, Unary, Post, Number, TextLiteral, TrueLiteral, FalseLiteral, UnitLiteral, Name, Call, Paren, ListLiteral, Exprs, no_exprs, with_expr, SumParts, no_terms, with_term, ProductParts, no_factors, with_factor}
 use Rattle.page_types.specs.declared.UnarySign.{UnarySign}
 use Rattle.page_types.specs.declared.UnarySign.TheVariants.{Negative, Not}
 use Rattle.page_parts.specs.Words.{same_bytes}
 use Rattle.lang_parse.specs.Symbols.{Symbol, NameAt, WordOf, NumberOf, TextOf, SignOf}
 use Rattle.lang_parse.specs.Grammar.{sum_sign, product_sign, compare_sign, unary_sign, spelling, each_behind, terms, factors, places_spelled, separated, level, IsExpr}
-use Rattle.lang_parse.specs.Parts.{binding, IsAt, Reads}
+use Rattle.lang_parse.specs.Parts.{binding, Reads}
 use Rattle.lang_parse.proofs.Signs.{bars_bind, ampersands_bind, compare_binds, sum_binds, product_binds, square_binds, bracket_binds}
 
 -- a symbol that may begin what stands behind a sign of its own, and one that may begin any expression

@@ -1,16 +1,14 @@
 -- The parser's steps through the items of a script.
-use Rattle.std.proofs.Common.{◌≡◌, ℕ, ◌<◌, ◌≤◌, List, [], ◌∷◌, ◌++◌, Vec, Global, length, map, refl, sym, ap, ◌∙◌, subst, arith, codes}
-use Rattle.std.proofs.lemmas.List.{map-append, length-map}
+use Rattle.std.proofs.Common.{◌≡◌, ◌<◌, ◌≤◌, List, [], ◌∷◌, ◌++◌, length, refl, sym, ap, ◌∙◌, subst, arith, codes}
 use Rattle.page_types.specs.Tree as Model
 use Rattle.page_types.specs.Tree.{Named, Item, FnItem, StmtItem}
 use Rattle.lang_ast.specs.Seen.{block_of}
 use Rattle.lang_parse.specs.Symbols.{Symbol, WordOf, SignOf}
-use Rattle.lang_parse.specs.Grammar.{HasTree}
-use Rattle.lang_parse.specs.Parts.{Anything, Behind, Closed, Both, Many, NameRead, CommaName, NamesListed, SomeNames, NotComma, StmtRead, BlockRead, Parameters, FnParts, ItemRead, AtEnd, NotElse}
+use Rattle.lang_parse.specs.Parts.{Anything, Closed, Both, Many, NameRead, CommaName, NamesListed, SomeNames, NotComma, StmtRead, BlockRead, Parameters, ItemRead, AtEnd, NotElse}
 use Rattle.lang_parse.specs.Deciding.{Never, Ends}
-use Rattle.lang_parse.proofs.Generic.{Leads, Leads-never, Leads-ends, Leads-trans, Never-any, Ends-any, Splits, Halves, first_ends, behind_none, behind_leads, closed_fails, closed_open, closed_ends, Follows, Many-push, many_leads, many_fails, many_ends, Progress}
+use Rattle.lang_parse.proofs.Generic.{Leads, Leads-never, Leads-ends, Leads-trans, Splits, Halves, first_ends, behind_leads, closed_fails, closed_open, closed_ends, Follows, Many-push, many_leads, many_fails, many_ends, Progress}
 use Rattle.lang_parse.proofs.Signs.{head_tag}
-use Rattle.lang_parse.proofs.Script.{ItemShape, item_shape, of_function, of_statement, function_read, statement_read, parameters_unique, script_read, script_unique, items_are, items_spelled}
+use Rattle.lang_parse.proofs.Script.{item_shape, of_function, of_statement, function_read, parameters_unique}
 use Rattle.lang_parse.proofs.StmtSteps.{any_fails, any_leads}
 use Rattle.lang_parse.proofs.Walks.{length-symbols}
 use Rattle.lang_parse.proofs.LogForms.{not_empty as some_left, is_empty as none_left}

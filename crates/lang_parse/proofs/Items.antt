@@ -1,9 +1,9 @@
 -- Expressions with commas between them, up to the sign that closes them.
-use Rattle.std.proofs.Common.{◌≡◌, ℕ, suc, ◌≤◌, List, [], ◌∷◌, ◌++◌, refl, sym, ap, ◌∙◌, subst, arith, codes, true, false, inl, inr, length, length-append}
+use Rattle.std.proofs.Common.{◌≡◌, ℕ, ◌≤◌, List, [], ◌∷◌, ◌++◌, refl, sym, ap, ◌∙◌, subst, arith, codes, false, inl, inr, length, length-append}
 use Rattle.page_types.specs.Tree.{Expr}
 use Rattle.lang_parse.specs.Symbols.{Symbol, SignOf}
 use Rattle.lang_parse.specs.Grammar.{spelling}
-use Rattle.lang_parse.specs.Parts.{binding, Stops, Anything, Reads, Behind, Closed, Many, Separated, Listed, SomeListed, ListEnds, IsCloser, CommaItem}
+use Rattle.lang_parse.specs.Parts.{binding, Stops, Anything, Reads, Closed, Many, Listed, SomeListed, ListEnds, IsCloser, CommaItem}
 use Rattle.lang_parse.specs.Deciding.{Never, Ends}
 use Rattle.lang_parse.proofs.Generic.{Leads, Leads-trans, Splits, first_ends, Halves, Follows, Begins, Many-push, many_leads, many_fails, many_ends, behind_leads, Leads-never, Leads-ends, closed_fails, closed_open, closed_ends}
 use Rattle.lang_parse.proofs.Signs.{head_tag, comma_binds, closing_binds, closing_square_binds}

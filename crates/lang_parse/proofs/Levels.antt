@@ -1,12 +1,12 @@
 -- What an expression at the front of the symbols is made of, from `||` down to the places behind a value.
 use Rattle.std.proofs.Common.{◌≡◌, ℕ, ◌≤◌, List, [], ◌∷◌, ◌++◌, Option, Some, None, refl, sym, ap, ◌∙◌, subst, arith, append_assoc, codes}
-use Rattle.page_types.specs.Tree.{Expr, Or, And, Compare, Sum, Product, Unary, Post, Number, TextLiteral, TrueLiteral, FalseLiteral, UnitLiteral, Name, Call, Paren, ListLiteral, Exprs, no_exprs, with_expr, SumParts, no_terms, with_term, ProductParts, no_factors, with_factor}
+use Rattle.page_types.specs.Tree.{Expr, Or, And, Compare, Sum, Product, Unary, Post, Exprs, no_exprs, with_expr, SumParts, no_terms, with_term, ProductParts, no_factors, with_factor}
 use Rattle.page_types.specs.declared.SumSign.{SumSign}
 use Rattle.page_types.specs.declared.ProductSign.{ProductSign}
 use Rattle.page_types.specs.declared.CompareSign.{CompareSign}
-use Rattle.lang_parse.specs.Symbols.{Symbol, NameAt, WordOf, NumberOf, TextOf, SignOf}
-use Rattle.lang_parse.specs.Grammar.{sum_sign, product_sign, compare_sign, spelling, each_behind, terms, factors, places_spelled, level, IsExpr, AreExprs, AreTerms, AreFactors, HasSome, HasTerms, HasFactors}
-use Rattle.lang_parse.specs.Parts.{binding, Stops, IsAt, Reads, Behind, Closed, Many, Perhaps, Signed, OrItem, AndItem, CompareItem, SumItem, ProductItem, Place, or_of, and_of, compare_of, sum_of, product_of, post_of}
+use Rattle.lang_parse.specs.Symbols.{Symbol, SignOf}
+use Rattle.lang_parse.specs.Grammar.{sum_sign, product_sign, compare_sign, spelling, each_behind, terms, factors, places_spelled, HasSome, HasTerms, HasFactors}
+use Rattle.lang_parse.specs.Parts.{binding, Stops, Reads, Behind, Many, Perhaps, OrItem, AndItem, CompareItem, SumItem, ProductItem, Place, or_of, and_of, compare_of, sum_of, product_of, post_of}
 use Rattle.lang_parse.proofs.Generic.{Halves, Splits, Follows}
 use Rattle.lang_parse.proofs.Signs.{Stops-le, bars_bind, ampersands_bind, compare_binds, sum_binds, product_binds, square_binds}
 use Rattle.lang_ast.specs.Seen.{exprs_of, terms_of, factors_of}

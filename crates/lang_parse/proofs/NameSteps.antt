@@ -1,7 +1,7 @@
 -- Adding the names of a tree to a set, step by step.
-use Rattle.std.proofs.Common.{◌≡◌, ℕ, suc, ◌+◌, ◌<◌, ◌≤◌, List, [], ◌∷◌, ◌++◌, length, map, drop, get_or, Vec, Global, Option, Some, None, refl, sym, ap, ◌∙◌, subst, arith, append_assoc, append-nil, drop-cons, add-one, zero, Result, Ok, Err}
+use Rattle.std.proofs.Common.{◌≡◌, ℕ, suc, ◌+◌, ◌<◌, List, [], ◌∷◌, ◌++◌, length, drop, get_or, Vec, Global, Option, Some, None, refl, sym, ap, ◌∙◌, subst, arith, append_assoc, append-nil, drop-cons, add-one, zero, Result, Ok, Err}
 use Rattle.page_types.specs.Tree as Model
-use Rattle.lang_meaning.specs.Evaluation.{names_in, names_in_stmt, names_in_others, names_in_else, own_body, functions_of}
+use Rattle.lang_meaning.specs.Evaluation.{names_in, names_in_stmt, names_in_others, names_in_else, own_body}
 use Rattle.lang_ast.specs.declared.tree.Expr.{Expr}
 use Rattle.lang_ast.specs.declared.tree.Stmt.{Stmt}
 use Rattle.lang_ast.specs.declared.tree.Item.{Item}
@@ -12,7 +12,7 @@ use Rattle.lang_ast.specs.declared.tree.Item.TheVariants as item
 use Rattle.lang_ast.specs.declared.tree.Stmt as S
 use Rattle.lang_ast.specs.Sizes.{stmt_size, block_size, others_size, else_size}
 use Rattle.lang_ast.proofs.Trees.{seen-Var, seen-Assign, seen-Expr, seen-If, seen-While, seen-Return, seen-Throw, seen-Try}
-use Rattle.lang_ast.specs.Seen.{seen_name, seen_else, seen_expr, seen_stmt, seen_block, seen_others, seen_item, seen_items}
+use Rattle.lang_ast.specs.Seen.{seen_name, seen_else, seen_expr, seen_stmt, seen_block, seen_others, seen_items}
 use Rattle.lang_parse.specs.Grammar.{distinct}
 use Rattle.lang_parse.specs.NameSets.{HoldsNames, Adds}
 

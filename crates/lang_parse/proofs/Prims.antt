@@ -1,17 +1,16 @@
 -- What a value at the front of the symbols is, by its first symbol; and operands with a sign before them.
-use Rattle.std.proofs.Common.{◌≡◌, ℕ, ℤ, suc, ◌≤◌, List, [], ◌∷◌, ◌++◌, refl, sym, ap, ◌∙◌, subst, arith, append_assoc, codes, true, false}
-use Rattle.page_types.specs.Tree.{Named, Expr, Or, And, Compare, Sum, Product, Unary, Post, Number, TextLiteral, TrueLiteral, FalseLiteral, UnitLiteral, Name, Call, Paren, ListLiteral, Exprs, no_exprs, with_expr}
+use Rattle.std.proofs.Common.{◌≡◌, ℕ, ℤ, List, [], ◌∷◌, ◌++◌, refl, sym, ap, ◌∙◌, subst, arith, append_assoc, codes, false}
+use Rattle.page_types.specs.Tree.{Named, Expr, Or, And, Compare, Sum, Product, Unary, Number, TextLiteral, TrueLiteral, FalseLiteral, UnitLiteral, Name, Call, Paren, ListLiteral}
 use Rattle.page_types.specs.declared.UnarySign.{UnarySign}
 use Rattle.page_types.specs.declared.UnarySign.TheVariants.{Negative, Not}
 use Rattle.lang_parse.specs.Symbols.{Symbol, NameAt, WordOf, NumberOf, TextOf, SignOf}
-use Rattle.lang_parse.specs.Grammar.{name_symbol, unary_sign, spelling, separated, level, IsExpr}
-use Rattle.lang_parse.specs.Parts.{Stops, Anything, IsAt, Reads, Behind, Closed, Many, Listed, CommaItem, NoLiteral}
+use Rattle.lang_parse.specs.Grammar.{name_symbol, unary_sign, spelling, separated}
+use Rattle.lang_parse.specs.Parts.{Stops, Reads, Closed, Listed, NoLiteral}
 use Rattle.lang_parse.specs.Deciding.{Never, Ends}
 use Rattle.lang_parse.proofs.Generic.{Leads}
 use Rattle.lang_parse.proofs.Signs.{symbol_tag, head_tag, Stops-le, goes_on, bracket_binds, unary_sign_is}
 use Rattle.lang_ast.specs.Seen.{exprs_of}
 use Rattle.lang_parse.proofs.Rows.{exprs_list, exprs_same, listed, listed_are, listed_spelled}
-use Rattle.lang_parse.proofs.Levels.{lower}
 use Rattle.lang_parse.proofs.Heads.{begins_post, none_begins_post, none_empty}
 
 -- ---- the branches of a value

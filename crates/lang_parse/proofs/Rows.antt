@@ -1,12 +1,12 @@
 -- Rows of a tree as lists, and what each row says of the symbols.
-use Rattle.std.proofs.Common.{◌≡◌, ℕ, ◌≤◌, List, [], ◌∷◌, ◌++◌, refl, sym, ap, ◌∙◌, subst, arith, append_assoc, codes}
-use Rattle.page_types.specs.Tree.{Expr, Or, And, Compare, Sum, Product, Unary, Post, Number, TextLiteral, TrueLiteral, FalseLiteral, UnitLiteral, Name, Call, Paren, ListLiteral, Exprs, no_exprs, with_expr, SumParts, no_terms, with_term, ProductParts, no_factors, with_factor}
+use Rattle.std.proofs.Common.{◌≡◌, ℕ, List, [], ◌∷◌, ◌++◌, refl, sym, ap, ◌∙◌, append_assoc, codes}
+use Rattle.page_types.specs.Tree.{Expr, Exprs, no_exprs, with_expr, SumParts, no_terms, with_term, ProductParts, no_factors, with_factor}
 use Rattle.page_types.specs.declared.SumSign.{SumSign}
 use Rattle.page_types.specs.declared.ProductSign.{ProductSign}
 use Rattle.lang_ast.specs.Seen.{exprs_of, terms_of, factors_of}
-use Rattle.lang_parse.specs.Symbols.{Symbol, NameAt, WordOf, NumberOf, TextOf, SignOf}
-use Rattle.lang_parse.specs.Grammar.{sum_sign, product_sign, spelling, each_behind, terms, factors, places_spelled, separated, IsExpr, AreExprs, AreTerms, AreFactors, HasSome, HasTerms, HasFactors}
-use Rattle.lang_parse.specs.Parts.{IsAt, Reads, Behind, Closed, Many, Separated, Signed, SumItem, ProductItem, Place, CommaItem, Listed}
+use Rattle.lang_parse.specs.Symbols.{Symbol, SignOf}
+use Rattle.lang_parse.specs.Grammar.{sum_sign, product_sign, spelling, each_behind, terms, factors, places_spelled, separated, AreExprs, AreTerms, AreFactors}
+use Rattle.lang_parse.specs.Parts.{Reads, Behind, Many, SumItem, ProductItem, Place, Listed}
 
 -- ---- rows and lists
 

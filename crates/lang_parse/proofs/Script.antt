@@ -1,12 +1,11 @@
 -- The items of a script, and that a text has at most one tree.
-use Rattle.std.proofs.Common.{◌≡◌, ℕ, ◌<◌, ◌≤◌, List, [], ◌∷◌, ◌++◌, length, refl, sym, ap, ◌∙◌, subst, arith, append_assoc, append-nil, codes, length-append}
+use Rattle.std.proofs.Common.{◌≡◌, ◌<◌, ◌≤◌, List, [], ◌∷◌, ◌++◌, length, refl, sym, ap, ◌∙◌, subst, arith, append_assoc, append-nil, codes, length-append}
 use Rattle.page_types.specs.Tree.{Named, Stmt, Item, FnItem, StmtItem}
 use Rattle.lang_ast.specs.Seen.{block_of}
 use Rattle.lang_parse.specs.Symbols.{Symbol, WordOf, SignOf}
-use Rattle.lang_parse.specs.Grammar.{name_symbol, in_braces, in_brackets, stmts_spelling, names_behind, names_spelling, item_spelling, script_spelling, IsItem, AreItems, HasTree}
-use Rattle.lang_parse.specs.Parts.{Anything, Behind, Closed, Both, Many, NameRead, CommaName, NamesListed, StmtRead, BlockRead, Parameters, FnParts, ItemRead, AtEnd, NotElse}
-use Rattle.lang_parse.specs.Deciding.{Never, Ends}
-use Rattle.lang_parse.proofs.Generic.{Unique, Follows, Begins, Splits, Halves, split_unique, split_both, many_unique, behind_unique, closed_unique}
+use Rattle.lang_parse.specs.Grammar.{name_symbol, in_braces, in_brackets, stmts_spelling, names_behind, names_spelling, item_spelling, script_spelling, AreItems, HasTree}
+use Rattle.lang_parse.specs.Parts.{Anything, Both, Many, NameRead, CommaName, NamesListed, StmtRead, BlockRead, Parameters, FnParts, ItemRead, AtEnd, NotElse}
+use Rattle.lang_parse.proofs.Generic.{Unique, Follows, Begins, split_unique, split_both, many_unique, behind_unique, closed_unique}
 use Rattle.lang_parse.proofs.Signs.{head_tag}
 use Rattle.lang_parse.proofs.Blocks.{block_list, block_same, block_read, block_spelled, block_are}
 use Rattle.lang_parse.proofs.StmtHeads.{none_begins_stmt, stmt_some, stmt_shorter, block_shorter}

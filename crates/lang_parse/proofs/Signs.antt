@@ -1,5 +1,5 @@
 -- Symbols that differ, and how tightly each goes on with an expression.
-use Rattle.std.proofs.Common.{◌≡◌, ℕ, suc, ◌+◌, ◌*◌, ◌≤◌, List, [], ◌∷◌, ◌++◌, refl, sym, ap, ◌∙◌, subst, arith, codes}
+use Rattle.std.proofs.Common.{◌≡◌, ℕ, suc, ◌+◌, ◌*◌, ◌≤◌, List, [], ◌∷◌, refl, ap, subst, arith, codes}
 use Rattle.page_types.specs.declared.SumSign.{SumSign}
 use Rattle.page_types.specs.declared.SumSign.TheVariants.{Plus, Minus}
 use Rattle.page_types.specs.declared.ProductSign.{ProductSign}

@@ -1,14 +1,14 @@
 -- The steps of the loops of each level of an expression.
-use Rattle.std.proofs.Common.{◌≡◌, ℕ, suc, ◌<◌, ◌≤◌, List, [], ◌∷◌, ◌++◌, Option, Some, None, length, map, refl, sym, ap, ◌∙◌, subst, arith, codes}
+use Rattle.std.proofs.Common.{◌≡◌, ℕ, ◌<◌, ◌≤◌, List, [], ◌∷◌, ◌++◌, Some, None, map, refl, sym, ◌∙◌, subst, arith, codes}
 use Rattle.page_types.specs.Tree.{Expr}
 use Rattle.page_types.specs.declared.SumSign.{SumSign}
 use Rattle.page_types.specs.declared.ProductSign.{ProductSign}
 use Rattle.page_types.specs.declared.CompareSign.{CompareSign}
 use Rattle.lang_parse.specs.Symbols.{Symbol, SignOf}
 use Rattle.lang_parse.specs.Grammar.{sum_sign, product_sign, compare_sign}
-use Rattle.lang_parse.specs.Parts.{binding, Stops, Anything, Reads, Behind, Closed, Many, Perhaps, Signed, OrItem, AndItem, CompareItem, SumItem, ProductItem, Place, or_of, and_of, compare_of, sum_of, product_of, post_of}
+use Rattle.lang_parse.specs.Parts.{Stops, Reads, Closed, Signed, OrItem, AndItem, CompareItem, SumItem, ProductItem, Place, or_of, and_of, compare_of, sum_of, product_of, post_of}
 use Rattle.lang_parse.specs.Deciding.{Never, Ends}
-use Rattle.lang_parse.proofs.Generic.{Leads-never, Leads-ends, first_ends, Follows, perhaps_none, perhaps_ends, perhaps_fails, closed_fails, closed_open, closed_ends}
+use Rattle.lang_parse.proofs.Generic.{Leads-never, Leads-ends, first_ends, perhaps_none, perhaps_ends, perhaps_fails, closed_fails, closed_open, closed_ends}
 use Rattle.lang_parse.proofs.Signs.{Stops-le, goes_on, bars_bind, ampersands_bind, compare_binds, sum_binds, product_binds, square_binds, closing_square_binds}
 use Rattle.lang_parse.proofs.Levels.{split_or, split_and, split_compare, split_sum, split_product, split_post, behind_follows, sum_follows, product_follows, place_follows, or_read, and_read, compare_read, sum_read, product_read, post_read}
 use Rattle.lang_parse.proofs.ExprUnique.{reads_shrink, behind_shorter, signed_shorter, place_shorter}

@@ -1,15 +1,14 @@
 -- What a statement is, by its first symbols.
-use Rattle.std.proofs.Common.{◌≡◌, ℕ, ◌<◌, ◌≤◌, List, [], ◌∷◌, ◌++◌, Option, Some, None, length, refl, sym, ap, ◌∙◌, subst, arith, append_assoc, append-nil, codes, length-append}
+use Rattle.std.proofs.Common.{◌≡◌, ℕ, ◌<◌, List, [], ◌∷◌, ◌++◌, Option, Some, None, length, refl, sym, ap, ◌∙◌, subst, arith, append-nil, codes, length-append}
 use Rattle.std.specs.Prelude.{Bool, true, false, ◌||◌}
 use Rattle.page_types.specs.Tree.{Named, Expr, Stmt, VarStmt, AssignStmt, ExprStmt, IfStmt, WhileStmt, ReturnStmt, ThrowStmt, TryStmt}
 use Rattle.page_parts.specs.Words.{same_bytes}
 use Rattle.lang_ast.specs.Seen.{block_of}
 use Rattle.lang_parse.specs.Symbols.{Symbol, NameAt, WordOf, NumberOf, TextOf, SignOf}
-use Rattle.lang_parse.specs.Grammar.{name_symbol, spelling, stmt_spelling}
-use Rattle.lang_parse.specs.Parts.{binding, Stops, Anything, Reads, Behind, Closed, Both, Many, Perhaps, NameRead, StmtRead, Ended, Condition, BlockRead, ElseIf, Else, BracketedName, VarParts, AssignParts, IfParts, WhileParts, ReturnParts, ThrowParts, TryParts, NotElse, NotElseIf, ClosesBlock}
-use Rattle.lang_parse.specs.Deciding.{Never, Ends}
-use Rattle.lang_parse.proofs.Generic.{Leads, Shrinks, Many-shrinks, Follows, Begins}
-use Rattle.lang_parse.proofs.Signs.{symbol_tag, head_tag, equals_binds, semicolon_binds}
+use Rattle.lang_parse.specs.Grammar.{name_symbol, stmt_spelling}
+use Rattle.lang_parse.specs.Parts.{binding, Anything, Perhaps, StmtRead, Ended, Condition, BlockRead, ElseIf, Else, VarParts, AssignParts, IfParts, WhileParts, ReturnParts, ThrowParts, TryParts, NotElse, NotElseIf, ClosesBlock}
+use Rattle.lang_parse.proofs.Generic.{Shrinks, Many-shrinks, Follows, Begins}
+use Rattle.lang_parse.proofs.Signs.{symbol_tag, head_tag, equals_binds}
 use Rattle.lang_parse.proofs.Heads.{begins_tree, none_begins, none_empty, AfterName, goes_on, ended, after_name}
 use Rattle.lang_parse.proofs.Blocks.{else_ifs_row, else_row}
 use Rattle.lang_parse.proofs.Stmts.{StmtShape, var, assign, simple, if_, while, return, throw, try, stmt_shape}

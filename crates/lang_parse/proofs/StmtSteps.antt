@@ -1,5 +1,5 @@
 -- The parser's steps through a statement.
-use Rattle.std.proofs.Common.{◌≡◌, ℕ, ◌<◌, ◌≤◌, List, [], ◌∷◌, ◌++◌, Option, Some, None, Vec, Global, length, map, refl, sym, ap, ◌∙◌, subst, arith, codes, false, inl, inr, IsTrue}
+use Rattle.std.proofs.Common.{◌≡◌, ℕ, ◌<◌, ◌≤◌, List, [], ◌∷◌, ◌++◌, Option, Some, None, Vec, Global, length, map, refl, sym, ap, ◌∙◌, subst, arith, codes}
 use Rattle.std.proofs.lemmas.List.{map-append}
 use Rattle.std.specs.Option.{option_map}
 use Rattle.page_types.specs.Tree as Model
@@ -8,19 +8,18 @@ use Rattle.lang_ast.specs.declared.tree.Named.{Named}
 use Rattle.lang_ast.specs.declared.tree.Expr.{Expr}
 use Rattle.lang_ast.specs.declared.tree.Stmt.{Stmt}
 use Rattle.lang_ast.specs.declared.tree.Stmt as S
-use Rattle.lang_ast.specs.Seen.{seen_name, seen_expr, seen_stmt, seen_block, seen_others, seen_else, block_of, else_of, else_ifs_of}
+use Rattle.lang_ast.specs.Seen.{seen_name, seen_expr, seen_stmt, seen_block, seen_others, seen_else, block_of}
 use Rattle.lang_ast.proofs.Trees.{seen-Var, seen-Assign, seen-Expr, seen-If, seen-While, seen-Return, seen-Throw, seen-Try}
 use Rattle.lang_parse.specs.Symbols.{Symbol, NameAt, WordOf, SignOf, symbols_of}
 use Rattle.lang_parse.specs.Grammar.{name_symbol}
-use Rattle.lang_parse.specs.Parts.{Stops, Anything, Reads, Behind, Closed, Both, Many, Perhaps, NameRead, StmtRead, Ended, Condition, BlockRead, ElseIf, Else, BracketedName, VarParts, AssignParts, IfParts, WhileParts, ReturnParts, ThrowParts, TryParts, NotElse, NotElseIf, ClosesBlock, BeginsWith, BeginsAssignment}
+use Rattle.lang_parse.specs.Parts.{Stops, Anything, Reads, Behind, Closed, Both, Many, Perhaps, NameRead, StmtRead, Ended, Condition, BlockRead, ElseIf, Else, BracketedName, AssignParts, NotElse, NotElseIf, ClosesBlock, BeginsWith, BeginsAssignment}
 use Rattle.lang_parse.specs.Deciding.{Never, Ends}
-use Rattle.lang_parse.proofs.Generic.{Leads, Leads-never, Leads-ends, Leads-trans, Never-any, Ends-any, Splits, split_both, first_fails, first_ends, behind_none, behind_leads, closed_fails, closed_open, closed_ends, Follows, Many-push, many_leads, many_fails, many_ends, Progress, perhaps_none, perhaps_ends, perhaps_fails, Shrinks, Many-shrinks}
-use Rattle.lang_parse.proofs.Signs.{head_tag, closing_binds, semicolon_binds}
-use Rattle.lang_parse.proofs.Heads.{none_begins}
+use Rattle.lang_parse.proofs.Generic.{Leads, Leads-never, Leads-ends, Leads-trans, Never-any, Ends-any, split_both, first_fails, first_ends, behind_none, behind_leads, closed_fails, closed_open, closed_ends, Follows, Many-push, many_leads, many_fails, many_ends, Progress, perhaps_none, perhaps_ends, perhaps_fails, Shrinks, Many-shrinks}
+use Rattle.lang_parse.proofs.Signs.{closing_binds}
 use Rattle.lang_parse.proofs.Walks.{length-symbols}
-use Rattle.lang_parse.proofs.Blocks.{else_if_of, else_ifs_row, else_row}
+use Rattle.lang_parse.proofs.Blocks.{else_ifs_row, else_row}
 use Rattle.lang_parse.proofs.Stmts.{StmtShape, var, assign, simple, if_, while, return, throw, try, stmt_shape, var_read, assign_read, simple_read, if_read, while_read, return_read, throw_read, try_read}
-use Rattle.lang_parse.proofs.StmtHeads.{of_var, of_if, of_while, of_return, of_throw, of_try, of_assign, of_simple, stmt_follows, stmt_begins, stmt_shorter, else_if_follows, else_if_shorter, else_follows}
+use Rattle.lang_parse.proofs.StmtHeads.{of_var, of_if, of_while, of_return, of_throw, of_try, of_assign, stmt_begins, else_if_shorter, else_follows}
 use Rattle.lang_parse.proofs.StmtUnique.{semicolon_stops, semicolon_begins, Semicolon}
 
 round_stops : (end : List Symbol) → Stops 0 (SignOf (codes ")") ∷ end)

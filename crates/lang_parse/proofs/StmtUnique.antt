@@ -1,13 +1,13 @@
 -- Symbols begin with at most one statement whose rest does not begin with `else`.
-use Rattle.std.proofs.Common.{◌≡◌, ℕ, zero, suc, ◌<◌, ◌≤◌, List, [], ◌∷◌, ◌++◌, Option, Some, None, length, refl, sym, ap, ◌∙◌, subst, arith, codes, false}
+use Rattle.std.proofs.Common.{◌≡◌, ℕ, zero, suc, ◌<◌, ◌≤◌, List, [], ◌∷◌, Option, length, refl, sym, ap, ◌∙◌, subst, arith, codes}
 use Rattle.page_types.specs.Tree.{Named, Expr, Stmt, VarStmt, AssignStmt, ExprStmt, IfStmt, WhileStmt, ReturnStmt, ThrowStmt, TryStmt}
 use Rattle.lang_ast.specs.Seen.{block_of}
 use Rattle.lang_parse.specs.Symbols.{Symbol, WordOf, SignOf}
 use Rattle.lang_parse.specs.Grammar.{name_symbol}
-use Rattle.lang_parse.specs.Parts.{Stops, Anything, Reads, Behind, Closed, Both, Many, Perhaps, NameRead, StmtRead, Ended, Condition, BlockRead, ElseIf, Else, BracketedName, VarParts, AssignParts, IfParts, WhileParts, ReturnParts, ThrowParts, TryParts, NotElse, NotElseIf, ClosesBlock}
-use Rattle.lang_parse.proofs.Generic.{Unique, Unique-any, split_unique, split_both, many_unique, behind_unique, closed_unique, perhaps_unique}
-use Rattle.lang_parse.proofs.Signs.{head_tag, closing_binds, semicolon_binds}
-use Rattle.lang_parse.proofs.Heads.{begins_tree, none_begins}
+use Rattle.lang_parse.specs.Parts.{Stops, Anything, Reads, Behind, Closed, Both, Many, Perhaps, NameRead, StmtRead, Ended, Condition, BlockRead, ElseIf, Else, BracketedName, AssignParts, IfParts, WhileParts, TryParts, NotElse, NotElseIf, ClosesBlock}
+use Rattle.lang_parse.proofs.Generic.{Unique, split_unique, split_both, many_unique, behind_unique, closed_unique, perhaps_unique}
+use Rattle.lang_parse.proofs.Signs.{closing_binds, semicolon_binds}
+use Rattle.lang_parse.proofs.Heads.{none_begins}
 use Rattle.lang_parse.proofs.ExprUnique.{expr_unique}
 use Rattle.lang_parse.proofs.Blocks.{else_ifs_row, else_row}
 use Rattle.lang_parse.proofs.Stmts.{StmtShape, var, assign, simple, if_, while, return, throw, try, stmt_shape}

@@ -1,11 +1,11 @@
 -- What a statement at the front of the symbols is made of.
-use Rattle.std.proofs.Common.{◌≡◌, ℕ, ◌≤◌, List, [], ◌∷◌, ◌++◌, Option, Some, None, refl, sym, ap, ◌∙◌, subst, arith, append_assoc, codes}
-use Rattle.page_types.specs.Tree.{Named, Expr, Stmt, VarStmt, AssignStmt, ExprStmt, IfStmt, WhileStmt, ReturnStmt, ThrowStmt, TryStmt, Block, ElseIfs, ElsePart}
+use Rattle.std.proofs.Common.{◌≡◌, List, [], ◌∷◌, ◌++◌, Option, Some, None, refl, sym, ap, ◌∙◌, arith, append_assoc, codes}
+use Rattle.page_types.specs.Tree.{Named, Expr, Stmt, VarStmt, AssignStmt, ExprStmt, IfStmt, WhileStmt, ReturnStmt, ThrowStmt, TryStmt}
 use Rattle.lang_ast.specs.Seen.{block_of}
-use Rattle.lang_parse.specs.Symbols.{Symbol, NameAt, WordOf, SignOf}
-use Rattle.lang_parse.specs.Grammar.{name_symbol, spelling, in_braces, in_brackets, stmt_spelling, stmts_spelling, else_ifs_spelling, else_spelling, return_spelling, IsExpr, IsStmt, IsReturned, AreStmts, AreElseIfs, IsElse}
-use Rattle.lang_parse.specs.Parts.{Reads, Behind, Closed, Both, Many, Perhaps, NameRead, StmtRead, Ended, Condition, BlockRead, ElseIf, Else, BracketedName, VarParts, AssignParts, IfParts, WhileParts, ReturnParts, ThrowParts, TryParts}
-use Rattle.lang_parse.proofs.Blocks.{block_list, block_same, else_ifs_list, else_ifs_row, else_ifs_same, else_list, else_row, else_same, brackets_form, condition_read, condition_spelled, block_read, block_spelled, block_are, many_else_ifs, else_ifs_are, else_ifs_spelled, else_read, else_is, else_spelled, ended_read}
+use Rattle.lang_parse.specs.Symbols.{Symbol, WordOf, SignOf}
+use Rattle.lang_parse.specs.Grammar.{name_symbol, spelling, in_braces, in_brackets, stmts_spelling, else_ifs_spelling, else_spelling, return_spelling, IsReturned}
+use Rattle.lang_parse.specs.Parts.{Reads, Perhaps, StmtRead, Ended, VarParts, AssignParts, IfParts, WhileParts, ReturnParts, ThrowParts, TryParts}
+use Rattle.lang_parse.proofs.Blocks.{block_list, block_same, else_ifs_list, else_ifs_row, else_ifs_same, else_list, else_row, else_same, condition_read, condition_spelled, block_read, block_spelled, block_are, many_else_ifs, else_ifs_are, else_ifs_spelled, else_read, else_is, else_spelled, ended_read}
 
 pub data StmtShape (s : Stmt) (ks end : List Symbol) : Type 0 where
   var : (p : Named × Expr) → s ≡ VarStmt p.0 p.1 → VarParts p ks end → StmtShape s ks end

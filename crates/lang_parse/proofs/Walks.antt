@@ -9,7 +9,7 @@ use Rattle.lang_parse.specs.declared.error.ParseError.TheVariants.{NoParse, OutO
 use Rattle.lang_parse.specs.Symbols.{Symbol, symbol_of, symbols_of}
 use Rattle.lang_parse.specs.Parts.{Many, Anything, Reads, Behind}
 use Rattle.lang_parse.specs.Deciding.{Never, Ends, Fails, Decides}
-use Rattle.lang_parse.proofs.Generic.{Leads, Leads-never, Leads-ends, Leads-trans, Splits, first_fails, first_ends, Follows, Many-push, many_leads, many_fails, many_ends, behind_leads, Shrinks}
+use Rattle.lang_parse.proofs.Generic.{Leads, Leads-never, Leads-ends, Leads-trans, Splits, first_ends, Follows, Many-push, many_leads, many_fails, many_ends, behind_leads, Shrinks}
 use Rattle.lang_parse.proofs.ExprUnique.{reads_shrink}
 
 -- this part and these items have been read, and whatever else is read goes on from the rest

@@ -1,4 +1,4 @@
-use Rattle.std.proofs.Common.{◌≡◌, ◌∷◌, ◌++◌, [], ◌∙◌, refl, sym, ap, subst, arith, codes, map, inl, inr, SFits, w64, rules}
+use Rattle.std.proofs.Common.{◌∷◌, ◌++◌, [], ◌∙◌, refl, sym, ap, subst, arith, codes, map, SFits, w64, rules}
 use Rattle.std.proofs.lemmas.Int.{to_z-of_z}
 use Rattle.std.proofs.lemmas.List.{map-append}
 use Rattle.std.proofs.lemmas.Result.{err_from_is_err_and}
@@ -8,7 +8,7 @@ use Rattle.lang_parse.specs.Parts.{Reads, Stops, Anything, Closed, Listed, SomeL
 use Rattle.lang_parse.proofs.Generic.{first_fails, Leads-never, Leads-ends, Never-any, Ends-any, closed_fails, closed_open, closed_ends}
 use Rattle.lang_parse.proofs.Levels.{split_or, split_and, split_compare, split_sum, split_product, split_post, lower}
 use Rattle.lang_parse.proofs.Signs.{closing_binds}
-use Rattle.lang_parse.proofs.Walks.{fails_from, memory_fails, decides_from, lt_le, le_le, lt_weak, shorter, reads_within, within}
+use Rattle.lang_parse.proofs.Walks.{fails_from, memory_fails, decides_from, lt_le, le_le, lt_weak, shorter, reads_within}
 use Rattle.lang_parse.proofs.Steps.{or_begins, or_next, or_fails, or_ends, or_found, and_begins, and_next, and_fails, and_ends, and_found, sum_begins, sum_next, sum_fails, sum_ends, sum_found, product_begins, product_next, product_fails, product_ends, product_found, post_begins, post_next, post_fails, post_open, post_ends, post_found, uncompared_found, uncompared_ends, compared_fails, compared_ends, compared_found}
 use Rattle.lang_parse.proofs.Prims.{number_ends, text_ends, name_ends, paren_leads, list_leads, call_leads, value_never, unary_read, signed_never, signed_ends, plain_never, plain_ends}
 use Rattle.lang_parse.proofs.Built.{number_built, text_built, name_built, call_built, paren_built, list_built, named, compare_built, unary_built}

@@ -1,4 +1,4 @@
-use Rattle.std.proofs.Common.{◌∷◌, [], refl}
+use Rattle.std.proofs.Common.{◌∷◌, []}
 use Rattle.lang_parse.proofs.NameSteps.{item_names, item_split, adding_next}
 use Rattle.lang_parse.proofs.globals.global_count.Goals as goal
 

@@ -1,4 +1,4 @@
-use Rattle.std.proofs.Common.{◌≡◌, ◌∙◌, ◌<◌, ◌≤◌, length, sym, subst, ap, arith, rules}
+use Rattle.std.proofs.Common.{length, sym, subst, ap, arith, rules}
 use Rattle.std.specs.Prelude.{IfErr}
 use Rattle.lang_meaning.specs.Evaluation.{names_in, own_body, functions_of}
 use Rattle.lang_ast.specs.Seen.{seen_items}

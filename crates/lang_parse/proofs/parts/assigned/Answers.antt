@@ -1,8 +1,7 @@
-use Rattle.std.proofs.Common.{◌∷◌, codes, refl}
+use Rattle.std.proofs.Common.{refl}
 use Rattle.std.proofs.lemmas.Result.{err_from_is_err_and}
-use Rattle.lang_parse.specs.Symbols.{SignOf, WordOf, symbols_of}
-use Rattle.lang_parse.specs.Parts.{Reads, Stops, Anything, NameRead, Ended, Condition, AssignParts, StmtRead, NotElse}
-use Rattle.lang_parse.proofs.Generic.{Leads-never, Leads-ends, Never-any, Ends-any}
+use Rattle.lang_parse.specs.Symbols.{symbols_of}
+use Rattle.lang_parse.specs.Parts.{Anything, NameRead, Ended, AssignParts}
 use Rattle.lang_parse.proofs.Walks.{fails_from}
 use Rattle.lang_parse.proofs.StmtSteps.{assigned_unnamed, assigned_no_sign, assigned_fails, assigned_ends, assigned_found}
 use Rattle.lang_parse.proofs.parts.assigned.Goals as goal

@@ -1,8 +1,7 @@
-use Rattle.std.proofs.Common.{◌∷◌, codes, refl}
+use Rattle.std.proofs.Common.{refl}
 use Rattle.std.proofs.lemmas.Result.{err_from_is_err_and}
-use Rattle.lang_parse.specs.Symbols.{SignOf, WordOf, symbols_of}
-use Rattle.lang_parse.specs.Parts.{Reads, Stops, Anything, NameRead, Ended, Condition, AssignParts, StmtRead, NotElse}
-use Rattle.lang_parse.proofs.Generic.{Leads-never, Leads-ends, Never-any, Ends-any}
+use Rattle.lang_parse.specs.Symbols.{symbols_of}
+use Rattle.lang_parse.specs.Parts.{Reads, Stops, Anything, Ended}
 use Rattle.lang_parse.proofs.Walks.{fails_from}
 use Rattle.lang_parse.proofs.StmtSteps.{ended_fails, ended_open, ended_ends, ended_found}
 use Rattle.lang_parse.proofs.parts.ended.Goals as goal

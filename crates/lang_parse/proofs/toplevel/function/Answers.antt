@@ -1,15 +1,12 @@
-use Rattle.std.proofs.Common.{◌∷◌, [], ◌++◌, ◌∙◌, codes, refl, sym, ap, subst, arith, map}
-use Rattle.std.proofs.lemmas.List.{map-append, length-map}
+use Rattle.std.proofs.Common.{◌∷◌, codes, arith, map}
+use Rattle.std.proofs.lemmas.List.{length-map}
 use Rattle.std.proofs.lemmas.Result.{err_from_is_err_and}
-use Rattle.lang_ast.specs.Seen.{seen_name, seen_stmt, seen_item}
-use Rattle.lang_parse.specs.Symbols.{SignOf, WordOf, symbols_of}
-use Rattle.lang_parse.specs.Parts.{Anything, Many, NameRead, Parameters, SomeNames, NotComma, BlockRead, StmtRead, ItemRead, NotElse, AtEnd}
-use Rattle.lang_parse.specs.Deciding.{Decides}
-use Rattle.lang_parse.proofs.Generic.{first_fails, behind_none, Leads-never, Leads-ends, Never-any, Ends-any}
-use Rattle.lang_parse.proofs.Walks.{fails_from, shorter}
-use Rattle.lang_parse.proofs.Script.{item_follows, item_begins, item_shorter, statement_read}
-use Rattle.lang_parse.proofs.StmtSteps.{progress_begins, progress_next, progress_fails, tokens_shorter}
-use Rattle.lang_parse.proofs.ItemSteps.{split_names, names_begin, names_go_on, names_fail, names_done, names_end, name_within, no_parameters_found, no_parameters_end, parameters_fail, parameters_open, parameters_end, parameters_found, function_unnamed, function_no_parameters, function_too_many, body_leads, function_found, statement_leads, not_empty, items_done}
+use Rattle.lang_ast.specs.Seen.{seen_name, seen_stmt}
+use Rattle.lang_parse.specs.Symbols.{WordOf, symbols_of}
+use Rattle.lang_parse.specs.Parts.{Anything, NameRead, Parameters, BlockRead, ItemRead, NotElse}
+use Rattle.lang_parse.proofs.Generic.{Leads-never, Leads-ends, Never-any, Ends-any}
+use Rattle.lang_parse.proofs.Walks.{fails_from}
+use Rattle.lang_parse.proofs.ItemSteps.{function_unnamed, function_no_parameters, function_too_many, body_leads, function_found}
 use Rattle.lang_parse.proofs.toplevel.function.Goals as goal
 
 pub returns-in_err-name : goal.returns-in_err-name
