@@ -1,0 +1,13 @@
+pub mod NameIndex
+pub mod Frames
+pub mod Steps
+pub mod Ranks
+pub mod Loops
+pub mod Numbered
+pub mod Parts
+pub mod Calls
+pub mod Fitting
+pub mod Bodies
+pub mod Gathered
+pub mod NumberTests
+pub mod FromOutside

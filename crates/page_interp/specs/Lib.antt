@@ -1,1 +1,7 @@
 pub mod Sums
+pub mod Places
+pub mod Runs
+pub mod Answers
+pub mod Sizes
+pub mod NumberTests
+pub mod Machines

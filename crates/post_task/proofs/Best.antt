@@ -1,15 +1,14 @@
 -- The best of the first tasks of the queues is the first of all tasks that wait.
-use Rattle.std.proofs.Common.{◌≡◌, ◌≢◌, ◌⊎◌, ℕ, suc, ◌+◌, ◌*◌, ◌≤◌, ◌<◌, Bool, true, false, cond, ◌||◌, ◌&&◌, ◌==◌, nat_lt, nat_eq, List, [], ◌∷◌, ◌++◌, map, length, Option, Some, None, refl, sym, ◌∙◌, ap, subst, inl, inr, arith}
+use Rattle.std.proofs.Common.{◌≡◌, ◌⊎◌, ℕ, ◌+◌, ◌*◌, ◌≤◌, Bool, true, false, cond, ◌||◌, ◌&&◌, ◌==◌, nat_lt, List, [], ◌∷◌, ◌++◌, map, Option, Some, None, refl, sym, ◌∙◌, ap, subst, inl, inr, arith}
 use Rattle.std.specs.Option.{option_map}
 use Rattle.std.proofs.lemmas.Bool.Decides.{nat_tests}
 use Rattle.page_parts.specs.TaskSignals.{rank}
 use Rattle.task_pool.specs.Lists.{Entry, Lists, list_of, first_entry}
 use Rattle.task_pool.specs.declared.pool.ListId.{ListId}
 use Rattle.post_task.specs.declared.heads.Head.{Head}
-use Rattle.post_task.specs.declared.level.Level.{Level}
 use Rattle.post_task.specs.Waiting.{Waiting, effective, Among, IsFirst}
-use Rattle.post_task.specs.Levels.{Queue, all_queues, in_queue, of_queue, waiting_in, waiting, Above, Rises, AreKept, Kept}
-use Rattle.post_task.specs.Heads.{goes_before, better, head_at, head_of, best_from, best_of}
+use Rattle.post_task.specs.Levels.{Queue, in_queue, of_queue, waiting_in, Above, Rises, AreKept}
+use Rattle.post_task.specs.Heads.{goes_before, better, head_of, best_from}
 
 -- a head comes before a task of this effective priority and order, or is the same
 abbrev pub Beats : Head → ℕ → ℕ → Type 0

@@ -1,6 +1,6 @@
 -- What the calls on the queues leave.
-use Rattle.std.proofs.Common.{◌≡◌, ◌≢◌, ◌⊎◌, ℕ, ◌+◌, ◌≤◌, ◌<◌, Bool, true, false, cond, ◌==◌, List, [], ◌∷◌, ◌++◌, map, length, get_or, set, drop, Option, Some, None, refl, sym, ◌∙◌, ap, subst, inl, inr, arith}
-use Rattle.std.specs.Prelude.{MatchOption, unwrap_or, Result, Ok, Err, IfOk, OnErr, IsSome, is_some}
+use Rattle.std.proofs.Common.{◌≡◌, ◌≢◌, ℕ, ◌<◌, Bool, true, false, cond, List, [], ◌∷◌, ◌++◌, map, length, get_or, set, drop, Option, Some, None, refl, sym, ◌∙◌, ap, subst, inl, inr, arith}
+use Rattle.std.specs.Prelude.{MatchOption, unwrap_or, Result, Ok, Err, IfOk, OnErr, is_some}
 use Rattle.std.specs.List.{find, filter}
 use Rattle.std.specs.Option.{option_map}
 use Rattle.std.proofs.lemmas.List.{append-nil, length-map, length-set, get_or-set_same, get_or-set_other}
@@ -10,14 +10,14 @@ use Rattle.page_types.specs.declared.Priority.{Priority}
 use Rattle.page_types.specs.declared.Priority.TheVariants.{Background, UserVisible, UserBlocking}
 use Rattle.page_parts.specs.TaskSignals.{same_priority}
 use Rattle.cell_room.specs.declared.room.Cell.{Cell}
-use Rattle.task_pool.specs.Lists.{Entry, Lists, list_of, in_cell, without, numbered, first_entry}
+use Rattle.task_pool.specs.Lists.{Entry, Lists, list_of, without, numbered, first_entry}
 use Rattle.task_pool.specs.declared.pool.Ticket.{Ticket}
 use Rattle.post_task.specs.declared.heads.Head.{Head}
 use Rattle.post_task.specs.declared.level.Level.{Level}
 use Rattle.post_task.specs.declared.level.PrioSource.{PrioSource}
 use Rattle.post_task.specs.declared.level.PrioSource.TheVariants.{Fixed, Signal}
 use Rattle.post_task.specs.Waiting.{Waiting, Among, Inserted, same_source, lacks_cell}
-use Rattle.post_task.specs.Levels.{Queue, queue_in, queues_of, all_queues, has_source, priority_in, in_queue, waiting_in, waiting, new_task, TakesFirst, Rises, Lone, AreKept, Kept}
+use Rattle.post_task.specs.Levels.{Queue, queue_in, queues_of, all_queues, has_source, in_queue, waiting_in, waiting, new_task, TakesFirst, Rises, Lone, AreKept, Kept}
 use Rattle.post_task.specs.Heads.{best_from}
 use Rattle.post_task.proofs.Best.{InQueues, best}
 use Rattle.post_task.proofs.Tasks.{lone_in, rises_without, rises_drop, rises_push, queue_below, kept_each, inside, rising, inserted, waiting_without}

@@ -1,7 +1,7 @@
 -- What waits once a priority has changed, and once a source has got its lists.
-use Rattle.std.proofs.Common.{◌≡◌, ◌≢◌, ◌⊎◌, ℕ, zero, suc, ◌+◌, ◌≤◌, ◌<◌, Bool, true, false, cond, List, [], ◌∷◌, ◌++◌, map, length, get_or, set, take, drop, Option, Some, None, refl, sym, ◌∙◌, ap, subst, inl, inr, arith, length-append, add-one}
+use Rattle.std.proofs.Common.{◌≡◌, ◌≢◌, ℕ, zero, suc, ◌+◌, ◌≤◌, ◌<◌, Bool, true, false, cond, List, [], ◌∷◌, ◌++◌, map, length, get_or, set, take, drop, Option, Some, None, refl, sym, ◌∙◌, ap, subst, arith, length-append, add-one}
 use Rattle.std.specs.Prelude.{IsSome}
-use Rattle.std.specs.List.{find, flat_map}
+use Rattle.std.specs.List.{find}
 use Rattle.std.specs.Option.{option_map, option_or}
 use Rattle.std.proofs.lemmas.List.{append_assoc, append-nil, map-append, get_or_past}
 use Rattle.std.proofs.lemmas.List.Folds.{find-append}
@@ -14,7 +14,6 @@ use Rattle.post_task.specs.declared.level.PrioSource.{PrioSource}
 use Rattle.post_task.specs.declared.level.PrioSource.TheVariants.{Fixed, Signal}
 use Rattle.post_task.specs.Waiting.{Waiting, moved, same_source}
 use Rattle.post_task.specs.Levels.{Queue, queues_of, all_queues, has_source, priority_in, moved_level, Lone, in_queue, of_queue, waiting_in, waiting, Rises, AreKept, Kept, Added}
-use Rattle.post_task.proofs.Best.{InQueues}
 use Rattle.post_task.proofs.Tasks.{kept_each}
 
 abbrev pub moved_queue : ℕ → Priority → Queue → Queue

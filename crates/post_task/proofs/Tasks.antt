@@ -1,14 +1,12 @@
 -- What waits once a list has changed.
-use Rattle.std.proofs.Common.{◌≡◌, ◌≢◌, ◌⊎◌, ℕ, suc, ◌+◌, ◌≤◌, ◌<◌, Bool, true, false, cond, not, List, [], ◌∷◌, ◌++◌, map, length, get_or, set, drop, Option, Some, None, refl, sym, ◌∙◌, ap, subst, inl, inr, arith}
-use Rattle.std.specs.List.{find, filter, flat_map}
+use Rattle.std.proofs.Common.{◌≡◌, ◌≢◌, ◌⊎◌, ℕ, ◌≤◌, ◌<◌, true, false, cond, not, List, [], ◌∷◌, ◌++◌, map, length, drop, Option, Some, None, refl, sym, ◌∙◌, ap, subst, inl, inr, arith}
+use Rattle.std.specs.List.{find, filter}
 use Rattle.std.specs.Option.{option_map, option_or}
-use Rattle.std.proofs.lemmas.List.{append_assoc, map-append, length-map, length-set, get_or-set_same, get_or-set_other}
+use Rattle.std.proofs.lemmas.List.{append_assoc, map-append}
 use Rattle.std.proofs.lemmas.List.Elements.{filter-append}
 use Rattle.std.proofs.lemmas.List.Folds.{find-append}
-use Rattle.std.proofs.Math.ListN.{get_or-map}
-use Rattle.std.proofs.lemmas.Bool.{cases_eq}
 use Rattle.cell_room.specs.declared.room.Cell.{Cell}
-use Rattle.task_pool.specs.Lists.{Entry, Lists, list_of, in_cell, same_cell, without, numbered, entry_of}
+use Rattle.task_pool.specs.Lists.{Entry, Lists, list_of, in_cell, without, numbered, entry_of}
 use Rattle.post_task.specs.Waiting.{Waiting, Among, Inserted, ordered, has_cell, lacks_cell}
 use Rattle.post_task.specs.Levels.{Queue, in_queue, of_queue, waiting_in, Above, Rises, Lone, AreKept}
 use Rattle.post_task.proofs.Best.{InQueues, among_queue}

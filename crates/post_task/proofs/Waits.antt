@@ -1,9 +1,8 @@
 -- A task that was put in, and what waits beside it.
-use Rattle.std.proofs.Common.{◌≡◌, ◌≢◌, ◌⊎◌, Bool, true, cond, List, [], ◌∷◌, ◌++◌, Option, Some, None, refl, sym, ◌∙◌, ap, subst, inl, inr}
+use Rattle.std.proofs.Common.{◌≡◌, ◌≢◌, ◌⊎◌, Bool, cond, List, [], ◌∷◌, ◌++◌, Option, Some, None, sym, ◌∙◌, ap, subst, inl, inr}
 use Rattle.std.specs.List.{find}
 use Rattle.std.specs.Option.{option_or}
 use Rattle.std.proofs.lemmas.List.Folds.{find-append}
-use Rattle.cell_room.specs.declared.room.Cell.{Cell}
 use Rattle.task_pool.proofs.CellTests.{same_cell-refl}
 use Rattle.post_task.specs.Waiting.{Waiting, Among, Inserted, has_cell}
 

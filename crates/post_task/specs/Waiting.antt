@@ -1,5 +1,5 @@
 -- Scheduler tasks that wait, in one list. Prioritized Task Scheduling, "Scheduling tasks and continuations" and "Selecting the task queue"
-use Rattle.std.specs.Prelude.{◌≡◌, ◌⊎◌, ℕ, ◌+◌, ◌*◌, ◌≤◌, Bool, true, false, cond, not, ◌==◌, List, [], ◌∷◌, ◌++◌}
+use Rattle.std.specs.Prelude.{◌≡◌, ◌⊎◌, ℕ, ◌+◌, ◌*◌, ◌≤◌, Bool, false, cond, not, ◌==◌, List, [], ◌∷◌, ◌++◌}
 use Rattle.page_types.specs.declared.Priority.{Priority}
 use Rattle.page_parts.specs.TaskSignals.{rank, same_priority}
 use Rattle.cell_room.specs.declared.room.Cell.{Cell}

@@ -1,4 +1,3 @@
-use Rattle.std.proofs.Common.{◌≡◌, ◌<◌, length}
 use Rattle.post_task.specs.Levels.{moved_level}
 use Rattle.post_task.proofs.Moves.{moved_step}
 use Rattle.post_task.proofs.sched.SchedQueues.set_priority.Goals as goal

@@ -1,4 +1,4 @@
-use Rattle.std.proofs.Common.{◌≡◌, ◌⊎◌, ℕ, ap, inl, inr, arith}
+use Rattle.std.proofs.Common.{◌≡◌, ℕ, ap, inl, inr, arith}
 use Rattle.post_task.specs.Waiting.{Waiting}
 use Rattle.post_task.proofs.Waits.{among_inserted, inserted-found}
 use Rattle.post_task.proofs.sched.tests.put.Goals as goal

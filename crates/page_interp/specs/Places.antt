@@ -1,0 +1,23 @@
+-- Where a name stands in a list of names, and an index that tells it.
+use Rattle.std.specs.Prelude.{◌≡◌, ℕ, suc, cond, List, [], ◌∷◌, Option, Some, None, Vec}
+use Rattle.std.specs.declared.alloc.Global.{Global}
+use Rattle.std.specs.Option.{option_map}
+use Rattle.std.specs.Ordering.{nat_cmp}
+use Rattle.std.specs.Cmp.Lexicographic.{slice_cmp}
+use Rattle.std.specs.BTreeMap.{BTreeMap, get_by}
+use Rattle.page_parts.specs.Words.{same_bytes}
+
+-- ---- Ours: names of variables and functions
+
+-- the first place at which a name stands, counted from 0
+abbrev pub place_of : List (List ℕ) → List ℕ → Option ℕ
+place_of [] x = None
+place_of (name ∷ names) x = cond (same_bytes name x) (Some 0) (option_map suc (place_of names x))
+
+-- what an index has at some bytes
+abbrev pub at_bytes : BTreeMap (Vec ℕ Global) ℕ → List ℕ → Option ℕ
+at_bytes places x = get_by (λ k. slice_cmp nat_cmp x k.items) places
+
+-- the index tells where each name stands
+abbrev pub IsIndex : List (List ℕ) → BTreeMap (Vec ℕ Global) ℕ → Type 0
+IsIndex names places = (x : List ℕ) → at_bytes places x ≡ place_of names x

@@ -1,0 +1,16 @@
+-- How deep the machine's own recursion goes.
+use Rattle.std.specs.Prelude.{ℕ, ◌+◌, ◌-◌, ◌*◌, List, [], ◌∷◌}
+use Rattle.page_types.specs.Tree.{Program}
+use Rattle.lang_meaning.specs.Evaluation.{Function, functions_of, own_body}
+use Rattle.lang_ast.specs.Sizes.{block_size}
+
+abbrev pub bodies_size : List Function → ℕ
+bodies_size [] = 0
+bodies_size (f ∷ fs) = block_size f.body + bodies_size fs
+
+abbrev pub program_size : Program → ℕ
+program_size p = bodies_size (functions_of p.items) + block_size (own_body p.items)
+
+-- by the number of open calls, and then by the size of what is left
+unfoldable pub rank : Program → ℕ → ℕ → ℕ
+rank p depth size = (256 - depth) * (4 * program_size p + 4) + size

@@ -1,0 +1,58 @@
+//! Names, and where each stands.
+
+ghost use Rattle.std.specs.Prelude.{◌≡◌, ◌≤◌, IfOk, length};
+ghost use Rattle.page_interp.specs.Places.{place_of, IsIndex};
+
+use page_values::{MemoryFault, Str};
+use std::alloc::Global;
+use std::collections::BTreeMap;
+use std::marker::Model;
+
+/// The names of functions or of variables, in order. A name may stand there more than once; it is found by its first
+/// place, in a number of steps that grows with the logarithm of how many there are.
+#[derive(Drop)]
+pub struct Names {
+    names: Vec<Str>,
+    places: BTreeMap<Vec<u8>, usize>,
+}
+
+impl Model for Names {
+    ghost use Rattle.std.specs.Prelude.{List, ℕ};
+    ghost use Rattle.page_interp.specs.Places.{IsIndex};
+
+    ghost Value = { List (List ℕ) };
+
+    ghost view = { λ a. a.names.items };
+
+    ghost invariant = { λ a. IsIndex a.names.items a.places };
+}
+
+impl Names {
+    /// These names.
+    pub fn new(alloc: Global, names: Vec<Str>) -> Result<Names, MemoryFault>
+        ensures { IfOk result (λ x. x ≡ names.items) }
+    {
+        let mut places = BTreeMap::new(alloc);
+        let mut left = names.len();
+        while left > 0 {
+            left -= 1;
+            let name = Vec::from_slice(alloc, names[left].bytes())?;
+            places.insert(name, left)?;
+        }
+        Ok(Names { names, places })
+    }
+
+    /// How many there are.
+    pub fn len(&self) -> usize
+        ensures { result ≡ length self.now }
+    {
+        self.names.len()
+    }
+
+    /// The first place of a name, counted from 0. `None` exactly where it stands nowhere.
+    pub fn place(&self, name: &Str) -> Option<usize>
+        ensures { result ≡ place_of self.now name.now }
+    {
+        self.places.get(name.bytes()).copied()
+    }
+}

@@ -1,0 +1,118 @@
+//! Work on values.
+
+ghost use Rattle.std.specs.Prelude.{◌≡◌, ◌++◌, ◌∷◌, [], Option, Some, None, Ok, IfOk, IfErr, IfSome, IfNone, map};
+ghost use Rattle.std.specs.Option.{option_map};
+ghost use Rattle.page_types.specs.Values as Model;
+ghost use Rattle.page_types.specs.Values.{items_of, ListValue, TextValue, FaultValue};
+ghost use Rattle.page_types.specs.declared.FaultName.TheVariants.{TypeError, RangeError};
+ghost use Rattle.page_parts.specs.Kinds.{bool_in};
+ghost use Rattle.lang_meaning.specs.Evaluation.{limited_value, need};
+ghost use Rattle.page_values.specs.Made.{IsMade};
+ghost use Rattle.page_values.specs.Seen.{seen, seen_all};
+ghost use Rattle.page_interp.specs.Runs.{value_left, unit_left, exit_left, call_left, func_of, ends, throws, IsUnsettled, Settles};
+ghost use Rattle.page_interp.specs.Answers.{Answers};
+ghost use Rattle.lang_ast.specs.Steps.{seen_outcome};
+
+use crate::exit::Exit;
+use lang_ast::Outcome;
+use page_values::{
+    FaultName, Func, Items, Str, Value, ValueFault, as_bool, copy_text, fault, make_list,
+};
+use std::alloc::{AllocError, Global};
+
+/// A value that was made, or RangeError where it is too heavy.
+pub fn made<S: Drop>(alloc: Global, made: Result<Value, ValueFault>) -> Result<Value, Exit<S>>
+    ensures { (wanted : Option Model.Value) → IsMade made wanted → Answers (value_left result) (need wanted RangeError Ok) }
+{
+    match made {
+        Ok(v) => Ok(v),
+        Err(ValueFault::Is(_)) => Err(Exit::Throw(fault(alloc, FaultName::RangeError))),
+        Err(ValueFault::OutOfMemory) => Err(Exit::OutOfMemory),
+    }
+}
+
+/// A list of values.
+pub fn list<S: Drop>(alloc: Global, items: Vec<Value>) -> Result<Value, Exit<S>>
+    ensures { Answers (value_left result) (limited_value (ListValue (seen_all items.items))) }
+{
+    made(alloc, make_list(items))
+}
+
+/// A text with the same bytes.
+pub fn text<S: Drop>(alloc: Global, text: &Str) -> Result<Value, Exit<S>>
+    ensures { Answers (value_left result) (Ok (TextValue text.now)) }
+{
+    match copy_text(alloc, text) {
+        Ok(text) => Ok(Value::Text(text)),
+        Err(_) => Err(Exit::OutOfMemory),
+    }
+}
+
+/// What a condition says.
+pub fn truth<S: Drop>(alloc: Global, value: Value) -> Result<bool, Exit<S>>
+    ensures ok { IfOk result (λ b. bool_in (seen value) ≡ Some b) }
+    ensures err { IfErr result (λ x. (bool_in (seen value) ≡ None) × (exit_left x ≡ ends (throws (FaultValue TypeError [])))) }
+{
+    match as_bool(&value) {
+        Some(b) => Ok(b),
+        None => Err(Exit::Throw(fault(alloc, FaultName::TypeError))),
+    }
+}
+
+/// One more value at the end.
+pub fn append<S: Drop>(values: &mut Vec<Value>, value: Value) -> Result<(), Exit<S>>
+    ensures appended { IfOk result (λ _. values.new.items ≡ values.old.items ++ value ∷ []) }
+    ensures err { IfErr result (λ x. x ≡ Exit.OutOfMemory) }
+{
+    values.push(value).map_err(|_| Exit::OutOfMemory)
+}
+
+/// What a callback came to, for the host. Any other end leaves the operation.
+pub fn settled<S: Drop>(called: Result<Value, Exit<S>>) -> Result<Outcome, Exit<S>>
+    ensures ok { IfOk result (λ o. Settles (value_left called) (seen_outcome o)) }
+    ensures err { IfErr result (λ x. value_left called ≡ exit_left x) }
+    ensures not_settled { IfErr result IsUnsettled }
+{
+    match called {
+        Ok(v) => Ok(Outcome::Value(v)),
+        Err(Exit::Throw(v)) => Ok(Outcome::Throw(v)),
+        Err(Exit::Return(v)) => Ok(Outcome::Value(v)),
+        Err(Exit::Fuel) => Err(Exit::Fuel),
+        Err(Exit::Host(stop)) => Err(Exit::Host(stop)),
+        Err(Exit::OutOfMemory) => Err(Exit::OutOfMemory),
+    }
+}
+
+/// The function that a value is.
+pub fn callee(value: Option<Value>) -> Option<Func>
+    ensures none { IfNone result (func_of (option_map seen value) ≡ None) }
+    ensures some { IfSome result (λ f. func_of (option_map seen value) ≡ Some (record { function = f.function; bound = f.bound })) }
+{
+    match value {
+        Some(Value::Fun(function)) => Some(function),
+        _ => None,
+    }
+}
+
+/// The bound arguments, and then the given ones.
+pub fn joined(bound: Items, mut args: Vec<Value>) -> Result<Vec<Value>, AllocError>
+    ensures { IfOk result (λ vs. map seen vs.items ≡ items_of bound ++ map seen args.items) }
+{
+    let mut all = bound.into_items();
+    all.append(&mut args)?;
+    Ok(all)
+}
+
+/// How a call ends, by the end of its body.
+pub fn ended<S: Drop>(done: Result<(), Exit<S>>) -> Result<Value, Exit<S>>
+    ensures { value_left result ≡ call_left (unit_left done) }
+{
+    match done {
+        Ok(_) => Ok(Value::Unit),
+        Err(Exit::Throw(v)) => Err(Exit::Throw(v)),
+        Err(Exit::Return(v)) => Ok(v),
+        Err(Exit::Fuel) => Err(Exit::Fuel),
+        Err(Exit::Host(stop)) => Err(Exit::Host(stop)),
+        Err(Exit::OutOfMemory) => Err(Exit::OutOfMemory),
+    }
+}
