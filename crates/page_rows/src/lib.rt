@@ -1,12 +1,17 @@
-//! Worked examples across crates: what the program writes and answers, from its words and files on.
+//! Worked examples across crates: what the program writes and answers, from its words and files on; and what the script
+//! machine does around a small host, which is proved to keep what every host promises.
 //!
-//! There is nothing here but tests. Their tables hold what is wanted, which was worked out by hand. Memory is ample in each.
+//! There is nothing here but tests and that host. The tables hold what is wanted, which was worked out by hand. Memory is ample in
+//! each.
 #![tactic(auto)]
 
 #[cfg(test)]
 mod example;
+pub mod nested_host;
 #[cfg(test)]
 mod refusals;
+#[cfg(test)]
+mod scripts;
 #[cfg(test)]
 mod traces;
 #[cfg(test)]
