@@ -1,5 +1,5 @@
 ghost use Rattle.std.specs.Prelude.{◌≡◌, ◌≤◌, ◌<◌, ℕ, None, length, IsErrOf, OnOk};
-ghost use Rattle.page_types.specs.Counts.{HasCause, Rose, refusals_after};
+ghost use Rattle.page_types.specs.Counts.{raised, HasCause, Rose, refusals_after};
 ghost use Rattle.std.specs.Io.KnownBytes.{Appends};
 ghost use Rattle.page_io.specs.Files.{faults_after};
 ghost use Rattle.page_io.specs.Stream.{Stream};
@@ -60,25 +60,30 @@ impl<'a, R: Files> Folder for RealFolder<'a, R> {
 }
 
 /// A stream of the system. As a sink it tells no content. It is seen as what its writer holds, where that is known, and the
-/// count of its faults.
+/// counts of its faults and of the pieces that were put.
 #[derive(Drop)]
 pub struct StdSink<W: Write> {
     out: W,
     faults: u64,
+    puts: u64,
 }
 
 impl<W: Write> Model for StdSink<W> {
     ghost Value = { Stream };
 
-    ghost view = { λ sink. record { written = W.contents sink.out; faults = sink.faults } };
+    ghost view = { λ sink. record { written = W.contents sink.out; faults = sink.faults; puts = sink.puts } };
 }
 
 impl<W: Write> StdSink<W> {
     /// Takes no memory.
     pub fn new(out: W) -> StdSink<W>
-        ensures { result ≡ record { written = W.contents out; faults = 0 } }
+        ensures { result ≡ record { written = W.contents out; faults = 0; puts = 0 } }
     {
-        StdSink { out, faults: 0 }
+        StdSink {
+            out,
+            faults: 0,
+            puts: 0,
+        }
     }
 }
 
@@ -87,12 +92,16 @@ impl<W: Write> Sink for StdSink<W> {
 
     ghost faults = { λ sink. sink.faults };
 
+    ghost puts = { λ sink. sink.puts };
+
     fn put(&mut self, piece: &[u8]) -> Result<(), Failed>
         requires { 0 < length piece.now }
         ensures cause { HasCause self.old.faults self.new.faults result }
+        ensures counted { self.new.puts ≡ raised self.old.puts }
         ensures count { self.new.faults ≡ refusals_after self.old.faults result }
         ensures written { OnOk result (Appends self.old.written self.new.written piece.now) }
     {
+        self.puts = self.puts.saturating_add(1);
         if write_through(&mut self.out, piece).is_err() {
             self.faults = self.faults.saturating_add(1);
             return Err(Failed);

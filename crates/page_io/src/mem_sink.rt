@@ -1,6 +1,6 @@
 ghost use Rattle.std.specs.Prelude.{◌≡◌, ◌+◌, ◌-◌, ◌≤◌, ◌<◌, ◌↔◌, ℕ, List, [], ◌++◌, length, take, Option, Some, IsSome, IfSome, IsErr, IfOk, OnOk, OnErr, vec_len, vec_capacity};
 ghost use Rattle.std.specs.Option.{option_copied};
-ghost use Rattle.page_types.specs.Counts.{HasCause};
+ghost use Rattle.page_types.specs.Counts.{raised, HasCause};
 ghost use Rattle.page_types.specs.Told.{appended, IsStartOf, AppendsStartOf};
 ghost use Rattle.page_io.specs.MemBytes.{MemBytes, kept_by, part_kept, failing_put, after_put};
 
@@ -94,6 +94,8 @@ impl Sink for MemSink {
 
     ghost faults = { λ sink. sink.faults };
 
+    ghost puts = { λ sink. sink.calls };
+
     /// It fails exactly where the piece is longer than the room that is left, and then keeps nothing of it, or else where
     /// this call's number is among those that fail, and then keeps as many bytes as stand there, or the whole of a shorter
     /// piece. Takes no memory.
@@ -102,6 +104,7 @@ impl Sink for MemSink {
         ensures ok { OnOk result (Some self.new.bytes ≡ appended (Some self.old.bytes) piece.now) }
         ensures failed { OnErr result (AppendsStartOf (Some self.old.bytes) (Some self.new.bytes) piece.now) }
         ensures cause { HasCause self.old.faults self.new.faults result }
+        ensures counted { self.new.calls ≡ raised self.old.calls }
 
         ensures fails { IsErr result ↔ IsSome (failing_put self.old piece.now) }
         ensures after { self.new ≡ after_put self.old piece.now }

@@ -1,5 +1,5 @@
 ghost use Rattle.std.specs.Prelude.{◌≡◌, ℕ, ◌<◌, List, Option, OnOk, OnErr, length};
-ghost use Rattle.page_types.specs.Counts.{HasCause};
+ghost use Rattle.page_types.specs.Counts.{raised, HasCause};
 ghost use Rattle.page_types.specs.Told.{appended, AppendsStartOf};
 
 /// A piece was not taken, or not all of it.
@@ -14,6 +14,9 @@ pub trait Sink {
     /// How often a put has failed. It never falls, and stays at the end of a `u64`.
     ghost faults: { Self → ℕ };
 
+    /// How many pieces were put, those that failed among them. It stays at the end of a `u64`.
+    ghost puts: { Self → ℕ };
+
     /// Appends a piece, which is not empty.
     ///
     /// It fails only where the count of faults rose, and then a start of the piece was appended.
@@ -21,5 +24,6 @@ pub trait Sink {
         requires { 0 < length piece.now }
         ensures ok { OnOk result (bytes self.new ≡ appended (bytes self.old) piece.now) }
         ensures failed { OnErr result (AppendsStartOf (bytes self.old) (bytes self.new) piece.now) }
-        ensures cause { HasCause (faults self.old) (faults self.new) result };
+        ensures cause { HasCause (faults self.old) (faults self.new) result }
+        ensures counted { puts self.new ≡ raised (puts self.old) };
 }
