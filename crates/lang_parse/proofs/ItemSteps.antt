@@ -13,7 +13,7 @@ use Rattle.lang_parse.proofs.StmtSteps.{any_fails, any_leads}
 use Rattle.lang_parse.proofs.Walks.{length-symbols}
 use Rattle.lang_parse.proofs.LogForms.{not_empty as some_left, is_empty as none_left}
 use Rattle.std.specs.Prelude.{◌==◌, true, false}
-use Rattle.lang_tokens.specs.declared.token.Token.{Token}
+use Rattle.lang_tokens.specs.Seen.{TokenSeen}
 use Rattle.lang_parse.specs.Symbols.{symbols_of}
 
 -- ---- names with commas between them
@@ -159,11 +159,11 @@ statement_leads ks none = record { to = λ item end r s. let h = of_statement it
 
 -- ---- the script
 
-pub name_within : (ts us vs : List Token) (x : Named) → symbols_of ts ≡ SignOf (codes ",") ∷ symbols_of us → NameRead x (symbols_of us) (symbols_of vs) → length vs < length ts
+pub name_within : (ts us vs : List TokenSeen) (x : Named) → symbols_of ts ≡ SignOf (codes ",") ∷ symbols_of us → NameRead x (symbols_of us) (symbols_of vs) → length vs < length ts
 name_within ts us vs x e r = omega (arith, ap length e, ap length r, length-symbols ts, length-symbols us, length-symbols vs)
 
-pub not_empty : (ts : List Token) → (length ts == 0) ≡ false → AtEnd (symbols_of ts) → ⊥
+pub not_empty : (ts : List TokenSeen) → (length ts == 0) ≡ false → AtEnd (symbols_of ts) → ⊥
 not_empty ts h e = some_left ts h e
 
-pub items_done : (ks : List Symbol) (ts : List Token) (xs : List Item) → Progress ItemRead NotElse AtEnd ks xs (symbols_of ts) → (length ts == 0) ≡ true → Many ItemRead xs ks []
+pub items_done : (ks : List Symbol) (ts : List TokenSeen) (xs : List Item) → Progress ItemRead NotElse AtEnd ks xs (symbols_of ts) → (length ts == 0) ≡ true → Many ItemRead xs ks []
 items_done ks ts xs p h = subst (λ z. Many ItemRead xs ks z) (none_left ts h) p.read

@@ -21,3 +21,4 @@ pub mod Openers
 pub mod NameLists
 pub mod NameSteps
 pub mod Trees
+pub mod NamedTexts

@@ -1,5 +1,5 @@
 -- Log statements as symbols, and the tree of a log script by the grammar.
-use Rattle.lang_tokens.specs.declared.token.Token.{Token}
+use Rattle.lang_tokens.specs.Seen.{TokenSeen}
 use Rattle.std.specs.Prelude.{◌==◌, IfErr}
 use Rattle.std.proofs.lemmas.Bool.Decides.{nat_tests}
 use Rattle.std.specs.Result.{IsErrAnd}
@@ -226,23 +226,23 @@ parsing_done whole done p = has_log_tree whole done (p.read ∙ append-nil (scri
 bool_clash : true ≡ false → ⊥
 bool_clash e = let P : Bool → Type 0 = λ b. elim b [ true ↦ Unit {0} | false ↦ ⊥ ] in subst P e tt
 
-pub length-symbols : (ts : List Token) → length (symbols_of ts) ≡ length ts
+pub length-symbols : (ts : List TokenSeen) → length (symbols_of ts) ≡ length ts
 length-symbols ts = length-map ts symbol_of
 
 -- a statement has a token at least
-pub statement_shorter : (ts us : List Token) (s : LogStatement) → symbols_of ts ≡ statement_symbols s ++ symbols_of us → length us < length ts
+pub statement_shorter : (ts us : List TokenSeen) (s : LogStatement) → symbols_of ts ≡ statement_symbols s ++ symbols_of us → length us < length ts
 statement_shorter ts us s e =
     let f = ap length (e ∙ stmt_form s (symbols_of us)) in
     omega (arith, f, length-symbols ts, length-symbols us, length-append (logged_symbols s.what) (SignOf (codes ")") ∷ SignOf (codes ";") ∷ symbols_of us))
 
-pub not_empty : (ts : List Token) → (length ts == 0) ≡ false → symbols_of ts ≡ [] → ⊥
+pub not_empty : (ts : List TokenSeen) → (length ts == 0) ≡ false → symbols_of ts ≡ [] → ⊥
 not_empty [] h e = bool_clash h
 not_empty (t ∷ ts) h e = omega (arith, ap length e)
 
 is_zero : (n : ℕ) → (n == 0) ≡ true → n ≡ 0
 is_zero n h = grind (arith, nat_tests)
 
-pub is_empty : (ts : List Token) → (length ts == 0) ≡ true → symbols_of ts ≡ []
+pub is_empty : (ts : List TokenSeen) → (length ts == 0) ≡ true → symbols_of ts ≡ []
 is_empty [] h = refl
 is_empty (t ∷ ts) h = absurd (let z = is_zero (length (t ∷ ts)) h in omega (arith, z))
 
@@ -266,13 +266,13 @@ pub parsing_ends : (whole rest : List Symbol) (done : List LogStatement) → Par
 parsing_ends whole rest done p e = let P : List Symbol → Type 0 = λ z. Parsing whole done z in parsing_done whole done (subst P e p)
 
 -- a number more was read
-pub number_read : (ts us vs : List Token) (ns ms : List ℤ) (n : ℤ) → symbols_of ts ≡ plus_symbols ns ++ symbols_of us → symbols_of us ≡ SignOf (codes "+") ∷ NumberOf n ∷ symbols_of vs → ms ≡ ns ++ n ∷ [] → symbols_of ts ≡ plus_symbols ms ++ symbols_of vs
+pub number_read : (ts us vs : List TokenSeen) (ns ms : List ℤ) (n : ℤ) → symbols_of ts ≡ plus_symbols ns ++ symbols_of us → symbols_of us ≡ SignOf (codes "+") ∷ NumberOf n ∷ symbols_of vs → ms ≡ ns ++ n ∷ [] → symbols_of ts ≡ plus_symbols ms ++ symbols_of vs
 number_read ts us vs ns ms n before found e =
     before ∙ ap (λ z. plus_symbols ns ++ z) found ∙ plus_symbols-more ns n (symbols_of vs) ∙ ap (λ z. plus_symbols z ++ symbols_of vs) (sym e)
 
 -- a sum was read
-pub sum_found : (ts us vs : List Token) (n : ℤ) (ns : List ℤ) → symbols_of ts ≡ NumberOf n ∷ symbols_of us → symbols_of us ≡ plus_symbols ns ++ symbols_of vs → symbols_of ts ≡ logged_symbols (LogSum n ns) ++ symbols_of vs
+pub sum_found : (ts us vs : List TokenSeen) (n : ℤ) (ns : List ℤ) → symbols_of ts ≡ NumberOf n ∷ symbols_of us → symbols_of us ≡ plus_symbols ns ++ symbols_of vs → symbols_of ts ≡ logged_symbols (LogSum n ns) ++ symbols_of vs
 sum_found ts us vs n ns a b = a ∙ ap (λ z. NumberOf n ∷ z) b ∙ ap (λ z. z ++ symbols_of vs) (sym (sum_form n ns))
 
-pub sum_found-ends : (ts us vs : List Token) (n : ℤ) (ns : List ℤ) → symbols_of ts ≡ NumberOf n ∷ symbols_of us → symbols_of us ≡ plus_symbols ns ++ symbols_of vs → NoNumberFollows (symbols_of vs) → LoggedEnds (symbols_of ts) (symbols_of vs)
+pub sum_found-ends : (ts us vs : List TokenSeen) (n : ℤ) (ns : List ℤ) → symbols_of ts ≡ NumberOf n ∷ symbols_of us → symbols_of us ≡ plus_symbols ns ++ symbols_of vs → NoNumberFollows (symbols_of vs) → LoggedEnds (symbols_of ts) (symbols_of vs)
 sum_found-ends ts us vs n ns a b h = sum_ends (symbols_of ts) n ns (symbols_of vs) (a ∙ ap (λ z. NumberOf n ∷ z) b) h

@@ -3,7 +3,7 @@ use Rattle.std.proofs.Common.{◌≡◌, ℕ, ◌<◌, ◌≤◌, List, [], ◌�
 use Rattle.std.proofs.lemmas.List.{map-append}
 use Rattle.std.specs.Option.{option_map}
 use Rattle.page_types.specs.Tree as Model
-use Rattle.lang_tokens.specs.declared.token.Token.{Token}
+use Rattle.lang_tokens.specs.Seen.{TokenSeen}
 use Rattle.lang_ast.specs.declared.tree.Named.{Named}
 use Rattle.lang_ast.specs.declared.tree.Expr.{Expr}
 use Rattle.lang_ast.specs.declared.tree.Stmt.{Stmt}
@@ -319,13 +319,13 @@ module _ (ks next : List Symbol) (e : ks ≡ WordOf (codes "else") ∷ next) whe
 
 -- ---- lengths
 
-pub tokens_shorter : (ts us : List Token) → length (symbols_of us) < length (symbols_of ts) → length us < length ts
+pub tokens_shorter : (ts us : List TokenSeen) → length (symbols_of us) < length (symbols_of ts) → length us < length ts
 tokens_shorter ts us lt = omega (arith, lt, length-symbols ts, length-symbols us)
 
-pub tokens_within : (ts us : List Token) → length (symbols_of us) ≤ length (symbols_of ts) → length us ≤ length ts
+pub tokens_within : (ts us : List TokenSeen) → length (symbols_of us) ≤ length (symbols_of ts) → length us ≤ length ts
 tokens_within ts us le = omega (arith, le, length-symbols ts, length-symbols us)
 
-pub else_if_within : (ts us : List Token) → symbols_of ts ≡ WordOf (codes "else") ∷ WordOf (codes "if") ∷ symbols_of us → length us < length ts
+pub else_if_within : (ts us : List TokenSeen) → symbols_of ts ≡ WordOf (codes "else") ∷ WordOf (codes "if") ∷ symbols_of us → length us < length ts
 else_if_within ts us e = omega (arith, ap length e, length-symbols ts, length-symbols us)
 
 pub progress_within : {X : Type 0} (R : X → List Symbol → List Symbol → Type 0) (StopR Stop : List Symbol → Type 0) (ks : List Symbol) → Shrinks R → (rest : List Symbol) (xs : List X) → Progress R StopR Stop ks xs rest → length rest ≤ length ks

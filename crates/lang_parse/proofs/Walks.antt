@@ -2,7 +2,7 @@
 use Rattle.std.proofs.Common.{◌≡◌, ℕ, ◌<◌, ◌≤◌, List, [], ◌∷◌, ◌++◌, length, map, refl, sym, ap, ◌∙◌, subst, arith}
 use Rattle.std.proofs.lemmas.List.{map-append, length-map}
 use Rattle.std.specs.Prelude.{Result, Ok, Err}
-use Rattle.lang_tokens.specs.declared.token.Token.{Token}
+use Rattle.lang_tokens.specs.Seen.{TokenSeen}
 use Rattle.page_types.specs.Tree.{Expr}
 use Rattle.lang_parse.specs.declared.error.ParseError.{ParseError}
 use Rattle.lang_parse.specs.declared.error.ParseError.TheVariants.{NoParse, OutOfMemory}
@@ -69,16 +69,16 @@ le_le p q = omega arith
 pub lt_weak : {a b : ℕ} → a < b → a ≤ b
 lt_weak p = omega arith
 
-pub length-symbols : (ts : List Token) → length (symbols_of ts) ≡ length ts
+pub length-symbols : (ts : List TokenSeen) → length (symbols_of ts) ≡ length ts
 length-symbols ts = length-map ts symbol_of
 
-pub shorter : (ts us : List Token) (k : Symbol) → symbols_of ts ≡ k ∷ symbols_of us → length us < length ts
+pub shorter : (ts us : List TokenSeen) (k : Symbol) → symbols_of ts ≡ k ∷ symbols_of us → length us < length ts
 shorter ts us k e = omega (arith, ap length e, length-symbols ts, length-symbols us)
 
-pub within : (ts us : List Token) → length (symbols_of us) ≤ length (symbols_of ts) → length us ≤ length ts
+pub within : (ts us : List TokenSeen) → length (symbols_of us) ≤ length (symbols_of ts) → length us ≤ length ts
 within ts us le = omega (arith, le, length-symbols ts, length-symbols us)
 
-pub reads_within : (n : ℕ) (t : Expr) (ts us : List Token) → Reads n t (symbols_of ts) (symbols_of us) → length us ≤ length ts
+pub reads_within : (n : ℕ) (t : Expr) (ts us : List TokenSeen) → Reads n t (symbols_of ts) (symbols_of us) → length us ≤ length ts
 reads_within n t ts us r = within ts us (reads_shrink n t (symbols_of ts) (symbols_of us) r)
 
 -- ---- an item behind a symbol

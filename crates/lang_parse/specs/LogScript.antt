@@ -2,7 +2,7 @@
 use Rattle.std.specs.Prelude.{◌≡◌, ◌≤◌, ℕ, ℤ, List, [], ◌∷◌, length, codes, Ok}
 use Rattle.page_types.specs.Tree.{Expr, Sum, Number, TextLiteral, Call, no_exprs, with_expr, SumParts, no_terms, with_term, Stmt, ExprStmt, Item, StmtItem, Program}
 use Rattle.page_types.specs.declared.SumSign.TheVariants.{Plus}
-use Rattle.lang_tokens.specs.declared.token.Token.{Token}
+use Rattle.lang_tokens.specs.Seen.{TokenSeen}
 use Rattle.lang_tokens.specs.Tokens.{tokens_of}
 use Rattle.lang_parse.specs.Symbols.{symbols_of}
 use Rattle.lang_parse.specs.Grammar.{HasTree}
@@ -49,6 +49,6 @@ program_of tree = record { items = tree; names = [] }
 -- The script has this tree. It has at most 1,048,576 bytes.
 pub record IsScript (bytes : List ℕ) (tree : List Item) : Type 0 where
   pub size : length bytes ≤ 1048576
-  pub tokens : List Token
+  pub tokens : List TokenSeen
   pub tokens_are : tokens_of bytes ≡ Ok tokens
   pub has_tree : HasTree (symbols_of tokens) tree

@@ -12,7 +12,7 @@ use Rattle.lang_parse.specs.LogScript as spec
 use Rattle.lang_parse.specs.LogScript.{LogText, LogSum, logged_tree, log_stmt}
 
 abbrev pub logged_seen : Logged → spec.Logged
-logged_seen (Text bytes) = LogText bytes.items
+logged_seen (Text text) = LogText text
 logged_seen (Sum first others) = LogSum first others.items
 
 abbrev pub statement_seen : LogStatement → spec.LogStatement

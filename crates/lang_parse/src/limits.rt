@@ -32,9 +32,9 @@ fn brackets_after(count: usize, token: &Token) -> usize
     requires { count ≤ 64 }
     ensures { result ≡ brackets_after count (symbol_of token.now) }
 {
-    match token.kind {
+    match token.kind() {
         TokenKind::Sign => {
-            let sign = token.content.bytes();
+            let sign = token.content();
             if is_opening(sign) {
                 count + 1
             } else if is_closing(sign) {

@@ -9,6 +9,7 @@ ghost use Rattle.lang_parse.specs.LogSeen.{script_seen, logged_seen, statement_s
 ghost use Rattle.lang_parse.specs.Readings.{NoNumberFollows, LoggedEnds, NothingLogged, StatementEnds, NoStatement};
 
 use crate::fault::{NoParse, ParseFault};
+use crate::leaves::text_of;
 use crate::log_script::{LogScript, LogStatement, Logged};
 use crate::reading::{after_log, after_number, after_plus_number, after_sign, after_text};
 use lang_tokens::{Token, Tokens};
@@ -35,7 +36,7 @@ fn logged(alloc: Global, tokens: &[Token]) -> Result<(Logged, &[Token]), ParseFa
     ensures none { IfErr result (λ e. IsNoParse e → NothingLogged (symbols_of tokens.now)) }
 {
     if let Some((text, rest)) = after_text(tokens) {
-        return Ok((Logged::Text(text.to_vec(alloc)?), rest));
+        return Ok((Logged::Text(text_of(alloc, text)?), rest));
     }
     let Some((first, rest)) = after_number(tokens) else {
         return Err(ParseFault::Is(NoParse));

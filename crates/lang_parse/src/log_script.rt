@@ -1,23 +1,25 @@
 //! Log scripts, the scripts that are read so far.
 
+use page_values::Str;
+
 /// What a statement logs.
-#[derive(Debug, Drop)]
+#[derive(Drop)]
 pub enum Logged {
     /// A text, by its value.
-    Text(Vec<u8>),
+    Text(Str),
     /// The sum of numbers, from left to right.
     Sum { first: i64, others: Vec<i64> },
 }
 
 /// A statement `log(..);`, and the byte offset of its name.
-#[derive(Debug, Drop)]
+#[derive(Drop)]
 pub struct LogStatement {
     pub at: usize,
     pub what: Logged,
 }
 
 /// A script whose statements log texts, and numbers joined by `+`.
-#[derive(Debug, Drop)]
+#[derive(Drop)]
 pub struct LogScript {
     pub statements: Vec<LogStatement>,
 }

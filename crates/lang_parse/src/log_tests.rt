@@ -8,7 +8,7 @@ type Wanted = (usize, &'static [u8], &'static [i64]);
 fn is_wanted(statement: &LogStatement, wanted: &Wanted) -> bool {
     let (at, text, numbers) = *wanted;
     let is_logged = match &statement.what {
-        Logged::Text(bytes) => numbers.is_empty() && bytes.as_slice() == text,
+        Logged::Text(held) => numbers.is_empty() && held.bytes() == text,
         Logged::Sum { first, others } => {
             numbers.first() == Some(first) && numbers.get(1..) == Some(others.as_slice())
         }
@@ -29,7 +29,11 @@ fn log_scripts_are_read(rt: HostRuntime) -> Result<(), Fail> {
         let found = parse_log_script(rt.alloc(), &tokens(rt.alloc(), script)?)?;
         assert_eq!(rt; found.statements.len(), wanted.len(), "in {script:?}");
         for (statement, want) in found.statements.iter().zip(wanted) {
-            assert!(rt; is_wanted(statement, want), "{statement:?} in {script:?}");
+            assert!(rt;
+                is_wanted(statement, want),
+                "at {} in {script:?}",
+                statement.at
+            );
         }
     }
     Ok(())

@@ -23,7 +23,7 @@ pub const MOST_GLOBALS: usize = 4096;
 
 /// The tree that has these tokens.
 ///
-/// `NoParse` comes exactly where no tree has them. A name or a text that no script can spell counts as want of memory.
+/// `NoParse` comes exactly where no tree has them.
 pub fn parse(alloc: Global, tokens: &Tokens) -> Result<Tree, ParseFault>
     ensures found { IfOk result (λ tree. HasTree (symbols_of tokens.now.items) (seen_tree tree)) }
     ensures none { IfErr result (λ e. IsNoParse e → (tree : List Item) → HasTree (symbols_of tokens.now.items) tree → ⊥) }

@@ -1,6 +1,8 @@
 //! Reading a token from the front.
 
-ghost use Rattle.std.specs.Prelude.{◌≡◌, ◌∷◌, List, IfSome, IsNone, codes, ℕ, ℤ};
+ghost use Rattle.std.specs.Prelude.{◌≡◌, ◌∷◌, List, IfSome, IsNone, IsTrue, codes, ℕ, ℤ};
+ghost use Rattle.page_values.specs.Texts.{is_text};
+ghost use Rattle.lang_tokens.specs.declared.token.TokenKind.TheVariants.{Name};
 ghost use Rattle.lang_parse.specs.Symbols.{Symbol, NameAt, WordOf, NumberOf, TextOf, SignOf, symbols_of};
 ghost use Rattle.lang_parse.specs.Readings.{NoNumberFollows};
 
@@ -12,8 +14,8 @@ pub(crate) fn after_sign<'a>(tokens: &'a [Token], sign: &[u8]) -> Option<&'a [To
     ensures none { IsNone result → (rest : List Symbol) → symbols_of tokens.now ≡ SignOf sign.now ∷ rest → ⊥ }
 {
     let (first, rest) = tokens.split_first()?;
-    match first.kind {
-        TokenKind::Sign if first.content.bytes() == sign => Some(rest),
+    match first.kind() {
+        TokenKind::Sign if first.content() == sign => Some(rest),
         _ => None,
     }
 }
@@ -24,8 +26,8 @@ pub(crate) fn after_log(tokens: &[Token]) -> Option<(usize, &[Token])>
     ensures none { IsNone result → (at : ℕ) (rest : List Symbol) → symbols_of tokens.now ≡ NameAt (codes "log") at ∷ rest → ⊥ }
 {
     let (first, rest) = tokens.split_first()?;
-    match first.kind {
-        TokenKind::Name if first.content.bytes() == b"log".as_slice() => Some((first.at, rest)),
+    match first.kind() {
+        TokenKind::Name if first.content() == b"log".as_slice() => Some((first.at(), rest)),
         _ => None,
     }
 }
@@ -36,7 +38,7 @@ pub(crate) fn after_number(tokens: &[Token]) -> Option<(i64, &[Token])>
     ensures none { IsNone result → (n : ℤ) (rest : List Symbol) → symbols_of tokens.now ≡ NumberOf n ∷ rest → ⊥ }
 {
     let (first, rest) = tokens.split_first()?;
-    match first.kind {
+    match first.kind() {
         TokenKind::Number(n) => Some((n, rest)),
         _ => None,
     }
@@ -54,11 +56,12 @@ pub(crate) fn after_plus_number(tokens: &[Token]) -> Option<(i64, &[Token])>
 /// The value of a text, and what follows it.
 pub(crate) fn after_text(tokens: &[Token]) -> Option<(&[u8], &[Token])>
     ensures found { IfSome result (λ r. symbols_of tokens.now ≡ TextOf r.0.now ∷ symbols_of r.1.now) }
+    ensures text { IfSome result (λ r. IsTrue (is_text r.0.now)) }
     ensures none { IsNone result → (bytes : List ℕ) (rest : List Symbol) → symbols_of tokens.now ≡ TextOf bytes ∷ rest → ⊥ }
 {
     let (first, rest) = tokens.split_first()?;
-    match first.kind {
-        TokenKind::Text => Some((first.content.bytes(), rest)),
+    match first.kind() {
+        TokenKind::Text => Some((first.content(), rest)),
         _ => None,
     }
 }
@@ -69,8 +72,8 @@ pub(crate) fn after_word<'a>(tokens: &'a [Token], word: &[u8]) -> Option<&'a [To
     ensures none { IsNone result → (rest : List Symbol) → symbols_of tokens.now ≡ WordOf word.now ∷ rest → ⊥ }
 {
     let (first, rest) = tokens.split_first()?;
-    match first.kind {
-        TokenKind::Word if first.content.bytes() == word => Some(rest),
+    match first.kind() {
+        TokenKind::Word if first.content() == word => Some(rest),
         _ => None,
     }
 }
@@ -78,10 +81,11 @@ pub(crate) fn after_word<'a>(tokens: &'a [Token], word: &[u8]) -> Option<&'a [To
 /// A name's token, and what follows it.
 pub(crate) fn after_name(tokens: &[Token]) -> Option<(&Token, &[Token])>
     ensures found { IfSome result (λ r. symbols_of tokens.now ≡ NameAt r.0.now.content r.0.now.at ∷ symbols_of r.1.now) }
+    ensures kind { IfSome result (λ r. r.0.now.kind ≡ Name) }
     ensures none { IsNone result → (x : List ℕ) (at : ℕ) (rest : List Symbol) → symbols_of tokens.now ≡ NameAt x at ∷ rest → ⊥ }
 {
     let (first, rest) = tokens.split_first()?;
-    match first.kind {
+    match first.kind() {
         TokenKind::Name => Some((first, rest)),
         _ => None,
     }

@@ -4,7 +4,7 @@ use Rattle.std.specs.Prelude.{if◌then◌else◌, ◌==◌, ◌&&◌, ◌||◌,
 use Rattle.std.specs.Char.{is_ascii_digit}
 use Rattle.std.proofs.lemmas.Bool.{eqb-true}
 use Rattle.std.proofs.lemmas.List.{length-take-le, take-append-le, drop-append-le, take-append-drop}
-use Rattle.lang_tokens.specs.declared.token.Token.{Token as TokenSeen}
+use Rattle.lang_tokens.specs.Seen.{TokenSeen}
 use Rattle.lang_tokens.specs.declared.token.TokenKind.TheVariants.{Sign}
 use Rattle.lang_tokens.specs.declared.piece.Piece.{Piece}
 use Rattle.lang_tokens.specs.declared.piece.Piece.TheVariants.{Gap, Token, Bad}

@@ -1,13 +1,14 @@
 -- The tokens of a script, a piece after another.
 use Rattle.std.proofs.Common.{◌≡◌, ℕ, zero, suc, ◌+◌, ◌-◌, ◌<◌, ◌≤◌, List, [], ◌∷◌, ◌++◌, length, drop, take, Ok, Err, refl, sym, ap, ◌∙◌, subst, arith, append_assoc, length-drop}
 use Rattle.std.proofs.lemmas.List.{drop-drop}
-use Rattle.lang_tokens.specs.declared.token.Token.{Token as TokenSeen}
+use Rattle.lang_tokens.specs.Seen.{TokenSeen, IsHeld, AreHeld}
 use Rattle.lang_tokens.specs.declared.token.TokenKind.{TokenKind}
 use Rattle.lang_tokens.specs.declared.piece.Piece.{Piece}
 use Rattle.lang_tokens.specs.declared.piece.Piece.TheVariants.{Gap, Token, Bad}
 use Rattle.lang_tokens.specs.Pieces.{piece_at}
 use Rattle.lang_tokens.specs.Tokens.{Lexed, InOrder, content_of, token_at, with_front, with_piece, cut, tokens_of}
 use Rattle.lang_tokens.proofs.PieceLemmas.{Within, piece_within}
+use Rattle.lang_tokens.proofs.HeldLemmas.{piece_held, AreHeld-push}
 
 with_piece-same : (f g : ℕ → List ℕ → Lexed) (at : ℕ) (bs : List ℕ) → ((at : ℕ) (cs : List ℕ) → length cs < length bs → f at cs ≡ g at cs) →
     0 < length bs → (p : Piece) → Within 1 (length bs) p → with_piece f at bs p ≡ with_piece g at bs p
@@ -63,6 +64,7 @@ InOrder-push from to (u ∷ ts) t h after some = (h.0, h.1, InOrder-push u.end t
 pub record Lexing (whole : List ℕ) (front : List TokenSeen) (at : ℕ) : Type 0 where
   pub in_range : at ≤ length whole
   pub in_order : InOrder 0 at front
+  pub held : AreHeld front
   pub whole_is : with_front front (cut (length whole) at (drop at whole)) ≡ tokens_of whole
 
 module _ (whole : List ℕ) (front : List TokenSeen) (at : ℕ) (l : Lexing whole front at) where
@@ -93,13 +95,18 @@ module _ (whole : List ℕ) (front : List TokenSeen) (at : ℕ) (l : Lexing whol
     lexing_gap size e = let w = lexing_within (Gap size) e in record {
       in_range = omega arith;
       in_order = InOrder-later 0 at (at + size) front (omega arith) l.in_order;
+      held = l.held;
       whole_is = subst (λ bs. with_front front (cut (length whole) (at + size) bs) ≡ tokens_of whole) (drop-drop size at whole) (with_first (Gap size) e);
     }
+
+    held_here : (kind : TokenKind) (size : ℕ) → Token kind size ≡ piece_at (take (length whole - at) (drop at whole)) → IsHeld kind (content_of kind (take size (drop at whole)))
+    held_here kind size e = piece_held (drop at whole) kind size rest_some (e ∙ ap piece_at slice_rest)
 
     token_here : (kind : TokenKind) (size : ℕ) → Token kind size ≡ piece_at (take (length whole - at) (drop at whole)) → Lexing whole (front ++ token_at at (drop at whole) kind size ∷ []) (at + size)
     token_here kind size e = let w = lexing_within (Token kind size) e in record {
       in_range = omega arith;
       in_order = InOrder-push 0 at front (token_at at (drop at whole) kind size) l.in_order (omega arith) (omega arith);
+      held = AreHeld-push front (token_at at (drop at whole) kind size) l.held (held_here kind size e);
       whole_is = with_front-append front (token_at at (drop at whole) kind size ∷ []) _
           ∙ subst (λ bs. with_front front (with_front (token_at at (drop at whole) kind size ∷ []) (cut (length whole) (at + size) bs)) ≡ tokens_of whole)
           (drop-drop size at whole) (with_first (Token kind size) e);
@@ -113,6 +120,12 @@ module _ (whole : List ℕ) (front : List TokenSeen) (at : ℕ) (l : Lexing whol
         let sized : at + size - at ≡ size = omega arith in
         subst (λ held. Lexing whole (front ++ record { at = at; end = at + size; kind = kind; content = held } ∷ []) (at + size))
         (sym (same ∙ ap (λ n. content_of kind (take n (drop at whole))) sized)) (token_here kind size e)
+
+    pub lexing_held : (kind : TokenKind) (size : ℕ) (content : List ℕ) → Token kind size ≡ piece_at (take (length whole - at) (drop at whole)) →
+        content ≡ content_of kind (take (at + size - at) (drop at whole)) → IsHeld kind content
+    lexing_held kind size content e same =
+        let sized : at + size - at ≡ size = omega arith in
+        subst (IsHeld kind) (sym (same ∙ ap (λ n. content_of kind (take n (drop at whole))) sized)) (held_here kind size e)
 
     pub lexing_bad : (size : ℕ) → Bad size ≡ piece_at (take (length whole - at) (drop at whole)) → tokens_of whole ≡ Err (at + size)
     lexing_bad size e = sym (with_first (Bad size) e)

@@ -1,6 +1,7 @@
 pub mod Texts
 pub mod PieceLemmas
-pub mod CutLemmas
 pub mod MeaningLemmas
 pub mod ReadingLemmas
+pub mod HeldLemmas
+pub mod CutLemmas
 pub mod BadLemmas

@@ -277,7 +277,7 @@ plain_reaches value rest x no_quote no_backslash plain v m (b ∷ bs) (suc n) e 
     (λ _. Reaches-less (m + 1 + n) (m + suc n) _ (omega arith) (rest (v + 1) (m + 1) bs n others (omega arith)))
     (λ other. absurd (clash (is_plain b) (subst (λ z. is_plain z ≡ true) (sym front) plain) other)))))
 
-held_plain : (x y z w : Bool) → (x || y || z || w) ≡ true → y ≡ false → z ≡ false → w ≡ false → x ≡ true
+pub held_plain : (x y z w : Bool) → (x || y || z || w) ≡ true → y ≡ false → z ≡ false → w ≡ false → x ≡ true
 held_plain true y z w e f g h = refl
 held_plain false true z w e f g h = sym f
 held_plain false false true w e f g h = sym g

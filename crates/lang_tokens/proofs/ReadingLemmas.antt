@@ -4,7 +4,7 @@ use Rattle.std.specs.Prelude.{if◌then◌else◌, ◌==◌, ◌&&◌, ◌||◌,
 use Rattle.std.specs.Char.{is_ascii_digit}
 use Rattle.std.proofs.lemmas.Bool.{eqb-true, eqb-false, leb-true}
 use Rattle.std.proofs.lemmas.List.{length-take-le}
-use Rattle.lang_tokens.specs.declared.token.Token.{Token as TokenSeen}
+use Rattle.lang_tokens.specs.Seen.{TokenSeen}
 use Rattle.lang_tokens.specs.declared.token.TokenKind.{TokenKind}
 use Rattle.lang_tokens.specs.declared.token.TokenKind.TheVariants.{Name, Word, Number, Text, Sign}
 use Rattle.lang_tokens.specs.declared.piece.Piece.{Piece}
@@ -16,7 +16,7 @@ use Rattle.lang_tokens.proofs.PieceLemmas.{Within, piece_within, either, either_
 use Rattle.lang_tokens.proofs.MeaningLemmas.{not_false, clash, by_test, Reaches, NameMeans, name_means, name_reaches, NumberMeans, number_means, number_reaches, TextMeans, text_means, text_reaches, CommentMeans, comment_means, listed_byte, sign_no_letter, sign_no_digit, sign_no_quote, sign_short, lone_sign_short, comparing_sign_short}
 
 -- the piece is what stands at the front
-abbrev FirstOf : List ℕ → Piece → Type 0
+abbrev pub FirstOf : List ℕ → Piece → Type 0
 FirstOf bs (Gap size) = ((size ≡ 1) × BeginsBlank bs) ⊎ IsComment size bs
 FirstOf bs (Token kind size) = IsFirstToken kind (content_of kind (take size bs)) size bs
 FirstOf bs (Bad size) = Unit {0}
@@ -236,7 +236,7 @@ sign_first b (c ∷ bs) f = either_by (FirstOf (b ∷ c ∷ bs)) (is_lone_sign b
     (λ e. sign_piece b (c ∷ bs) 1 f (subst (λ x. is_sign (b ∷ x ∷ []) ≡ true) (sym (eqb-true c b e)) (doubled_is_sign b double)) (omega arith) (two_longest b (c ∷ bs)))
     (λ _. tt)) (λ _. tt)))
 
-first_of : (b : ℕ) (bs : List ℕ) → FirstOf (b ∷ bs) (piece_at (b ∷ bs))
+pub first_of : (b : ℕ) (bs : List ℕ) → FirstOf (b ∷ bs) (piece_at (b ∷ bs))
 first_of b bs = either_by (FirstOf (b ∷ bs)) (is_blank b) _ _ (λ e. inl (refl, e)) (λ solid.
     either_by (FirstOf (b ∷ bs)) (b == 47 && is_byte (first bs) 47) _ _ (first_comment b bs) (λ no_comment.
     either_by (FirstOf (b ∷ bs)) (is_letter b) _ _

@@ -1,3 +1,4 @@
+pub mod Seen
 pub mod Pieces
 pub mod Tokens
 pub mod Meaning

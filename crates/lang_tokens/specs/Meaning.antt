@@ -3,7 +3,7 @@ use Rattle.std.specs.Prelude.{◌≡◌, ℕ, ◌+◌, ◌-◌, ◌*◌, ◌<◌
 use Rattle.std.specs.Char.{is_ascii_digit}
 use Rattle.std.specs.List.{list_any}
 use Rattle.std.specs.Str.{bytes_eq}
-use Rattle.lang_tokens.specs.declared.token.Token.{Token}
+use Rattle.lang_tokens.specs.Seen.{TokenSeen}
 use Rattle.lang_tokens.specs.declared.token.TokenKind.{TokenKind}
 use Rattle.lang_tokens.specs.declared.token.TokenKind.TheVariants.{Name, Word, Number, Text, Sign}
 use Rattle.lang_tokens.specs.Tokens.{tokens_of}
@@ -86,13 +86,13 @@ pub record IsFirstToken (kind : TokenKind) (content : List ℕ) (size : ℕ) (bs
   pub no_comment : BeginsComment bs → ⊥
 
 -- the bytes from this offset on are blanks, comments and these tokens
-pub data Reading : ℕ → List ℕ → List Token → Type 0 where
+pub data Reading : ℕ → List ℕ → List TokenSeen → Type 0 where
   ended : (at : ℕ) → Reading at [] []
-  blank : (at b : ℕ) (bs : List ℕ) (ts : List Token) → is_blank b ≡ true → Reading (at + 1) bs ts → Reading at (b ∷ bs) ts
-  comment : (at size : ℕ) (bs : List ℕ) (ts : List Token) → IsComment size bs → Reading (at + size) (drop size bs) ts → Reading at bs ts
-  token : (at size : ℕ) (kind : TokenKind) (content bs : List ℕ) (ts : List Token) → IsFirstToken kind content size bs →
+  blank : (at b : ℕ) (bs : List ℕ) (ts : List TokenSeen) → is_blank b ≡ true → Reading (at + 1) bs ts → Reading at (b ∷ bs) ts
+  comment : (at size : ℕ) (bs : List ℕ) (ts : List TokenSeen) → IsComment size bs → Reading (at + size) (drop size bs) ts → Reading at bs ts
+  token : (at size : ℕ) (kind : TokenKind) (content bs : List ℕ) (ts : List TokenSeen) → IsFirstToken kind content size bs →
       Reading (at + size) (drop size bs) ts → Reading at bs (record { at = at; end = at + size; kind = kind; content = content } ∷ ts)
 
 -- no script that begins with the bytes up to this one, it too, has tokens
 abbrev pub NoneGoesOn : ℕ → List ℕ → Type 0
-NoneGoesOn at bs = at < length bs → (more : List ℕ) (ts : List Token) → tokens_of (take (at + 1) bs ++ more) ≡ Ok ts → ⊥
+NoneGoesOn at bs = at < length bs → (more : List ℕ) (ts : List TokenSeen) → tokens_of (take (at + 1) bs ++ more) ≡ Ok ts → ⊥

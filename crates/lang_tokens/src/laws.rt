@@ -1,7 +1,7 @@
 //! What the definition of a script's tokens means, apart from its order of reading.
 
 ghost use Rattle.std.specs.Prelude.{◌≡◌, ℕ, List, Ok, Err};
-ghost use Rattle.lang_tokens.specs.declared.token.Token.{Token as TokenSeen};
+ghost use Rattle.lang_tokens.specs.Seen.{TokenSeen};
 ghost use Rattle.lang_tokens.specs.Meaning.{Reading, NoneGoesOn};
 ghost use Rattle.lang_tokens.specs.Tokens.{tokens_of};
 

@@ -3,7 +3,6 @@
 ghost use Rattle.std.specs.Prelude.{◌≡◌, ℕ, IfOk, Ok, Err, drop, length};
 ghost use Rattle.lang_tokens.specs.Tokens.{tokens_of, content_of, value_of};
 
-use crate::content::Bytes;
 use crate::fault::{BadByte, TokensFault};
 use crate::piece::{Piece, first_piece};
 use crate::token::{Token, TokenKind, Tokens};
@@ -30,14 +29,13 @@ fn text_value(alloc: Global, bytes: &[u8]) -> Result<Vec<u8>, AllocError>
     Ok(value)
 }
 
-fn content_of(alloc: Global, kind: TokenKind, spelling: &[u8]) -> Result<Bytes, AllocError>
-    ensures { IfOk result (λ content. content ≡ content_of kind spelling.now) }
+fn content_of(alloc: Global, kind: TokenKind, spelling: &[u8]) -> Result<Vec<u8>, AllocError>
+    ensures { IfOk result (λ content. content.items ≡ content_of kind spelling.now) }
 {
-    let bytes = match kind {
-        TokenKind::Text => text_value(alloc, spelling.get(1..).unwrap_or(&[]))?,
-        _ => spelling.to_vec(alloc)?,
-    };
-    Ok(Bytes::new(bytes))
+    match kind {
+        TokenKind::Text => Ok(text_value(alloc, spelling.get(1..).unwrap_or(&[]))?),
+        _ => Ok(spelling.to_vec(alloc)?),
+    }
 }
 
 /// The tokens of a script, each the longest, or the first byte at which no token goes on.
@@ -57,12 +55,7 @@ pub fn tokens(alloc: Global, bytes: &[u8]) -> Result<Tokens, TokensFault>
                 let end = at + size;
                 let spelling = &bytes[at..end];
                 let content = content_of(alloc, kind, spelling)?;
-                tokens.push(Token {
-                    at,
-                    end,
-                    kind,
-                    content,
-                })?;
+                tokens.push(Token::new(at, end, kind, content))?;
                 at = end;
             }
             Piece::Bad(size) => return Err(TokensFault::Is(BadByte { at: at + size })),

@@ -4,7 +4,6 @@
 //! before the next line feed. Of the tokens that may begin at a byte the longest is taken.
 #![tactic(auto)]
 
-pub mod content;
 pub mod fault;
 mod laws;
 mod lexing;
@@ -13,7 +12,6 @@ mod piece;
 mod tests;
 pub mod token;
 
-pub use content::Bytes;
 pub use fault::{BadByte, TokensFault};
 pub use laws::{bad_byte_stays, tokens_are_read};
 pub use lexing::tokens;

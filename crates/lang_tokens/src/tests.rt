@@ -5,7 +5,7 @@ type Wanted = (usize, usize, TokenKind, &'static [u8]);
 
 fn is_wanted(token: &Token, wanted: &Wanted) -> bool {
     let (at, end, kind, content) = *wanted;
-    token.at == at && token.end == end && token.kind == kind && token.content.bytes() == content
+    token.at() == at && token.end() == end && token.kind() == kind && token.content() == content
 }
 
 #[test]

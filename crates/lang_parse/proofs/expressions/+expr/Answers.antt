@@ -8,7 +8,7 @@ use Rattle.lang_parse.specs.Parts.{Reads, Stops, Anything, Closed, Listed, SomeL
 use Rattle.lang_parse.proofs.Generic.{first_fails, Leads-never, Leads-ends, Never-any, Ends-any, closed_fails, closed_open, closed_ends}
 use Rattle.lang_parse.proofs.Levels.{split_or, split_and, split_compare, split_sum, split_product, split_post, lower}
 use Rattle.lang_parse.proofs.Signs.{closing_binds}
-use Rattle.lang_parse.proofs.Walks.{fails_from, memory_fails, decides_from, lt_le, le_le, lt_weak, shorter, reads_within}
+use Rattle.lang_parse.proofs.Walks.{fails_from, decides_from, lt_le, le_le, lt_weak, shorter, reads_within}
 use Rattle.lang_parse.proofs.Steps.{or_begins, or_next, or_fails, or_ends, or_found, and_begins, and_next, and_fails, and_ends, and_found, sum_begins, sum_next, sum_fails, sum_ends, sum_found, product_begins, product_next, product_fails, product_ends, product_found, post_begins, post_next, post_fails, post_open, post_ends, post_found, uncompared_found, uncompared_ends, compared_fails, compared_ends, compared_found}
 use Rattle.lang_parse.proofs.Prims.{number_ends, text_ends, name_ends, paren_leads, list_leads, call_leads, value_never, unary_read, signed_never, signed_ends, plain_never, plain_ends}
 use Rattle.lang_parse.proofs.Built.{number_built, text_built, name_built, call_built, paren_built, list_built, named, compare_built, unary_built}
@@ -193,25 +193,25 @@ value-returns-in-Some t c =
     rw to_z-of_z (number_built (symbols_of c.args.tokens.now) _ c.in-Some.number c.in-Some.ensures.found, number_ends (symbols_of c.args.tokens.now) _ c.in-Some.number c.in-Some.ensures.found)
 
 pub value-returns-in-Some-after_text : goal.value-returns-in-Some-after_text
-value-returns-in-Some-after_text t c = (text_built (symbols_of c.args.tokens.now) _ _ c.in_ok-text_of.field-0 c.in_ok-text_of.ensures.held c.in-Some-after_text.ensures.found, text_ends (symbols_of c.args.tokens.now) _ _ c.in-Some-after_text.ensures.found)
+value-returns-in-Some-after_text t c = (text_built (symbols_of c.args.tokens.now) _ _ c.in_ok-text_of.field-0 c.in_ok-text_of.ensures c.in-Some-after_text.ensures.found, text_ends (symbols_of c.args.tokens.now) _ _ c.in-Some-after_text.ensures.found)
 
 pub value-returns-in-Some-after_literal : goal.value-returns-in-Some-after_literal
 value-returns-in-Some-after_literal t c = (c.in-Some-after_literal.ensures.found, c.in-Some-after_literal.ensures.ends)
 
 pub value-returns-in_default-after_sign : goal.value-returns-in_default-after_sign
 value-returns-in_default-after_sign t c =
-    let e = named c.in_ok-name.name _ _ (symbols_of c.args.tokens.now) (symbols_of c.in-Some-after_name.rest.now) c.in_ok-name.ensures.named c.in-Some-after_name.ensures.found in
+    let e = named c.in_ok-name.name _ _ (symbols_of c.args.tokens.now) (symbols_of c.in-Some-after_name.rest.now) c.in_ok-name.ensures c.in-Some-after_name.ensures.found in
     (name_built (symbols_of c.args.tokens.now) _ c.in_ok-name.name e, name_ends (symbols_of c.args.tokens.now) _ (seen_name c.in_ok-name.name) e (c.in_default-after_sign.ensures.none refl))
 
 pub value-returns-in_err-arguments : goal.value-returns-in_err-arguments
 value-returns-in_err-arguments t c = let p = err_from_is_err_and c.from_residual-in_err-arguments.result c.from_residual-in_err-arguments.ensures.1 in
     rw (p.1, p.2) (fails_from (Closed Listed (SignOf (codes ")"))) Anything (symbols_of c.in-Some-after_sign.next.now) (Reads 7) (Stops 7) (symbols_of c.args.tokens.now)
-    (λ n. Leads-never (call_leads (seen_name c.in_ok-name.name) (symbols_of c.args.tokens.now) (symbols_of c.in-Some-after_name.rest.now) (symbols_of c.in-Some-after_sign.next.now) (named c.in_ok-name.name _ _ (symbols_of c.args.tokens.now) (symbols_of c.in-Some-after_name.rest.now) c.in_ok-name.ensures.named c.in-Some-after_name.ensures.found) c.in-Some-after_sign.ensures.found) (Never-any (Stops 7) n)) _ c.in_err-arguments.ensures)
+    (λ n. Leads-never (call_leads (seen_name c.in_ok-name.name) (symbols_of c.args.tokens.now) (symbols_of c.in-Some-after_name.rest.now) (symbols_of c.in-Some-after_sign.next.now) (named c.in_ok-name.name _ _ (symbols_of c.args.tokens.now) (symbols_of c.in-Some-after_name.rest.now) c.in_ok-name.ensures c.in-Some-after_name.ensures.found) c.in-Some-after_sign.ensures.found) (Never-any (Stops 7) n)) _ c.in_err-arguments.ensures)
 
 pub value-returns-in-Some-after_name : goal.value-returns-in-Some-after_name
 value-returns-in-Some-after_name t c = (
-  call_built (symbols_of c.args.tokens.now) _ c.in_ok-name.name c.in_ok-arguments.arguments (symbols_of c.in-Some-after_name.rest.now) (symbols_of c.in-Some-after_sign.next.now) (named c.in_ok-name.name _ _ (symbols_of c.args.tokens.now) (symbols_of c.in-Some-after_name.rest.now) c.in_ok-name.ensures.named c.in-Some-after_name.ensures.found) c.in-Some-after_sign.ensures.found c.in_ok-arguments.ensures.0,
-  Leads-ends (call_leads (seen_name c.in_ok-name.name) (symbols_of c.args.tokens.now) (symbols_of c.in-Some-after_name.rest.now) (symbols_of c.in-Some-after_sign.next.now) (named c.in_ok-name.name _ _ (symbols_of c.args.tokens.now) (symbols_of c.in-Some-after_name.rest.now) c.in_ok-name.ensures.named c.in-Some-after_name.ensures.found) c.in-Some-after_sign.ensures.found) (Ends-any (Stops 7) c.in_ok-arguments.ensures.1),
+  call_built (symbols_of c.args.tokens.now) _ c.in_ok-name.name c.in_ok-arguments.arguments (symbols_of c.in-Some-after_name.rest.now) (symbols_of c.in-Some-after_sign.next.now) (named c.in_ok-name.name _ _ (symbols_of c.args.tokens.now) (symbols_of c.in-Some-after_name.rest.now) c.in_ok-name.ensures c.in-Some-after_name.ensures.found) c.in-Some-after_sign.ensures.found c.in_ok-arguments.ensures.0,
+  Leads-ends (call_leads (seen_name c.in_ok-name.name) (symbols_of c.args.tokens.now) (symbols_of c.in-Some-after_name.rest.now) (symbols_of c.in-Some-after_sign.next.now) (named c.in_ok-name.name _ _ (symbols_of c.args.tokens.now) (symbols_of c.in-Some-after_name.rest.now) c.in_ok-name.ensures c.in-Some-after_name.ensures.found) c.in-Some-after_sign.ensures.found) (Ends-any (Stops 7) c.in_ok-arguments.ensures.1),
 )
 
 pub value-returns-in_err-inner : goal.value-returns-in_err-inner
@@ -287,11 +287,3 @@ some_items-loop-next-preserved t c = list_goes_on (symbols_of c.args.tokens.now)
 
 pub some_items-returns : goal.some_items-returns
 some_items-returns t c = (list_done (symbols_of c.args.tokens.now) _ _ c.loop-next.invariant, list_ends (symbols_of c.args.tokens.now) _ _ c.loop-next.invariant (c.in_default.ensures.none refl))
-
-pub value-returns-in_err-text_of : goal.value-returns-in_err-text_of
-value-returns-in_err-text_of t c = let p = err_from_is_err_and c.from_residual.result c.from_residual.ensures.1 in
-    rw (p.1, p.2) (memory_fails (Reads 7) (Stops 7) (symbols_of c.args.tokens.now) _ c.in_err-text_of.ensures.memory)
-
-pub value-returns-in_err-name : goal.value-returns-in_err-name
-value-returns-in_err-name t c = let p = err_from_is_err_and c.from_residual-in_err-name.result c.from_residual-in_err-name.ensures.1 in
-    rw (p.1, p.2) (memory_fails (Reads 7) (Stops 7) (symbols_of c.args.tokens.now) _ c.in_err-name.ensures.memory)
