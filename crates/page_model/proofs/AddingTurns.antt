@@ -21,7 +21,8 @@ use Rattle.page_model.specs.Invoke.{Ways, in_task, settle_derived}
 use Rattle.page_model.specs.PageSignals.{unwatch, is_aborted_source, host_task_of}
 use Rattle.page_model.specs.Tasks.{timer_goes_on, run_timer, frame_callback, run_frame, call_idle, invoke_idle_again, idle_called, invoke_idle, timed_out, promise_reason, notify_one, perform_steps, continued, post_state, run_post, perform_sched, fire_closure, settle_answer, answer_host, after_task}
 use Rattle.page_model.specs.Parallel.{ItemKind, ArrivalItem, HostItem, TimerItem, IdleItem, FrameItem, complete, complete_at, take_item, due_item, first_item, take_due, item_count, parallel}
-use Rattle.page_parts.specs.WrittenChoices.{Choices, Runnable, PickedSource, PickedReading, PickedAnswer, next_source, next_reading, next_answer}
+use Rattle.page_parts.specs.WrittenChoices.{Runnable}
+use Rattle.page_model.specs.Choosing.{Rules, Chosen, chosen_source, chosen_reading, chosen_answer}
 use Rattle.page_model.specs.View.{view}
 use Rattle.page_model.specs.Turns.{Turned, GoesOn, Ended, Stuck, goes_on, choose_turned, step_five, task_done, without_task, not_dropped, answered, perform_host, perform_task, perform_first, perform_first_sched, perform, turn_line, perform_picked, step_four, counted_turn, with_turn_fuel, step_three, is_pending, target, at_time, waited, step_two_at, step_two_by, step_two, step_one, after_step_one, from_step_one, turn, next_turn, turns}
 use Rattle.lang_meaning.proofs.Following.{afterwards-follows, branch-follows}
@@ -153,7 +154,7 @@ module _ (es : List Stamped) where
 
   -- ---- turns
 
-  choose_turned-adds : (b : Bool) (then else : State → Turned) → TurnAdds es then → TurnAdds es else → TurnAdds es (choose_turned b then else)
+  choose_turned-adds : {C : Type 0} (b : Bool) (then else : State → Turned C) → TurnAdds es then → TurnAdds es else → TurnAdds es (choose_turned b then else)
   choose_turned-adds true then else h k m = h m
   choose_turned-adds false then else h k m = k m
 
@@ -164,38 +165,38 @@ module _ (es : List Stamped) where
       by_view true = ap (λ p. record m { host = p }) (idle_step-adds es m.host)
       by_view false = refl
 
-  goes_on-adds : (c : Choices) (d : Done Page) → goes_on c step_five (done_hosted (after es) d) ≡ turned_after es (goes_on c step_five d)
+  goes_on-adds : {C : Type 0} (c : C) (d : Done Page) → goes_on c step_five (done_hosted (after es) d) ≡ turned_after es (goes_on c step_five d)
   goes_on-adds c (Gives v m) = ap (λ m. GoesOn m c) (step_five-adds m)
   goes_on-adds c (Returns v m) = ap (λ m. GoesOn m c) (step_five-adds m)
   goes_on-adds c (Throws v m) = ap (λ m. GoesOn m c) (step_five-adds m)
   goes_on-adds c (OutOfFuel m) = refl
 
-  module _ (call : Caller Page) (calls_add : CallsFollow (after es) call call) where
-    task_done-adds : (c : Choices) (d d' : Done Page) → d' ≡ done_hosted (after es) d → task_done call c d' ≡ turned_after es (task_done call c d)
+  module _ {C : Type 0} (rules : Rules C) (call : Caller Page) (calls_add : CallsFollow (after es) call call) where
+    pub task_done-adds : (c : C) (d d' : Done Page) → d' ≡ done_hosted (after es) d → task_done call c d' ≡ turned_after es (task_done call c d)
     task_done-adds c d d' e =
         ap (goes_on c step_five) (afterwards-follows (after es) d d' (after_task call) (after_task call) e (after_task-adds call calls_add)) ∙ goes_on-adds c (afterwards d (after_task call))
 
-    answered-adds : (t : HostTask) (a : Option PickedAnswer) → TurnAdds es (answered call t a)
-    answered-adds t None m = refl
-    answered-adds t (Some a) m = task_done-adds a.left (finish (on_page (answer_host t a.answer) m)) _ (finish-adds es (answer_host t a.answer) (answer_host-adds t a.answer) m)
+    pub answered-adds : (t : HostTask) (a : Option (Chosen (Result ℤ ℤ) C)) (c : C) → TurnAdds es (λ m. answered call t a m c)
+    answered-adds t None c m = refl
+    answered-adds t (Some a) c m = task_done-adds a.left (finish (on_page (answer_host t a.choice) m)) _ (finish-adds es (answer_host t a.choice) (answer_host-adds t a.choice) m)
 
-    perform_host-adds : (t : HostTask) (k : Option HostClosure) (c : Choices) → TurnAdds es (λ m. perform_host call t k m c)
+    perform_host-adds : (t : HostTask) (k : Option HostClosure) (c : C) → TurnAdds es (λ m. perform_host rules call t k m c)
     perform_host-adds t None c m = task_done-adds c (finish m) _ refl
-    perform_host-adds t (Some k) c m = answered-adds t (next_answer k.kind t.number c) m
+    perform_host-adds t (Some k) c m = answered-adds t (chosen_answer rules k.kind t.number c) c m
 
-    perform_task-adds : (task : Task) (t : Option HostTask) (c : Choices) → TurnAdds es (λ m. perform_task call task t m c)
+    perform_task-adds : (task : Task) (t : Option HostTask) (c : C) → TurnAdds es (λ m. perform_task rules call task t m c)
     perform_task-adds task None c m = task_done-adds c _ _ (perform_steps-adds (in_task call) (in_task-adds es call calls_add) task.steps m)
     perform_task-adds task (Some t) c m = perform_host-adds t (not_dropped (slice_get m.host.hosts t.closure)) c m
 
-    perform_first-adds : (task : Option Task) (c : Choices) → TurnAdds es (λ m. perform_first call task m c)
+    perform_first-adds : (task : Option Task) (c : C) → TurnAdds es (λ m. perform_first rules call task m c)
     perform_first-adds None c m = refl
     perform_first-adds (Some task) c m = perform_task-adds task (host_task_of task.steps) c (on_page (without_task task.number) m)
 
-    perform_first_sched-adds : (t : Option SchedTask) (c : Choices) → TurnAdds es (λ m. perform_first_sched call t m c)
+    perform_first_sched-adds : (t : Option SchedTask) (c : C) → TurnAdds es (λ m. perform_first_sched call t m c)
     perform_first_sched-adds None c m = refl
     perform_first_sched-adds (Some t) c m = task_done-adds c _ _ (perform_sched-adds (in_task call) (in_task-adds es call calls_add) t (on_page (without_sched t.registration) m))
 
-    perform-adds : (source : Source) (c : Choices) → TurnAdds es (λ m. perform call source m c)
+    perform-adds : (source : Source) (c : C) → TurnAdds es (λ m. perform rules call source m c)
     perform-adds Sched c m = perform_first_sched-adds (first_sched m.host) c m
     perform-adds User c m = perform_first-adds (first_task User m.host.tasks) c m
     perform-adds Net c m = perform_first-adds (first_task Net m.host.tasks) c m
@@ -204,34 +205,34 @@ module _ (es : List Stamped) where
     perform-adds Render c m = perform_first-adds (first_task Render m.host.tasks) c m
     perform-adds Idle c m = perform_first-adds (first_task Idle m.host.tasks) c m
 
-    perform_picked-adds : (s : Option PickedSource) → TurnAdds es (perform_picked call s)
-    perform_picked-adds None m = refl
-    perform_picked-adds (Some s) m = perform-adds s.source s.left (turn_line (Some s.source) m)
+    pub perform_picked-adds : (s : Option (Chosen Source C)) (c : C) → TurnAdds es (λ m. perform_picked rules call s m c)
+    perform_picked-adds None c m = refl
+    perform_picked-adds (Some s) c m = perform-adds s.choice s.left (turn_line (Some s.choice) m)
 
-    step_four-adds : (rs : List Runnable) (c : Choices) → TurnAdds es (λ m. step_four call rs m c)
+    step_four-adds : (rs : List Runnable) (c : C) → TurnAdds es (λ m. step_four rules call rs m c)
     step_four-adds [] c m = ap (λ m. GoesOn m c) (step_five-adds (turn_line None m))
-    step_four-adds (r ∷ rs) c m = perform_picked-adds (next_source (r ∷ rs) c) m
+    step_four-adds (r ∷ rs) c m = perform_picked-adds (chosen_source rules (r ∷ rs) c) c m
 
-    with_turn_fuel-adds : (fuel : ℕ) (c : Choices) → TurnAdds es (λ m. with_turn_fuel call fuel m c)
+    with_turn_fuel-adds : (fuel : ℕ) (c : C) → TurnAdds es (λ m. with_turn_fuel rules call fuel m c)
     with_turn_fuel-adds zero c m = refl
     with_turn_fuel-adds (suc left) c m = step_four-adds (view m.host) c (counted_turn left m)
 
-    step_three-adds : (until : ℕ) (c : Choices) → TurnAdds es (step_three call until c)
+    step_three-adds : (until : ℕ) (c : C) → TurnAdds es (step_three rules call until c)
     step_three-adds until c m = choose_turned-adds (nat_le until m.host.now) _ _ (λ m. refl) (λ m. with_turn_fuel-adds m.fuel c m) m
 
-    waited-adds : (t : ℕ) (r : Option PickedReading) (again : State → Choices → Turned) → ((c : Choices) → TurnAdds es (λ m. again m c)) → TurnAdds es (waited t r again)
-    waited-adds t None again k m = refl
-    waited-adds t (Some r) again k m = k r.left (on_page (λ p. emit (Wait t) (at_time r.reading p)) m)
+    pub waited-adds : (t : ℕ) (r : Option (Chosen ℕ C)) (again : State → C → Turned C) (c : C) → ((c : C) → TurnAdds es (λ m. again m c)) → TurnAdds es (waited t r again c)
+    waited-adds t None again c k m = refl
+    waited-adds t (Some r) again c k m = k r.left (on_page (λ p. emit (Wait t) (at_time r.choice p)) m)
 
-    step_two_at-adds : (until t : ℕ) (again : State → Choices → Turned) (next : State → Turned) (c : Choices) → ((c : Choices) → TurnAdds es (λ m. again m c)) → TurnAdds es next → TurnAdds es (step_two_at until t again next c)
+    step_two_at-adds : (until t : ℕ) (again : State → C → Turned C) (next : State → Turned C) (c : C) → ((c : C) → TurnAdds es (λ m. again m c)) → TurnAdds es next → TurnAdds es (step_two_at rules until t again next c)
     step_two_at-adds until t again next c k h m =
-        choose_turned-adds (nat_le until m.host.now || nat_le until t) _ _ (λ m. refl) (choose_turned-adds (nat_lt m.host.now t) _ _ (waited-adds t (next_reading t c) again k) h) m
+        choose_turned-adds (nat_le until m.host.now || nat_le until t) _ _ (λ m. refl) (choose_turned-adds (nat_lt m.host.now t) _ _ (waited-adds t (chosen_reading rules t c) again c k) h) m
 
-    step_two_by-adds : (until : ℕ) (t : Option ℕ) (again : State → Choices → Turned) (next : State → Turned) (c : Choices) → ((c : Choices) → TurnAdds es (λ m. again m c)) → TurnAdds es next → TurnAdds es (step_two_by until t again next c)
+    step_two_by-adds : (until : ℕ) (t : Option ℕ) (again : State → C → Turned C) (next : State → Turned C) (c : C) → ((c : C) → TurnAdds es (λ m. again m c)) → TurnAdds es next → TurnAdds es (step_two_by rules until t again next c)
     step_two_by-adds until None again next c k h m = refl
     step_two_by-adds until (Some t) again next c k h m = step_two_at-adds until t again next c k h m
 
-    step_two-adds : (until : ℕ) (again : State → Choices → Turned) (next : State → Turned) (c : Choices) → ((c : Choices) → TurnAdds es (λ m. again m c)) → TurnAdds es next → TurnAdds es (step_two until again next c)
+    step_two-adds : (until : ℕ) (again : State → C → Turned C) (next : State → Turned C) (c : C) → ((c : C) → TurnAdds es (λ m. again m c)) → TurnAdds es next → TurnAdds es (step_two rules until again next c)
     step_two-adds until again next c k h m = choose_turned-adds (is_pending m.host) _ _ (step_two_by-adds until (target m.host) again next c k h) (λ m. refl) m
 
     step_one-adds : (m : State) → step_one (hosted (after es) m) ≡ hosted (after es) (step_one m)
@@ -241,24 +242,24 @@ module _ (es : List Stamped) where
         by_turns true = refl
         by_turns false = ap (λ p. record m { host = p }) (parallel-adds m.host)
 
-    after_step_one-adds : (until : ℕ) (again : State → Choices → Turned) (c : Choices) → ((c : Choices) → TurnAdds es (λ m. again m c)) → TurnAdds es (after_step_one call until again c)
+    after_step_one-adds : (until : ℕ) (again : State → C → Turned C) (c : C) → ((c : C) → TurnAdds es (λ m. again m c)) → TurnAdds es (after_step_one rules call until again c)
     after_step_one-adds until again c k m =
-        choose_turned-adds (is_empty (view m.host)) _ _ (step_two-adds until again (step_three call until c) c k (step_three-adds until c)) (step_three-adds until c) m
+        choose_turned-adds (is_empty (view m.host)) _ _ (step_two-adds until again (step_three rules call until c) c k (step_three-adds until c)) (step_three-adds until c) m
 
-    from_step_one-adds : (until n : ℕ) (c : Choices) → TurnAdds es (λ m. from_step_one call until n m c)
+    pub from_step_one-adds : (until n : ℕ) (c : C) → TurnAdds es (λ m. from_step_one rules call until n m c)
     from_step_one-adds until zero c m = refl
     from_step_one-adds until (suc n) c m =
-        ap (after_step_one call until (from_step_one call until n) c) (step_one-adds m) ∙ after_step_one-adds until (from_step_one call until n) c (from_step_one-adds until n) (step_one m)
+        ap (after_step_one rules call until (from_step_one rules call until n) c) (step_one-adds m) ∙ after_step_one-adds until (from_step_one rules call until n) c (from_step_one-adds until n) (step_one m)
 
-    pub turn-adds : (until : ℕ) (c : Choices) → TurnAdds es (λ m. turn call until m c)
+    pub turn-adds : (until : ℕ) (c : C) → TurnAdds es (λ m. turn rules call until m c)
     turn-adds until c m = from_step_one-adds until (suc (suc (item_count m.host))) c m
 
-    next_turn-adds : (next : State → Choices → Turned) → ((c : Choices) → TurnAdds es (λ m. next m c)) → (t : Turned) → next_turn (turned_after es t) next ≡ turned_after es (next_turn t next)
+    next_turn-adds : (next : State → C → Turned C) → ((c : C) → TurnAdds es (λ m. next m c)) → (t : Turned C) → next_turn (turned_after es t) next ≡ turned_after es (next_turn t next)
     next_turn-adds next k (GoesOn m c) = k c m
-    next_turn-adds next k (Ended end m) = refl
-    next_turn-adds next k (Stuck m) = refl
+    next_turn-adds next k (Ended end m c) = refl
+    next_turn-adds next k (Stuck m c) = refl
 
-    pub turns-adds : (until n : ℕ) (c : Choices) → TurnAdds es (λ m. turns call until n m c)
+    pub turns-adds : (until n : ℕ) (c : C) → TurnAdds es (λ m. turns rules call until n m c)
     turns-adds until zero c m = refl
     turns-adds until (suc n) c m =
-        ap (λ t. next_turn t (turns call until n)) (turn-adds until c m) ∙ next_turn-adds (turns call until n) (turns-adds until n) (turn call until m c)
+        ap (λ t. next_turn t (turns rules call until n)) (turn-adds until c m) ∙ next_turn-adds (turns rules call until n) (turns-adds until n) (turn rules call until m c)

@@ -21,11 +21,11 @@ abbrev pub AddsAll : List Stamped → (State → Done Page) → Type 0
 AddsAll es f = Follows (after es) f f
 
 -- how a turn ends, with these events before its own
-abbrev pub turned_after : List Stamped → Turned → Turned
+abbrev pub turned_after : {C : Type 0} → List Stamped → Turned C → Turned C
 turned_after es (GoesOn m c) = GoesOn (hosted (after es) m) c
-turned_after es (Ended end m) = Ended end (hosted (after es) m)
-turned_after es (Stuck m) = Stuck (hosted (after es) m)
+turned_after es (Ended end m c) = Ended end (hosted (after es) m) c
+turned_after es (Stuck m c) = Stuck (hosted (after es) m) c
 
 -- the same of a turn
-abbrev pub TurnAdds : List Stamped → (State → Turned) → Type 0
+abbrev pub TurnAdds : {C : Type 0} → List Stamped → (State → Turned C) → Type 0
 TurnAdds es f = (m : State) → f (hosted (after es) m) ≡ turned_after es (f m)

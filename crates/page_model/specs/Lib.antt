@@ -7,6 +7,17 @@ pub mod Operations
 pub mod Tasks
 pub mod Parallel
 pub mod View
+pub mod Choosing
 pub mod Turns
 pub mod PageTrace
 pub mod Additions
+pub mod Folds
+pub mod PageHost
+pub mod NestedFolds
+pub mod FoldBounds
+pub mod Hosted
+pub mod ChoicesAreData
+pub mod Likeness
+pub mod Numbers
+pub mod FuelAndTime
+pub mod Bounds

@@ -15,10 +15,10 @@ unfoldable pub page_trace : Program → Setup → List HostClosure → List (Res
 page_trace program setup hosts answers = text_of (events_of_run (run program setup hosts (written setup answers)))
 
 -- a run that has ended with exactly these events
-abbrev pub EndsWith : List Stamped → Turned → Type 0
+abbrev pub EndsWith : {C : Type 0} → List Stamped → Turned C → Type 0
 EndsWith es (GoesOn m c) = ⊥
-EndsWith es (Ended end m) = reverse m.host.events ≡ es
-EndsWith es (Stuck m) = ⊥
+EndsWith es (Ended end m c) = reverse m.host.events ≡ es
+EndsWith es (Stuck m c) = ⊥
 
 -- events are legal where the run under their own choices ends with exactly them
 abbrev pub IsLegal : Program → Setup → List HostClosure → List Stamped → Type 0

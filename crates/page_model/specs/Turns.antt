@@ -1,5 +1,5 @@
 -- Turns and runs.
-use Rattle.std.specs.Prelude.{ℕ, zero, suc, ◌/◌, max, Bool, true, false, cond, not, ◌&&◌, ◌||◌, List, [], ◌∷◌, length, Option, Some, None, nat_lt, nat_le, ◌==◌, slice_get, option_map, reverse}
+use Rattle.std.specs.Prelude.{ℕ, zero, suc, ◌/◌, max, Bool, true, false, cond, not, ◌&&◌, ◌||◌, List, [], ◌∷◌, length, Option, Some, None, nat_lt, nat_le, ◌==◌, slice_get, option_map, reverse, ℤ, Result}
 use Rattle.page_types.specs.Values.{no_values}
 use Rattle.page_types.specs.Tree.{Program}
 use Rattle.page_types.specs.declared.Source.{Source}
@@ -24,7 +24,8 @@ use Rattle.page_model.specs.PageSignals.{host_task_of}
 use Rattle.page_model.specs.Operations.{page_operations}
 use Rattle.page_model.specs.Tasks.{perform_steps, perform_sched, answer_host, after_task}
 use Rattle.page_model.specs.Parallel.{first_item, item_count, parallel}
-use Rattle.page_parts.specs.WrittenChoices.{Runnable, Choices, PickedSource, PickedReading, PickedAnswer, next_source, next_reading, next_answer}
+use Rattle.page_parts.specs.WrittenChoices.{Runnable, Choices}
+use Rattle.page_model.specs.Choosing.{Rules, Chosen, chosen_source, chosen_reading, chosen_answer, choice_rules}
 use Rattle.page_model.specs.View.{view}
 
 -- ---- HTML, "Event loops: processing model". Ours: fuel, waits, and how a run ends
@@ -36,25 +37,25 @@ use Rattle.page_model.specs.View.{view}
 -- 4: the first task of the chosen source is performed, and then a microtask checkpoint.
 -- 5: where no task is runnable then, an idle period may start.
 
--- how a turn ends: the run goes on, has ended, or is stuck at a choice
-pub data Turned : Type 0 where
-  GoesOn : State → Choices → Turned
-  Ended : End → State → Turned
-  Stuck : State → Turned
+-- how a turn ends, with what the rules hold then: the run goes on, has ended, or is stuck at a choice
+pub data Turned (C : Type 0) : Type 0 where
+  GoesOn : State → C → Turned C
+  Ended : End → State → C → Turned C
+  Stuck : State → C → Turned C
 
 -- the run ends, with its line
-abbrev pub ends : End → State → Turned
-ends end m = Ended end (on_page (emit (EndLine end)) m)
+abbrev pub ends : {C : Type 0} → End → C → State → Turned C
+ends end c m = Ended end (on_page (emit (EndLine end)) m) c
 
 -- the end of a task: where fuel ended, the run ends at once
-abbrev pub goes_on : Choices → (State → State) → Done Page → Turned
+abbrev pub goes_on : {C : Type 0} → C → (State → State) → Done Page → Turned C
 goes_on c next (Gives v m) = GoesOn (next m) c
 goes_on c next (Returns v m) = GoesOn (next m) c
 goes_on c next (Throws v m) = GoesOn (next m) c
-goes_on c next (OutOfFuel m) = ends FuelEnd m
+goes_on c next (OutOfFuel m) = ends FuelEnd c m
 
 -- one way or the other
-abbrev pub choose_turned : Bool → (State → Turned) → (State → Turned) → State → Turned
+abbrev pub choose_turned : {C : Type 0} → Bool → (State → Turned C) → (State → Turned C) → State → Turned C
 choose_turned true then else m = then m
 choose_turned false then else m = else m
 
@@ -63,7 +64,7 @@ abbrev pub step_five : State → State
 step_five m = cond (is_empty (view m.host)) (on_page idle_step) (λ m. m) m
 
 -- a task has been performed: a checkpoint, and then step 5
-abbrev pub task_done : Caller Page → Choices → Done Page → Turned
+abbrev pub task_done : {C : Type 0} → Caller Page → C → Done Page → Turned C
 task_done call c done = goes_on c step_five (afterwards done (after_task call))
 
 -- a task is taken out of its queue
@@ -76,61 +77,62 @@ not_dropped None = None
 not_dropped (Some c) = elim c.mark [ Live ↦ Some c | QueuedMark ↦ Some c | Fired ↦ Some c | Dropped ↦ None ]
 
 -- a net task with the answer that was chosen; without a legal one the run is stuck
-abbrev pub answered : Caller Page → HostTask → Option PickedAnswer → State → Turned
-answered call t None m = Stuck m
-answered call t (Some a) m = task_done call a.left (finish (on_page (answer_host t a.answer) m))
+abbrev pub answered : {C : Type 0} → Caller Page → HostTask → Option (Chosen (Result ℤ ℤ) C) → State → C → Turned C
+answered call t None m c = Stuck m c
+answered call t (Some a) m c = task_done call a.left (finish (on_page (answer_host t a.choice) m))
 
 -- a net task of a host: a task whose signal was aborted before does nothing
-abbrev pub perform_host : Caller Page → HostTask → Option HostClosure → State → Choices → Turned
-perform_host call t None m c = task_done call c (finish m)
-perform_host call t (Some k) m c = answered call t (next_answer k.kind t.number c) m
+abbrev pub perform_host : {C : Type 0} → Rules C → Caller Page → HostTask → Option HostClosure → State → C → Turned C
+perform_host rules call t None m c = task_done call c (finish m)
+perform_host rules call t (Some k) m c = answered call t (chosen_answer rules k.kind t.number c) m c
 
 -- a task is performed; that of a host answer takes a choice
-abbrev pub perform_task : Caller Page → Task → Option HostTask → State → Choices → Turned
-perform_task call task None m c = task_done call c (perform_steps (in_task call) task.steps m)
-perform_task call task (Some t) m c = perform_host call t (not_dropped (slice_get m.host.hosts t.closure)) m c
+abbrev pub perform_task : {C : Type 0} → Rules C → Caller Page → Task → Option HostTask → State → C → Turned C
+perform_task rules call task None m c = task_done call c (perform_steps (in_task call) task.steps m)
+perform_task rules call task (Some t) m c = perform_host rules call t (not_dropped (slice_get m.host.hosts t.closure)) m c
 
 -- the first task of a queue is removed and performed
-abbrev pub perform_first : Caller Page → Option Task → State → Choices → Turned
-perform_first call None m c = Stuck m
-perform_first call (Some task) m c = perform_task call task (host_task_of task.steps) (on_page (without_task task.number) m) c
+abbrev pub perform_first : {C : Type 0} → Rules C → Caller Page → Option Task → State → C → Turned C
+perform_first rules call None m c = Stuck m c
+perform_first rules call (Some task) m c = perform_task rules call task (host_task_of task.steps) (on_page (without_task task.number) m) c
 
 -- the scheduler task that is next is removed and performed
-abbrev pub perform_first_sched : Caller Page → Option SchedTask → State → Choices → Turned
-perform_first_sched call None m c = Stuck m
+abbrev pub perform_first_sched : {C : Type 0} → Caller Page → Option SchedTask → State → C → Turned C
+perform_first_sched call None m c = Stuck m c
 perform_first_sched call (Some t) m c = task_done call c (perform_sched (in_task call) t (on_page (without_sched t.registration) m))
 
 -- the first task of a source is removed and performed
-abbrev pub perform : Caller Page → Source → State → Choices → Turned
-perform call Sched m c = perform_first_sched call (first_sched m.host) m c
-perform call source m c = perform_first call (first_task source m.host.tasks) m c
+abbrev pub perform : {C : Type 0} → Rules C → Caller Page → Source → State → C → Turned C
+perform rules call Sched m c = perform_first_sched call (first_sched m.host) m c
+perform rules call source m c = perform_first rules call (first_task source m.host.tasks) m c
 
 -- the line of a turn
 abbrev pub turn_line : Option Source → State → State
 turn_line source m = on_page (λ p. emit (Turn p.turns source) p) m
 
--- the line of the turn, and the first task of the chosen source
-abbrev pub perform_picked : Caller Page → Option PickedSource → State → Turned
-perform_picked call None m = Stuck m
-perform_picked call (Some s) m = perform call s.source (turn_line (Some s.source) m) s.left
+-- the line of the turn, and the first task of the source that was chosen; without a legal one the run is stuck
+abbrev pub perform_picked : {C : Type 0} → Rules C → Caller Page → Option (Chosen Source C) → State → C → Turned C
+perform_picked rules call None m c = Stuck m c
+perform_picked rules call (Some s) m c = perform rules call s.choice (turn_line (Some s.choice) m) s.left
 
 -- steps 4 and 5
-abbrev pub step_four : Caller Page → List Runnable → State → Choices → Turned
-step_four call [] m c = GoesOn (step_five (turn_line None m)) c
-step_four call (r ∷ rs) m c = perform_picked call (next_source (r ∷ rs) c) m
+abbrev pub step_four : {C : Type 0} → Rules C → Caller Page → List Runnable → State → C → Turned C
+step_four rules call [] m c = GoesOn (step_five (turn_line None m)) c
+step_four rules call (r ∷ rs) m c = perform_picked rules call (chosen_source rules (r ∷ rs) c) m c
 
 -- one more turn, with so much fuel left
 abbrev pub counted_turn : ℕ → State → State
 counted_turn left m = on_page (λ p. record p { turns = suc p.turns }) (record m { fuel = left })
 
 -- step 3: a unit of fuel is taken
-abbrev pub with_turn_fuel : Caller Page → ℕ → State → Choices → Turned
-with_turn_fuel call zero m c = ends FuelEnd m
-with_turn_fuel call (suc left) m c = step_four call (view m.host) (counted_turn left m) c
+abbrev pub with_turn_fuel : {C : Type 0} → Rules C → Caller Page → ℕ → State → C → Turned C
+with_turn_fuel rules call zero m c = ends FuelEnd c m
+with_turn_fuel rules call (suc left) m c = step_four rules call (view m.host) (counted_turn left m) c
 
 -- step 3: the run ends where the time is up or no fuel is left
-abbrev pub step_three : Caller Page → ℕ → Choices → State → Turned
-step_three call until c m = choose_turned (nat_le until m.host.now) (ends ClockEnd) (λ m. with_turn_fuel call m.fuel m c) m
+abbrev pub step_three : {C : Type 0} → Rules C → Caller Page → ℕ → C → State → Turned C
+step_three rules call until c m =
+    choose_turned (nat_le until m.host.now) (ends ClockEnd c) (λ m. with_turn_fuel rules call m.fuel m c) m
 
 -- whether anything is pending
 abbrev pub is_pending : Page → Bool
@@ -145,54 +147,56 @@ target p = least (option_map (λ a. a.due) (first_item p)) (idle_moment p)
 abbrev pub at_time : ℕ → Page → Page
 at_time t p = record p { now = t }
 
--- a wait: the reading of the clock becomes the time, and the turn begins again
-abbrev pub waited : ℕ → Option PickedReading → (State → Choices → Turned) → State → Turned
-waited t None again m = Stuck m
-waited t (Some r) again m = again (on_page (λ p. emit (Wait t) (at_time r.reading p)) m) r.left
+-- a wait: the reading that was chosen becomes the time, and the turn begins again; without a legal one the run is stuck
+abbrev pub waited : {C : Type 0} → ℕ → Option (Chosen ℕ C) → (State → C → Turned C) → C → State → Turned C
+waited t None again c m = Stuck m c
+waited t (Some r) again c m = again (on_page (λ p. emit (Wait t) (at_time r.choice p)) m) r.left
 
 -- step 2 with a target
-abbrev pub step_two_at : ℕ → ℕ → (State → Choices → Turned) → (State → Turned) → Choices → State → Turned
-step_two_at until t again next c m =
+abbrev pub step_two_at : {C : Type 0} → Rules C → ℕ → ℕ → (State → C → Turned C) → (State → Turned C) → C → State → Turned C
+step_two_at rules until t again next c m =
     choose_turned (nat_le until m.host.now || nat_le until t)
-    (λ m. ends ClockEnd (on_page (λ p. at_time (max p.now until) p) m))
-    (choose_turned (nat_lt m.host.now t) (waited t (next_reading t c) again) next) m
+    (λ m. ends ClockEnd c (on_page (λ p. at_time (max p.now until) p) m))
+    (choose_turned (nat_lt m.host.now t) (waited t (chosen_reading rules t c) again c) next) m
 
 -- step 2 with a target, where there is one
-abbrev pub step_two_by : ℕ → Option ℕ → (State → Choices → Turned) → (State → Turned) → Choices → State → Turned
-step_two_by until None again next c m = ends DoneEnd m
-step_two_by until (Some t) again next c m = step_two_at until t again next c m
+abbrev pub step_two_by : {C : Type 0} → Rules C → ℕ → Option ℕ → (State → C → Turned C) → (State → Turned C) → C → State → Turned C
+step_two_by rules until None again next c m = ends DoneEnd c m
+step_two_by rules until (Some t) again next c m = step_two_at rules until t again next c m
 
 -- step 2, where no task is runnable: `again` is the turn from its beginning, `next` is step 3
-abbrev pub step_two : ℕ → (State → Choices → Turned) → (State → Turned) → Choices → State → Turned
-step_two until again next c m = choose_turned (is_pending m.host) (step_two_by until (target m.host) again next c) (ends DoneEnd) m
+abbrev pub step_two : {C : Type 0} → Rules C → ℕ → (State → C → Turned C) → (State → Turned C) → C → State → Turned C
+step_two rules until again next c m =
+    choose_turned (is_pending m.host) (step_two_by rules until (target m.host) again next c) (ends DoneEnd c) m
 
 -- step 1: the parallel items are taken, but in the first turn
 abbrev pub step_one : State → State
 step_one m = cond (m.host.turns == 0) m (on_page parallel m)
 
 -- step 2 where no task is runnable, and else step 3
-abbrev pub after_step_one : Caller Page → ℕ → (State → Choices → Turned) → Choices → State → Turned
-after_step_one call until again c m = choose_turned (is_empty (view m.host)) (step_two until again (step_three call until c) c) (step_three call until c) m
+abbrev pub after_step_one : {C : Type 0} → Rules C → Caller Page → ℕ → (State → C → Turned C) → C → State → Turned C
+after_step_one rules call until again c m =
+    choose_turned (is_empty (view m.host)) (step_two rules until again (step_three rules call until c) c) (step_three rules call until c) m
 
 -- steps 1 and 2, again after each wait; each wait takes an item, opens a frame or comes to the idle moment, so n of them are enough
-abbrev pub from_step_one : Caller Page → ℕ → ℕ → State → Choices → Turned
-from_step_one call until zero m c = Stuck m
-from_step_one call until (suc n) m c = after_step_one call until (from_step_one call until n) c (step_one m)
+abbrev pub from_step_one : {C : Type 0} → Rules C → Caller Page → ℕ → ℕ → State → C → Turned C
+from_step_one rules call until zero m c = Stuck m c
+from_step_one rules call until (suc n) m c = after_step_one rules call until (from_step_one rules call until n) c (step_one m)
 
 -- one turn
-abbrev pub turn : Caller Page → ℕ → State → Choices → Turned
-turn call until m c = from_step_one call until (suc (suc (item_count m.host))) m c
+abbrev pub turn : {C : Type 0} → Rules C → Caller Page → ℕ → State → C → Turned C
+turn rules call until m c = from_step_one rules call until (suc (suc (item_count m.host))) m c
 
 -- what is next, where the run goes on
-abbrev pub next_turn : Turned → (State → Choices → Turned) → Turned
+abbrev pub next_turn : {C : Type 0} → Turned C → (State → C → Turned C) → Turned C
 next_turn (GoesOn m c) next = next m c
-next_turn (Ended end m) next = Ended end m
-next_turn (Stuck m) next = Stuck m
+next_turn (Ended end m c) next = Ended end m c
+next_turn (Stuck m c) next = Stuck m c
 
 -- at most n turns
-abbrev pub turns : Caller Page → ℕ → ℕ → State → Choices → Turned
-turns call until zero m c = Stuck m
-turns call until (suc n) m c = next_turn (turn call until m c) (turns call until n)
+abbrev pub turns : {C : Type 0} → Rules C → Caller Page → ℕ → ℕ → State → C → Turned C
+turns rules call until zero m c = Stuck m c
+turns rules call until (suc n) m c = next_turn (turn rules call until m c) (turns rules call until n)
 
 -- the script's own body has the number after the last function
 abbrev pub the_script : Program → Registration
@@ -241,17 +245,21 @@ abbrev pub first_state : Program → Setup → List HostClosure → State
 first_state program setup hosts =
     record { globals = first_globals program; open_calls = []; fuel = setup.fuel; host = first_page program setup hosts }
 
--- a whole run: each turn takes a unit of fuel
-unfoldable pub run : Program → Setup → List HostClosure → Choices → Turned
-run program setup hosts c =
-    turns (call_from_outside program page_operations) setup.until (suc setup.fuel) (first_state program setup hosts) c
+-- a whole run, with choices by any rules: each turn takes a unit of fuel
+unfoldable pub run_by : {C : Type 0} → Rules C → Program → Setup → List HostClosure → C → Turned C
+run_by rules program setup hosts c =
+    turns rules (call_from_outside program page_operations) setup.until (suc setup.fuel) (first_state program setup hosts) c
+
+-- a whole run, by recorded lists or by the written policy
+unfoldable pub run : Program → Setup → List HostClosure → Choices → Turned Choices
+run program setup hosts c = run_by choice_rules program setup hosts c
 
 -- the state in which a turn or run ends
-abbrev pub state_of : Turned → State
+abbrev pub state_of : {C : Type 0} → Turned C → State
 state_of (GoesOn m c) = m
-state_of (Ended end m) = m
-state_of (Stuck m) = m
+state_of (Ended end m c) = m
+state_of (Stuck m c) = m
 
 -- the events of a run
-abbrev pub events_of_run : Turned → List Stamped
+abbrev pub events_of_run : {C : Type 0} → Turned C → List Stamped
 events_of_run t = reverse (state_of t).host.events

@@ -2,18 +2,50 @@
 //! runs, the trace of a run and legal traces. Definitions in `specs/`, and laws above them as functions with empty bodies.
 #![tactic(auto)]
 
+mod bounds;
+mod choices;
+mod choosing;
+mod fuel_and_time;
+mod likeness;
+mod numbers;
+mod steps;
+
 ghost use Rattle.std.specs.Prelude.{ℕ, List};
 ghost use Rattle.page_types.specs.Tree.{Program};
 ghost use Rattle.page_types.specs.Events.{Stamped};
-ghost use Rattle.page_parts.specs.WrittenChoices.{Choices};
 ghost use Rattle.lang_meaning.specs.Evaluation.{call_from_outside};
 ghost use Rattle.page_model.specs.Operations.{page_operations};
 ghost use Rattle.page_model.specs.Turns.{turns};
 ghost use Rattle.page_model.specs.Additions.{TurnAdds};
 
-/// The law that lines are only given: turns do the same with any events before their own, and leave those as they are.
+pub use bounds::{
+    due_items_are_all_taken, following_stays_one_deep, jobs_end_before_their_bound,
+    loops_end_before_their_bound, priority_changes_end_before_their_bound,
+    runs_end_before_their_bound, runs_end_or_are_refused_a_choice, waits_end_before_their_bound,
+};
+pub use choices::{choices_are_data, choices_determine_the_run, further_choices_are_left};
+pub use choosing::{ByLists, Choosing};
+pub use fuel_and_time::{
+    callbacks_go_forward, calls_go_forward, jobs_go_forward, operations_go_forward,
+    parallel_items_take_no_time, signals_go_forward, tasks_go_forward, turns_go_forward,
+    waits_end_later,
+};
+pub use likeness::{Likeness, runs_are_alike};
+pub use numbers::{
+    calls_keep_numbers_given, first_numbers_are_given, numbers_of_runs_are_given,
+    operations_keep_numbers_given, turns_keep_numbers_given,
+};
+pub use steps::{
+    abort_is_a_fold, callbacks_account_for_tickets, callbacks_left_fall, calls_keep_bounds,
+    dispatch_is_a_fold, first_page_is_bounded, folds_go_on_by_steps,
+    operations_account_for_tickets, operations_keep_bounds, priority_change_is_a_fold,
+    priority_changes_go_piece_by_piece, runs_by_steps_are_the_runs, steps_do_what_nesting_does,
+    steps_do_what_nesting_does_outside, turns_by_steps_are_the_turns, turns_keep_bounds,
+};
+
+/// The law that lines are only given: by whatever rules, turns do the same with any events before their own, and leave those as they are.
 ///
 /// This is what lets a page hand its lines on and keep none.
-pub fn lines_are_only_given()
-    ensures { (program : Program) (until most : ℕ) (c : Choices) (before : List Stamped) → TurnAdds before (λ m. turns (call_from_outside program page_operations) until most m c) }
+pub fn lines_are_only_given<R: Choosing>()
+    ensures { (program : Program) (until most : ℕ) (c : R.Held) (before : List Stamped) → TurnAdds before (λ m. turns R.rules (call_from_outside program page_operations) until most m c) }
 {}

@@ -4,7 +4,7 @@ use Rattle.page_types.specs.Tree.{Sum, Number, Name, Call, no_exprs, with_expr, 
 use Rattle.page_types.specs.declared.SumSign.TheVariants.{Plus}
 use Rattle.page_parts.specs.Setup.{Setup, Rank}
 use Rattle.page_parts.specs.Sources.{default_list}
-use Rattle.page_model.specs.Turns.{run}
+use Rattle.page_model.specs.Turns.{run, run_by}
 use Rattle.page_model.specs.PageTrace.{page_trace}
 use Rattle.page_model.proofs.Examples.Sample.{named, four_hosts, logs_of}
 
@@ -24,7 +24,7 @@ two_hundred_and_fifty_six_open_calls_setup =
     record { policy = (Rank default_list); fuel = 257; until = 10000000; refresh = 60; late = []; latencies = []; arrivals = [] }
 
 two_hundred_and_fifty_six_open_calls : logs_of (page_trace two_hundred_and_fifty_six_open_calls_script two_hundred_and_fifty_six_open_calls_setup four_hosts ([])) ≡ codes "0 255\n0 RangeError(\"\")\n"
-unfolding page_trace run
+unfolding page_trace run run_by
 two_hundred_and_fifty_six_open_calls = refl
 
 abbrev open_calls_end_with_the_fuel_script : Program
@@ -43,5 +43,5 @@ open_calls_end_with_the_fuel_setup =
     record { policy = (Rank default_list); fuel = 256; until = 10000000; refresh = 60; late = []; latencies = []; arrivals = [] }
 
 open_calls_end_with_the_fuel : logs_of (page_trace open_calls_end_with_the_fuel_script open_calls_end_with_the_fuel_setup four_hosts ([])) ≡ codes ""
-unfolding page_trace run
+unfolding page_trace run run_by
 open_calls_end_with_the_fuel = refl

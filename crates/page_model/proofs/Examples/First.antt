@@ -5,7 +5,7 @@ use Rattle.page_types.specs.Tree.{Compare, Sum, Number, TextLiteral, Name, Call,
 use Rattle.page_types.specs.declared.SumSign.TheVariants.{Plus}
 use Rattle.page_parts.specs.Setup.{Setup, Rank}
 use Rattle.page_parts.specs.Sources.{default_list}
-use Rattle.page_model.specs.Turns.{run}
+use Rattle.page_model.specs.Turns.{run, run_by}
 use Rattle.page_model.specs.PageTrace.{page_trace}
 use Rattle.page_model.proofs.Examples.Sample.{named, four_hosts}
 
@@ -23,7 +23,7 @@ sum_of_two_numbers_setup =
     record { policy = (Rank default_list); fuel = 1000000; until = 10000000; refresh = 60; late = []; latencies = []; arrivals = [] }
 
 sum_of_two_numbers : page_trace sum_of_two_numbers_script sum_of_two_numbers_setup four_hosts ([]) ≡ codes "trace 1\n0 turn 1 dom\n0 call 1\n0 log 3\n0 ret\n0 end done\n"
-unfolding page_trace run
+unfolding page_trace run run_by
 sum_of_two_numbers = refl
 
 abbrev empty_script_script : Program
@@ -39,7 +39,7 @@ empty_script_setup =
     record { policy = (Rank default_list); fuel = 1000000; until = 10000000; refresh = 60; late = []; latencies = []; arrivals = [] }
 
 empty_script : page_trace empty_script_script empty_script_setup four_hosts ([]) ≡ codes "trace 1\n0 turn 1 dom\n0 call 1\n0 ret\n0 end done\n"
-unfolding page_trace run
+unfolding page_trace run run_by
 empty_script = refl
 
 abbrev timers_due_together_in_order_of_start_script : Program
@@ -60,7 +60,7 @@ timers_due_together_in_order_of_start_setup =
     record { policy = (Rank default_list); fuel = 1000000; until = 10000000; refresh = 60; late = []; latencies = []; arrivals = [] }
 
 timers_due_together_in_order_of_start : page_trace timers_due_together_in_order_of_start_script timers_due_together_in_order_of_start_setup four_hosts ([]) ≡ codes "trace 1\n0 turn 1 dom\n0 call 1\n0 reg 2 timeout\n0 arm 2 10000 1\n5000 reg 3 timeout\n5000 arm 3 10000 1\n5000 ret\n10000 wait 10000\n10000 due 2\n10000 due 3\n10000 turn 2 timer\n10000 call 2\n10000 log \"a\"\n10000 ret\n10000 turn 3 timer\n10000 call 3\n10000 log \"b\"\n10000 ret\n10000 end done\n"
-unfolding page_trace run
+unfolding page_trace run run_by
 timers_due_together_in_order_of_start = refl
 
 abbrev loop_ends_with_its_fuel_script : Program
@@ -77,7 +77,7 @@ loop_ends_with_its_fuel_setup =
     record { policy = (Rank default_list); fuel = 5; until = 10000000; refresh = 60; late = []; latencies = []; arrivals = [] }
 
 loop_ends_with_its_fuel : page_trace loop_ends_with_its_fuel_script loop_ends_with_its_fuel_setup four_hosts ([]) ≡ codes "trace 1\n0 turn 1 dom\n0 call 1\n0 end fuel\n"
-unfolding page_trace run
+unfolding page_trace run run_by
 loop_ends_with_its_fuel = refl
 
 abbrev one_unit_does_not_start_the_script_script : Program
@@ -93,5 +93,5 @@ one_unit_does_not_start_the_script_setup =
     record { policy = (Rank default_list); fuel = 1; until = 10000000; refresh = 60; late = []; latencies = []; arrivals = [] }
 
 one_unit_does_not_start_the_script : page_trace one_unit_does_not_start_the_script_script one_unit_does_not_start_the_script_setup four_hosts ([]) ≡ codes "trace 1\n0 turn 1 dom\n0 call 1\n0 end fuel\n"
-unfolding page_trace run
+unfolding page_trace run run_by
 one_unit_does_not_start_the_script = refl

@@ -1,15 +1,15 @@
 -- A trace is legal under another policy than its own, and a pick that is not runnable leaves the run stuck.
-use Rattle.std.specs.Prelude.{◌≡◌, Bool, true, false, List, [], ◌∷◌, pos, codes, refl}
+use Rattle.std.specs.Prelude.{◌≡◌, true, List, [], ◌∷◌, pos, codes, refl}
 use Rattle.page_types.specs.Events.{Stamped}
 use Rattle.page_types.specs.declared.Source.TheVariants.{User, Net, Dom, Timer, Render, Sched, Idle}
 use Rattle.page_types.specs.Tree.{Number, TextLiteral, UnitLiteral, Name, Call, no_exprs, with_expr, ExprStmt, no_stmts, with_stmt, FnItem, StmtItem, Program}
 use Rattle.page_parts.specs.Setup.{Setup, Rank}
-use Rattle.page_parts.specs.WrittenChoices.{Recorded, written}
+use Rattle.page_parts.specs.WrittenChoices.{Choices, Recorded, written}
 use Rattle.page_parts.specs.Sources.{default_list}
 use Rattle.page_parts.specs.Words.{same_bytes}
-use Rattle.page_model.specs.Turns.{Turned, GoesOn, Ended, Stuck, run, events_of_run}
+use Rattle.page_model.specs.Turns.{Turned, run, run_by, events_of_run}
 use Rattle.page_parts.specs.TraceText.{choices_in, text_of}
-use Rattle.page_model.proofs.Examples.Sample.{named, four_hosts}
+use Rattle.page_model.proofs.Examples.Sample.{named, four_hosts, has_ended, is_stuck}
 
 abbrev written_rank_serves_the_timer_first_script : Program
 written_rank_serves_the_timer_first_script =
@@ -33,37 +33,27 @@ plain_setup = record written_rank_serves_the_timer_first_setup { policy = Rank d
 abbrev its_events : List Stamped
 its_events = events_of_run (run written_rank_serves_the_timer_first_script written_rank_serves_the_timer_first_setup four_hosts (written written_rank_serves_the_timer_first_setup []))
 
-abbrev has_ended : Turned → Bool
-has_ended (GoesOn m c) = false
-has_ended (Ended end m) = true
-has_ended (Stuck m) = false
-
-abbrev run_again : Turned
+abbrev run_again : Turned Choices
 run_again = run written_rank_serves_the_timer_first_script plain_setup four_hosts (choices_in its_events)
 
 -- The trace under the written policy is legal under a setup whose own policy would serve sched first: the run under its choices ends, with the same text.
 ended_under_another_policy : has_ended run_again ≡ true
-unfolding run
+unfolding run run_by
 ended_under_another_policy = refl
 
 same_text_under_another_policy : same_bytes (text_of its_events) (text_of (events_of_run run_again)) ≡ true
-unfolding run
+unfolding run run_by
 same_text_under_another_policy = refl
 
-abbrev is_stuck : Turned → Bool
-is_stuck (GoesOn m c) = false
-is_stuck (Ended end m) = false
-is_stuck (Stuck m) = true
-
-abbrev run_with_a_bad_pick : Turned
+abbrev run_with_a_bad_pick : Turned Choices
 run_with_a_bad_pick = run written_rank_serves_the_timer_first_script plain_setup four_hosts (Recorded (Dom ∷ User ∷ []) [] [])
 
 -- a pick that is not runnable: the run is stuck after the lines before it
 stuck_at_a_pick : is_stuck run_with_a_bad_pick ≡ true
-unfolding run
+unfolding run run_by
 stuck_at_a_pick = refl
 
 lines_before_it :
     text_of (events_of_run run_with_a_bad_pick) ≡ codes "trace 1\n0 turn 1 dom\n0 call 1\n0 reg 2 timeout\n0 arm 2 0 1\n0 reg 3 post\n0 enq 3 user-visible task 2\n0 ret\n0 due 2\n"
-unfolding run
+unfolding run run_by
 lines_before_it = refl

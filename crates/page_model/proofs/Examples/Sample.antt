@@ -1,11 +1,11 @@
 -- Words of the worked examples.
-use Rattle.std.specs.Prelude.{ℕ, ◌+◌, Result, cond, ◌∷◌, List, [], ◌++◌, ◌^◌, ◌-◌, ◌==◌, ℤ, pos, neg_ℤ, codes}
+use Rattle.std.specs.Prelude.{ℕ, ◌+◌, Bool, true, false, Result, cond, ◌∷◌, List, [], ◌++◌, ◌^◌, ◌-◌, ◌==◌, ℤ, pos, neg_ℤ, codes}
 use Prim.Native.String.{String}
 use Rattle.page_types.specs.Tree.{Named, Program}
 use Rattle.page_types.specs.Events.{Event, Turn, Call, Drop, Settle, Stamped}
 use Rattle.page_parts.specs.Words.{decimal_of}
-use Rattle.page_parts.specs.WrittenChoices.{written}
-use Rattle.page_model.specs.Turns.{run, events_of_run}
+use Rattle.page_parts.specs.WrittenChoices.{Choices, written}
+use Rattle.page_model.specs.Turns.{Turned, GoesOn, Ended, Stuck, run, events_of_run}
 use Rattle.page_parts.specs.Setup.{Setup}
 use Rattle.page_parts.specs.HostClosures.{HostClosure}
 use Rattle.page_types.specs.declared.HostKind.TheVariants.{Square, Double, Negate, Fail}
@@ -22,6 +22,13 @@ four_hosts =
     record { kind = Double; low = neg_ℤ (pos 4611686018427387903); high = pos 4611686018427387903; mark = Live } ∷
     record { kind = Negate; low = neg_ℤ (pos 9223372036854775807); high = pos 9223372036854775807; mark = Live } ∷
     record { kind = Fail; low = neg_ℤ (pos (2 ^ 63)); high = pos (2 ^ 63 - 1); mark = Live } ∷ []
+
+-- the first six: the fifth and the sixth do what the first and the second do
+abbrev pub six_hosts : List HostClosure
+six_hosts =
+    four_hosts ++
+    record { kind = Square; low = neg_ℤ (pos 3037000499); high = pos 3037000499; mark = Live } ∷
+    record { kind = Double; low = neg_ℤ (pos 4611686018427387903); high = pos 4611686018427387903; mark = Live } ∷ []
 
 -- the lines of a text
 abbrev pub lines_from : List ℕ → List ℕ → List (List ℕ)
@@ -71,3 +78,14 @@ summary_of es = codes "turns " ++ decimal_of (count is_turn es) ++ codes "\ncall
 
 abbrev pub summary_text : Program → Setup → List HostClosure → List (Result ℤ ℤ) → List ℕ
 summary_text program setup hosts answers = summary_of (events_of_run (run program setup hosts (written setup answers)))
+
+-- a run has ended, or is stuck at a choice
+abbrev pub has_ended : Turned Choices → Bool
+has_ended (GoesOn m c) = false
+has_ended (Ended end m c) = true
+has_ended (Stuck m c) = false
+
+abbrev pub is_stuck : Turned Choices → Bool
+is_stuck (GoesOn m c) = false
+is_stuck (Ended end m c) = false
+is_stuck (Stuck m c) = true

@@ -4,7 +4,7 @@ use Rattle.page_types.specs.declared.Source.TheVariants.{User, Net, Dom, Timer, 
 use Rattle.page_types.specs.Tree.{Number, TextLiteral, UnitLiteral, Name, Call, ListLiteral, no_exprs, with_expr, VarStmt, ExprStmt, no_stmts, with_stmt, FnItem, StmtItem, Program}
 use Rattle.page_parts.specs.Setup.{Setup, Rank}
 use Rattle.page_parts.specs.Sources.{default_list}
-use Rattle.page_model.specs.Turns.{run}
+use Rattle.page_model.specs.Turns.{run, run_by}
 use Rattle.page_model.specs.PageTrace.{page_trace}
 use Rattle.page_model.proofs.Examples.Sample.{named, four_hosts, logs_of}
 
@@ -27,7 +27,7 @@ posted_tasks_run_by_priority_setup =
     record { policy = (Rank default_list); fuel = 1000000; until = 10000000; refresh = 60; late = []; latencies = []; arrivals = [] }
 
 posted_tasks_run_by_priority : logs_of (page_trace posted_tasks_run_by_priority_script posted_tasks_run_by_priority_setup four_hosts ([])) ≡ codes "0 \"e\"\n0 \"b\"\n0 \"a\"\n"
-unfolding page_trace run
+unfolding page_trace run run_by
 posted_tasks_run_by_priority = refl
 
 abbrev priority_change_moves_a_posted_task_script : Program
@@ -51,7 +51,7 @@ priority_change_moves_a_posted_task_setup =
     record { policy = (Rank default_list); fuel = 1000000; until = 10000000; refresh = 60; late = []; latencies = []; arrivals = [] }
 
 priority_change_moves_a_posted_task : logs_of (page_trace priority_change_moves_a_posted_task_script priority_change_moves_a_posted_task_setup four_hosts ([])) ≡ codes "0 \"a\"\n0 \"e\"\n0 \"b\"\n"
-unfolding page_trace run
+unfolding page_trace run run_by
 priority_change_moves_a_posted_task = refl
 
 abbrev following_signal_changes_script : Program
@@ -74,7 +74,7 @@ following_signal_changes_setup =
     record { policy = (Rank default_list); fuel = 1000000; until = 10000000; refresh = 60; late = []; latencies = []; arrivals = [] }
 
 following_signal_changes : page_trace following_signal_changes_script following_signal_changes_setup four_hosts ([]) ≡ codes "trace 1\n0 turn 1 dom\n0 call 1\n0 prio 1 background\n0 prio 2 background\n0 reg 2 post\n0 enq 2 s2 task 2\n0 reg 3 post\n0 enq 3 user-visible task 3\n0 prio 1 user-blocking\n0 prio 2 user-blocking\n0 ret\n0 turn 2 sched\n0 call 2\n0 log \"a\"\n0 ret\n0 settle 1 ok unit\n0 turn 3 sched\n0 call 3\n0 log \"b\"\n0 ret\n0 settle 2 ok unit\n0 end done\n"
-unfolding page_trace run
+unfolding page_trace run run_by
 following_signal_changes = refl
 
 abbrev continuation_goes_before_other_tasks_script : Program
@@ -95,7 +95,7 @@ continuation_goes_before_other_tasks_setup =
     record { policy = (Rank default_list); fuel = 1000000; until = 10000000; refresh = 60; late = []; latencies = []; arrivals = [] }
 
 continuation_goes_before_other_tasks : page_trace continuation_goes_before_other_tasks_script continuation_goes_before_other_tasks_setup four_hosts ([]) ≡ codes "trace 1\n0 turn 1 dom\n0 call 1\n0 reg 2 post\n0 enq 2 user-visible task 2\n0 reg 3 post\n0 enq 3 user-visible task 3\n0 ret\n0 turn 2 sched\n0 call 2\n0 log \"a\"\n0 reg 4 yield\n0 enq 4 user-visible cont 4\n0 reg 5 then\n0 ret\n0 settle 1 ok unit\n0 turn 3 sched\n0 call 4\n0 settle 3 ok unit\n0 job 1 react 3\n0 ret\n0 run 1\n0 call 5\n0 log \"y\"\n0 ret\n0 settle 4 ok unit\n0 turn 4 sched\n0 call 3\n0 log \"b\"\n0 ret\n0 settle 2 ok unit\n0 end done\n"
-unfolding page_trace run
+unfolding page_trace run run_by
 continuation_goes_before_other_tasks = refl
 
 abbrev written_rank_serves_the_timer_first_script : Program
@@ -115,5 +115,5 @@ written_rank_serves_the_timer_first_setup =
     record { policy = (Rank (Timer ∷ Sched ∷ User ∷ Render ∷ Net ∷ Dom ∷ Idle ∷ [])); fuel = 1000000; until = 10000000; refresh = 60; late = []; latencies = []; arrivals = [] }
 
 written_rank_serves_the_timer_first : page_trace written_rank_serves_the_timer_first_script written_rank_serves_the_timer_first_setup four_hosts ([]) ≡ codes "trace 1\n0 turn 1 dom\n0 call 1\n0 reg 2 timeout\n0 arm 2 0 1\n0 reg 3 post\n0 enq 3 user-visible task 2\n0 ret\n0 due 2\n0 turn 2 timer\n0 call 2\n0 log \"t\"\n0 ret\n0 turn 3 sched\n0 call 3\n0 log \"a\"\n0 ret\n0 settle 1 ok unit\n0 end done\n"
-unfolding page_trace run
+unfolding page_trace run run_by
 written_rank_serves_the_timer_first = refl

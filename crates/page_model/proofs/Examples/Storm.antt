@@ -6,7 +6,7 @@ use Rattle.page_types.specs.Tree.{Compare, Sum, Product, Number, TextLiteral, Un
 use Rattle.page_types.specs.declared.SumSign.TheVariants.{Plus}
 use Rattle.page_parts.specs.Setup.{Setup, Rank}
 use Rattle.page_parts.specs.Sources.{default_list}
-use Rattle.page_model.specs.Turns.{run}
+use Rattle.page_model.specs.Turns.{run, run_by}
 use Rattle.page_model.proofs.Examples.Sample.{named, four_hosts, summary_text}
 
 abbrev storm_4_script : Program
@@ -29,7 +29,7 @@ storm_4_setup =
     record { policy = (Rank default_list); fuel = 10000000; until = 1000000000000; refresh = 60; late = []; latencies = []; arrivals = [] }
 
 storm_4 : summary_text storm_4_script storm_4_setup four_hosts ([]) ≡ codes "turns 3\ncalls 5\ndrops 1\nsettles 4\n"
-unfolding run
+unfolding run run_by
 storm_4 = refl
 
 abbrev storm_10_script : Program
@@ -52,5 +52,5 @@ storm_10_setup =
     record { policy = (Rank default_list); fuel = 10000000; until = 1000000000000; refresh = 60; late = []; latencies = []; arrivals = [] }
 
 storm_10 : summary_text storm_10_script storm_10_setup four_hosts ([]) ≡ codes "turns 6\ncalls 11\ndrops 4\nsettles 12\n"
-unfolding run
+unfolding run run_by
 storm_10 = refl

@@ -5,7 +5,7 @@ use Rattle.page_types.specs.Tree.{Sum, Product, Number, TextLiteral, TrueLiteral
 use Rattle.page_types.specs.declared.SumSign.TheVariants.{Plus}
 use Rattle.page_parts.specs.Setup.{Setup, Rank}
 use Rattle.page_parts.specs.Sources.{default_list}
-use Rattle.page_model.specs.Turns.{run}
+use Rattle.page_model.specs.Turns.{run, run_by}
 use Rattle.page_model.specs.PageTrace.{page_trace}
 use Rattle.page_model.proofs.Examples.Sample.{named, four_hosts, logs_of}
 
@@ -24,7 +24,7 @@ timeout_clamped_above_nesting_5_setup =
     record { policy = (Rank default_list); fuel = 1000000; until = 10000; refresh = 60; late = []; latencies = []; arrivals = [] }
 
 timeout_clamped_above_nesting_5 : logs_of (page_trace timeout_clamped_above_nesting_5_script timeout_clamped_above_nesting_5_setup four_hosts ([])) ≡ codes "0 0\n0 0\n0 0\n0 0\n0 0\n0 0\n4000 4000\n8000 8000\n"
-unfolding page_trace run
+unfolding page_trace run run_by
 timeout_clamped_above_nesting_5 = refl
 
 abbrev interval_clamped_above_nesting_5_script : Program
@@ -42,7 +42,7 @@ interval_clamped_above_nesting_5_setup =
     record { policy = (Rank default_list); fuel = 1000000; until = 10000; refresh = 60; late = []; latencies = []; arrivals = [] }
 
 interval_clamped_above_nesting_5 : logs_of (page_trace interval_clamped_above_nesting_5_script interval_clamped_above_nesting_5_setup four_hosts ([])) ≡ codes "0 0\n0 0\n0 0\n0 0\n0 0\n0 0\n4000 4000\n8000 8000\n"
-unfolding page_trace run
+unfolding page_trace run run_by
 interval_clamped_above_nesting_5 = refl
 
 abbrev timeout_of_2_to_the_31_fires_at_once_script : Program
@@ -60,7 +60,7 @@ timeout_of_2_to_the_31_fires_at_once_setup =
     record { policy = (Rank default_list); fuel = 1000000; until = 10000000; refresh = 60; late = []; latencies = []; arrivals = [] }
 
 timeout_of_2_to_the_31_fires_at_once : logs_of (page_trace timeout_of_2_to_the_31_fires_at_once_script timeout_of_2_to_the_31_fires_at_once_setup four_hosts ([])) ≡ codes "0 0\n"
-unfolding page_trace run
+unfolding page_trace run run_by
 timeout_of_2_to_the_31_fires_at_once = refl
 
 abbrev greatest_timeout_is_past_until_script : Program
@@ -78,7 +78,7 @@ greatest_timeout_is_past_until_setup =
     record { policy = (Rank default_list); fuel = 1000000; until = 10000000; refresh = 60; late = []; latencies = []; arrivals = [] }
 
 greatest_timeout_is_past_until : page_trace greatest_timeout_is_past_until_script greatest_timeout_is_past_until_setup four_hosts ([]) ≡ codes "trace 1\n0 turn 1 dom\n0 call 1\n0 reg 2 timeout\n0 arm 2 2147483647000 1\n0 ret\n10000000 end clock\n"
-unfolding page_trace run
+unfolding page_trace run run_by
 greatest_timeout_is_past_until = refl
 
 abbrev values_and_faults_script : Program
@@ -101,5 +101,5 @@ values_and_faults_setup =
     record { policy = (Rank default_list); fuel = 1000000; until = 10000000; refresh = 60; late = []; latencies = []; arrivals = [] }
 
 values_and_faults : page_trace values_and_faults_script values_and_faults_setup four_hosts ([]) ≡ codes "trace 1\n0 turn 1 dom\n0 call 1\n0 log 5\n0 log [1,\"a\",[true]]\n0 log fn:h(\"x\")\n0 log \"xy\"\n0 throw RangeError(\"\")\n0 report RangeError(\"\")\n0 end done\n"
-unfolding page_trace run
+unfolding page_trace run run_by
 values_and_faults = refl

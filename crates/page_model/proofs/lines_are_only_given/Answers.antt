@@ -5,5 +5,5 @@ use Rattle.page_model.proofs.AddingTurns.{turns-adds}
 use Rattle.page_model.proofs.lines_are_only_given.Goals as goal
 
 pub returns : goal.returns
-returns c = λ program until most choices before.
-    turns-adds before (call_from_outside program page_operations) (outside-adds before program) until most choices
+returns g c = λ program until most choices before.
+    turns-adds before g.R.Choosing.rules (call_from_outside program page_operations) (outside-adds before program) until most choices

@@ -1,0 +1,189 @@
+-- A run ends, or is stuck at a choice that the rules refuse.
+use Rattle.std.proofs.Common.{◌≡◌, inl, inr, ℕ, zero, suc, ◌<◌, lt-suc_self, Bool, true, false, List, [], ◌∷◌, Option, Some, None, option_map, filter_map, refl, ap, sym, subst, ◌∙◌, cond, ℤ, ◌||◌, nat_lt, nat_le, Result, slice_get, find, arith, eqb-true, ltb-true, leb-false}
+use Rattle.std.specs.List.{cons_option}
+use Rattle.page_types.specs.Tree.{Program}
+use Rattle.page_types.specs.declared.Source.{Source}
+use Rattle.page_types.specs.declared.Source.TheVariants.{User, Net, Dom, Timer, Render, Sched, Idle}
+use Rattle.page_types.specs.declared.End.TheVariants.{Done as DoneEnd}
+use Rattle.page_parts.specs.Words.{is_empty, is_there}
+use Rattle.page_parts.specs.Sources.{default_list, source_number, same_source}
+use Rattle.page_parts.specs.HostClosures.{HostClosure}
+use Rattle.page_parts.specs.WrittenChoices.{Runnable, is_runnable}
+use Rattle.lang_meaning.specs.Machine.{Done, Gives, Throws, Returns, OutOfFuel, finish, afterwards, Caller}
+use Rattle.lang_meaning.specs.Evaluation.{call_from_outside}
+use Rattle.page_model.specs.State.{Page, State, HostTask, Task, SchedTask, on_page}
+use Rattle.page_model.specs.PageTime.{first_task, first_sched, without_sched}
+use Rattle.page_model.specs.Invoke.{in_task}
+use Rattle.page_model.specs.PageSignals.{host_task_of}
+use Rattle.page_model.specs.Tasks.{perform_steps, perform_sched, answer_host, after_task}
+use Rattle.page_model.specs.Operations.{page_operations}
+use Rattle.page_model.specs.Parallel.{item_count}
+use Rattle.page_model.specs.Choosing.{Rules, Chosen, chosen_source, chosen_reading, chosen_answer}
+use Rattle.page_model.specs.View.{first_number, runnable_at, view}
+use Rattle.page_model.specs.Turns.{Turned, GoesOn, Ended, Stuck, goes_on, choose_turned, step_five, task_done, without_task, not_dropped, answered, perform_host, perform_task, perform_first, perform_first_sched, perform, turn_line, perform_picked, step_four, counted_turn, with_turn_fuel, step_three, is_pending, target, waited, step_two_by, step_one, after_step_one, turn, next_turn, turns}
+use Rattle.page_model.specs.Bounds.{turns_or, from_step_one_or, BeginsWell, Refused, EndsOrIsRefused}
+use Rattle.page_model.proofs.HoldingOperations.{outside-go}
+use Rattle.page_model.proofs.HoldingTurns.{legal_choice, TurnKept, turn-kept}
+use Rattle.page_model.proofs.BoundsOfFuel.{turns-agree}
+use Rattle.page_model.proofs.Waiting.{turn-agree}
+use Rattle.page_model.proofs.CountedTurns.{counted, OneMore, one_more_on, one_more}
+
+-- ---- a source that is runnable has a task
+
+place-own : (x : Source) → slice_get default_list (source_number x) ≡ Some x
+place-own User = refl
+place-own Render = refl
+place-own Sched = refl
+place-own Timer = refl
+place-own Net = refl
+place-own Dom = refl
+place-own Idle = refl
+
+some_source : {x s : Source} → Some x ≡ Some s → x ≡ s
+some_source e = Prim.cc
+
+same_is : (x s : Source) → same_source x s ≡ true → x ≡ s
+same_is x s e = some_source (sym (place-own x) ∙ (ap (slice_get default_list) (eqb-true (source_number x) (source_number s) e) ∙ place-own s))
+
+runnable_from : (p : Page) (s : Source) (sources : List Source) → is_runnable (filter_map (runnable_at p) sources) s ≡ true → is_there (first_number p s) ≡ true
+runnable_from p s [] e = absurd Prim.cc
+runnable_from p s (x ∷ sources) e = by_number (first_number p x) refl (runnable_from p s sources) e
+  where
+    by_same : (n : ℕ) → first_number p x ≡ Some n → (b : Bool) → same_source x s ≡ b → (is_runnable (filter_map (runnable_at p) sources) s ≡ true → is_there (first_number p s) ≡ true)
+        → (elim (cond b (Some (record { source = x; first = n })) (find (λ r. same_source r.source s) (filter_map (runnable_at p) sources))) as (λ o. Bool) [ None ↦ false | Some r ↦ true ]) ≡ true → is_there (first_number p s) ≡ true
+    by_same n k true h more e = subst (λ s. is_there (first_number p s) ≡ true) (same_is x s h) (ap is_there k)
+    by_same n k false h more e = more e
+
+    by_number : (o : Option ℕ) → first_number p x ≡ o → (is_runnable (filter_map (runnable_at p) sources) s ≡ true → is_there (first_number p s) ≡ true)
+        → is_runnable (cons_option (option_map (λ n. record { source = x; first = n }) o) (filter_map (runnable_at p) sources)) s ≡ true → is_there (first_number p s) ≡ true
+    by_number None k more e = more e
+    by_number (Some n) k more e = by_same n k (same_source x s) refl more e
+
+pub runnable-there : (p : Page) (s : Source) → is_runnable (view p) s ≡ true → is_there (first_number p s) ≡ true
+runnable-there p s e = runnable_from p s default_list e
+
+-- ---- a turn
+
+right_false : (a b : Bool) → (a || b) ≡ false → b ≡ false
+right_false true b e = absurd Prim.cc
+right_false false b e = e
+
+module _ {C : Type 0} (rules : Rules C) (call : Caller Page) (until : ℕ) where
+  -- a turn goes on or ends, or is stuck at a choice that is refused
+  abbrev pub Fine : Turned C → Type 0
+  Fine (GoesOn m c) = Unit {0}
+  Fine (Ended end m c) = Unit {0}
+  Fine (Stuck m c) = Refused rules until m c
+
+  choose-fine : (b : Bool) (then else : State → Turned C) (m : State) → (b ≡ true → Fine (then m)) → (b ≡ false → Fine (else m)) → Fine (choose_turned b then else m)
+  choose-fine true then else m p q = p refl
+  choose-fine false then else m p q = q refl
+
+  goes_on-fine : (c : C) (d : Done Page) → Fine (goes_on c step_five d)
+  goes_on-fine c (Gives v m) = tt
+  goes_on-fine c (Returns v m) = tt
+  goes_on-fine c (Throws v m) = tt
+  goes_on-fine c (OutOfFuel m) = tt
+
+  task_done-fine : (c : C) (d : Done Page) → Fine (task_done call c d)
+  task_done-fine c d = goes_on-fine c (afterwards d (after_task call))
+
+  answered-fine : (t : HostTask) (k : HostClosure) (a : Option (Chosen (Result ℤ ℤ) C)) (m : State) (c : C) → not_dropped (slice_get m.host.hosts t.closure) ≡ Some k → chosen_answer rules k.kind t.number c ≡ a → Fine (answered call t a m c)
+  answered-fine t k None m c h e = inr (inr (t, k, h, e))
+  answered-fine t k (Some a) m c h e = task_done-fine a.left (finish (on_page (answer_host t a.choice) m))
+
+  perform_host-fine : (t : HostTask) (k : Option HostClosure) (m : State) (c : C) → not_dropped (slice_get m.host.hosts t.closure) ≡ k → Fine (perform_host rules call t k m c)
+  perform_host-fine t None m c h = task_done-fine c (finish m)
+  perform_host-fine t (Some k) m c h = answered-fine t k (chosen_answer rules k.kind t.number c) m c h refl
+
+  perform_task-fine : (task : Task) (t : Option HostTask) (m : State) (c : C) → Fine (perform_task rules call task t m c)
+  perform_task-fine task None m c = task_done-fine c (perform_steps (in_task call) task.steps m)
+  perform_task-fine task (Some t) m c = perform_host-fine t (not_dropped (slice_get m.host.hosts t.closure)) m c refl
+
+  perform_first-fine : (task : Option Task) (m : State) (c : C) → is_there (option_map (λ t. t.number) task) ≡ true → Fine (perform_first rules call task m c)
+  perform_first-fine None m c e = absurd Prim.cc
+  perform_first-fine (Some task) m c e = perform_task-fine task (host_task_of task.steps) (on_page (without_task task.number) m) c
+
+  perform_first_sched-fine : (t : Option SchedTask) (m : State) (c : C) → is_there (option_map (λ t. t.order) t) ≡ true → Fine (perform_first_sched call t m c)
+  perform_first_sched-fine None m c e = absurd Prim.cc
+  perform_first_sched-fine (Some t) m c e = task_done-fine c (perform_sched (in_task call) t (on_page (without_sched t.registration) m))
+
+  perform-fine : (source : Source) (m : State) (c : C) → is_there (first_number m.host source) ≡ true → Fine (perform rules call source m c)
+  perform-fine Sched m c e = perform_first_sched-fine (first_sched m.host) m c e
+  perform-fine User m c e = perform_first-fine (first_task User m.host.tasks) m c e
+  perform-fine Net m c e = perform_first-fine (first_task Net m.host.tasks) m c e
+  perform-fine Dom m c e = perform_first-fine (first_task Dom m.host.tasks) m c e
+  perform-fine Timer m c e = perform_first-fine (first_task Timer m.host.tasks) m c e
+  perform-fine Render m c e = perform_first-fine (first_task Render m.host.tasks) m c e
+  perform-fine Idle m c e = perform_first-fine (first_task Idle m.host.tasks) m c e
+
+  -- what is runnable is so after the line of the turn
+  picked-fine : (rs : List Runnable) (s : Option (Chosen Source C)) (m : State) (c : C) → rs ≡ view m.host → is_empty rs ≡ false → chosen_source rules rs c ≡ s → Fine (perform_picked rules call s m c)
+  picked-fine rs None m c e some k = inl (subst (λ rs. is_empty rs ≡ false) e some, subst (λ rs. chosen_source rules rs c ≡ None) e k)
+  picked-fine rs (Some s) m c e some k =
+      perform-fine s.choice (turn_line (Some s.choice) m) s.left
+      (runnable-there m.host s.choice (subst (λ rs. is_runnable rs s.choice ≡ true) e (legal_choice (is_runnable rs) (rules.source rs c) s k)))
+
+  step_four-fine : (rs : List Runnable) (m : State) (c : C) → rs ≡ view m.host → Fine (step_four rules call rs m c)
+  step_four-fine [] m c e = tt
+  step_four-fine (r ∷ rs) m c e = picked-fine (r ∷ rs) (chosen_source rules (r ∷ rs) c) m c e refl refl
+
+  with_turn_fuel-fine : (fuel : ℕ) (m : State) (c : C) → Fine (with_turn_fuel rules call fuel m c)
+  with_turn_fuel-fine zero m c = tt
+  with_turn_fuel-fine (suc left) m c = step_four-fine (view m.host) (counted_turn left m) c refl
+
+  step_three-fine : (c : C) (m : State) → Fine (step_three rules call until c m)
+  step_three-fine c m = choose-fine (nat_le until m.host.now) _ _ m (λ e. tt) (λ e. with_turn_fuel-fine m.fuel m c)
+
+  waited-fine : (t : ℕ) (r : Option (Chosen ℕ C)) (again : State → C → Turned C) (c : C) (m : State) → target m.host ≡ Some t → m.host.now < t → t < until → chosen_reading rules t c ≡ r → ((m : State) (c : C) → Fine (again m c)) → Fine (waited t r again c m)
+  waited-fine t None again c m at before within e q = inr (inl (t, at, before, within, e))
+  waited-fine t (Some r) again c m at before within e q = q _ r.left
+
+  step_two_by-fine : (t : Option ℕ) (again : State → C → Turned C) (c : C) (m : State) → target m.host ≡ t → ((m : State) (c : C) → Fine (again m c)) → Fine (step_two_by rules until t again (step_three rules call until c) c m)
+  step_two_by-fine None again c m at q = tt
+  step_two_by-fine (Some t) again c m at q =
+      choose-fine (nat_le until m.host.now || nat_le until t) _ _ m (λ e. tt)
+      (λ e. choose-fine (nat_lt m.host.now t) _ _ m
+      (λ before. waited-fine t (chosen_reading rules t c) again c m at (ltb-true m.host.now t before) (leb-false until t (right_false (nat_le until m.host.now) (nat_le until t) e)) refl q)
+      (λ e. step_three-fine c m))
+
+  after_step_one-fine : (again : State → C → Turned C) (c : C) (m : State) → ((m : State) (c : C) → Fine (again m c)) → Fine (after_step_one rules call until again c m)
+  after_step_one-fine again c m q =
+      choose-fine (is_empty (view m.host)) _ _ m
+      (λ e. choose-fine (is_pending m.host) _ _ m (λ e. step_two_by-fine (target m.host) again c m refl q) (λ e. tt))
+      (λ e. step_three-fine c m)
+
+  -- an end, in the place of what a bound's 0 answers
+  ended : State → C → Turned C
+  ended m c = Ended DoneEnd m c
+
+  from_step_one-fine : (n : ℕ) (m : State) (c : C) → Fine (from_step_one_or ended rules call until n m c)
+  unfolding ended
+  from_step_one-fine zero m c = tt
+  from_step_one-fine (suc n) m c = after_step_one-fine (from_step_one_or ended rules call until n) c (step_one m) (from_step_one-fine n)
+
+  pub turn-fine : (m : State) (c : C) → BeginsWell m → Fine (turn rules call until m c)
+  turn-fine m c b = subst Fine (turn-agree rules call until ended (suc (suc (item_count m.host))) m c b (omega arith)) (from_step_one-fine (suc (suc (item_count m.host))) m c)
+
+-- ---- a run
+
+module _ {C : Type 0} (rules : Rules C) (program : Program) (until : ℕ) where
+  abbrev outside : Caller Page
+  outside = call_from_outside program page_operations
+
+  abbrev end : State → C → Turned C
+  end m c = Ended DoneEnd m c
+
+  next-ends : (m : State) (t : Turned C) (next : State → C → Turned C) → Fine rules outside until t → TurnKept program counted OneMore one_more_on one_more m t → ((a : State) (c : C) → BeginsWell a → EndsOrIsRefused rules until (next a c)) → EndsOrIsRefused rules until (next_turn t next)
+  next-ends m (GoesOn a c) next h k q = q a c (λ z. absurd (let counted = k.2 in omega arith))
+  next-ends m (Ended end a c) next h k q = tt
+  next-ends m (Stuck a c) next h k q = h
+
+  row-ends : (n : ℕ) (m : State) (c : C) → BeginsWell m → EndsOrIsRefused rules until (turns_or end rules outside until n m c)
+  row-ends zero m c b = tt
+  row-ends (suc n) m c b =
+      next-ends m (turn rules outside until m c) (turns_or end rules outside until n) (turn-fine rules outside until m c b)
+      (turn-kept program counted OneMore one_more_on one_more rules outside (outside-go program counted) until m c tt) (row-ends n)
+
+  pub turns-end : (m : State) (c : C) → BeginsWell m → EndsOrIsRefused rules until (turns rules outside until (suc m.fuel) m c)
+  turns-end m c b = subst (EndsOrIsRefused rules until) (turns-agree rules program end until (suc m.fuel) (suc m.fuel) m c (lt-suc_self m.fuel) (lt-suc_self m.fuel)) (row-ends (suc m.fuel) m c b)

@@ -1,0 +1,5 @@
+use Rattle.page_model.proofs.Unrolling.{abort-unrolls}
+use Rattle.page_model.proofs.steps.abort_is_a_fold.Goals as goal
+
+pub returns : goal.returns
+returns c = abort-unrolls

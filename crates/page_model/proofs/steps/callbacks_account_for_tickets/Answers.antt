@@ -1,0 +1,5 @@
+use Rattle.page_model.proofs.Tickets.{resume-accounts}
+use Rattle.page_model.proofs.steps.callbacks_account_for_tickets.Goals as goal
+
+pub returns : goal.returns
+returns c = λ ticket end h rest e. resume-accounts h.folds ticket end h.page rest e

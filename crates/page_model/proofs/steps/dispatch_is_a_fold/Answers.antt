@@ -1,0 +1,5 @@
+use Rattle.page_model.proofs.Unrolling.{dispatch-unrolls}
+use Rattle.page_model.proofs.steps.dispatch_is_a_fold.Goals as goal
+
+pub returns : goal.returns
+returns c = dispatch-unrolls
