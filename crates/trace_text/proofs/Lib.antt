@@ -1,6 +1,25 @@
 pub mod Giving
+pub mod Checking
+pub mod Counting
 pub mod Doing
 pub mod SinkText
 mod Appending
 mod LawExamples
 mod LawBreaks
+pub mod Rows
+pub mod Behind
+pub mod ValueNumbers
+pub mod ValueWords
+pub mod WholeValues
+mod Cutting
+mod Counts
+mod FieldWords
+mod EventsRead
+mod SpelledLines
+mod EventsWritten
+mod LinesRead
+mod SoFar
+mod TracesRead
+mod ValuesRead
+mod BadLines
+mod SimpleValues

@@ -1,10 +1,16 @@
-pub mod Spellings
+pub mod Trace
 pub mod EventSeen
 pub mod Line
 pub mod Given
 pub mod Acts
 pub mod Sinks
+pub mod Checks
+pub mod Comparing
+pub mod Summaries
+pub mod Counters
 pub mod History
 pub mod CallLaws
 pub mod TimerLaws
 pub mod SchedulerLaws
+pub mod ValueEnds
+pub mod LineReading

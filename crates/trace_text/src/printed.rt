@@ -1,11 +1,11 @@
 //! Values by their spelling.
 
 ghost use Rattle.std.specs.Prelude.{◌≡◌};
-ghost use Rattle.trace_text.specs.Spellings.{IsSpelling};
+ghost use Rattle.trace_text.specs.Trace.{IsPrinted};
 
 use std::marker::Model;
 
-/// The spelling of a value, of whatever weight. It is seen as the list of its bytes.
+/// The spelling of a value, of whatever weight, in which lists nest at most 64 deep. It is seen as the list of its bytes.
 #[derive(Drop)]
 pub struct Printed {
     bytes: Vec<u8>,
@@ -13,19 +13,19 @@ pub struct Printed {
 
 impl Model for Printed {
     ghost use Rattle.std.specs.Prelude.{List, ℕ};
-    ghost use Rattle.trace_text.specs.Spellings.{IsSpelling};
+    ghost use Rattle.trace_text.specs.Trace.{IsPrinted};
 
     ghost Value = { List ℕ };
 
     ghost view = { λ p. p.bytes.items };
 
-    ghost invariant = { λ p. ∥ IsSpelling p.bytes.items ∥₁ };
+    ghost invariant = { λ p. ∥ IsPrinted p.bytes.items ∥₁ };
 }
 
 impl Printed {
     /// These bytes, which are the spelling of a value. Takes no memory.
     pub fn new(bytes: Vec<u8>) -> Printed
-        requires { IsSpelling bytes.items }
+        requires { IsPrinted bytes.items }
         ensures { result ≡ bytes.items }
     {
         Printed { bytes }
@@ -34,7 +34,7 @@ impl Printed {
     /// The bytes. Takes no memory.
     pub fn bytes(&self) -> &[u8]
         ensures content { result.now ≡ self.now }
-        ensures spelling { ∥ IsSpelling result.now ∥₁ }
+        ensures spelling { ∥ IsPrinted result.now ∥₁ }
     {
         &self.bytes
     }

@@ -43,8 +43,10 @@ impl<O: Sink> Lines for LineSink<O> {
     ghost use Rattle.std.specs.Result.{result_err};
     ghost use Rattle.trace_text.specs.declared.lines.NoLine.TheVariants.{OutOfMemory};
     ghost use Rattle.trace_text.specs.Given.{Gives};
-    ghost use Rattle.trace_text.specs.Line.{Head};
-    ghost use Rattle.trace_text.specs.Sinks.{seen_through, sink_keeping};
+    ghost use Rattle.page_types.specs.Counts.{raised};
+    ghost use Rattle.trace_text.specs.EventSeen.{stamped_seen};
+    ghost use Rattle.trace_text.specs.Line.{Head, Of};
+    ghost use Rattle.trace_text.specs.Sinks.{puts_after, seen_through, sink_keeping};
 
     ghost Told = { List ℕ };
 
@@ -56,6 +58,7 @@ impl<O: Sink> Lines for LineSink<O> {
     fn head(&mut self) -> Result<(), NoLine>
         ensures gives { Gives sink_keeping (seen_through O.bytes O.faults self.old) (Head ∷ []) (result_err result) (seen_through O.bytes O.faults self.new) }
         ensures no_memory { result ≢ Err OutOfMemory }
+        ensures one_put { O.puts self.new ≡ raised (O.puts self.old) }
     {
         match self.out.put(b"trace 1\n") {
             Ok(()) => Ok(()),
@@ -63,7 +66,11 @@ impl<O: Sink> Lines for LineSink<O> {
         }
     }
 
-    fn emit(&mut self, e: &Stamped) -> Result<(), NoLine> {
+    /// For want of memory nothing is put.
+    fn emit(&mut self, e: &Stamped) -> Result<(), NoLine>
+        ensures gives { Gives sink_keeping (seen_through O.bytes O.faults self.old) (Of (stamped_seen e.now) ∷ []) (result_err result) (seen_through O.bytes O.faults self.new) }
+        ensures one_put { O.puts self.new ≡ puts_after (O.puts self.old) result }
+    {
         let mut line = Vec::new(self.alloc);
         write_line(e, &mut line)?;
         match self.out.put(&line) {

@@ -1,6 +1,6 @@
 //! Lines of worked traces, and a sink that takes some.
 
-ghost use Rattle.trace_text.specs.Spellings.{IsSpelling};
+ghost use Rattle.trace_text.specs.Trace.{IsPrinted};
 
 use crate::{
     Event, LineSink, Lines, NoLine, Printed, PrioName, QueueName, Queued, RegKind, Stamped,
@@ -20,7 +20,7 @@ fn at(time: u64, event: Event) -> Stamped {
 }
 
 fn printed(alloc: Global, spelling: &[u8]) -> Result<Printed, AllocError>
-    requires { IsSpelling spelling.now }
+    requires { IsPrinted spelling.now }
 {
     Ok(Printed::new(spelling.to_vec(alloc)?))
 }

@@ -1,16 +1,17 @@
-use Rattle.std.proofs.Common.{[], codes, refl}
+use Rattle.std.proofs.Common.{codes, refl, arith}
 use Rattle.std.specs.Prelude.{pos}
-use Rattle.page_types.specs.Values.{UnitValue, IntValue, TextValue}
+use Rattle.page_values.specs.Spellings.{is_unit, is_int, is_text}
+use Rattle.trace_text.proofs.SimpleValues.{simple_printed}
 use Rattle.trace_text.proofs.tests.lines_with_values.Goals as goal
 
 pub printed-requires : goal.printed-requires
-printed-requires g c = ([], IntValue (pos 3), refl)
+printed-requires g c = simple_printed (codes "3") (is_int (pos 3) (omega arith) refl)
 
 pub printed-requires-2 : goal.printed-requires-2
-printed-requires-2 g c = ([], TextValue (codes "a"), refl)
+printed-requires-2 g c = simple_printed (codes "\"a\"") (is_text (codes "a") refl refl)
 
 pub printed-requires-3 : goal.printed-requires-3
-printed-requires-3 g c = ([], UnitValue, refl)
+printed-requires-3 g c = simple_printed (codes "unit") (is_unit refl)
 
 pub printed-requires-4 : goal.printed-requires-4
-printed-requires-4 g c = ([], TextValue (codes "x"), refl)
+printed-requires-4 g c = simple_printed (codes "\"x\"") (is_text (codes "x") refl refl)

@@ -1,0 +1,237 @@
+-- The text of an event is read as that event, and holds no line feed.
+use Rattle.std.proofs.Common.{◌≡◌, ℕ, Bool, true, false, List, ◌∷◌, ◌++◌, Option, Some, None, Ok, Err, refl, ap, sym, ◌∙◌, arith}
+use Rattle.std.specs.Prelude.{codes, option_map, ℤ, FitsSigned}
+use Rattle.std.specs.Int.{w64}
+use Rattle.page_types.specs.declared.Source.{Source}
+use Rattle.page_types.specs.declared.End.{End}
+use Rattle.page_types.specs.declared.RegKind.{RegKind}
+use Rattle.page_types.specs.declared.Priority.{Priority}
+use Rattle.page_types.specs.Events.{Queued, QueueName, Event, Turn, Call, Ret, Throw, Report, Log, Reg, Arm, Due, Drop, Job, Run, Settle, Period, IdleLine, Frame, Enq, Prio, Abort, Wait, Host, Unhandled, Handled, EndLine}
+use Rattle.page_parts.specs.Words.{decimal_of, int_decimal}
+use Rattle.page_parts.specs.Spelling.{priority_text}
+use Rattle.page_parts.specs.TraceText.{source_text, end_text, kind_text, event_text}
+use Rattle.trace_text.specs.Trace.{IsCount, EventFits}
+use Rattle.trace_text.specs.LineReading.{behind, is_word, count_at, int_at, source_at, kind_at, priority_at, end_at, how_at, form_at, queue_at, queued_at, one, turn_at, reg_at, prio_at, arm_at, job_at, enq_at, host_at, settle_at, answer_of, numbered_at, worded_at, valued_at}
+use Rattle.trace_text.proofs.Cutting.{lacks, lacks-append, cut_front}
+use Rattle.trace_text.proofs.Counts.{count_complete, int_complete, lacks-decimal, lacks-int}
+use Rattle.trace_text.proofs.FieldWords.{source_complete, source_free, kind_complete, kind_free, priority_complete, priority_free, end_complete, end_free, how_word, how_complete, how_free, form_word, form_complete, form_free, queue_word, queue_complete, queue_free, queue_spaceless, queued_word, queued_complete, queued_free}
+use Rattle.trace_text.proofs.EventsRead.{first_of, event_at, job_is, arm_is, enq_is, host_is, settle_is}
+use Rattle.trace_text.proofs.SpelledLines.{printed_free}
+
+-- ---- which fields a word leads to
+
+call_step : (w : List ℕ) (e : Event) → one Call w ≡ Some e → event_at (codes "call " ++ w) ≡ Some e
+unfolding event_at numbered_at worded_at valued_at behind is_word
+call_step w e is = ap (λ o. first_of o None) is
+
+due_step : (w : List ℕ) (e : Event) → one Due w ≡ Some e → event_at (codes "due " ++ w) ≡ Some e
+unfolding event_at numbered_at worded_at valued_at behind is_word
+due_step w e is = ap (λ o. first_of o None) is
+
+drop_step : (w : List ℕ) (e : Event) → one Drop w ≡ Some e → event_at (codes "drop " ++ w) ≡ Some e
+unfolding event_at numbered_at worded_at valued_at behind is_word
+drop_step w e is = ap (λ o. first_of o None) is
+
+run_step : (w : List ℕ) (e : Event) → one Run w ≡ Some e → event_at (codes "run " ++ w) ≡ Some e
+unfolding event_at numbered_at worded_at valued_at behind is_word
+run_step w e is = ap (λ o. first_of o None) is
+
+period_step : (w : List ℕ) (e : Event) → one Period w ≡ Some e → event_at (codes "period " ++ w) ≡ Some e
+unfolding event_at numbered_at worded_at valued_at behind is_word
+period_step w e is = ap (λ o. first_of o None) is
+
+idle_step : (w : List ℕ) (e : Event) → one IdleLine w ≡ Some e → event_at (codes "idle " ++ w) ≡ Some e
+unfolding event_at numbered_at worded_at valued_at behind is_word
+idle_step w e is = ap (λ o. first_of o None) is
+
+frame_step : (w : List ℕ) (e : Event) → one Frame w ≡ Some e → event_at (codes "frame " ++ w) ≡ Some e
+unfolding event_at numbered_at worded_at valued_at behind is_word
+frame_step w e is = ap (λ o. first_of o None) is
+
+abort_step : (w : List ℕ) (e : Event) → one Abort w ≡ Some e → event_at (codes "abort " ++ w) ≡ Some e
+unfolding event_at numbered_at worded_at valued_at behind is_word
+abort_step w e is = ap (λ o. first_of o None) is
+
+wait_step : (w : List ℕ) (e : Event) → one Wait w ≡ Some e → event_at (codes "wait " ++ w) ≡ Some e
+unfolding event_at numbered_at worded_at valued_at behind is_word
+wait_step w e is = ap (λ o. first_of o None) is
+
+unhandled_step : (w : List ℕ) (e : Event) → one Unhandled w ≡ Some e → event_at (codes "unhandled " ++ w) ≡ Some e
+unfolding event_at numbered_at worded_at valued_at behind is_word
+unhandled_step w e is = ap (λ o. first_of o None) is
+
+handled_step : (w : List ℕ) (e : Event) → one Handled w ≡ Some e → event_at (codes "handled " ++ w) ≡ Some e
+unfolding event_at numbered_at worded_at valued_at behind is_word
+handled_step w e is = ap (λ o. first_of o None) is
+
+turn_step : (w : List ℕ) (e : Event) → turn_at w ≡ Some e → event_at (codes "turn " ++ w) ≡ Some e
+unfolding event_at numbered_at worded_at valued_at behind is_word
+turn_step w e is = ap (λ o. first_of o None) is
+
+reg_step : (w : List ℕ) (e : Event) → reg_at w ≡ Some e → event_at (codes "reg " ++ w) ≡ Some e
+unfolding event_at numbered_at worded_at valued_at behind is_word
+reg_step w e is = ap (λ o. first_of o None) is
+
+arm_step : (w : List ℕ) (e : Event) → arm_at w ≡ Some e → event_at (codes "arm " ++ w) ≡ Some e
+unfolding event_at numbered_at worded_at valued_at behind is_word
+arm_step w e is = ap (λ o. first_of o None) is
+
+job_step : (w : List ℕ) (e : Event) → job_at w ≡ Some e → event_at (codes "job " ++ w) ≡ Some e
+unfolding event_at numbered_at worded_at valued_at behind is_word
+job_step w e is = ap (λ o. first_of o None) is
+
+enq_step : (w : List ℕ) (e : Event) → enq_at w ≡ Some e → event_at (codes "enq " ++ w) ≡ Some e
+unfolding event_at numbered_at worded_at valued_at behind is_word
+enq_step w e is = ap (λ o. first_of o None) is
+
+prio_step : (w : List ℕ) (e : Event) → prio_at w ≡ Some e → event_at (codes "prio " ++ w) ≡ Some e
+unfolding event_at numbered_at worded_at valued_at behind is_word
+prio_step w e is = ap (λ o. first_of o None) is
+
+host_step : (w : List ℕ) (e : Event) → host_at w ≡ Some e → event_at (codes "host " ++ w) ≡ Some e
+unfolding event_at numbered_at worded_at valued_at behind is_word
+host_step w e is = ap (λ o. first_of o None) is
+
+end_step : (x : End) (w : List ℕ) → end_at w ≡ Some x → event_at (codes "end " ++ w) ≡ Some (EndLine x)
+unfolding event_at numbered_at worded_at valued_at behind is_word
+end_step x w is = ap (λ o. first_of (option_map EndLine o) None) is
+
+ret_step : event_at (codes "ret") ≡ Some Ret
+unfolding event_at numbered_at worded_at valued_at behind is_word
+ret_step = refl
+
+settle_step : (w : List ℕ) (e : Event) → settle_at w ≡ Some e → event_at (codes "settle " ++ w) ≡ Some e
+unfolding event_at numbered_at worded_at valued_at behind is_word
+settle_step w e is = is
+
+throw_step : (v : List ℕ) → event_at (codes "throw " ++ v) ≡ Some (Throw v)
+unfolding event_at numbered_at worded_at valued_at behind is_word
+throw_step v = refl
+
+report_step : (v : List ℕ) → event_at (codes "report " ++ v) ≡ Some (Report v)
+unfolding event_at numbered_at worded_at valued_at behind is_word
+report_step v = refl
+
+log_step : (v : List ℕ) → event_at (codes "log " ++ v) ≡ Some (Log v)
+unfolding event_at numbered_at worded_at valued_at behind is_word
+log_step v = refl
+
+-- ---- fields that are read
+
+one_reads : (event : ℕ → Event) (n : ℕ) → IsCount n → one event (decimal_of n) ≡ Some (event n)
+unfolding one
+one_reads event n fits = ap (option_map event) (count_complete n fits)
+
+turn_reads : (a0 a1 : List ℕ) (n0 : ℕ) (n1 : Option Source) → lacks 32 a0 ≡ true → count_at a0 ≡ Some n0 → source_at a1 ≡ Some n1 → turn_at (a0 ++ 32 ∷ a1) ≡ Some (Turn n0 n1)
+unfolding turn_at
+turn_reads a0 a1 n0 n1 h0 g0 g1 = rw (cut_front 32 a0 (a1) h0, g0, g1) refl
+
+reg_reads : (a0 a1 : List ℕ) (n0 : ℕ) (n1 : RegKind) → lacks 32 a0 ≡ true → count_at a0 ≡ Some n0 → kind_at a1 ≡ Some n1 → reg_at (a0 ++ 32 ∷ a1) ≡ Some (Reg n0 n1)
+unfolding reg_at
+reg_reads a0 a1 n0 n1 h0 g0 g1 = rw (cut_front 32 a0 (a1) h0, g0, g1) refl
+
+prio_reads : (a0 a1 : List ℕ) (n0 : ℕ) (n1 : Priority) → lacks 32 a0 ≡ true → count_at a0 ≡ Some n0 → priority_at a1 ≡ Some n1 → prio_at (a0 ++ 32 ∷ a1) ≡ Some (Prio n0 n1)
+unfolding prio_at
+prio_reads a0 a1 n0 n1 h0 g0 g1 = rw (cut_front 32 a0 (a1) h0, g0, g1) refl
+
+arm_reads : (a0 a1 a2 : List ℕ) (n0 : ℕ) (n1 : ℕ) (n2 : ℕ) → lacks 32 a0 ≡ true → lacks 32 a1 ≡ true → count_at a0 ≡ Some n0 → count_at a1 ≡ Some n1 → count_at a2 ≡ Some n2 → arm_at (a0 ++ 32 ∷ (a1 ++ 32 ∷ a2)) ≡ Some (Arm n0 n1 n2)
+unfolding arm_at
+arm_reads a0 a1 a2 n0 n1 n2 h0 h1 g0 g1 g2 = rw (cut_front 32 a0 (a1 ++ 32 ∷ a2) h0, cut_front 32 a1 (a2) h1, g0, g1, g2) refl
+
+job_reads : (a0 a1 : List ℕ) (n0 : ℕ) (n1 : Queued) → lacks 32 a0 ≡ true → count_at a0 ≡ Some n0 → queued_at a1 ≡ Some n1 → job_at (a0 ++ 32 ∷ a1) ≡ Some (Job n0 n1)
+unfolding job_at
+job_reads a0 a1 n0 n1 h0 g0 g1 = rw (cut_front 32 a0 (a1) h0, g0, g1) refl
+
+enq_reads : (a0 a1 a2 a3 : List ℕ) (n0 : ℕ) (n1 : QueueName) (n2 : Bool) (n3 : ℕ) → lacks 32 a0 ≡ true → lacks 32 a1 ≡ true → lacks 32 a2 ≡ true → count_at a0 ≡ Some n0 → queue_at a1 ≡ Some n1 → form_at a2 ≡ Some n2 → count_at a3 ≡ Some n3 → enq_at (a0 ++ 32 ∷ (a1 ++ 32 ∷ (a2 ++ 32 ∷ a3))) ≡ Some (Enq n0 n1 n2 n3)
+unfolding enq_at
+enq_reads a0 a1 a2 a3 n0 n1 n2 n3 h0 h1 h2 g0 g1 g2 g3 = rw (cut_front 32 a0 (a1 ++ 32 ∷ (a2 ++ 32 ∷ a3)) h0, cut_front 32 a1 (a2 ++ 32 ∷ a3) h1, cut_front 32 a2 (a3) h2, g0, g1, g2, g3) refl
+
+host_reads : (a0 a1 a2 a3 : List ℕ) (n0 : ℕ) (n1 : ℤ) (n2 : Bool) (n3 : ℤ) → lacks 32 a0 ≡ true → lacks 32 a1 ≡ true → lacks 32 a2 ≡ true → count_at a0 ≡ Some n0 → int_at a1 ≡ Some n1 → how_at a2 ≡ Some n2 → int_at a3 ≡ Some n3 → host_at (a0 ++ 32 ∷ (a1 ++ 32 ∷ (a2 ++ 32 ∷ a3))) ≡ Some (Host n0 n1 (answer_of n2 n3))
+unfolding host_at
+host_reads a0 a1 a2 a3 n0 n1 n2 n3 h0 h1 h2 g0 g1 g2 g3 = rw (cut_front 32 a0 (a1 ++ 32 ∷ (a2 ++ 32 ∷ a3)) h0, cut_front 32 a1 (a2 ++ 32 ∷ a3) h1, cut_front 32 a2 (a3) h2, g0, g1, g2, g3) refl
+
+settle_reads : (a0 a1 v : List ℕ) (n : ℕ) (ok : Bool) → lacks 32 a0 ≡ true → lacks 32 a1 ≡ true → count_at a0 ≡ Some n → how_at a1 ≡ Some ok → settle_at (a0 ++ 32 ∷ (a1 ++ 32 ∷ v)) ≡ Some (Settle n ok v)
+unfolding settle_at
+settle_reads a0 a1 v n ok h0 h1 g0 g1 = rw (cut_front 32 a0 (a1 ++ 32 ∷ v) h0, cut_front 32 a1 v h1, g0, g1) refl
+
+-- ---- all events
+
+spaceless : (n : ℕ) → IsCount n → lacks 32 (decimal_of n) ≡ true
+spaceless n h = lacks-decimal 32 n (omega arith) h
+
+host_read : (k : ℕ) (x : ℤ) (ok : Bool) (v : ℤ) → IsCount k → FitsSigned w64 x → FitsSigned w64 v → event_at (event_text (Host k x (answer_of ok v))) ≡ Some (Host k x (answer_of ok v))
+host_read k x ok v hk hx hv =
+    ap event_at (sym (host_is k x ok v))
+    ∙ host_step _ _ (host_reads (decimal_of k) (int_decimal x) (how_word ok) (int_decimal v) k x ok v (spaceless k hk) (lacks-int 32 x (omega arith) hx) (how_free false ok) (count_complete k hk) (int_complete x hx) (how_complete ok) (int_complete v hv))
+
+-- each event is read back from its text
+pub event_read : (e : Event) → EventFits e → event_at (event_text e) ≡ Some e
+event_read (Turn n s) h = turn_step _ _ (turn_reads (decimal_of n) (source_text s) n s (spaceless n h) (count_complete n h) (source_complete s))
+event_read (Call n) h = call_step _ _ (one_reads Call n h)
+event_read Ret h = ret_step
+event_read (Throw v) h = throw_step v
+event_read (Report v) h = report_step v
+event_read (Log v) h = log_step v
+event_read (Reg r kind) h = reg_step _ _ (reg_reads (decimal_of r) (kind_text kind) r kind (spaceless r h) (count_complete r h) (kind_complete kind))
+event_read (Arm r due level) h = ap event_at (sym (arm_is r due level)) ∙ arm_step _ _ (arm_reads (decimal_of r) (decimal_of due) (decimal_of level) r due level (spaceless r h.0) (spaceless due h.1) (count_complete r h.0) (count_complete due h.1) (count_complete level h.2))
+event_read (Due n) h = due_step _ _ (one_reads Due n h)
+event_read (Drop n) h = drop_step _ _ (one_reads Drop n h)
+event_read (Job j q) h = ap event_at (sym (job_is j q)) ∙ job_step _ _ (job_reads (decimal_of j) (queued_word q) j q (spaceless j h.0) (count_complete j h.0) (queued_complete q h.1))
+event_read (Run n) h = run_step _ _ (one_reads Run n h)
+event_read (Settle n ok v) h = ap event_at (sym (settle_is n ok v)) ∙ settle_step _ _ (settle_reads (decimal_of n) (how_word ok) v n ok (spaceless n h.0) (how_free false ok) (count_complete n h.0) (how_complete ok))
+event_read (Period n) h = period_step _ _ (one_reads Period n h)
+event_read (IdleLine n) h = idle_step _ _ (one_reads IdleLine n h)
+event_read (Frame n) h = frame_step _ _ (one_reads Frame n h)
+event_read (Enq r q c n) h =
+    ap event_at (sym (enq_is r q c n))
+    ∙ enq_step _ _ (enq_reads (decimal_of r) (queue_word q) (form_word c) (decimal_of n) r q c n (spaceless r h.0) (queue_spaceless q h.1) (form_free false c) (count_complete r h.0) (queue_complete q h.1) (form_complete c) (count_complete n h.2))
+event_read (Prio s priority) h = prio_step _ _ (prio_reads (decimal_of s) (priority_text priority) s priority (spaceless s h) (count_complete s h) (priority_complete priority))
+event_read (Abort n) h = abort_step _ _ (one_reads Abort n h)
+event_read (Wait n) h = wait_step _ _ (one_reads Wait n h)
+event_read (Host k x (Ok v)) h = host_read k x true v h.0 h.1 h.2
+event_read (Host k x (Err v)) h = host_read k x false v h.0 h.1 h.2
+event_read (Unhandled n) h = unhandled_step _ _ (one_reads Unhandled n h)
+event_read (Handled n) h = handled_step _ _ (one_reads Handled n h)
+event_read (EndLine x) h = end_step x (end_text x) (end_complete x)
+
+-- ---- no line feed
+
+number_free : (n : ℕ) → IsCount n → lacks 10 (decimal_of n) ≡ true
+number_free n h = lacks-decimal 10 n (omega arith) h
+
+int_free : (z : ℤ) → FitsSigned w64 z → lacks 10 (int_decimal z) ≡ true
+int_free z h = lacks-int 10 z (omega arith) h
+
+two_free : (a b : List ℕ) → lacks 10 a ≡ true → lacks 10 b ≡ true → lacks 10 (a ++ 32 ∷ b) ≡ true
+two_free a b p q = lacks-append 10 a (32 ∷ b) p q
+
+host_free : (k : ℕ) (x : ℤ) (ok : Bool) (v : ℤ) → IsCount k → FitsSigned w64 x → FitsSigned w64 v → lacks 10 (event_text (Host k x (answer_of ok v))) ≡ true
+host_free k x ok v hk hx hv = ap (lacks 10) (sym (host_is k x ok v)) ∙ two_free (decimal_of k) _ (number_free k hk) (two_free (int_decimal x) _ (int_free x hx) (two_free (how_word ok) (int_decimal v) (how_free true ok) (int_free v hv)))
+
+pub event_free : (e : Event) → EventFits e → lacks 10 (event_text e) ≡ true
+event_free (Turn n s) h = two_free (decimal_of n) (source_text s) (number_free n h) (source_free s)
+event_free (Call n) h = number_free n h
+event_free Ret h = refl
+event_free (Throw v) h = printed_free v h
+event_free (Report v) h = printed_free v h
+event_free (Log v) h = printed_free v h
+event_free (Reg r kind) h = two_free (decimal_of r) (kind_text kind) (number_free r h) (kind_free kind)
+event_free (Arm r due level) h = ap (lacks 10) (sym (arm_is r due level)) ∙ two_free (decimal_of r) _ (number_free r h.0) (two_free (decimal_of due) (decimal_of level) (number_free due h.1) (number_free level h.2))
+event_free (Due n) h = number_free n h
+event_free (Drop n) h = number_free n h
+event_free (Job j q) h = ap (lacks 10) (sym (job_is j q)) ∙ two_free (decimal_of j) (queued_word q) (number_free j h.0) (queued_free q h.1)
+event_free (Run n) h = number_free n h
+event_free (Settle n ok v) h = ap (lacks 10) (sym (settle_is n ok v)) ∙ two_free (decimal_of n) _ (number_free n h.0) (two_free (how_word ok) v (how_free true ok) (printed_free v h.1))
+event_free (Period n) h = number_free n h
+event_free (IdleLine n) h = number_free n h
+event_free (Frame n) h = number_free n h
+event_free (Enq r q c n) h =
+    ap (lacks 10) (sym (enq_is r q c n)) ∙ two_free (decimal_of r) _ (number_free r h.0) (two_free (queue_word q) _ (queue_free q h.1) (two_free (form_word c) (decimal_of n) (form_free true c) (number_free n h.2)))
+event_free (Prio s priority) h = two_free (decimal_of s) (priority_text priority) (number_free s h) (priority_free priority)
+event_free (Abort n) h = number_free n h
+event_free (Wait n) h = number_free n h
+event_free (Host k x (Ok v)) h = host_free k x true v h.0 h.1 h.2
+event_free (Host k x (Err v)) h = host_free k x false v h.0 h.1 h.2
+event_free (Unhandled n) h = number_free n h
+event_free (Handled n) h = number_free n h
+event_free (EndLine x) h = end_free x

@@ -1,0 +1,10 @@
+use Rattle.std.proofs.Common.{◌≡◌, length, find}
+use Rattle.page_parts.specs.TraceText.{source_text}
+use Rattle.trace_text.specs.LineReading.{is_word}
+use Rattle.trace_text.proofs.word_tables.source_among.Given as goal
+
+abbrev pub invariant-loop-source : goal.invariant-loop-source
+invariant-loop-source l = find (λ source. is_word (source_text source) l.word) l.rest ≡ find (λ source. is_word (source_text source) l.word) l.sources
+
+abbrev pub decreases-loop-source : goal.decreases-loop-source
+decreases-loop-source l = length l.rest

@@ -1,0 +1,41 @@
+-- How lines are compared with those of a trace that is kept.
+use Rattle.std.specs.Prelude.{ℕ, zero, suc, Bool, true, false, cond, List, [], ◌∷◌, map, Option, Some, None}
+use Rattle.page_types.specs.Events.{Stamped}
+use Rattle.page_parts.specs.Words.{same_bytes}
+use Rattle.page_parts.specs.TraceText.{line_text}
+use Rattle.trace_text.specs.Line.{Line, Head, Of}
+use Rattle.trace_text.specs.Given.{Keeping, Seen}
+
+-- the lines of a trace that were not yet met, and how many were
+pub record Kept : Type 0 where
+  pub left : List Line
+  pub matched : ℕ
+
+-- the lines of a trace: its head, and one for each event
+abbrev pub lines_of : List Stamped → List Line
+lines_of es = Head ∷ map Of es
+
+-- The lines of a trace that are left where so many were met and these events are left: before its first line the whole
+-- trace, head and all.
+abbrev pub kept_lines : List Stamped → ℕ → List Line
+kept_lines es zero = lines_of es
+kept_lines es (suc matched) = map Of es
+
+-- two lines are the same where both are the head, or lines of events with the same text
+abbrev pub same_line : Line → Line → Bool
+same_line Head Head = true
+same_line (Of a) (Of b) = same_bytes (line_text a) (line_text b)
+same_line a b = false
+
+-- what is kept after a line, where these were kept: none where the next one is another or absent
+abbrev pub met : List Line → ℕ → Line → Option Kept
+met [] matched line = None
+met (next ∷ left) matched line = cond (same_line next line) (Some (record { left = left; matched = suc matched })) None
+
+-- no line fails
+abbrev pub check_keeping : Keeping Kept
+check_keeping = record { rule = λ kept line. met kept.left kept.matched line; left = λ kept line after. ⊥ }
+
+-- what is seen of a comparison: the lines that are left, and how often one differed
+abbrev pub seen_kept : Kept → ℕ → Seen Kept
+seen_kept kept refusals = record { told = Some kept; faults = 0; refusals = refusals }

@@ -1,0 +1,14 @@
+-- What a comparison of lines is seen as.
+use Rattle.std.specs.Prelude.{ℕ, List, map}
+use Rattle.trace_text.specs.declared.event.Stamped.{Stamped}
+use Rattle.trace_text.specs.EventSeen.{stamped_seen}
+use Rattle.trace_text.specs.Checks.{Kept, kept_lines}
+
+-- the events of the trace whose lines are left, how many lines were met, the head among them, and how often one differed
+pub record Comparison : Type 0 where
+  pub left : List Stamped
+  pub matched : ℕ
+  pub refusals : ℕ
+
+abbrev pub kept_in : Comparison → Kept
+kept_in c = record { left = kept_lines (map stamped_seen c.left) c.matched; matched = c.matched }

@@ -1,0 +1,262 @@
+-- How one line of a trace is read, by its fields.
+use Rattle.std.specs.Prelude.{◌≡◌, ◌≢◌, ℕ, zero, suc, Bool, true, false, cond, ◌==◌, List, [], ◌∷◌, ◌++◌, Option, Some, None, option_map, Result, Ok, Err, ℤ, pos, negsuc, codes, find}
+use Rattle.page_types.specs.declared.Source.{Source}
+use Rattle.page_types.specs.declared.Source.TheVariants.{User, Net, Dom, Timer, Render, Sched, Idle}
+use Rattle.page_types.specs.declared.End.{End}
+use Rattle.page_types.specs.declared.End.TheVariants.{Done as DoneEnd, Fuel as FuelEnd, Clock as ClockEnd}
+use Rattle.page_types.specs.declared.RegKind.{RegKind}
+use Rattle.page_types.specs.declared.RegKind.TheVariants.{Timeout as TimeoutKind, Interval as IntervalKind, Frame as FrameKind, Idle as IdleKind, Post as PostKind, Yield as YieldKind, Host as HostKind, Listener as ListenerKind, Then as ThenKind, Micro as MicroKind, Signal as SignalKind}
+use Rattle.page_types.specs.declared.Priority.{Priority}
+use Rattle.page_types.specs.declared.Priority.TheVariants.{Background, UserVisible, UserBlocking}
+use Rattle.page_types.specs.Events.{Queued, MicroJob, ReactJob, AdoptJob, QueueName, FixedQueue, SignalQueue, Event, Turn, Call, Ret, Throw, Report, Log, Reg, Arm, Due, Drop, Job, Run, Settle, Period, IdleLine, Frame, Enq, Prio, Abort, Wait, Host, Unhandled, Handled, EndLine, Stamped}
+use Rattle.page_parts.specs.Words.{is_empty, same_bytes, decimal_of}
+use Rattle.page_parts.specs.Spelling.{priority_text}
+use Rattle.page_parts.specs.TraceText.{source_text, end_text, kind_text, event_text}
+use Rattle.page_base.specs.Decimals.{number_at, after_digits}
+use Rattle.trace_text.specs.Trace.{IsPrinted, EventFits, Fits}
+
+-- ---- Ours: cutting bytes
+
+-- what follows a start, where the bytes begin with it
+abbrev pub behind_start : List ℕ → List ℕ → Option (List ℕ)
+behind_start [] bytes = Some bytes
+behind_start (c ∷ start) [] = None
+behind_start (c ∷ start) (b ∷ bytes) = cond (b == c) (behind_start start bytes) None
+
+-- the same, for any start
+unfoldable pub behind : List ℕ → List ℕ → Option (List ℕ)
+behind start bytes = behind_start start bytes
+
+-- whether the bytes are this word
+unfoldable pub is_word : List ℕ → List ℕ → Bool
+is_word word bytes = same_bytes word bytes
+
+-- what stands before the first byte of a kind, and what stands behind it
+abbrev pub cut_at : ℕ → List ℕ → Option (List ℕ × List ℕ)
+cut_at byte [] = None
+cut_at byte (b ∷ bytes) = cond (b == byte) (Some ([], bytes)) (option_map (λ c. (b ∷ c.0, c.1)) (cut_at byte bytes))
+
+-- the answer and what it leads to; none where one of them is none
+infixl 10 ◌>>=◌
+abbrev pub ◌>>=◌ : {A B : Type 0} → Option A → (A → Option B) → Option B
+None >>= next = None
+(Some x) >>= next = next x
+
+-- what the rest is read as, where there is one, or else the other answer
+abbrev pub or_else : {X : Type 0} → Option (List ℕ) → (List ℕ → Option X) → Option X → Option X
+or_else None read other = other
+or_else (Some rest) read other = read rest
+
+-- the value, where the test holds
+abbrev pub where_true : {X : Type 0} → Bool → X → Option X
+where_true test x = cond test (Some x) None
+
+-- ---- Ours: fields
+
+-- the number at most so great whose canonical decimal the bytes are
+unfoldable pub number_in : ℕ → List ℕ → Option ℕ
+number_in most bytes = number_at most bytes >>= λ n. where_true (is_empty (after_digits bytes)) n
+
+-- a number below 2 ^ 64
+unfoldable pub count_at : List ℕ → Option ℕ
+count_at bytes = number_in 18446744073709551615 bytes
+
+-- the integer with this size below 0
+abbrev pub negative : ℕ → Option ℤ
+negative zero = None
+negative (suc n) = Some (negsuc n)
+
+-- an integer of 64 bits; `-` stands only before a number that is not 0
+unfoldable pub int_at : List ℕ → Option ℤ
+int_at bytes =
+    or_else (behind (codes "-") bytes) (λ digits. number_in 9223372036854775808 digits >>= negative)
+    (option_map pos (number_in 9223372036854775807 bytes))
+
+-- all words of a kind
+abbrev pub all_sources : List (Option Source)
+all_sources = None ∷ Some User ∷ Some Net ∷ Some Dom ∷ Some Timer ∷ Some Render ∷ Some Sched ∷ Some Idle ∷ []
+
+abbrev pub all_kinds : List RegKind
+all_kinds = TimeoutKind ∷ IntervalKind ∷ FrameKind ∷ IdleKind ∷ PostKind ∷ YieldKind ∷ HostKind ∷ ListenerKind ∷ ThenKind ∷ MicroKind ∷ SignalKind ∷ []
+
+abbrev pub all_priorities : List Priority
+all_priorities = Background ∷ UserVisible ∷ UserBlocking ∷ []
+
+abbrev pub all_ends : List End
+all_ends = DoneEnd ∷ FuelEnd ∷ ClockEnd ∷ []
+
+-- the source, the kind, the priority, the end of this word
+unfoldable pub source_at : List ℕ → Option (Option Source)
+source_at word = find (λ s. is_word (source_text s) word) all_sources
+
+unfoldable pub kind_at : List ℕ → Option RegKind
+kind_at word = find (λ k. is_word (kind_text k) word) all_kinds
+
+unfoldable pub priority_at : List ℕ → Option Priority
+priority_at word = find (λ p. is_word (priority_text p) word) all_priorities
+
+unfoldable pub end_at : List ℕ → Option End
+end_at word = find (λ e. is_word (end_text e) word) all_ends
+
+-- `ok` or `err`
+unfoldable pub how_at : List ℕ → Option Bool
+how_at word = cond (is_word (codes "ok") word) (Some true) (cond (is_word (codes "err") word) (Some false) None)
+
+-- `cont` or `task`
+unfoldable pub form_at : List ℕ → Option Bool
+form_at word = cond (is_word (codes "cont") word) (Some true) (cond (is_word (codes "task") word) (Some false) None)
+
+-- a priority, or `s` and the number of a signal
+unfoldable pub queue_at : List ℕ → Option QueueName
+queue_at word = or_else (behind (codes "s") word) (λ digits. option_map SignalQueue (count_at digits)) (option_map FixedQueue (priority_at word))
+
+-- `micro`, `react` or `adopt`, and a number
+unfoldable pub queued_at : List ℕ → Option Queued
+queued_at bytes =
+    or_else (behind (codes "micro ") bytes) (λ digits. option_map MicroJob (count_at digits))
+    (or_else (behind (codes "react ") bytes) (λ digits. option_map ReactJob (count_at digits))
+    (or_else (behind (codes "adopt ") bytes) (λ digits. option_map AdoptJob (count_at digits)) None))
+
+-- ---- Ours: the fields of events
+
+-- an event with one number
+unfoldable pub one : (ℕ → Event) → List ℕ → Option Event
+one event bytes = option_map event (count_at bytes)
+
+unfoldable pub turn_at : List ℕ → Option Event
+turn_at bytes = do
+  first ← cut_at 32 bytes
+  n ← count_at first.0
+  source ← source_at first.1
+  Some (Turn n source)
+
+unfoldable pub reg_at : List ℕ → Option Event
+reg_at bytes = do
+  first ← cut_at 32 bytes
+  r ← count_at first.0
+  kind ← kind_at first.1
+  Some (Reg r kind)
+
+unfoldable pub prio_at : List ℕ → Option Event
+prio_at bytes = do
+  first ← cut_at 32 bytes
+  s ← count_at first.0
+  priority ← priority_at first.1
+  Some (Prio s priority)
+
+unfoldable pub arm_at : List ℕ → Option Event
+arm_at bytes = do
+  first ← cut_at 32 bytes
+  second ← cut_at 32 first.1
+  r ← count_at first.0
+  due ← count_at second.0
+  level ← count_at second.1
+  Some (Arm r due level)
+
+unfoldable pub job_at : List ℕ → Option Event
+job_at bytes = do
+  first ← cut_at 32 bytes
+  j ← count_at first.0
+  what ← queued_at first.1
+  Some (Job j what)
+
+unfoldable pub enq_at : List ℕ → Option Event
+enq_at bytes = do
+  first ← cut_at 32 bytes
+  second ← cut_at 32 first.1
+  third ← cut_at 32 second.1
+  r ← count_at first.0
+  queue ← queue_at second.0
+  continuation ← form_at third.0
+  n ← count_at third.1
+  Some (Enq r queue continuation n)
+
+-- the answer of a host closure: its value, or its fault
+abbrev pub answer_of : Bool → ℤ → Result ℤ ℤ
+answer_of true value = Ok value
+answer_of false value = Err value
+
+unfoldable pub host_at : List ℕ → Option Event
+host_at bytes = do
+  first ← cut_at 32 bytes
+  second ← cut_at 32 first.1
+  third ← cut_at 32 second.1
+  k ← count_at first.0
+  x ← int_at second.0
+  ok ← how_at third.0
+  value ← int_at third.1
+  Some (Host k x (answer_of ok value))
+
+-- the value is the rest of the line, as it stands
+unfoldable pub settle_at : List ℕ → Option Event
+settle_at bytes = do
+  first ← cut_at 32 bytes
+  second ← cut_at 32 first.1
+  p ← count_at first.0
+  ok ← how_at second.0
+  Some (Settle p ok second.1)
+
+-- ---- Ours: events
+
+-- the events with one number
+unfoldable pub numbered_at : List ℕ → Option Event
+numbered_at bytes =
+    or_else (behind (codes "call ") bytes) (one Call)
+    (or_else (behind (codes "due ") bytes) (one Due)
+    (or_else (behind (codes "drop ") bytes) (one Drop)
+    (or_else (behind (codes "run ") bytes) (one Run)
+    (or_else (behind (codes "period ") bytes) (one Period)
+    (or_else (behind (codes "idle ") bytes) (one IdleLine)
+    (or_else (behind (codes "frame ") bytes) (one Frame)
+    (or_else (behind (codes "abort ") bytes) (one Abort)
+    (or_else (behind (codes "wait ") bytes) (one Wait)
+    (or_else (behind (codes "unhandled ") bytes) (one Unhandled)
+    (or_else (behind (codes "handled ") bytes) (one Handled) None))))))))))
+
+-- the events with other fields, but no value
+unfoldable pub worded_at : List ℕ → Option Event
+worded_at bytes =
+    cond (is_word (codes "ret") bytes) (Some Ret)
+    (or_else (behind (codes "turn ") bytes) turn_at
+    (or_else (behind (codes "reg ") bytes) reg_at
+    (or_else (behind (codes "arm ") bytes) arm_at
+    (or_else (behind (codes "job ") bytes) job_at
+    (or_else (behind (codes "enq ") bytes) enq_at
+    (or_else (behind (codes "prio ") bytes) prio_at
+    (or_else (behind (codes "host ") bytes) host_at
+    (or_else (behind (codes "end ") bytes) (λ word. option_map EndLine (end_at word)) None))))))))
+
+-- the events with a value
+unfoldable pub valued_at : List ℕ → Option Event
+valued_at bytes =
+    or_else (behind (codes "throw ") bytes) (λ v. Some (Throw v))
+    (or_else (behind (codes "report ") bytes) (λ v. Some (Report v))
+    (or_else (behind (codes "log ") bytes) (λ v. Some (Log v))
+    (or_else (behind (codes "settle ") bytes) settle_at None)))
+
+-- ---- Ours: what a reading tells
+
+-- some bytes, as a value, or as none
+abbrev pub IsValueRead : List ℕ → Option (List ℕ) → Type 0
+IsValueRead bytes None = IsPrinted bytes → ⊥
+IsValueRead bytes (Some value) = (value ≡ bytes) × IsPrinted bytes
+
+-- an event by its fields, of which the value is then tested
+abbrev pub IsTested : Option Event → Option Event → Type 0
+IsTested None read = read ≡ None
+IsTested (Some e) None = EventFits e → ⊥
+IsTested (Some e) (Some read) = (read ≡ e) × EventFits e
+
+-- some bytes, as the text of an event, or as that of none
+abbrev pub IsEventRead : List ℕ → Option Event → Type 0
+IsEventRead bytes None = (e : Event) → EventFits e → bytes ≢ event_text e
+IsEventRead bytes (Some e) = EventFits e × (bytes ≡ event_text e)
+
+-- the line of an event, without its LF
+abbrev pub body_of : Stamped → List ℕ
+body_of e = decimal_of e.time ++ 32 ∷ event_text e.event
+
+-- a line without its LF, as that of an event, or as that of none
+abbrev pub IsRead : List ℕ → Option Stamped → Type 0
+IsRead line None = (e : Stamped) → Fits e → line ≢ body_of e
+IsRead line (Some e) = Fits e × (line ≡ body_of e)

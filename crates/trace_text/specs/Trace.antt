@@ -1,0 +1,104 @@
+-- What is a trace, and where some bytes stop being one.
+use Rattle.std.specs.Prelude.{◌≡◌, ◌≢◌, ℕ, ◌+◌, ◌<◌, ◌^◌, Bool, true, false, not, ◌&&◌, nat_le, List, [], ◌∷◌, ◌++◌, length, ℤ, Result, Ok, Err, FitsSigned, IsTrue, All, codes}
+use Rattle.std.specs.Int.{w64}
+use Rattle.page_types.specs.Events.{Queued, MicroJob, ReactJob, AdoptJob, QueueName, FixedQueue, SignalQueue, Event, Turn, Call, Ret, Throw, Report, Log, Reg, Arm, Due, Drop, Job, Run, Settle, Period, IdleLine, Frame, Enq, Prio, Abort, Wait, Host, Unhandled, Handled, EndLine, Stamped}
+use Rattle.page_parts.specs.TraceText.{line_text, text_of}
+use Rattle.page_values.specs.Spellings.{IsSpelling}
+
+-- ---- Ours: which events a line can spell
+
+-- a number of a line
+abbrev pub IsCount : ℕ → Type 0
+IsCount n = n < 2 ^ 64
+
+-- a value of a line, in which lists and bound lists nest at most 64 deep; it may have any weight
+-- (a record, so that no goal unfolds the nests)
+pub record IsPrinted (bytes : List ℕ) : Type 0 where
+  pub spelling : IsSpelling 64 bytes
+
+abbrev pub QueuedFits : Queued → Type 0
+QueuedFits (MicroJob r) = IsCount r
+QueuedFits (ReactJob p) = IsCount p
+QueuedFits (AdoptJob p) = IsCount p
+
+abbrev pub QueueFits : QueueName → Type 0
+QueueFits (FixedQueue priority) = Unit {0}
+QueueFits (SignalQueue s) = IsCount s
+
+abbrev pub AnswerFits : Result ℤ ℤ → Type 0
+AnswerFits (Ok v) = FitsSigned w64 v
+AnswerFits (Err v) = FitsSigned w64 v
+
+-- numbers are below 2 ^ 64, integers have 64 bits, and values are spelled as values are
+abbrev pub EventFits : Event → Type 0
+EventFits (Turn n source) = IsCount n
+EventFits (Call r) = IsCount r
+EventFits Ret = Unit {0}
+EventFits (Throw v) = IsPrinted v
+EventFits (Report v) = IsPrinted v
+EventFits (Log v) = IsPrinted v
+EventFits (Reg r kind) = IsCount r
+EventFits (Arm r due level) = IsCount r × IsCount due × IsCount level
+EventFits (Due r) = IsCount r
+EventFits (Drop r) = IsCount r
+EventFits (Job j what) = IsCount j × QueuedFits what
+EventFits (Run j) = IsCount j
+EventFits (Settle p ok v) = IsCount p × IsPrinted v
+EventFits (Period d) = IsCount d
+EventFits (IdleLine d) = IsCount d
+EventFits (Frame t) = IsCount t
+EventFits (Enq r queue continuation n) = IsCount r × QueueFits queue × IsCount n
+EventFits (Prio s priority) = IsCount s
+EventFits (Abort s) = IsCount s
+EventFits (Wait t) = IsCount t
+EventFits (Host k x answer) = IsCount k × FitsSigned w64 x × AnswerFits answer
+EventFits (Unhandled p) = IsCount p
+EventFits (Handled p) = IsCount p
+EventFits (EndLine end) = Unit {0}
+
+abbrev pub Fits : Stamped → Type 0
+Fits e = IsCount e.time × EventFits e.event
+
+-- ---- Ours: the order of lines
+
+abbrev pub is_end : Event → Bool
+is_end (EndLine end) = true
+is_end event = false
+
+-- times never fall, and behind an `end` line comes no other
+abbrev pub are_in_order : List Stamped → Bool
+are_in_order [] = true
+are_in_order (e ∷ []) = true
+are_in_order (e ∷ next ∷ es) = (not (is_end e.event) && nat_le e.time next.time) && are_in_order (next ∷ es)
+
+-- the last line is an `end` line
+abbrev pub ends : List Stamped → Bool
+ends [] = false
+ends (e ∷ []) = is_end e.event
+ends (e ∷ next ∷ es) = ends (next ∷ es)
+
+-- times never fall, and the last line, and no other, is an `end` line
+abbrev pub is_whole : List Stamped → Bool
+is_whole es = are_in_order es && ends es
+
+-- ---- Ours: traces, and the first line that is refused in its place
+
+-- The bytes are the trace of these events.
+pub record IsTrace (bytes : List ℕ) (es : List Stamped) : Type 0 where
+  pub spelled : bytes ≡ text_of es
+  pub fit : All Fits es
+  pub whole : IsTrue (is_whole es)
+
+-- The bytes are no trace, and the line of this number, counted from 1, is the first that is not spelled as one in its
+-- place. The lines before it are: the head, and those of events that may stand so. Where the `end` line is missing, it
+-- is the line behind the last.
+pub data IsBadLine (bytes : List ℕ) (number : ℕ) : Type 0 where
+  no_head : number ≡ 1 → ((rest : List ℕ) → bytes ≢ codes "trace 1\n" ++ rest) → IsBadLine bytes number
+  no_line : (good : List Stamped) (rest : List ℕ)
+      → bytes ≡ text_of good ++ rest
+      → All Fits good
+      → IsTrue (are_in_order good)
+      → number ≡ length good + 2
+      → ((e : Stamped) (more : List ℕ) → Fits e → IsTrue (are_in_order (good ++ e ∷ [])) → rest ≢ line_text e ++ more)
+      → (rest ≡ [] → ends good ≡ false)
+      → IsBadLine bytes number

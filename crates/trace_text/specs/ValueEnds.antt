@@ -1,0 +1,147 @@
+-- What stands behind a value at the front of some bytes.
+use Rattle.std.specs.Prelude.{◌≡◌, ℕ, Bool, true, false, cond, ◌||◌, ◌==◌, ◌⊎◌, List, [], ◌∷◌, ◌++◌, length, drop, take_while, Option, Some, None, codes, IsTrue}
+use Rattle.std.specs.List.{join_with_byte}
+use Rattle.page_base.specs.Decimals.{is_digit, number_at, after_digits}
+use Rattle.page_values.specs.Names.{is_name, is_name_byte}
+use Rattle.page_values.specs.Spellings.{is_plain, Each, IsRow}
+
+-- ---- Ours: simple values, read from the front
+
+-- what follows a start, where the bytes begin with it
+abbrev pub behind_start : List ℕ → List ℕ → Option (List ℕ)
+behind_start [] bytes = Some bytes
+behind_start (c ∷ start) [] = None
+behind_start (c ∷ start) (b ∷ bytes) = cond (b == c) (behind_start start bytes) None
+
+-- the same, for any start
+unfoldable pub behind : List ℕ → List ℕ → Option (List ℕ)
+behind start bytes = behind_start start bytes
+
+-- the answer and what it leads to; none where one of them is none
+infixl 10 ◌>>=◌
+abbrev pub ◌>>=◌ : {A B : Type 0} → Option A → (A → Option B) → Option B
+None >>= next = None
+(Some x) >>= next = next x
+
+-- what is read behind a start, or else the other answer
+abbrev pub or_else : {X : Type 0} → Option (List ℕ) → (List ℕ → Option X) → Option X → Option X
+or_else None read other = other
+or_else (Some rest) read other = read rest
+
+-- behind a canonical decimal of at most so much
+unfoldable pub after_number : ℕ → List ℕ → Option (List ℕ)
+after_number most bytes = number_at most bytes >>= λ n. Some (after_digits bytes)
+
+-- behind the size of a negative integer, which is not 0
+unfoldable pub after_negative : List ℕ → Option (List ℕ)
+after_negative bytes = number_at 9223372036854775808 bytes >>= λ n. cond (n == 0) None (Some (after_digits bytes))
+
+-- behind an integer of 64 bits
+unfoldable pub after_int : List ℕ → Option (List ℕ)
+after_int bytes = or_else (behind (codes "-") bytes) after_negative (after_number 9223372036854775807 bytes)
+
+abbrev mutual
+  -- behind the parts of a text and the `"` that ends it
+  pub after_parts : List ℕ → Option (List ℕ)
+  after_parts [] = None
+  after_parts (b ∷ bytes) = cond (b == 34) (Some bytes) (cond (b == 92) (after_escape bytes) (cond (is_plain b) (after_parts bytes) None))
+
+  -- the same after a `\`
+  pub after_escape : List ℕ → Option (List ℕ)
+  after_escape [] = None
+  after_escape (b ∷ bytes) = cond (b == 34 || (b == 92 || b == 110)) (after_parts bytes) None
+
+-- behind the text of a fault, in brackets
+unfoldable pub after_cause : List ℕ → Option (List ℕ)
+after_cause bytes = behind (codes "(\"") bytes >>= after_parts >>= behind (codes ")")
+
+-- behind a fault
+unfoldable pub after_fault : List ℕ → Option (List ℕ)
+after_fault bytes =
+    or_else (behind (codes "Error") bytes) after_cause
+    (or_else (behind (codes "TypeError") bytes) after_cause
+    (or_else (behind (codes "RangeError") bytes) after_cause
+    (or_else (behind (codes "AbortError") bytes) after_cause
+    (or_else (behind (codes "TimeoutError") bytes) after_cause
+    (or_else (behind (codes "NotAllowedError") bytes) after_cause None)))))
+
+-- behind the time of a deadline, if there is one
+unfoldable pub after_deadline : List ℕ → Option (List ℕ)
+after_deadline bytes = or_else (behind (codes "@") bytes) (after_number 18446744073709551615) (Some bytes)
+
+-- behind what has a number, or a fault
+unfoldable pub after_numbered : List ℕ → Option (List ℕ)
+after_numbered bytes =
+    or_else (behind (codes "promise#") bytes) (after_number 4294967295)
+    (or_else (behind (codes "signal#") bytes) (after_number 4294967295)
+    (or_else (behind (codes "controller#") bytes) (after_number 4294967295)
+    (or_else (behind (codes "deadline") bytes) after_deadline (after_fault bytes))))
+
+-- behind a simple value that is no integer
+unfoldable pub after_word : List ℕ → Option (List ℕ)
+after_word bytes =
+    or_else (behind (codes "unit") bytes) Some
+    (or_else (behind (codes "true") bytes) Some
+    (or_else (behind (codes "false") bytes) Some
+    (or_else (behind (codes "\"") bytes) after_parts (after_numbered bytes))))
+
+-- whether the first byte is `-` or a digit
+abbrev pub begins_number : List ℕ → Bool
+begins_number [] = false
+begins_number (b ∷ bytes) = b == 45 || is_digit b
+
+-- behind a value with no values inside
+unfoldable pub after_simple : List ℕ → Option (List ℕ)
+after_simple bytes = cond (begins_number bytes) (after_int bytes) (after_word bytes)
+
+-- ---- Ours: what begins a row of values
+
+-- behind a name and the bracket that opens its row
+unfoldable pub inside_name : List ℕ → Option (List ℕ)
+inside_name bytes = cond (is_name (take_while is_name_byte bytes)) (behind (codes "(") (drop (length (take_while is_name_byte bytes)) bytes)) None
+
+-- behind what begins a list or a function, with the byte that will close it
+unfoldable pub inside : List ℕ → Option (ℕ × List ℕ)
+inside bytes =
+    or_else (behind (codes "[") bytes) (λ row. Some (93, row))
+    (behind (codes "fn:") bytes >>= inside_name >>= λ row. Some (41, row))
+
+-- the byte closes a list, or a function
+abbrev pub closes : ℕ → Type 0
+closes b = (b ≡ 93) ⊎ (b ≡ 41)
+
+-- ---- Ours: values and rows of values at the front of some bytes
+
+-- what may stand behind a value: nothing, a comma, or a closing bracket
+abbrev pub may_follow : List ℕ → Bool
+may_follow [] = true
+may_follow (b ∷ bytes) = b == 44 || (b == 93 || b == 41)
+
+-- a value's spelling stands at the front, and this behind it
+pub record ValueAt (IsItem : List ℕ → Type 0) (bytes rest : List ℕ) : Type 0 where
+  pub spelling : List ℕ
+  pub spells : IsItem spelling
+  pub whole : bytes ≡ spelling ++ rest
+
+-- spellings with a comma between each two stand at the front, then the byte that closes them, and this behind it
+pub record RowAt (IsItem : List ℕ → Type 0) (close : ℕ) (bytes rest : List ℕ) : Type 0 where
+  pub inside : List ℕ
+  pub row : IsRow IsItem inside
+  pub whole : bytes ≡ inside ++ close ∷ rest
+
+-- the same, with one spelling at least
+pub record ItemsAt (IsItem : List ℕ → Type 0) (close : ℕ) (bytes rest : List ℕ) : Type 0 where
+  pub first : List ℕ
+  pub others : List (List ℕ)
+  pub each : Each IsItem (first ∷ others)
+  pub whole : bytes ≡ join_with_byte 44 (first ∷ others) ++ close ∷ rest
+
+-- the answer is what stands behind, and none exactly where nothing of the kind stands at the front
+pub record Leaves (At : List ℕ → Type 0) (answer : Option (List ℕ)) : Type 0 where
+  pub sound : (rest : List ℕ) → answer ≡ Some rest → At rest
+  pub complete : (rest : List ℕ) → At rest → answer ≡ Some rest
+
+-- the answer is what stands behind a value; the value is found wherever it can end there
+pub record LeavesValue (IsItem : List ℕ → Type 0) (bytes : List ℕ) (answer : Option (List ℕ)) : Type 0 where
+  pub sound : (rest : List ℕ) → answer ≡ Some rest → ValueAt IsItem bytes rest
+  pub complete : (rest : List ℕ) → ValueAt IsItem bytes rest → IsTrue (may_follow rest) → answer ≡ Some rest
