@@ -21,7 +21,8 @@ use Rattle.lang_meaning.specs.Machine.{Variable, Done as Ends, Gives, Throws, an
 use Rattle.lang_meaning.specs.Evaluation.{Around, Function, around, fits, answered, eval, eval_sum, exec_block, end_of_call, own_body, functions_of, calls, call_from_outside, first_globals, body_of_call}
 use Rattle.page_model.specs.State.{Page, State}
 use Rattle.page_model.specs.Operations.{page_operations}
-use Rattle.page_model.specs.Turns.{Turned, first_page, turns, next_turn, goes_on, step_five, run, state_of, events_of_run}
+use Rattle.page_model.specs.Choosing.{choice_rules}
+use Rattle.page_model.specs.Turns.{Turned, first_page, turns, next_turn, goes_on, step_five, run, run_by, state_of, events_of_run}
 use Rattle.lang_parse.specs.LogScript.{Logged, LogText, LogSum, LogStatement, plus_each, sum_tree, log_tree, program_of}
 use Rattle.lang_parse.proofs.LogForms.{functions-none}
 use Rattle.arrivals_text.specs.Arrivals.{default_setup}
@@ -181,11 +182,11 @@ module _ (hosts : List HostClosure) where
   choices_left = Written (Rank default_list) (counts_after first_view Dom (counts_now first_view (replicate 7 0))) [] []
 
   -- what comes behind the script's call
-  abbrev behind : Caller Page → Ends Page → Turned
-  behind call d = next_turn (goes_on choices_left step_five (afterwards (end_of_callback (checkpoint call) BeforeCheckpoint d) (after_task call))) (turns call 10000000 1000000)
+  abbrev behind : Caller Page → Ends Page → Turned Choices
+  behind call d = next_turn (goes_on choices_left step_five (afterwards (end_of_callback (checkpoint call) BeforeCheckpoint d) (after_task call))) (turns choice_rules call 10000000 1000000)
 
   first_turn : (call : Caller Page) (globals : List Variable) →
-      turns call 10000000 1000001 (record { globals = globals; open_calls = []; fuel = 1000000; host = the_page }) (written default_setup []) ≡ behind call (call 0 [] (before_call globals start_events))
+      turns choice_rules call 10000000 1000001 (record { globals = globals; open_calls = []; fuel = 1000000; host = the_page }) (written default_setup []) ≡ behind call (call 0 [] (before_call globals start_events))
   first_turn call globals = refl
 
   behind-events : (call : Caller Page) (b : Bool) (globals : List Variable) (es : List Stamped) → (state_of (behind call (call_ended b (behind_call globals es)))).host.events ≡ last_events b es
@@ -199,7 +200,7 @@ module _ (hosts : List HostClosure) where
   whole_run : (ss : List LogStatement) →
       hosted_run hosts (log_tree ss) ≡ behind (call_from_outside (program_of (log_tree ss)) page_operations)
       (call_ended (logs ss start_events).thrown (behind_call (first_globals (program_of (log_tree ss))) (logs ss start_events).events))
-  unfolding run
+  unfolding run run_by
   whole_run ss =
       let call : Caller Page = call_from_outside (program_of (log_tree ss)) page_operations in
       let globals : List Variable = first_globals (program_of (log_tree ss)) in

@@ -3,26 +3,26 @@ use Rattle.std.specs.Prelude.{◌≡◌, List, [], ◌∷◌, map}
 use Rattle.page_types.specs.Tree.{Item}
 use Rattle.page_types.specs.declared.End.{End}
 use Rattle.page_parts.specs.HostClosures.{HostClosure}
-use Rattle.page_parts.specs.WrittenChoices.{written}
+use Rattle.page_parts.specs.WrittenChoices.{Choices, written}
 use Rattle.page_model.specs.Turns.{Turned, GoesOn, Ended, Stuck, run, events_of_run}
 use Rattle.arrivals_text.specs.Arrivals.{default_setup}
 use Rattle.lang_parse.specs.LogScript.{program_of}
 use Rattle.trace_text.specs.Line.{Line, Head, Of}
 
 -- the run of a tree without functions, under the default setup and with these host closures
-abbrev pub hosted_run : List HostClosure → List Item → Turned
+abbrev pub hosted_run : List HostClosure → List Item → Turned Choices
 hosted_run hosts tree = run (program_of tree) default_setup hosts (written default_setup [])
 
 -- the same with no host closure; a log script asks for none
-abbrev pub default_run : List Item → Turned
+abbrev pub default_run : List Item → Turned Choices
 default_run tree = hosted_run [] tree
 
 -- the lines of a run
-abbrev pub lines_of_run : Turned → List Line
+abbrev pub lines_of_run : {C : Type 0} → Turned C → List Line
 lines_of_run t = Head ∷ map Of (events_of_run t)
 
 -- a run has ended so
-abbrev pub EndsAs : End → Turned → Type 0
+abbrev pub EndsAs : {C : Type 0} → End → Turned C → Type 0
 EndsAs end (GoesOn m c) = ⊥
-EndsAs end (Ended e m) = e ≡ end
-EndsAs end (Stuck m) = ⊥
+EndsAs end (Ended e m c) = e ≡ end
+EndsAs end (Stuck m c) = ⊥

@@ -18,7 +18,7 @@ use crate::RunStop;
 use lang_parse::{LogScript, LogStatement, Logged};
 use page_base::{End, Micros, Source};
 use page_interp::sum;
-use page_values::{print_int, print_quoted};
+use page_values::{Str, print_int, print_quoted};
 use std::alloc::{AllocError, Global};
 use trace_text::{Event, Lines, NoLine, Printed, Stamped};
 
@@ -52,11 +52,11 @@ fn printed(alloc: Global, what: &Logged) -> Result<Option<Printed>, AllocError>
     }
 }
 
-fn printed_text(alloc: Global, text: &[u8]) -> Result<Printed, AllocError>
+fn printed_text(alloc: Global, text: &Str) -> Result<Printed, AllocError>
     ensures { IfOk result (λ value. value ≡ quoted text.now) }
 {
     let mut spelling = Vec::new(alloc);
-    print_quoted(text, &mut spelling)?;
+    print_quoted(text.bytes(), &mut spelling)?;
     Ok(Printed::new(spelling))
 }
 

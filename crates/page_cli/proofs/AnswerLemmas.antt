@@ -14,7 +14,7 @@ use Rattle.trace_text.proofs.SinkText.{Gives-sink_trace, Gives-sink_trace_stop}
 use Rattle.arrivals_text.specs.Arrivals.{default_setup}
 use Rattle.arrivals_text.specs.FirstPage.{setup_of}
 use Rattle.lang_tokens.specs.Tokens.{tokens_of}
-use Rattle.lang_tokens.specs.declared.token.Token.{Token}
+use Rattle.lang_tokens.specs.Seen.{TokenSeen}
 use Rattle.lang_tokens.specs.declared.token.Tokens.{Tokens}
 use Rattle.lang_tokens.specs.declared.fault.TokensFault.{TokensFault}
 use Rattle.lang_tokens.specs.declared.fault.TokensFault.TheVariants as token
@@ -144,15 +144,15 @@ log-refuses (parse.Is fault) bytes tree is resolved none = inr (record { tree = 
 log-refuses parse.OutOfMemory bytes tree is resolved none = tt
 
 -- a tree that is told of tokens is told of the bytes
-pub script-of : (bytes : List ℕ) (tokens : List Token) (tree : List Item) → length bytes ≤ 1048576 → tokens_of bytes ≡ Ok tokens → HasTree (symbols_of tokens) tree → IsScript bytes tree
+pub script-of : (bytes : List ℕ) (tokens : List TokenSeen) (tree : List Item) → length bytes ≤ 1048576 → tokens_of bytes ≡ Ok tokens → HasTree (symbols_of tokens) tree → IsScript bytes tree
 script-of bytes tokens tree size e h = record { size = size; tokens = tokens; tokens_are = e; has_tree = h }
 
-same_ok : (tokens others : List Token) → (let r : Result (List Token) ℕ = Ok tokens in r) ≡ Ok others → others ≡ tokens
+same_ok : (tokens others : List TokenSeen) → (let r : Result (List TokenSeen) ℕ = Ok tokens in r) ≡ Ok others → others ≡ tokens
 same_ok tokens others e = cc
 
 -- no tree of the tokens is none of the bytes
-pub none-of : (bytes : List ℕ) (tokens : List Token) → tokens_of bytes ≡ Ok tokens → ((other : List Item) → IsLogTree other → HasTree (symbols_of tokens) other → ⊥) → (other : List Item) → IsScript bytes other → IsLogTree other → ⊥
-none-of bytes tokens e none other is log = none other log (let P : List Token → Type 0 = λ ts. HasTree (symbols_of ts) other in subst P (same_ok tokens is.tokens (sym e ∙ is.tokens_are)) is.has_tree)
+pub none-of : (bytes : List ℕ) (tokens : List TokenSeen) → tokens_of bytes ≡ Ok tokens → ((other : List Item) → IsLogTree other → HasTree (symbols_of tokens) other → ⊥) → (other : List Item) → IsScript bytes other → IsLogTree other → ⊥
+none-of bytes tokens e none other is log = none other log (let P : List TokenSeen → Type 0 = λ ts. HasTree (symbols_of ts) other in subst P (same_ok tokens is.tokens (sym e ∙ is.tokens_are)) is.has_tree)
 
 -- the answer to a script that is not run
 pub refused-answers : (fault : ScriptFault) (script arrivals : List ℕ) (told : Option (List ℕ)) → Fits script → Fits arrivals → Refuses fault script → AnswersFiles (refusal fault) script arrivals told told
