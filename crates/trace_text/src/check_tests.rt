@@ -1,5 +1,6 @@
 //! Traces compared line by line, and their summaries.
 
+use crate::reading_tests::TIMER_FIRST;
 use crate::{Events, LineCheck, LineCount, Lines, NoLine, Summary, read_trace, summary_of};
 use page_base::End;
 use std::alloc::Global;
@@ -36,10 +37,7 @@ const ASKED_TWICE: &[u8] = b"trace 1\n\
 3000 end done\n";
 
 fn asked_twice(alloc: Global) -> Result<Events, Fail> {
-    match read_trace(alloc, ASKED_TWICE) {
-        Ok(events) => Ok(events),
-        Err(_) => Err("no trace")?,
-    }
+    Ok(read_trace(alloc, ASKED_TWICE)?)
 }
 
 #[test]
@@ -94,6 +92,16 @@ fn a_summary_counts_a_trace(rt: HostRuntime) -> Result<(), Fail> {
         end: End::Done,
     };
     assert_eq!(rt; summary_of(&events), wanted);
+
+    let timer_first = read_trace(rt.alloc(), TIMER_FIRST)?;
+    let of_timer_first = Summary {
+        turns: 3,
+        calls: 3,
+        drops: 0,
+        settles: 1,
+        end: End::Done,
+    };
+    assert_eq!(rt; summary_of(&timer_first), of_timer_first);
 
     let mut count = LineCount::new();
     assert_eq!(rt; count.head(), Ok(()));

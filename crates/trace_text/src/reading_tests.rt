@@ -5,10 +5,11 @@ use std::alloc::Global;
 use std::process::Abort;
 use std::test::Fail;
 
-const TWO_TIMERS: &[u8] =
-    b"trace 1\n0 turn 1 dom\n0 call 1\n0 reg 2 timeout\n0 arm 2 10000 1\n5000 reg 3 timeout\n\
-5000 arm 3 10000 1\n5000 ret\n10000 wait 10000\n10000 due 2\n10000 due 3\n10000 turn 2 timer\n10000 call 2\n\
-10000 log \"a\"\n10000 ret\n10000 turn 3 timer\n10000 call 3\n10000 log \"b\"\n10000 ret\n10000 end done\n";
+// A timer is served before the scheduler.
+pub(crate) const TIMER_FIRST: &[u8] =
+    b"trace 1\n0 turn 1 dom\n0 call 1\n0 reg 2 timeout\n0 arm 2 0 1\n0 reg 3 post\n0 enq 3 user-visible task 2\n\
+0 ret\n0 due 2\n0 turn 2 timer\n0 call 2\n0 log \"t\"\n0 ret\n0 turn 3 sched\n0 call 3\n0 log \"a\"\n0 ret\n\
+0 settle 1 ok unit\n0 end done\n";
 
 const EACH_KIND: &[u8] =
     b"trace 1\n0 turn 18446744073709551615 none\n1 turn 1 sched\n1 call 0\n1 ret\n\
@@ -44,13 +45,13 @@ fn expect_refused(rt: &impl Abort, alloc: Global, table: &[(&[u8], usize)]) {
 
 #[test]
 fn traces_are_read_and_written_back(rt: HostRuntime) -> Result<(), Fail> {
-    expect_read(&rt, rt.alloc(), TWO_TIMERS)?;
+    expect_read(&rt, rt.alloc(), TIMER_FIRST)?;
     expect_read(&rt, rt.alloc(), EACH_KIND)
 }
 
 #[test]
 fn a_start_of_a_trace_is_refused_where_it_ends(rt: HostRuntime) {
-    let mut rest = TWO_TIMERS;
+    let mut rest = TIMER_FIRST;
     while let Some((_, start)) = rest.split_last() {
         let ended = start.iter().filter(|byte| **byte == b'\n').count();
         assert_eq!(rt; refused_at(rt.alloc(), start), ended.checked_add(1));
