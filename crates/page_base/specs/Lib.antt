@@ -2,3 +2,4 @@ pub mod Decimals
 pub mod Readings
 pub mod Clocks
 pub mod Laws
+pub mod Fields

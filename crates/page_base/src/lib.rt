@@ -1,13 +1,15 @@
-//! What every part of a page counts and reads by: moments of time, task sources, clocks, and numbers in text.
+//! What every part of a page counts and reads by: moments of time, task sources, clocks, and numbers and fields in text.
 #![tactic(auto)]
 
 mod clock;
 mod cursor;
+mod fields;
 mod laws;
 mod moment;
 
 pub use clock::{Clock, NoReading, RecordedClock, ScriptClock};
 pub use cursor::Cursor;
+pub use fields::{behind, cut_at, is_word};
 pub use laws::{recorded_clock_is_recorded, script_clock_is_written};
 pub use moment::Micros;
 pub use page_types::{End, Source};

@@ -1,0 +1,67 @@
+//! How a line of text is cut into its fields.
+
+ghost use Rattle.std.specs.Prelude.{◌≡◌, ◌==◌, ◌<◌, length, position, Some, None, MatchOption, IfSome};
+ghost use Rattle.page_base.specs.Fields.{behind as behind_of, is_word as same_word, cut_at as cut};
+
+/// What follows a start, where the text begins with it, and None elsewhere. Takes no memory.
+#[tactic(auto, unfolding(crate::specs::Fields::behind))]
+pub fn behind<'a>(text: &'a [u8], start: &[u8]) -> Option<&'a [u8]>
+    ensures { MatchOption result (behind_of start.now text.now ≡ None) (λ rest. behind_of start.now text.now ≡ Some rest.now) }
+{
+    let mut rest = text;
+    let mut wanted = start;
+    while let Some((first, more)) = wanted.split_first() {
+        match rest.split_first() {
+            Some((byte, after)) if *byte == *first => rest = after,
+            _ => return None,
+        }
+        wanted = more;
+    }
+    Some(rest)
+}
+
+/// Whether the text is this word. Takes no memory.
+#[tactic(auto, unfolding(crate::specs::Fields::is_word))]
+pub fn is_word(text: &[u8], word: &[u8]) -> bool
+    ensures { result ≡ same_word word.now text.now }
+{
+    word == text
+}
+
+/// What stands before the first byte of this kind, and what stands behind it; None where there is no such byte. Takes no
+/// memory.
+pub fn cut_at(text: &[u8], byte: u8) -> Option<(&[u8], &[u8])>
+    ensures parts { MatchOption result (cut byte text.now ≡ None) (λ parts. cut byte text.now ≡ Some (parts.0.now, parts.1.now)) }
+    ensures shorter { IfSome result (λ parts. length parts.1.now < length text.now) }
+{
+    let Some(at) = find(text, byte) else {
+        return None;
+    };
+    Some((&text[..at], &text[at + 1..]))
+}
+
+fn find(text: &[u8], byte: u8) -> Option<usize>
+    ensures { result ≡ position (λ other. other == byte) text.now }
+{
+    text.iter().position(|other| *other == byte)
+}
+
+#[cfg(test)]
+mod tests {
+    use super::*;
+
+    #[test]
+    fn cuts_a_line_into_its_fields(rt: HostRuntime) {
+        assert_eq!(rt; behind(b"fuel 7", b"fuel "), Some(b"7".as_slice()));
+        assert_eq!(rt; behind(b"fuel", b"fuel "), None);
+        assert_eq!(rt; behind(b"fuel 7", b""), Some(b"fuel 7".as_slice()));
+
+        assert!(rt; is_word(b"fifo", b"fifo"));
+        assert!(rt; !is_word(b"fifo ", b"fifo"));
+        assert!(rt; !is_word(b"fif", b"fifo"));
+
+        assert_eq!(rt; cut_at(b"a bc d", b' '), Some((b"a".as_slice(), b"bc d".as_slice())));
+        assert_eq!(rt; cut_at(b" ", b' '), Some((b"".as_slice(), b"".as_slice())));
+        assert_eq!(rt; cut_at(b"abc", b' '), None);
+    }
+}
