@@ -1,8 +1,8 @@
--- What stands behind a start, and answers that lead to others.
-use Rattle.std.proofs.Common.{◌≡◌, ℕ, Bool, true, false, cond, List, [], ◌∷◌, ◌++◌, Option, Some, None, refl}
-use Rattle.std.specs.Prelude.{◌&&◌, IsTrue, ◌==◌}
-use Rattle.std.proofs.lemmas.Bool.{false≢true, eqb-true}
-use Rattle.trace_text.specs.ValueEnds.{◌>>=◌, or_else, behind, behind_start}
+-- Two tests at once, and answers that lead to others.
+use Rattle.std.proofs.Common.{◌≡◌, ℕ, Bool, true, false, List, Option, Some, None, refl}
+use Rattle.std.specs.Prelude.{◌&&◌, IsTrue}
+use Rattle.std.proofs.lemmas.Bool.{false≢true}
+use Rattle.page_base.specs.Fields.{◌>>=◌, or_else}
 
 pub left : (a b : Bool) → IsTrue (a && b) → IsTrue a
 left true b p = refl
@@ -15,19 +15,6 @@ right false b p = absurd (false≢true p)
 pub both : (a b : Bool) → IsTrue a → IsTrue b → IsTrue (a && b)
 both true b p q = q
 both false b p q = absurd (false≢true p)
-
-start_step : (c b : ℕ) (start bytes rest : List ℕ) (same : Bool) → (b == c) ≡ same → (behind_start start bytes ≡ Some rest → bytes ≡ start ++ rest) → cond same (behind_start start bytes) None ≡ Some rest → b ∷ bytes ≡ c ∷ start ++ rest
-start_step c b start bytes rest true e more is = let first : b ≡ c = eqb-true b c e in let others = more is in cc
-start_step c b start bytes rest false e more is = absurd cc
-
-start_found : (start bytes rest : List ℕ) → behind_start start bytes ≡ Some rest → bytes ≡ start ++ rest
-start_found [] bytes rest is = cc
-start_found (c ∷ start) [] rest is = absurd cc
-start_found (c ∷ start) (b ∷ bytes) rest is = start_step c b start bytes rest (b == c) refl (start_found start bytes rest) is
-
-pub behind_found : (start bytes rest : List ℕ) → behind start bytes ≡ Some rest → bytes ≡ start ++ rest
-unfolding behind
-behind_found start bytes rest is = start_found start bytes rest is
 
 pub record Leads {A B : Type 0} (o : Option A) (next : A → Option B) (x : B) : Type 0 where
   pub between : A

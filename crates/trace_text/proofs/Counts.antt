@@ -13,7 +13,8 @@ use Rattle.page_base.proofs.Numbers.{list_all-take_while, list_all_first, list_a
 use Rattle.page_base.proofs.Printed.{numerals, number_at-decimal, after_digits-append}
 use Rattle.page_base.specs.Decimals.{is_digit, digits_of, after_digits, number_of, number_at, is_canonical}
 use Rattle.page_parts.specs.Words.{digits, decimal_of, int_decimal, is_empty}
-use Rattle.trace_text.specs.LineReading.{◌>>=◌, where_true, behind, number_in, count_at, int_at, negative}
+use Rattle.page_base.specs.Fields.{◌>>=◌, where_true, behind}
+use Rattle.trace_text.specs.LineReading.{number_in, count_at, int_at, negative}
 use Rattle.trace_text.specs.Trace.{IsCount}
 use Rattle.trace_text.proofs.Cutting.{lacks, some_then, map_then, or_then}
 

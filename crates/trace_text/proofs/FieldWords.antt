@@ -14,7 +14,8 @@ use Rattle.page_parts.specs.Words.{decimal_of}
 use Rattle.page_parts.specs.Spelling.{priority_text}
 use Rattle.page_parts.specs.TraceText.{source_text, end_text, kind_text}
 use Rattle.trace_text.specs.Trace.{IsCount, QueuedFits, QueueFits}
-use Rattle.trace_text.specs.LineReading.{behind, is_word, count_at, source_at, kind_at, priority_at, end_at, how_at, form_at, queue_at, queued_at, all_sources, all_kinds, all_priorities, all_ends}
+use Rattle.page_base.specs.Fields.{behind, is_word}
+use Rattle.trace_text.specs.LineReading.{count_at, source_at, kind_at, priority_at, end_at, how_at, form_at, queue_at, queued_at, all_sources, all_kinds, all_priorities, all_ends}
 use Rattle.trace_text.proofs.Cutting.{lacks, word_whole, map_then, or_then, word_then}
 use Rattle.trace_text.proofs.Counts.{count_sound, count_complete, lacks-decimal}
 

@@ -4,7 +4,8 @@ use Rattle.page_types.specs.Events.{Event, Stamped}
 use Rattle.page_parts.specs.Words.{decimal_of}
 use Rattle.page_parts.specs.TraceText.{event_text, line_text}
 use Rattle.trace_text.specs.Trace.{EventFits, Fits}
-use Rattle.trace_text.specs.LineReading.{◌>>=◌, cut_at, count_at, numbered_at, worded_at, valued_at, IsTested, IsEventRead, body_of, IsRead}
+use Rattle.page_base.specs.Fields.{◌>>=◌, cut_at}
+use Rattle.trace_text.specs.LineReading.{count_at, numbered_at, worded_at, valued_at, IsTested, IsEventRead, body_of, IsRead}
 use Rattle.trace_text.proofs.Cutting.{lacks, lacks-append, cut_front, cut_whole}
 use Rattle.trace_text.proofs.Counts.{count_sound, count_complete, lacks-decimal}
 use Rattle.trace_text.proofs.EventsRead.{event_at, numbered_sound, worded_sound, valued_sound}

@@ -7,7 +7,8 @@ use Rattle.std.proofs.lemmas.List.Elements.{All-nil, All-cons, All-head, All-tai
 use Rattle.page_types.specs.Events.{Stamped}
 use Rattle.page_parts.specs.TraceText.{line_text, lines_text, text_of}
 use Rattle.trace_text.specs.Trace.{Fits, is_end, are_in_order, ends, is_whole, IsTrace, IsBadLine, no_head, no_line}
-use Rattle.trace_text.specs.LineReading.{behind, cut_at, body_of, IsRead}
+use Rattle.page_base.specs.Fields.{behind, cut_at}
+use Rattle.trace_text.specs.LineReading.{body_of, IsRead}
 use Rattle.trace_text.proofs.SoFar.{last_time, IsSoFar}
 use Rattle.trace_text.specs.declared.fault.BadLine.{BadLine}
 use Rattle.trace_text.specs.declared.fault.TraceFault.TheVariants as fault

@@ -15,8 +15,9 @@ use Rattle.page_base.specs.Decimals.{is_digit, digits_of, after_digits, number_o
 use Rattle.page_base.proofs.Numbers.{list_all-take_while, list_all_first}
 use Rattle.page_base.proofs.Printed.{numerals, after_digits-append, number_at-decimal}
 use Rattle.page_values.proofs.Digits.{digits-small}
-use Rattle.trace_text.specs.ValueEnds.{◌>>=◌, or_else, behind, after_number, after_negative, after_int, begins_number, may_follow}
-use Rattle.trace_text.proofs.Behind.{behind_found}
+use Rattle.page_base.specs.Fields.{◌>>=◌, or_else, behind}
+use Rattle.trace_text.specs.ValueEnds.{after_number, after_negative, after_int, begins_number, may_follow}
+use Rattle.trace_text.proofs.Cutting.{behind_whole}
 
 -- ---- two words for one decimal
 
@@ -152,7 +153,7 @@ int_by bytes rest None e is =
     let at = number_found 9223372036854775807 bytes rest (omega arith) is in
     let small = at.small in
     record { number = pos at.number; fits = omega arith; whole = at.whole }
-int_by bytes rest (Some digits) e is = negative_found bytes digits rest (behind_found (codes "-") bytes digits e) is
+int_by bytes rest (Some digits) e is = negative_found bytes digits rest (behind_whole (codes "-") bytes digits e) is
 
 pub int_found : (bytes rest : List ℕ) → after_int bytes ≡ Some rest → IntAt bytes rest
 unfolding after_int

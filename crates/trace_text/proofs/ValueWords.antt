@@ -9,8 +9,10 @@ use Rattle.page_types.specs.declared.FaultName.TheVariants.{Error, TypeError, Ra
 use Rattle.page_parts.specs.Words.{decimal_of, int_decimal}
 use Rattle.page_parts.specs.Spelling.{fault_text}
 use Rattle.page_values.specs.Spellings.{is_plain, are_parts, is_escape_first, IsNumber, IsSimple, is_unit, is_true, is_false, is_int, is_text, is_promise, is_signal, is_controller, is_period, is_deadline, is_fault}
-use Rattle.trace_text.specs.ValueEnds.{◌>>=◌, or_else, behind, after_number, after_int, after_parts, after_escape, after_cause, after_fault, after_deadline, after_numbered, after_word, after_simple, begins_number, may_follow, ValueAt, LeavesValue}
-use Rattle.trace_text.proofs.Behind.{left, right, both, behind_found, leads, or_found}
+use Rattle.page_base.specs.Fields.{◌>>=◌, or_else, behind}
+use Rattle.trace_text.specs.ValueEnds.{after_number, after_int, after_parts, after_escape, after_cause, after_fault, after_deadline, after_numbered, after_word, after_simple, begins_number, may_follow, ValueAt, LeavesValue}
+use Rattle.trace_text.proofs.Behind.{left, right, both, leads, or_found}
+use Rattle.trace_text.proofs.Cutting.{behind_whole}
 use Rattle.trace_text.proofs.ValueNumbers.{number_found, number_read, int_found, int_read, int_begins}
 
 -- ---- the parts of a text
@@ -86,12 +88,12 @@ mutual
 word_at : (word bytes more rest : List ℕ) → IsSimple word → behind word bytes ≡ Some more → Some more ≡ Some rest → ValueAt IsSimple bytes rest
 word_at word bytes more rest simple start is =
     let same : more ≡ rest = cc in
-    record { spelling = word; spells = simple; whole = behind_found word bytes more start ∙ ap (λ r. word ++ r) same }
+    record { spelling = word; spells = simple; whole = behind_whole word bytes more start ∙ ap (λ r. word ++ r) same }
 
 -- a word and what is spelled behind it
 spelled_at : (word bytes more text rest : List ℕ) → IsSimple (word ++ text) → behind word bytes ≡ Some more → more ≡ text ++ rest → ValueAt IsSimple bytes rest
 spelled_at word bytes more text rest simple start is =
-    record { spelling = word ++ text; spells = simple; whole = behind_found word bytes more start ∙ ap (λ r. word ++ r) is ∙ sym (append_assoc word text rest) }
+    record { spelling = word ++ text; spells = simple; whole = behind_whole word bytes more start ∙ ap (λ r. word ++ r) is ∙ sym (append_assoc word text rest) }
 
 text_at : (bytes more rest : List ℕ) → behind (codes "\"") bytes ≡ Some more → after_parts more ≡ Some rest → ValueAt IsSimple bytes rest
 text_at bytes more rest start is =
@@ -123,7 +125,7 @@ cause_found bytes rest is =
     record {
       parts = text.parts;
       good = text.good;
-      whole = cause_whole bytes first.between last.between text.parts rest (behind_found (codes "(\"") bytes first.between first.first) text.whole (behind_found (codes ")") last.between rest last.second);
+      whole = cause_whole bytes first.between last.between text.parts rest (behind_whole (codes "(\"") bytes first.between first.first) text.whole (behind_whole (codes ")") last.between rest last.second);
     }
 
 fault_at : (name : FaultName) (bytes more rest : List ℕ) → behind (fault_text name) bytes ≡ Some more → after_cause more ≡ Some rest → ValueAt IsSimple bytes rest
@@ -155,7 +157,7 @@ deadline_at bytes more rest start is =
     record {
       spelling = codes "deadline@" ++ decimal_of found.number;
       spells = is_deadline (decimal_of found.number) (record { number = found.number; below = omega arith; whole = refl }) refl;
-      whole = time_whole bytes more number (decimal_of found.number) rest (behind_found (codes "deadline") bytes more start) (behind_found (codes "@") more number e) found.whole;
+      whole = time_whole bytes more number (decimal_of found.number) rest (behind_whole (codes "deadline") bytes more start) (behind_whole (codes "@") more number e) found.whole;
     })
     (λ e. word_at (codes "deadline") bytes more rest (is_period refl) start e) is
 

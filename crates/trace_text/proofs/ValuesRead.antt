@@ -3,7 +3,8 @@ use Rattle.std.proofs.Common.{◌≡◌, ℕ, Bool, List, Option, Some, None, Re
 use Rattle.std.specs.Prelude.{codes, option_map}
 use Rattle.page_types.specs.Events.{Event, Throw, Report, Log, Settle}
 use Rattle.trace_text.specs.Trace.{IsPrinted, EventFits}
-use Rattle.trace_text.specs.LineReading.{behind, cut_at, count_at, how_at, settle_at, valued_at, IsValueRead, IsTested}
+use Rattle.page_base.specs.Fields.{behind, cut_at}
+use Rattle.trace_text.specs.LineReading.{count_at, how_at, settle_at, valued_at, IsValueRead, IsTested}
 use Rattle.trace_text.proofs.Counts.{count_sound}
 
 tested_by : (make : List ℕ → Event) (v : List ℕ) (r : Option (List ℕ)) → (EventFits (make v) → IsPrinted v) → (IsPrinted v → EventFits (make v)) → IsValueRead v r → IsTested (Some (make v)) (option_map make r)

@@ -15,8 +15,10 @@ use Rattle.page_parts.specs.Words.{decimal_of}
 use Rattle.page_parts.specs.Spelling.{fault_text}
 use Rattle.page_values.specs.Names.{is_name, is_name_byte, is_letter}
 use Rattle.page_values.specs.Spellings.{IsSimple, is_unit, is_true, is_false, is_int, is_text, is_promise, is_signal, is_controller, is_period, is_deadline, is_fault, IsListOf, IsFunctionOf, IsSpelling}
-use Rattle.trace_text.specs.ValueEnds.{◌>>=◌, behind, after_simple, inside_name, inside, closes, ValueAt, RowAt, Leaves, LeavesValue}
-use Rattle.trace_text.proofs.Behind.{left, right, both, behind_found, leads, or_found}
+use Rattle.page_base.specs.Fields.{◌>>=◌, behind}
+use Rattle.trace_text.specs.ValueEnds.{after_simple, inside_name, inside, closes, ValueAt, RowAt, Leaves, LeavesValue}
+use Rattle.trace_text.proofs.Behind.{left, right, both, leads, or_found}
+use Rattle.trace_text.proofs.Cutting.{behind_whole}
 use Rattle.trace_text.proofs.ValueNumbers.{FirstDigit, decimal_first}
 use Rattle.trace_text.proofs.ValueWords.{simple_leaves}
 
@@ -57,7 +59,7 @@ run_then bytes = ap (λ k. take_while is_name_byte bytes ++ drop k bytes) (lengt
 name_by : (bytes row : List ℕ) (named : Bool) → is_name (take_while is_name_byte bytes) ≡ named → cond named (behind (codes "(") (drop (length (take_while is_name_byte bytes)) bytes)) None ≡ Some row → NameAt bytes row
 name_by bytes row true e is =
     let run : List ℕ = take_while is_name_byte bytes in
-    record { name = run; named = e; whole = sym (run_then bytes) ∙ ap (λ xs. run ++ xs) (behind_found (codes "(") (drop (length run) bytes) row is) }
+    record { name = run; named = e; whole = sym (run_then bytes) ∙ ap (λ xs. run ++ xs) (behind_whole (codes "(") (drop (length run) bytes) row is) }
 name_by bytes row false e is = absurd cc
 
 name_found : (bytes row : List ℕ) → inside_name bytes ≡ Some row → NameAt bytes row
@@ -83,14 +85,14 @@ inside_found : (bytes : List ℕ) (close : ℕ) (row : List ℕ) → inside byte
 unfolding inside
 inside_found bytes close row is =
     or_found (behind (codes "[") bytes) (λ r. Some (93, r)) (behind (codes "fn:") bytes >>= inside_name >>= λ r. Some (41, r)) (close, row)
-    (λ r e f. let same = same_pair 93 close r row f in opens_list (sym same.close) (behind_found (codes "[") bytes r e ∙ ap (λ xs. 91 ∷ xs) same.row))
+    (λ r e f. let same = same_pair 93 close r row f in opens_list (sym same.close) (behind_whole (codes "[") bytes r e ∙ ap (λ xs. 91 ∷ xs) same.row))
     (λ e.
     let last = leads (behind (codes "fn:") bytes >>= inside_name) (λ r. Some (41, r)) (close, row) e in
     let first = leads (behind (codes "fn:") bytes) inside_name last.between last.first in
     let named = name_found first.between last.between first.second in
     let same = same_pair 41 close last.between row last.second in
     opens_function (sym same.close) named.name named.named
-    (behind_found (codes "fn:") bytes first.between first.first ∙ ap (λ xs. codes "fn:" ++ xs) (named.whole ∙ ap (λ r. named.name ++ 40 ∷ r) same.row)))
+    (behind_whole (codes "fn:") bytes first.between first.first ∙ ap (λ xs. codes "fn:" ++ xs) (named.whole ∙ ap (λ r. named.name ++ 40 ∷ r) same.row)))
     is
 
 closing : (bytes : List ℕ) (close : ℕ) (row : List ℕ) → Opens bytes close row → closes close

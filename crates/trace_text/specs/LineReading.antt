@@ -1,5 +1,5 @@
 -- How one line of a trace is read, by its fields.
-use Rattle.std.specs.Prelude.{◌≡◌, ◌≢◌, ℕ, zero, suc, Bool, true, false, cond, ◌==◌, List, [], ◌∷◌, ◌++◌, Option, Some, None, option_map, Result, Ok, Err, ℤ, pos, negsuc, codes, find}
+use Rattle.std.specs.Prelude.{◌≡◌, ◌≢◌, ℕ, zero, suc, Bool, true, false, cond, List, [], ◌∷◌, ◌++◌, Option, Some, None, option_map, Result, Ok, Err, ℤ, pos, negsuc, codes, find}
 use Rattle.page_types.specs.declared.Source.{Source}
 use Rattle.page_types.specs.declared.Source.TheVariants.{User, Net, Dom, Timer, Render, Sched, Idle}
 use Rattle.page_types.specs.declared.End.{End}
@@ -9,47 +9,12 @@ use Rattle.page_types.specs.declared.RegKind.TheVariants.{Timeout as TimeoutKind
 use Rattle.page_types.specs.declared.Priority.{Priority}
 use Rattle.page_types.specs.declared.Priority.TheVariants.{Background, UserVisible, UserBlocking}
 use Rattle.page_types.specs.Events.{Queued, MicroJob, ReactJob, AdoptJob, QueueName, FixedQueue, SignalQueue, Event, Turn, Call, Ret, Throw, Report, Log, Reg, Arm, Due, Drop, Job, Run, Settle, Period, IdleLine, Frame, Enq, Prio, Abort, Wait, Host, Unhandled, Handled, EndLine, Stamped}
-use Rattle.page_parts.specs.Words.{is_empty, same_bytes, decimal_of}
+use Rattle.page_parts.specs.Words.{is_empty, decimal_of}
 use Rattle.page_parts.specs.Spelling.{priority_text}
 use Rattle.page_parts.specs.TraceText.{source_text, end_text, kind_text, event_text}
 use Rattle.page_base.specs.Decimals.{number_at, after_digits}
+use Rattle.page_base.specs.Fields.{behind, is_word, cut_at, ◌>>=◌, or_else, where_true}
 use Rattle.trace_text.specs.Trace.{IsPrinted, EventFits, Fits}
-
--- ---- Ours: cutting bytes
-
--- what follows a start, where the bytes begin with it
-abbrev pub behind_start : List ℕ → List ℕ → Option (List ℕ)
-behind_start [] bytes = Some bytes
-behind_start (c ∷ start) [] = None
-behind_start (c ∷ start) (b ∷ bytes) = cond (b == c) (behind_start start bytes) None
-
--- the same, for any start
-unfoldable pub behind : List ℕ → List ℕ → Option (List ℕ)
-behind start bytes = behind_start start bytes
-
--- whether the bytes are this word
-unfoldable pub is_word : List ℕ → List ℕ → Bool
-is_word word bytes = same_bytes word bytes
-
--- what stands before the first byte of a kind, and what stands behind it
-abbrev pub cut_at : ℕ → List ℕ → Option (List ℕ × List ℕ)
-cut_at byte [] = None
-cut_at byte (b ∷ bytes) = cond (b == byte) (Some ([], bytes)) (option_map (λ c. (b ∷ c.0, c.1)) (cut_at byte bytes))
-
--- the answer and what it leads to; none where one of them is none
-infixl 10 ◌>>=◌
-abbrev pub ◌>>=◌ : {A B : Type 0} → Option A → (A → Option B) → Option B
-None >>= next = None
-(Some x) >>= next = next x
-
--- what the rest is read as, where there is one, or else the other answer
-abbrev pub or_else : {X : Type 0} → Option (List ℕ) → (List ℕ → Option X) → Option X → Option X
-or_else None read other = other
-or_else (Some rest) read other = read rest
-
--- the value, where the test holds
-abbrev pub where_true : {X : Type 0} → Bool → X → Option X
-where_true test x = cond test (Some x) None
 
 -- ---- Ours: fields
 

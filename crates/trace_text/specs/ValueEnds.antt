@@ -2,31 +2,11 @@
 use Rattle.std.specs.Prelude.{◌≡◌, ℕ, Bool, true, false, cond, ◌||◌, ◌==◌, ◌⊎◌, List, [], ◌∷◌, ◌++◌, length, drop, take_while, Option, Some, None, codes, IsTrue}
 use Rattle.std.specs.List.{join_with_byte}
 use Rattle.page_base.specs.Decimals.{is_digit, number_at, after_digits}
+use Rattle.page_base.specs.Fields.{behind, ◌>>=◌, or_else}
 use Rattle.page_values.specs.Names.{is_name, is_name_byte}
 use Rattle.page_values.specs.Spellings.{is_plain, Each, IsRow}
 
 -- ---- Ours: simple values, read from the front
-
--- what follows a start, where the bytes begin with it
-abbrev pub behind_start : List ℕ → List ℕ → Option (List ℕ)
-behind_start [] bytes = Some bytes
-behind_start (c ∷ start) [] = None
-behind_start (c ∷ start) (b ∷ bytes) = cond (b == c) (behind_start start bytes) None
-
--- the same, for any start
-unfoldable pub behind : List ℕ → List ℕ → Option (List ℕ)
-behind start bytes = behind_start start bytes
-
--- the answer and what it leads to; none where one of them is none
-infixl 10 ◌>>=◌
-abbrev pub ◌>>=◌ : {A B : Type 0} → Option A → (A → Option B) → Option B
-None >>= next = None
-(Some x) >>= next = next x
-
--- what is read behind a start, or else the other answer
-abbrev pub or_else : {X : Type 0} → Option (List ℕ) → (List ℕ → Option X) → Option X → Option X
-or_else None read other = other
-or_else (Some rest) read other = read rest
 
 -- behind a canonical decimal of at most so much
 unfoldable pub after_number : ℕ → List ℕ → Option (List ℕ)

@@ -1,49 +1,15 @@
 //! The fields of a line of a trace.
 
-ghost use Rattle.std.specs.Prelude.{◌≡◌, ◌==◌, ◌≤◌, ◌<◌, ◌^◌, length, position, Some, None, MatchOption, IfSome, IfOk};
+ghost use Rattle.std.specs.Prelude.{◌≡◌, ◌≤◌, ◌^◌, IfSome, IfOk};
 ghost use Rattle.std.specs.Option.{option_map};
-ghost use Rattle.trace_text.specs.LineReading.{behind as behind_of, is_word as same_word, cut_at as cut, number_in as number_of, negative as negated, count_at, int_at, source_at, kind_at, priority_at, end_at, how_at, form_at, queue_at, queued_at, IsValueRead};
+ghost use Rattle.trace_text.specs.LineReading.{number_in as number_of, negative as negated, count_at, int_at, source_at, kind_at, priority_at, end_at, how_at, form_at, queue_at, queued_at, IsValueRead};
 ghost use Rattle.trace_text.specs.EventSeen.{queue_seen, queued_seen};
 
 use crate::spellings::is_spelling;
-use crate::word_tables::{end_among, is_word, kind_among, priority_among, source_among};
+use crate::word_tables::{end_among, kind_among, priority_among, source_among};
 use crate::{Printed, PrioName, QueueName, Queued, RegKind};
-use page_base::{Cursor, End, Source};
+use page_base::{Cursor, End, Source, behind, is_word};
 use std::alloc::{AllocError, Global};
-
-/// What follows a start, where the text begins with it.
-#[tactic(auto, unfolding(crate::specs::LineReading::behind))]
-pub(crate) fn behind<'a>(text: &'a [u8], start: &[u8]) -> Option<&'a [u8]>
-    ensures { MatchOption result (behind_of start.now text.now ≡ None) (λ rest. behind_of start.now text.now ≡ Some rest.now) }
-{
-    let mut rest = text;
-    let mut wanted = start;
-    while let Some((first, more)) = wanted.split_first() {
-        match rest.split_first() {
-            Some((byte, after)) if *byte == *first => rest = after,
-            _ => return None,
-        }
-        wanted = more;
-    }
-    Some(rest)
-}
-
-/// What stands before the first byte of this kind, and what stands behind it.
-pub(crate) fn cut_at(text: &[u8], byte: u8) -> Option<(&[u8], &[u8])>
-    ensures parts { MatchOption result (cut byte text.now ≡ None) (λ parts. cut byte text.now ≡ Some (parts.0.now, parts.1.now)) }
-    ensures shorter { IfSome result (λ parts. length parts.1.now < length text.now) }
-{
-    let Some(at) = find(text, byte) else {
-        return None;
-    };
-    Some((&text[..at], &text[at + 1..]))
-}
-
-fn find(text: &[u8], byte: u8) -> Option<usize>
-    ensures { result ≡ position (λ other. other == byte) text.now }
-{
-    text.iter().position(|other| *other == byte)
-}
 
 // The number of at most this size whose canonical decimal the text is.
 #[tactic(auto, unfolding(crate::specs::LineReading::number_in))]

@@ -6,12 +6,11 @@ ghost use Rattle.trace_text.specs.LineReading.{turn_at, reg_at, prio_at, arm_at,
 ghost use Rattle.trace_text.specs.EventSeen.{event_seen, stamped_seen};
 
 use crate::fields::{
-    behind, cut_at, read_count, read_end, read_form, read_how, read_int, read_kind, read_priority,
-    read_queue, read_queued, read_source, read_value,
+    read_count, read_end, read_form, read_how, read_int, read_kind, read_priority, read_queue,
+    read_queued, read_source, read_value,
 };
-use crate::word_tables::is_word;
 use crate::{Event, Stamped};
-use page_base::Micros;
+use page_base::{Micros, behind, cut_at, is_word};
 use std::alloc::{AllocError, Global};
 
 /// The time and the event of a line without its line feed. None where it is not the line of an event.

@@ -6,9 +6,9 @@ ghost use Rattle.trace_text.specs.Trace.{IsTrace, IsBadLine, is_end as ends};
 ghost use Rattle.trace_text.specs.declared.fault.BadLine.{BadLine as BadLineSeen};
 ghost use Rattle.trace_text.specs.declared.fault.TraceFault.TheVariants as fault;
 
-use crate::fields::{behind, cut_at};
 use crate::line_reading::read_line;
 use crate::{BadLine, Event, Events, Stamped, TraceFault};
+use page_base::{behind, cut_at};
 use std::alloc::Global;
 
 /// The events of a trace.

@@ -6,9 +6,9 @@ ghost use Rattle.std.specs.Option.{option_map};
 ghost use Rattle.page_values.specs.Names.{is_name as named, is_letter as letter, is_name_byte as name_byte};
 ghost use Rattle.page_values.specs.Spellings.{IsSpelling};
 ghost use Rattle.trace_text.specs.Trace.{IsPrinted};
-ghost use Rattle.trace_text.specs.ValueEnds.{begins_number as number_begins, behind as behind_of, after_number, after_negative, after_int, after_parts, after_cause, after_fault, after_deadline, after_numbered, after_word, after_simple, inside_name, inside, Leaves, LeavesValue, RowAt, ItemsAt, closes};
+ghost use Rattle.trace_text.specs.ValueEnds.{begins_number as number_begins, after_number, after_negative, after_int, after_parts, after_cause, after_fault, after_deadline, after_numbered, after_word, after_simple, inside_name, inside, Leaves, LeavesValue, RowAt, ItemsAt, closes};
 
-use page_base::Cursor;
+use page_base::{Cursor, behind};
 
 /// How deep lists and bound lists may nest.
 const DEEPEST: u8 = 64;
@@ -310,21 +310,4 @@ fn part_end(byte: u8, after: &[u8]) -> Option<&[u8]>
         0x20..=0x7E => Some(after),
         _ => None,
     }
-}
-
-// A start, where the bytes begin with it.
-#[tactic(auto, unfolding(crate::specs::ValueEnds::behind))]
-fn behind<'a>(bytes: &'a [u8], start: &[u8]) -> Option<&'a [u8]>
-    ensures { MatchOption result (behind_of start.now bytes.now ≡ None) (λ rest. behind_of start.now bytes.now ≡ Some rest.now) }
-{
-    let mut rest = bytes;
-    let mut wanted = start;
-    while let Some((first, more)) = wanted.split_first() {
-        match rest.split_first() {
-            Some((byte, after)) if *byte == *first => rest = after,
-            _ => return None,
-        }
-        wanted = more;
-    }
-    Some(rest)
 }

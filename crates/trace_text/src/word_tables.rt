@@ -3,19 +3,11 @@
 ghost use Rattle.std.specs.Prelude.{◌≡◌, find};
 ghost use Rattle.page_parts.specs.Spelling.{priority_text};
 ghost use Rattle.page_parts.specs.TraceText.{source_text, end_text, kind_text};
-ghost use Rattle.trace_text.specs.LineReading.{is_word as same_word};
+ghost use Rattle.page_base.specs.Fields.{is_word as same_word};
 
 use crate::words::{end_word, kind_word, priority_word, source_word};
 use crate::{PrioName, RegKind};
-use page_base::{End, Source};
-
-/// Whether the text is this word.
-#[tactic(auto, unfolding(crate::specs::LineReading::is_word))]
-pub(crate) fn is_word(text: &[u8], word: &[u8]) -> bool
-    ensures { result ≡ same_word word.now text.now }
-{
-    word == text
-}
+use page_base::{End, Source, is_word};
 
 /// The source of this word among some.
 pub(crate) fn source_among(word: &[u8], sources: &[Option<Source>]) -> Option<Option<Source>>

@@ -1,6 +1,6 @@
 use Rattle.std.proofs.Common.{◌≡◌, length, find}
 use Rattle.page_parts.specs.TraceText.{end_text}
-use Rattle.trace_text.specs.LineReading.{is_word}
+use Rattle.page_base.specs.Fields.{is_word}
 use Rattle.trace_text.proofs.word_tables.end_among.Given as goal
 
 abbrev pub invariant-loop-end : goal.invariant-loop-end
