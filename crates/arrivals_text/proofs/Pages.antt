@@ -2,7 +2,7 @@
 use Rattle.std.proofs.Common.{◌≡◌, ℕ, suc, ◌+◌, ◌≤◌, ◌<◌, ◌&&◌, Bool, true, false, cond, List, [], ◌∷◌, ◌++◌, length, take, map, filter, Option, Some, None, Result, Ok, Err, refl, ap, sym, ◌∙◌, subst, arith, append-nil, codes}
 use Rattle.std.proofs.lemmas.List.Elements.{filter-append}
 use Rattle.page_parts.specs.Words.{is_empty}
-use Rattle.arrivals_text.specs.Fields.{◌>>=◌, where_true, is_word}
+use Rattle.page_base.specs.Fields.{◌>>=◌, where_true, is_word}
 use Rattle.arrivals_text.specs.Arrivals.{Line, PageLine, PolicyLine, FuelLine, UntilLine, RefreshLine, LateLine, RoomLine, HostLine, ArrivalLine, Settings, default_settings, line_at, says_something, place_of, may_follow, follow, SetsUp, BeginsPage, IsBadLine, lines_of}
 use Rattle.arrivals_text.specs.Reading.{step, last_place, is_start, further, goes, settled, Gives}
 use Rattle.arrivals_text.specs.declared.fault.BadLine.{BadLine}

@@ -10,7 +10,8 @@ use Rattle.page_values.specs.Names.{is_name, is_name_byte}
 use Rattle.arrivals_text.proofs.Parts.{words_first, words_last}
 use Rattle.std.proofs.lemmas.Bool.Decides.{nat_tests}
 use Rattle.page_values.specs.Texts.{is_text, is_text_byte}
-use Rattle.arrivals_text.specs.Fields.{all_of, cut_at, words_of, where_true, parts_at}
+use Rattle.page_base.specs.Fields.{cut_at, where_true}
+use Rattle.arrivals_text.specs.Fields.{all_of, words_of, parts_at}
 
 abbrev pub with_front : {X : Type 0} → List X → Option (List X) → Option (List X)
 with_front front rest = option_map (λ xs. front ++ xs) rest

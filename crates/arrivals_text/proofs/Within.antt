@@ -15,7 +15,8 @@ use Rattle.page_base.specs.Decimals.{number_at, number_of, digits_of, is_canonic
 use Rattle.page_base.specs.Readings.{AreShort}
 use Rattle.page_values.specs.Names.{is_name}
 use Rattle.loop_policy.specs.Policies.{is_policy, lists_each}
-use Rattle.arrivals_text.specs.Fields.{◌>>=◌, where_true, or_else, all_of, behind, is_word, cut_at, words_of, number_in, source_among, sources_at, rank_at, fair_at, policy_at, late_at, latency_at, text_at, parts_at, int_at, value_at, arrival_at}
+use Rattle.page_base.specs.Fields.{◌>>=◌, where_true, or_else, behind, is_word, cut_at}
+use Rattle.arrivals_text.specs.Fields.{all_of, words_of, number_in, source_among, sources_at, rank_at, fair_at, policy_at, late_at, latency_at, text_at, parts_at, int_at, value_at, arrival_at}
 use Rattle.arrivals_text.specs.Arrivals.{Line, PageLine, PolicyLine, FuelLine, UntilLine, RefreshLine, LateLine, RoomLine, HostLine, ArrivalLine, line_at}
 use Rattle.arrivals_text.specs.Limits.{may_arrive, is_arrival}
 

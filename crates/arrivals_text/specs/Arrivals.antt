@@ -4,7 +4,8 @@ use Rattle.std.specs.List.{slice_split}
 use Rattle.page_parts.specs.Words.{is_empty}
 use Rattle.page_parts.specs.Setup.{Policy, Rank, Latency, Arrival, Setup}
 use Rattle.page_parts.specs.Sources.{default_list}
-use Rattle.arrivals_text.specs.Fields.{behind, is_word, or_else, number_in, policy_at, late_at, latency_at, arrival_at}
+use Rattle.page_base.specs.Fields.{behind, is_word, or_else}
+use Rattle.arrivals_text.specs.Fields.{number_in, policy_at, late_at, latency_at, arrival_at}
 use Rattle.arrivals_text.specs.declared.place.Place.{Place}
 use Rattle.arrivals_text.specs.declared.place.Place.TheVariants as place
 

@@ -4,54 +4,26 @@ use Rattle.std.specs.List.{slice_split}
 use Rattle.page_types.specs.declared.Source.{Source}
 use Rattle.page_types.specs.declared.Source.TheVariants.{User, Net, Dom}
 use Rattle.page_types.specs.Values.{Value, UnitValue, BoolValue, IntValue, TextValue}
-use Rattle.page_parts.specs.Words.{is_empty, same_bytes}
+use Rattle.page_parts.specs.Words.{is_empty}
 use Rattle.page_parts.specs.Setup.{Policy, Fifo, Rank, Fair, Latency, Arrival}
 use Rattle.page_parts.specs.Sources.{default_list}
 use Rattle.page_parts.specs.TraceText.{source_text}
 use Rattle.page_base.specs.Decimals.{number_at, after_digits}
+use Rattle.page_base.specs.Fields.{behind, is_word, cut_at, ◌>>=◌, or_else, where_true}
 use Rattle.page_values.specs.Names.{is_name}
 use Rattle.loop_policy.specs.Policies.{lists_each}
 
 -- ---- Ours: the arrivals file
 
--- what follows a start, where the bytes begin with it
-abbrev pub behind_start : List ℕ → List ℕ → Option (List ℕ)
-behind_start [] bytes = Some bytes
-behind_start (c ∷ start) [] = None
-behind_start (c ∷ start) (b ∷ bytes) = cond (b == c) (behind_start start bytes) None
-
--- the same, for any start
-unfoldable pub behind : List ℕ → List ℕ → Option (List ℕ)
-behind start bytes = behind_start start bytes
-
--- whether the bytes are this word
-unfoldable pub is_word : List ℕ → List ℕ → Bool
-is_word word bytes = same_bytes word bytes
-
--- what stands before the first byte of a kind, and what stands behind it
-abbrev pub cut_at : ℕ → List ℕ → Option (List ℕ × List ℕ)
-cut_at byte [] = None
-cut_at byte (b ∷ bytes) = cond (b == byte) (Some ([], bytes)) (option_map (λ c. (b ∷ c.0, c.1)) (cut_at byte bytes))
-
 -- the words of a text, with exactly one space between each two; two spaces have an empty word between them
 abbrev pub words_of : List ℕ → List (List ℕ)
 words_of bytes = slice_split (λ b. b == 32) bytes
-
--- the answer and what it leads to; none where one of them is none
-infixl 10 ◌>>=◌
-abbrev pub ◌>>=◌ : {A B : Type 0} → Option A → (A → Option B) → Option B
-None >>= next = None
-(Some x) >>= next = next x
 
 -- all answers, where each is there
 abbrev pub all_of : {X : Type 0} → List (Option X) → Option (List X)
 all_of [] = Some []
 all_of (None ∷ answers) = None
 all_of (Some x ∷ answers) = option_map (λ xs. x ∷ xs) (all_of answers)
-
--- the value, where the test holds
-abbrev pub where_true : {X : Type 0} → Bool → X → Option X
-where_true test x = cond test (Some x) None
 
 -- the canonical decimal of a number within limits
 unfoldable pub number_in : ℕ → ℕ → List ℕ → Option ℕ
@@ -70,10 +42,6 @@ rank_at bytes = sources_at bytes >>= λ sources. where_true (lists_each sources)
 
 unfoldable pub fair_at : List ℕ → Option Policy
 fair_at bytes = option_map Fair (number_in 1 1000 bytes)
-
-abbrev pub or_else : {X : Type 0} → Option (List ℕ) → (List ℕ → Option X) → Option X → Option X
-or_else None read other = other
-or_else (Some rest) read other = read rest
 
 unfoldable pub policy_at : List ℕ → Option Policy
 policy_at bytes =

@@ -2,7 +2,7 @@
 use Rattle.std.specs.Prelude.{ℕ, ◌==◌, cond, List, [], ◌∷◌, Option, Some, None, Result, Ok, Err, codes}
 use Rattle.page_parts.specs.Setup.{Setup}
 use Rattle.arrivals_text.specs.Arrivals.{default_setup}
-use Rattle.arrivals_text.specs.Fields.{behind_start}
+use Rattle.page_base.specs.Fields.{behind_start}
 
 -- what follows the first line's LF: nothing, or a second line, which is refused
 abbrev pub behind_line : List ℕ → Result Setup ℕ

@@ -2,7 +2,7 @@
 use Rattle.std.specs.Prelude.{◌≡◌, ℕ, ◌+◌, ◌≤◌, Bool, true, false, cond, ⊤, List, [], ◌∷◌, ◌++◌, map, Option, Some, None, Result, Ok, Err, IsTrue}
 use Rattle.page_base.specs.Readings.{AreShort}
 use Rattle.loop_policy.specs.Policies.{policy_of, is_policy}
-use Rattle.arrivals_text.specs.Fields.{◌>>=◌, where_true}
+use Rattle.page_base.specs.Fields.{◌>>=◌, where_true}
 use Rattle.arrivals_text.specs.Arrivals.{Line, Settings, settings_after, line_at, says_something, place_of, may_follow}
 use Rattle.arrivals_text.specs.Limits.{are_latencies, are_arrivals}
 use Rattle.arrivals_text.specs.SeenParts.{latency_of, arrival_of}

@@ -7,11 +7,12 @@ ghost use Rattle.page_parts.specs.Setup.{Rank};
 ghost use Rattle.page_parts.specs.Sources.{default_list, same_source, source_number};
 ghost use Rattle.page_parts.specs.TraceText.{source_text};
 ghost use Rattle.loop_policy.specs.Policies.{policy_of, lists_each};
-ghost use Rattle.arrivals_text.specs.Fields.{late_at, rank_at, fair_at, policy_at, source_among as among, where_true, sources_at};
+ghost use Rattle.page_base.specs.Fields.{where_true};
+ghost use Rattle.arrivals_text.specs.Fields.{late_at, rank_at, fair_at, policy_at, source_among as among, sources_at};
 
-use crate::fields::{behind, cut_at, is_word, number_in};
+use crate::fields::number_in;
 use loop_policy::Policy;
-use page_base::Source;
+use page_base::{Source, behind, cut_at, is_word};
 use std::alloc::{AllocError, Global};
 
 /// The latenesses of a `late` line.

@@ -13,7 +13,7 @@ ghost use Rattle.arrivals_text.specs.declared.fault.BadLine.{BadLine as BadLineS
 ghost use Rattle.arrivals_text.specs.declared.fault.PageFault.TheVariants as fault;
 
 use crate::draft::Draft;
-use crate::fields::{behind, cut_at, is_name, is_word, number_in};
+use crate::fields::{is_name, number_in};
 use crate::line::Line;
 use crate::lists::{read_late, read_policy, source_among};
 use crate::order::may_follow;
@@ -21,7 +21,7 @@ use crate::place::Place;
 use crate::values::read_value;
 use crate::{Arrival, BadLine, PageFault, PageSetup};
 use loop_policy::Policy;
-use page_base::{Micros, Source};
+use page_base::{Micros, Source, behind, cut_at, is_word};
 use page_values::Str;
 use std::alloc::{AllocError, Global};
 

@@ -6,7 +6,8 @@ ghost use Rattle.page_values.specs.Seen.{seen};
 ghost use Rattle.page_values.specs.Texts.{is_text, is_text_byte};
 ghost use Rattle.arrivals_text.specs.Fields.{negative as negated, int_at, text_at, parts_at, value_at};
 
-use crate::fields::{behind, is_word, number_in};
+use crate::fields::number_in;
+use page_base::{behind, is_word};
 use page_values::{Str, Value};
 use std::alloc::{AllocError, Global};
 

@@ -1,6 +1,6 @@
 use Rattle.std.proofs.Common.{◌≡◌, length, find, Some}
 use Rattle.page_parts.specs.TraceText.{source_text}
-use Rattle.arrivals_text.specs.Fields.{is_word}
+use Rattle.page_base.specs.Fields.{is_word}
 use Rattle.arrivals_text.proofs.lists.source_among.Given as goal
 
 abbrev pub invariant-loop-source : goal.invariant-loop-source

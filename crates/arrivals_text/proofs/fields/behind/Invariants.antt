@@ -1,9 +1,0 @@
-use Rattle.std.proofs.Common.{◌≡◌, length}
-use Rattle.arrivals_text.specs.Fields.{behind_start}
-use Rattle.arrivals_text.proofs.fields.behind.Given as goal
-
-abbrev pub invariant-loop-first : goal.invariant-loop-first
-invariant-loop-first l = behind_start l.wanted l.rest ≡ behind_start l.start l.text
-
-abbrev pub decreases-loop-first : goal.decreases-loop-first
-decreases-loop-first l = length l.wanted
