@@ -60,7 +60,10 @@ mod tests {
         assert!(rt; !is_word(b"fifo ", b"fifo"));
         assert!(rt; !is_word(b"fif", b"fifo"));
 
-        assert_eq!(rt; cut_at(b"a bc d", b' '), Some((b"a".as_slice(), b"bc d".as_slice())));
+        assert_eq!(rt;
+            cut_at(b"a bc d", b' '),
+            Some((b"a".as_slice(), b"bc d".as_slice()))
+        );
         assert_eq!(rt; cut_at(b" ", b' '), Some((b"".as_slice(), b"".as_slice())));
         assert_eq!(rt; cut_at(b"abc", b' '), None);
     }
