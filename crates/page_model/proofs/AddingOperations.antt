@@ -12,7 +12,7 @@ use Rattle.page_types.specs.declared.Op.{Op}
 use Rattle.page_types.specs.declared.Op.TheVariants.{Log, TextOf, KindOf, Len, Push, Bind, MakeFault, FaultNameOf, FaultTextOf, NowOp, Busy, QueueMicrotask, MakePromise, ResolveOp, RejectOp, Resolved, Rejected, Then, SetTimeout, SetInterval, ClearTimeout, ClearInterval, RequestFrame, CancelFrame, RequestIdle, CancelIdle, DidTimeout, TimeRemaining, PostTask, YieldTask, MakeController, MakeTaskController, SignalOf, AbortOp, SetPriority, AbortedSignal, AnySignal, TaskAny, TimeoutSignal, Aborted, ReasonOf, PriorityOf, Listen, Unlisten, HostOp}
 use Rattle.page_parts.specs.Words.{has_number, not_below_zero, is_there}
 use Rattle.page_parts.specs.Kinds.{Func, func_in, text_in, int_in, promise_in, signal_in, controller_in, deadline_in, a_fault}
-use Rattle.lang_meaning.specs.Machine.{hosted, done_hosted, Done, Gives, finish, branch, given, throw_fault}
+use Rattle.lang_meaning.specs.Machine.{hosted, done_hosted, Done, Gives, finish, branch, given, throw_fault, Caller}
 use Rattle.lang_meaning.specs.Evaluation.{calls, call_from_outside}
 use Rattle.page_parts.specs.Notices as Notices
 use Rattle.page_model.specs.State.{Page, State, PrioSource, SchedulingState, last_registration}
@@ -25,7 +25,7 @@ use Rattle.page_parts.specs.TaskSignals.{priority_of, is_changing}
 use Rattle.page_model.specs.Invoke.{Ways, register, in_script}
 use Rattle.page_model.specs.PageSignals.{is_aborted_source}
 use Rattle.lang_meaning.specs.PureOperations.{argument, text_answer, kind_answer, length_answer, push_answer, bind_answer, fault_answer, fault_name_answer, fault_text_answer, did_timeout_answer}
-use Rattle.page_model.specs.Operations.{does, answers, where_left, registration_left, promise_left, signal_left, is_left, priority_in, int_within, delay_in, signal_or_unit, busy_for, micro_registered, last_promise_value, script_promise, settle_own, new_settled, settled_promise, resolved_value, then_made, then_value, timer_set, set_timer, with_handle, frame_requested, idle_requested, controller_value, signal_value, task_signal_made, reason_given, change_by, signals_in, any_made, any_with_priority, followed_through, any_following, make_task_any, timeout_signal_made, target_in, listener_added, listener_removed, rejected_with, given_or_rejected, priority_or_unit, source_reason, prio_source_of, promised, post_queued, post_accepted, post_task, continuation_queued, yield_in, closure_at, is_fresh, fitting, host_queued, host_accepted, host_asked, host, operation, page_operations}
+use Rattle.page_model.specs.Operations.{does, answers, where_left, registration_left, promise_left, signal_left, is_left, priority_in, int_within, delay_in, signal_or_unit, busy_for, micro_registered, last_promise_value, script_promise, settle_own, new_settled, settled_promise, resolved_value, then_made, then_value, timer_set, set_timer, with_handle, frame_requested, idle_requested, controller_value, signal_value, task_signal_made, reason_given, change_by, signals_in, any_made, any_with_priority, followed_through, any_following, make_task_any, timeout_signal_made, target_in, listener_added, listener_removed, rejected_with, given_or_rejected, priority_or_unit, source_reason, prio_source_of, promised, post_queued, post_accepted, post_task, continuation_queued, yield_in, closure_at, is_fresh, fitting, host_queued, host_accepted, host_asked, host, operation, page_operations, may_operate}
 use Rattle.lang_meaning.proofs.Following.{given-follows, branch-follows, take_unit-follows, answered-follows, calls-follow}
 use Rattle.lang_meaning.specs.Following.{CallsFollow}
 use Rattle.page_model.proofs.Adding.{cond-adds, cond_of-adds, finish-adds, on_notices-adds, resolve-adds, reject-adds, subscribe-adds, clear_timer-adds, cancel_frame-adds, cancel_idle-adds}
@@ -241,9 +241,13 @@ module _ (es : List Stamped) where
   operation-adds w a Unlisten args m = with_handle-adds (argument args 0) listener_removed listener_removed-adds m
   operation-adds w a HostOp args m = host-adds (argument args 0) (argument args 1) (argument args 2) m
 
+pub page_operations-adds : (es : List Stamped) (call : Caller Page) → CallsFollow (after es) call call → (op : Op) (args : List Value) → AddsAll es (page_operations call op args)
+page_operations-adds es call c op args m =
+    branch-follows (after es) (may_operate m.host op args) (operation (in_script call) op args) (throw_fault TypeError) _ _ (operation-adds es (in_script call) (in_script-adds es call c) op args) (λ m. refl) m
+
 -- a script's own calls on a page, at whatever depth
 pub calls-add : (es : List Stamped) (program : Program) (n : ℕ) → CallsFollow (after es) (calls program page_operations n) (calls program page_operations n)
-calls-add es program = calls-follow (after es) program page_operations page_operations (λ n c op args. operation-adds es (in_script (calls program page_operations n)) (in_script-adds es (calls program page_operations n) c) op args)
+calls-add es program = calls-follow (after es) program page_operations page_operations (λ n c op args. page_operations-adds es (calls program page_operations n) c op args)
 
 pub outside-adds : (es : List Stamped) (program : Program) → CallsFollow (after es) (call_from_outside program page_operations) (call_from_outside program page_operations)
 outside-adds es program = calls-add es program 256

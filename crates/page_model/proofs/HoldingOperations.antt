@@ -28,7 +28,7 @@ use Rattle.page_model.specs.PagePromises as promises
 use Rattle.page_model.specs.PageTime.{clear_timer, cancel_frame, cancel_idle, time_remaining, current_state}
 use Rattle.page_model.specs.Invoke.{Ways, in_script}
 use Rattle.page_model.specs.PageSignals.{change, is_aborted, is_aborted_source, reason_value, priority_value}
-use Rattle.page_model.specs.Operations.{does, answers, where_left, registration_left, promise_left, signal_left, is_left, priority_in, int_within, delay_in, signal_or_unit, busy_for, micro_registered, last_promise_value, script_promise, settle_own, new_settled, settled_promise, resolved_value, then_made, then_value, timer_set, set_timer, with_handle, frame_requested, idle_requested, controller_value, signal_value, with_signals, task_signal_made, reason_given, change_by, signals_in, any_made, any_with_priority, followed_through, any_following, make_task_any, timeout_signal_made, target_in, listener_added, listener_removed, rejected_with, given_or_rejected, priority_or_unit, source_reason, prio_source_of, post_queued, post_accepted, post_task, continuation_queued, yield_in, closure_at, is_fresh, fitting, host_queued, host_accepted, host_asked, host, operation, page_operations}
+use Rattle.page_model.specs.Operations.{does, answers, where_left, registration_left, promise_left, signal_left, is_left, priority_in, int_within, delay_in, signal_or_unit, busy_for, micro_registered, last_promise_value, script_promise, settle_own, new_settled, settled_promise, resolved_value, then_made, then_value, timer_set, set_timer, with_handle, frame_requested, idle_requested, controller_value, signal_value, with_signals, task_signal_made, reason_given, change_by, signals_in, any_made, any_with_priority, followed_through, any_following, make_task_any, timeout_signal_made, target_in, listener_added, listener_removed, rejected_with, given_or_rejected, priority_or_unit, source_reason, prio_source_of, post_queued, post_accepted, post_task, continuation_queued, yield_in, closure_at, is_fresh, fitting, host_queued, host_accepted, host_asked, host, operation, page_operations, may_operate}
 use Rattle.page_model.proofs.Holding.{given_any, Holds, OperateHolds, calls-hold, given_any-holds, branch-holds, answered-holds, take_unit-holds, finish-holds, fault-holds}
 use Rattle.page_model.proofs.Leaving.{PageKeeping, Leaves, with_page, resolve-leaves, reject-leaves, clear_timer-leaves, cancel_frame-leaves, cancel_idle-leaves, micro_registered-leaves, then_made-leaves, idle_requested-leaves, listener_removed-leaves, post_queued-leaves, continuation_queued-leaves, host_queued-leaves}
 use Rattle.page_model.proofs.HoldingRuns.{K, Kept, Changes, Goes, CallsGo, WaysGo, kept-then, leaves-change, finish-leaves, abort-goes, change-goes, in_script-goes}
@@ -271,7 +271,9 @@ module _ (program : Program) (k : PageKeeping) where
 
   -- the operations of a page, and a script's own calls at whatever depth
   pub page_operations-go : (call : Caller Page) → CallsGo program k call → OperateHolds (K program k) (page_operations call)
-  page_operations-go call c op args m g h = operation-goes (in_script call) (in_script-goes program k call c) op args m g
+  page_operations-go call c op args m g h =
+      branch-holds (K program k) (may_operate m.host op args) m (operation (in_script call) op args) (throw_fault TypeError)
+      (operation-goes (in_script call) (in_script-goes program k call c) op args m g) (fault-holds (K program k) m TypeError g)
 
   pub calls-go : (n : ℕ) → CallsGo program k (calls program page_operations n)
   calls-go = calls-hold (K program k) page_operations page_operations-go

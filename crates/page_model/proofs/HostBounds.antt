@@ -13,15 +13,16 @@ use Rattle.lang_meaning.specs.Machine.{Done, Gives, Throws, Returns, OutOfFuel}
 use Rattle.lang_meaning.specs.PureOperations.{argument}
 use Rattle.lang_meaning.specs.HostSteps.{CallbackEnd, Stepped}
 use Rattle.page_model.specs.State.{Page}
-use Rattle.page_model.specs.Operations.{page_operations, priority_in, reason_given}
+use Rattle.page_model.specs.Operations.{priority_in, reason_given, may_operate, operation}
 use Rattle.page_model.specs.Folds.{Fold, Reached, Finished, Calls, go_on, callback_ended, begin_abort, begin_change}
-use Rattle.page_model.specs.PageHost.{Hosting, with_folds, reached_step, resume_innermost, step_fault, step_given, step_abort, step_change_by, step_change, done_step, step_op, bare, no_calls}
+use Rattle.page_model.specs.PageHost.{Hosting, with_folds, reached_step, resume_innermost, step_fault, step_given, step_abort, step_change_by, step_change, done_step, step_op, bare, no_calls, step_known}
 use Rattle.page_model.specs.FoldBounds.{to_visit, fold_left, counted, IsBounded, FoldsAreBounded, HostIsBounded, FewerLeft}
 use Rattle.page_model.proofs.Counting.{near-equal, bounded-near, stays-near}
 use Rattle.page_model.proofs.Reaching.{ReachesFewer, fold-stays, folds-stay, fold-few, fold-reaches, abort-reaches, change-reaches-few}
 use Rattle.page_model.proofs.Stepping.{ended-counted, record-there}
 use Rattle.page_model.proofs.PlainOperations.{KeepsDone, busy-plain}
 use Rattle.page_model.proofs.Hosting.{operations-alike}
+use Rattle.page_model.specs.Invoke.{in_script}
 
 -- a host within bounds, with fewer callbacks left than so many, where one comes next
 abbrev pub StepsWithin : ℕ → Stepped Hosting → Type 0
@@ -73,5 +74,12 @@ module _ (folds : List Fold) (p : Page) (b : IsBounded p) (f : FoldsAreBounded p
   pub op-within : (op : Op) (args : List Value) → StepsWithin (2 ^ 64) (step_op folds op args p)
   op-within AbortOp args = abort-within (argument args 0) (argument args 1)
   op-within SetPriority args = change-within (argument args 0) (argument args 1)
-  op-within Busy args = done-within (page_operations no_calls Busy args (bare p)) (busy-plain 0 (bare p) b (argument args 0)).1
-  op-within op args = done-within (page_operations no_calls op args (bare p)) (operations-alike no_calls args (bare p) b op).1
+  op-within Busy args = done-within (operation (in_script no_calls) Busy args (bare p)) (busy-plain 0 (bare p) b (argument args 0)).1
+  op-within op args = done-within (operation (in_script no_calls) op args (bare p)) (operations-alike no_calls args (bare p) b op).1
+
+  pub known-within : (op : Op) (args : List Value) → StepsWithin (2 ^ 64) (step_known folds op args p)
+  known-within op args = by (may_operate p op args)
+    where
+      by : (c : Bool) → StepsWithin (2 ^ 64) (cond c (step_op folds op args p) (step_fault folds TypeError p))
+      by true = op-within op args
+      by false = fault-within TypeError

@@ -1,5 +1,5 @@
 -- The page as a host does by steps what the page does with nested callbacks: each operation, and a script's calls.
-use Rattle.std.proofs.Common.{◌≡◌, ℕ, zero, suc, ◌+◌, ◌*◌, ◌^◌, true, false, List, [], Some, refl, sym, subst, arith, pos}
+use Rattle.std.proofs.Common.{◌≡◌, ℕ, zero, suc, ◌+◌, ◌*◌, ◌^◌, true, false, List, [], Some, refl, sym, subst, arith, pos, Bool, cond}
 use Rattle.page_types.specs.Values.{Value, IntValue, SignalValue, BoolValue}
 use Rattle.page_types.specs.declared.FaultName.TheVariants.{TypeError}
 use Rattle.page_types.specs.Tree.{Program}
@@ -12,23 +12,24 @@ use Rattle.page_parts.specs.Kinds.{int_in, controller_in, deadline_in}
 use Rattle.page_parts.specs.AbortGraph as AbortGraph
 use Rattle.page_parts.specs.AbortGraph.{fresh_signal}
 use Rattle.page_parts.specs.TaskSignals.{priority_of}
-use Rattle.lang_meaning.specs.Machine.{hosted, Done, Gives, Throws, Returns, OutOfFuel, given, with_fuel, Caller}
+use Rattle.lang_meaning.specs.Machine.{hosted, Done, Gives, Throws, Returns, OutOfFuel, given, with_fuel, Caller, throw_fault, branch}
 use Rattle.lang_meaning.specs.Evaluation.{calls}
-use Rattle.lang_meaning.specs.HostSteps.{with_host, host_operations, asked}
+use Rattle.lang_meaning.specs.HostSteps.{with_host, host_operations, asked, is_busy}
 use Rattle.lang_meaning.specs.PureOperations.{argument, text_answer, kind_answer, length_answer, push_answer, bind_answer, fault_answer, fault_name_answer, fault_text_answer, did_timeout_answer}
 use Rattle.page_model.specs.State.{Page, State, emit}
 use Rattle.page_model.specs.PagePromises as promises
 use Rattle.page_model.specs.PageTime.{clear_timer, cancel_frame, cancel_idle, time_remaining, current_state}
 use Rattle.page_model.specs.PageSignals.{is_aborted, reason_value, priority_value}
-use Rattle.page_model.specs.Operations.{busy_for, promise_left, last_promise_value, script_promise, priority_in, controller_value, signal_value, with_signals, task_signal_made, reason_given, signals_in, listener_removed, page_operations}
+use Rattle.page_model.specs.Operations.{busy_for, promise_left, last_promise_value, script_promise, priority_in, controller_value, signal_value, with_signals, task_signal_made, reason_given, signals_in, listener_removed, page_operations, may_operate, operation}
 use Rattle.page_model.specs.Folds.{Fold}
-use Rattle.page_model.specs.PageHost.{Hosting, with_folds, done_step, page_rules, bare, no_calls}
+use Rattle.page_model.specs.PageHost.{Hosting, with_folds, done_step, page_rules, bare, no_calls, step_op, step_fault}
 use Rattle.page_model.specs.FoldBounds.{IsBounded}
 use Rattle.page_model.specs.Hosted.{EndsBounded}
 use Rattle.page_model.proofs.Bounded.{listener_removed-kept, made-kept, any-kept, task_signal-kept}
-use Rattle.page_model.proofs.PlainOperations.{moved, Alike, KeepsDone, gives-plain, does-leaves, answers-leaves, answered-plain, given-plain, settle_own-plain, settled_promise-plain, resolve-leaves, reject-leaves, resolved_value-plain, then_value-plain, queue_microtask-plain, set_timer-plain, with_handle-plain, clear_timer-kept, cancel_frame-kept, cancel_idle-kept, request_frame-plain, request_idle-plain, makes, make_task_any-plain, make_timeout_signal-plain, listen-plain, yield_in-plain, post_task-plain, host-plain, of_signal-plain, where_left-plain, signal_few, busy-plain}
+use Rattle.page_model.proofs.PlainOperations.{moved, Alike, KeepsDone, gives-plain, does-leaves, answers-leaves, answered-plain, given-plain, settle_own-plain, settled_promise-plain, resolve-leaves, reject-leaves, resolved_value-plain, then_value-plain, queue_microtask-plain, set_timer-plain, with_handle-plain, clear_timer-kept, cancel_frame-kept, cancel_idle-kept, request_frame-plain, request_idle-plain, makes, make_task_any-plain, make_timeout_signal-plain, listen-plain, yield_in-plain, post_task-plain, host-plain, of_signal-plain, where_left-plain, signal_few, busy-plain, fault-plain}
 use Rattle.page_model.proofs.Twin.{after-same, Leads, Twin, wider, OperateFollow, CallersFollow, callers-follow}
 use Rattle.page_model.proofs.Stepping.{steps-value, steps-throw, steps_on, abort-follows, change-follows}
+use Rattle.page_model.specs.Invoke.{in_script}
 
 -- an operation that calls nothing is done at once
 plain : (call : Caller Hosting) (n : ℕ) (folds : List Fold) (m : State) (d e : Done Page) → Alike m d e → Twin folds m d (steps_on call n (done_step folds e) m)
@@ -45,7 +46,7 @@ abbrev pub AlikeAt : Caller Page → List Value → State → Op → Type 0
 AlikeAt call args m Busy = Unit {0}
 AlikeAt call args m AbortOp = Unit {0}
 AlikeAt call args m SetPriority = Unit {0}
-AlikeAt call args m op = Alike m (page_operations call op args m) (page_operations no_calls op args (bare m.host))
+AlikeAt call args m op = Alike m (operation (in_script call) op args m) (operation (in_script no_calls) op args (bare m.host))
 
 pub operations-alike : (call : Caller Page) (args : List Value) (m : State) → IsBounded m.host → (op : Op) → AlikeAt call args m op
 operations-alike call args m b Log = does-leaves 1 m b (λ p. emit (events.Log (spelled p.names (argument args 0))) p) (λ p. refl)
@@ -109,11 +110,22 @@ module _ (call : Caller Page) (call' : Caller Hosting) (c : CallersFollow call c
   at-once : (m : State) (d e : Done Page) → Alike m d e → Twin folds m d (steps_on call' (m.fuel * (2 ^ 64) + 2 ^ 64) (done_step folds e) m)
   at-once m d e h = plain call' (m.fuel * (2 ^ 64) + 2 ^ 64) folds m d e h
 
+  known-follow : (op : Op) → is_busy op ≡ false → (args : List Value) (m : State) → IsBounded m.host
+      → Twin folds m (operation (in_script call) op args m) (steps_on call' (m.fuel * (2 ^ 64) + 2 ^ 64) (step_op folds op args m.host) m)
+  known-follow Busy e args m b = cc
+  known-follow AbortOp e args m b = abort-follows call call' c folds (argument args 0) (argument args 1) m b
+  known-follow SetPriority e args m b = change-follows call call' c folds (argument args 0) (argument args 1) m b
+  known-follow op e args m b = at-once m (operation (in_script call) op args m) (operation (in_script no_calls) op args (bare m.host)) (operations-alike call args m b op)
+
+  -- with a number that was not given out both throw
+  checked-follow : (known : Bool) (op : Op) → is_busy op ≡ false → (args : List Value) (m : State) → IsBounded m.host
+      → Twin folds m (branch known m (operation (in_script call) op args) (throw_fault TypeError)) (steps_on call' (m.fuel * (2 ^ 64) + 2 ^ 64) (cond known (step_op folds op args m.host) (step_fault folds TypeError m.host)) m)
+  checked-follow true op e args m b = known-follow op e args m b
+  checked-follow false op e args m b = at-once m (throw_fault TypeError m) (throw_fault TypeError (bare m.host)) (fault-plain 1 m b TypeError)
+
   operations-follow : OperateFollow folds (page_operations call) (host_operations page_rules call')
   operations-follow Busy args m b = busy-follows args m b
-  operations-follow AbortOp args m b = abort-follows call call' c folds (argument args 0) (argument args 1) m b
-  operations-follow SetPriority args m b = change-follows call call' c folds (argument args 0) (argument args 1) m b
-  operations-follow op args m b = at-once m (page_operations call op args m) (page_operations no_calls op args (bare m.host)) (operations-alike call args m b op)
+  operations-follow op args m b = checked-follow (may_operate m.host op args) op refl args m b
 
 pub calls-follow-by-steps : (program : Program) (n : ℕ) → CallersFollow (calls program page_operations n) (calls program (host_operations page_rules) n)
 calls-follow-by-steps program n = callers-follow program page_operations (host_operations page_rules) operations-follow n

@@ -35,6 +35,7 @@ pub mod NumbersMaking
 pub mod NumbersOperations
 pub mod NumbersTasks
 pub mod NumbersTurns
+mod KnownArguments
 pub mod Leaving
 pub mod HoldingRuns
 pub mod HoldingOperations

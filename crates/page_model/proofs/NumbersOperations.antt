@@ -26,7 +26,7 @@ use Rattle.page_model.specs.PagePromises.{new_promise, last_promise}
 use Rattle.page_model.specs.PageTime.{clear_timer, cancel_frame, cancel_idle, time_remaining, current_state, no_state}
 use Rattle.page_model.specs.Invoke.{Ways, in_script}
 use Rattle.page_model.specs.PageSignals.{change, is_aborted, is_aborted_source, reason_value, priority_value}
-use Rattle.page_model.specs.Operations.{does, answers, where_left, registration_left, promise_left, signal_left, is_left, priority_in, int_within, delay_in, signal_or_unit, busy_for, busy, micro_registered, queue_microtask, last_promise_value, script_promise, settle_own, new_settled, settled_promise, resolved_value, then_made, then_value, timer_set, set_timer, with_handle, frame_requested, request_animation_frame, idle_requested, request_idle_callback, remaining, with_signals, controller_value, signal_value, make_controller, task_signal_made, make_task_controller, reason_given, abort_by, change_by, set_priority_by, aborted_signal, all_signals, signals_in, make_any, any_made, any_with_priority, followed_through, any_following, make_task_any, timeout_signal_made, make_timeout_signal, of_signal, target_in, listener_added, listen, listener_removed, rejected_with, given_or_rejected, priority_or_unit, source_reason, signal_source, prio_source_of, post_queued, post_accepted, post_task, continuation_queued, yield_in, closure_at, is_fresh, fitting, host_queued, host_accepted, host_asked, host, operation, page_operations}
+use Rattle.page_model.specs.Operations.{does, answers, where_left, registration_left, promise_left, signal_left, is_left, priority_in, int_within, delay_in, signal_or_unit, busy_for, busy, micro_registered, queue_microtask, last_promise_value, script_promise, settle_own, new_settled, settled_promise, resolved_value, then_made, then_value, timer_set, set_timer, with_handle, frame_requested, request_animation_frame, idle_requested, request_idle_callback, remaining, with_signals, controller_value, signal_value, make_controller, task_signal_made, make_task_controller, reason_given, abort_by, change_by, set_priority_by, aborted_signal, all_signals, signals_in, make_any, any_made, any_with_priority, followed_through, any_following, make_task_any, timeout_signal_made, make_timeout_signal, of_signal, target_in, listener_added, listen, listener_removed, rejected_with, given_or_rejected, priority_or_unit, source_reason, signal_source, prio_source_of, post_queued, post_accepted, post_task, continuation_queued, yield_in, closure_at, is_fresh, fitting, host_queued, host_accepted, host_asked, host, operation, page_operations, may_operate}
 use Rattle.page_model.specs.Numbers.{Each, IfThere, Made, made_by, IsGiven, IsKnown, AreKnown, PrioSourceIsGiven, StateIsGiven, TargetIsGiven, AllAreGiven, EndsGiven, CallsKeepGiven}
 use Rattle.page_model.proofs.NumbersGrow.{IfThere-more, Each-last, Each-append, Each-get, Each-numbered, unwrapped, last-given, Grows-same, InPrios, InStates, Held, Onward, stays}
 use Rattle.page_model.proofs.NumbersParts.{items-known, values-known, promise_in-given, signal_in-given, controller_in-given, list_in-given, func_in-given, followed-known, any-count}
@@ -415,7 +415,9 @@ module _ (program : Program) where
   -- ---- calls
 
   pub page_operations-go : (call : Caller Page) → CallsGo program call → (op : Op) (args : List Value) (m : State) → Good m → Each (IsKnown (made_by m.host)) args → Ends m (page_operations call op args m)
-  page_operations-go call c op args m g h = operation-goes (in_script call) (in_script-goes program call c) op args m g h
+  page_operations-go call c op args m g h =
+      branch-goes program (may_operate m.host op args) m (operation (in_script call) op args) (throw_fault TypeError)
+      (operation-goes (in_script call) (in_script-goes program call c) op args m g h) (fault-holds (keeping program) m TypeError g)
 
   pub calls-go : (depth : ℕ) → CallsGo program (calls program page_operations depth)
   calls-go depth =

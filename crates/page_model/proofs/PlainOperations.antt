@@ -61,7 +61,7 @@ module _ (k : ℕ) (m : State) (b : IsBounded m.host) where
   pub gives-plain : (v : Value) → Plain (Gives v)
   gives-plain v = (refl, (b, λ s h. h))
 
-  fault-plain : (name : FaultName) → Plain (throw_fault name)
+  pub fault-plain : (name : FaultName) → Plain (throw_fault name)
   fault-plain name = (refl, (b, λ s h. h))
 
   finish-plain : Plain finish

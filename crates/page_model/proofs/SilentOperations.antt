@@ -24,7 +24,7 @@ use Rattle.page_parts.specs.TaskSignals.{priority_of, is_changing}
 use Rattle.page_model.specs.Invoke.{Ways, register, in_script}
 use Rattle.page_model.specs.PageSignals.{is_aborted_source}
 use Rattle.lang_meaning.specs.PureOperations.{argument, text_answer, kind_answer, length_answer, push_answer, bind_answer, fault_answer, fault_name_answer, fault_text_answer, did_timeout_answer}
-use Rattle.page_model.specs.Operations.{with_signals, does, answers, where_left, registration_left, promise_left, signal_left, is_left, priority_in, int_within, delay_in, signal_or_unit, busy_for, micro_registered, last_promise_value, script_promise, settle_own, new_settled, settled_promise, resolved_value, then_made, then_value, timer_set, set_timer, with_handle, frame_requested, idle_requested, controller_value, signal_value, task_signal_made, reason_given, change_by, signals_in, any_made, any_with_priority, followed_through, any_following, make_task_any, timeout_signal_made, target_in, listener_added, listener_removed, rejected_with, given_or_rejected, priority_or_unit, source_reason, prio_source_of, promised, post_queued, post_accepted, post_task, continuation_queued, yield_in, closure_at, is_fresh, fitting, host_queued, host_accepted, host_asked, host, operation, page_operations}
+use Rattle.page_model.specs.Operations.{with_signals, does, answers, where_left, registration_left, promise_left, signal_left, is_left, priority_in, int_within, delay_in, signal_or_unit, busy_for, micro_registered, last_promise_value, script_promise, settle_own, new_settled, settled_promise, resolved_value, then_made, then_value, timer_set, set_timer, with_handle, frame_requested, idle_requested, controller_value, signal_value, task_signal_made, reason_given, change_by, signals_in, any_made, any_with_priority, followed_through, any_following, make_task_any, timeout_signal_made, target_in, listener_added, listener_removed, rejected_with, given_or_rejected, priority_or_unit, source_reason, prio_source_of, promised, post_queued, post_accepted, post_task, continuation_queued, yield_in, closure_at, is_fresh, fitting, host_queued, host_accepted, host_asked, host, operation, page_operations, may_operate}
 use Rattle.page_model.proofs.Silent.{Has, DoneHas, Keeps, KeepsAll, CallsKeep, cond-keeps, cond_of-keeps, branch-keeps, given-keeps, take_unit-keeps, answered-keeps, finish-keeps, resolve-keeps, reject-keeps, subscribe-keeps, clear_timer-keeps, cancel_frame-keeps, cancel_idle-keeps}
 use Rattle.page_parts.specs.WrittenChoices.{Choices}
 use Rattle.page_model.proofs.SilentRuns.{WaysKeep, in_script-keeps, abort-keeps, change-keeps}
@@ -274,8 +274,12 @@ module _ (c : Choices) (program : Program) where
   of_calls : (call : Caller Page) → CallsHold silence call → CallsKeep c call
   of_calls call k f args m h = of_holds m (call f args m) (k f args m h (every_any args))
 
+  page_operations-keep : (call : Caller Page) → CallsKeep c call → (op : Op) (args : List Value) → KeepsAll c (page_operations call op args)
+  page_operations-keep call k op args m h =
+      branch-keeps c (may_operate m.host op args) (operation (in_script call) op args) (throw_fault TypeError) (operation-keeps c (in_script call) (in_script-keeps c call k) op args) (λ m h. h) m h
+
   -- a script's calls on a page, where no call is open
   pub outside-keeps : CallsKeep c (call_from_outside program page_operations)
   outside-keeps =
       of_calls (call_from_outside program page_operations)
-      (outside-holds silence page_operations (λ call k op args m h a. to_holds m (page_operations call op args m) (operation-keeps c (in_script call) (in_script-keeps c call (of_calls call k)) op args m h)))
+      (outside-holds silence page_operations (λ call k op args m h a. to_holds m (page_operations call op args m) (page_operations-keep call (of_calls call k) op args m h)))

@@ -12,9 +12,10 @@ use Rattle.lang_meaning.specs.Machine.{Done, Gives, Throws, Returns, OutOfFuel}
 use Rattle.lang_meaning.specs.PureOperations.{argument}
 use Rattle.lang_meaning.specs.HostSteps.{CallbackEnd, Stepped}
 use Rattle.page_model.specs.State.{Page}
-use Rattle.page_model.specs.Operations.{page_operations, priority_in, reason_given}
+use Rattle.page_model.specs.Operations.{priority_in, reason_given, may_operate, operation}
 use Rattle.page_model.specs.Folds.{Fold, Reached, Finished, Calls, go_on, callback_ended, begin_abort, begin_change}
-use Rattle.page_model.specs.PageHost.{Hosting, reached_step, resume_innermost, step_fault, step_given, step_change_by, done_step, step_op, bare, no_calls, open_tickets, tickets_then}
+use Rattle.page_model.specs.PageHost.{Hosting, reached_step, resume_innermost, step_fault, step_given, step_change_by, done_step, step_op, bare, no_calls, open_tickets, tickets_then, step_known}
+use Rattle.page_model.specs.Invoke.{in_script}
 
 -- a step from where these folds are open keeps account of the tickets
 abbrev Accounts : List Fold → Stepped Hosting → Type 0
@@ -47,7 +48,14 @@ op-accounts folds AbortOp args p =
     given-accounts folds (controller_in (argument args 0)) p _ (λ s. reached-accounts folds (begin_abort s (reason_given (argument args 1)) p))
 op-accounts folds SetPriority args p =
     given-accounts folds (controller_in (argument args 0)) p _ (λ s. given-accounts folds (priority_in (argument args 1)) p _ (λ priority. change_by-accounts folds s priority p))
-op-accounts folds op args p = done-accounts folds (page_operations no_calls op args (bare p))
+op-accounts folds op args p = done-accounts folds (operation (in_script no_calls) op args (bare p))
+
+pub known-accounts : (folds : List Fold) (op : Op) (args : List Value) (p : Page) → Accounts folds (step_known folds op args p)
+known-accounts folds op args p = by (may_operate p op args)
+  where
+    by : (c : Bool) → Accounts folds (cond c (step_op folds op args p) (step_fault folds TypeError p))
+    by true = op-accounts folds op args p
+    by false = refl
 
 tail : List ℕ → List ℕ
 tail [] = []

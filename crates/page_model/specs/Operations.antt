@@ -1,6 +1,6 @@
 -- What each operation does.
-use Rattle.std.specs.Prelude.{ℕ, suc, ◌+◌, ◌*◌, Bool, true, false, cond, ◌&&◌, List, [], ◌∷◌, length, Option, Some, None, ℤ, pos, negsuc, int_le, nat_lt, ◌==◌, slice_get, slice_set, unwrap_or}
-use Rattle.page_types.specs.Values.{Value, UnitValue, BoolValue, IntValue, PromiseValue, SignalValue, ControllerValue, items_of}
+use Rattle.std.specs.Prelude.{ℕ, suc, ◌+◌, ◌*◌, Bool, true, false, cond, ◌&&◌, ◌||◌, List, [], ◌∷◌, length, Option, Some, None, ℤ, pos, negsuc, int_le, nat_lt, nat_le, ◌==◌, slice_get, slice_set, unwrap_or}
+use Rattle.page_types.specs.Values.{Value, UnitValue, BoolValue, IntValue, TextValue, ListValue, FunValue, PromiseValue, SignalValue, ControllerValue, DeadlineValue, FaultValue, Values, no_values, with_value, items_of}
 use Rattle.page_types.specs.declared.FaultName.TheVariants.{TypeError, RangeError, AbortError, NotAllowedError}
 use Rattle.page_types.specs.declared.Op.{Op}
 use Rattle.page_types.specs.declared.Op.TheVariants.{Log, TextOf, KindOf, Len, Push, Bind, MakeFault, FaultNameOf, FaultTextOf, NowOp, Busy, QueueMicrotask, MakePromise, ResolveOp, RejectOp, Resolved, Rejected, Then, SetTimeout, SetInterval, ClearTimeout, ClearInterval, RequestFrame, CancelFrame, RequestIdle, CancelIdle, DidTimeout, TimeRemaining, PostTask, YieldTask, MakeController, MakeTaskController, SignalOf, AbortOp, SetPriority, AbortedSignal, AnySignal, TaskAny, TimeoutSignal, Aborted, ReasonOf, PriorityOf, Listen, Unlisten, HostOp}
@@ -15,6 +15,7 @@ use Rattle.page_parts.specs.Spelling.{spelled, priority_text}
 use Rattle.page_parts.specs.Kinds.{Func, func_in, int_in, text_in, list_in, promise_in, signal_in, controller_in, deadline_in, is_unit, a_fault}
 use Rattle.lang_meaning.specs.Machine.{Done, Gives, throw_fault, finish, given, branch, take_unit, Caller}
 use Rattle.lang_meaning.specs.Evaluation.{answered}
+use Rattle.lang_meaning.specs.HostSteps.{is_busy}
 use Rattle.lang_meaning.specs.PureOperations.{argument, text_answer, kind_answer, length_answer, push_answer, bind_answer, fault_answer, fault_name_answer, fault_text_answer, did_timeout_answer}
 use Rattle.page_parts.specs.Notices as Notices
 use Rattle.page_parts.specs.AbortGraph as AbortGraph
@@ -530,6 +531,41 @@ operation w Listen args m = listen (argument args 0) (argument args 1) (argument
 operation w Unlisten args m = with_handle (argument args 0) listener_removed m
 operation w HostOp args m = host (argument args 0) (argument args 1) (argument args 2) m
 
--- the operations of a page: a callback within one is called in that place, and no checkpoint follows it
+-- ---- Ours: numbers that were not given out. No run meets them
+
+-- whether a number was given out, where so many were, counted from 1
+abbrev pub was_given : (last number : ℕ) → Bool
+was_given last number = nat_lt 0 number && nat_le number last
+
+abbrev mutual
+  -- whether each promise, signal and controller in a value is one of so many that were made; a controller has the number of its signal
+  pub is_known : (promises signals : ℕ) → Value → Bool
+  is_known promises signals UnitValue = true
+  is_known promises signals (BoolValue b) = true
+  is_known promises signals (IntValue n) = true
+  is_known promises signals (TextValue bs) = true
+  is_known promises signals (ListValue vs) = are_known promises signals vs
+  is_known promises signals (FunValue f vs) = are_known promises signals vs
+  is_known promises signals (PromiseValue n) = was_given promises n
+  is_known promises signals (SignalValue n) = was_given signals n
+  is_known promises signals (ControllerValue n) = was_given signals n
+  is_known promises signals (DeadlineValue t) = true
+  is_known promises signals (FaultValue name bs) = true
+
+  -- the same of values in a row
+  pub are_known : (promises signals : ℕ) → Values → Bool
+  are_known promises signals no_values = true
+  are_known promises signals (with_value v vs) = is_known promises signals v && are_known promises signals vs
+
+-- the same of arguments
+abbrev pub all_known : (promises signals : ℕ) → List Value → Bool
+all_known promises signals [] = true
+all_known promises signals (v ∷ vs) = is_known promises signals v && all_known promises signals vs
+
+-- whether an operation may look at its arguments: none of them holds a number that was not given out. `busy` asks for no such number.
+abbrev pub may_operate : Page → Op → List Value → Bool
+may_operate p op args = is_busy op || all_known (length p.notices.promises) (length p.signals) args
+
+-- The operations of a page: a callback within one is called in that place, and no checkpoint follows it. With a number that was not given out they throw TypeError and do nothing.
 abbrev pub page_operations : Caller Page → Op → List Value → State → Done Page
-page_operations call op args m = operation (in_script call) op args m
+page_operations call op args m = branch (may_operate m.host op args) m (operation (in_script call) op args) (throw_fault TypeError)

@@ -13,8 +13,9 @@ use Rattle.lang_meaning.specs.Machine.{Done, Gives, Throws, Returns, OutOfFuel, 
 use Rattle.lang_meaning.specs.PureOperations.{argument}
 use Rattle.lang_meaning.specs.HostSteps.{HostStep, StepValue, StepThrow, StepInvoke, CallbackEnd, Stepped, HostRules}
 use Rattle.page_model.specs.State.{Page, State}
-use Rattle.page_model.specs.Operations.{page_operations, priority_in, reason_given}
+use Rattle.page_model.specs.Operations.{priority_in, reason_given, operation, may_operate}
 use Rattle.page_model.specs.Folds.{Fold, Reached, Finished, Calls, go_on, callback_ended, begin_abort, begin_change}
+use Rattle.page_model.specs.Invoke.{in_script}
 
 -- ---- Ours: the page as the script machine's host
 
@@ -80,12 +81,16 @@ done_step folds (OutOfFuel m) = record { step = StepValue UnitValue; host = with
 abbrev pub step_op : List Fold → Op → List Value → Page → Stepped Hosting
 step_op folds AbortOp args p = step_abort folds (argument args 0) (argument args 1) p
 step_op folds SetPriority args p = step_change folds (argument args 0) (argument args 1) p
-step_op folds op args p = done_step folds (page_operations no_calls op args (bare p))
+step_op folds op args p = done_step folds (operation (in_script no_calls) op args (bare p))
+
+-- the same, and TypeError where an argument holds a number that was not given out
+abbrev pub step_known : List Fold → Op → List Value → Page → Stepped Hosting
+step_known folds op args p = cond (may_operate p op args) (step_op folds op args p) (step_fault folds TypeError p)
 
 -- the page's rules as a host
 abbrev pub page_rules : HostRules Hosting
 page_rules = record {
-  op = λ op args h. step_op h.folds op args h.page;
+  op = λ op args h. step_known h.folds op args h.page;
   resume = λ ticket end h. resume_innermost h.folds end h.page;
 }
 

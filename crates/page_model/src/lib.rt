@@ -33,7 +33,7 @@ pub use fuel_and_time::{
 pub use likeness::{Likeness, runs_are_alike};
 pub use numbers::{
     calls_keep_numbers_given, first_numbers_are_given, numbers_of_runs_are_given,
-    operations_keep_numbers_given, turns_keep_numbers_given,
+    operations_keep_numbers_given, operations_meet_given_numbers_alone, turns_keep_numbers_given,
 };
 pub use steps::{
     abort_is_a_fold, callbacks_account_for_tickets, callbacks_left_fall, calls_keep_bounds,
