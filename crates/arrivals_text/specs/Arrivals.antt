@@ -13,7 +13,7 @@ use Rattle.arrivals_text.specs.declared.place.Place.TheVariants as place
 -- a second, and no lateness, latency or arrival.
 abbrev pub default_setup : Setup
 default_setup =
-    record { policy = Rank default_list; fuel = 1000000; until = 10000000; refresh = 60; late = []; latencies = []; arrivals = [] }
+    record { form = 1; trace = 1; policy = Rank default_list; fuel = 1000000; until = 10000000; refresh = 60; late = []; latencies = []; arrivals = [] }
 
 -- ---- Ours: lines
 
@@ -150,6 +150,8 @@ arrival_in line = None
 abbrev pub settings_after : Settings → List Line → Settings
 settings_after s lines = record {
   setup = record {
+    form = s.setup.form;
+    trace = s.setup.trace;
     policy = last_or s.setup.policy (filter_map policy_in lines);
     fuel = last_or s.setup.fuel (filter_map fuel_in lines);
     until = last_or s.setup.until (filter_map until_in lines);

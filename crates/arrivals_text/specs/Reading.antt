@@ -41,6 +41,8 @@ settled number s (Err good) = Err (number + good + 1)
 abbrev pub draft_of : Draft → Settings
 draft_of d = record {
   setup = record {
+    form = 1;
+    trace = 1;
     policy = policy_of d.policy;
     fuel = d.fuel;
     until = d.until;

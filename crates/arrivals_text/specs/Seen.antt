@@ -11,6 +11,8 @@ use Rattle.arrivals_text.specs.SeenParts.{latency_of, arrival_of}
 abbrev pub settings_of : PageSetup → Settings
 settings_of s = record {
   setup = record {
+    form = 1;
+    trace = 1;
     policy = policy_of s.policy;
     fuel = s.fuel;
     until = s.until.0;

@@ -50,7 +50,11 @@ pub fn argument_count(op: Op) -> usize
         | Op::Aborted
         | Op::ReasonOf
         | Op::PriorityOf
-        | Op::Unlisten => 1,
+        | Op::Unlisten
+        | Op::AllOp
+        | Op::RaceOp
+        | Op::AnyOp
+        | Op::AllSettled => 1,
         Op::Push
         | Op::Bind
         | Op::ResolveOp
@@ -60,7 +64,9 @@ pub fn argument_count(op: Op) -> usize
         | Op::RequestIdle
         | Op::AbortOp
         | Op::SetPriority
-        | Op::TaskAny => 2,
+        | Op::TaskAny
+        | Op::PostMessage
+        | Op::FinallyOp => 2,
         Op::Then | Op::Listen | Op::HostOp => 3,
         Op::PostTask => 4,
     }
@@ -70,7 +76,7 @@ pub fn argument_count(op: Op) -> usize
 pub fn operation_named(name: &Str) -> Option<Op>
     ensures { result ≡ op_named name.now }
 {
-    let table: [(&[u8], Op); 45] = [
+    let table: [(&[u8], Op); 51] = [
         (b"log", Op::Log),
         (b"text", Op::TextOf),
         (b"kind", Op::KindOf),
@@ -116,6 +122,12 @@ pub fn operation_named(name: &Str) -> Option<Op>
         (b"listen", Op::Listen),
         (b"unlisten", Op::Unlisten),
         (b"host", Op::HostOp),
+        (b"postMessage", Op::PostMessage),
+        (b"all", Op::AllOp),
+        (b"race", Op::RaceOp),
+        (b"any", Op::AnyOp),
+        (b"allSettled", Op::AllSettled),
+        (b"finally", Op::FinallyOp),
     ];
     operation_in(&table, name)
 }

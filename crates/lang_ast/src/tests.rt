@@ -132,7 +132,7 @@ fn names_are_letters_and_digits_at_most_64(rt: HostRuntime) -> Result<(), Fail> 
 // The operations with the number of the arguments that the table of the script language gives them.
 #[test]
 fn operations_have_their_counts(rt: HostRuntime) {
-    let table: [(Op, usize); 45] = [
+    let table: [(Op, usize); 51] = [
         (Op::Log, 1),
         (Op::TextOf, 1),
         (Op::KindOf, 1),
@@ -178,6 +178,12 @@ fn operations_have_their_counts(rt: HostRuntime) {
         (Op::Listen, 3),
         (Op::Unlisten, 1),
         (Op::HostOp, 3),
+        (Op::PostMessage, 2),
+        (Op::AllOp, 1),
+        (Op::RaceOp, 1),
+        (Op::AnyOp, 1),
+        (Op::AllSettled, 1),
+        (Op::FinallyOp, 2),
     ];
     for (op, count) in table {
         assert_eq!(rt; argument_count(op), count, "of {op:?}");

@@ -1,7 +1,7 @@
 -- The names of the operations.
 use Rattle.std.specs.Prelude.{ℕ, cond, List, [], ◌∷◌, Option, Some, None, codes}
 use Rattle.page_types.specs.declared.Op.{Op}
-use Rattle.page_types.specs.declared.Op.TheVariants.{Log, TextOf, KindOf, Len, Push, Bind, MakeFault, FaultNameOf, FaultTextOf, NowOp, Busy, QueueMicrotask, MakePromise, ResolveOp, RejectOp, Resolved, Rejected, Then, SetTimeout, SetInterval, ClearTimeout, ClearInterval, RequestFrame, CancelFrame, RequestIdle, CancelIdle, DidTimeout, TimeRemaining, PostTask, YieldTask, MakeController, MakeTaskController, SignalOf, AbortOp, SetPriority, AbortedSignal, AnySignal, TaskAny, TimeoutSignal, Aborted, ReasonOf, PriorityOf, Listen, Unlisten, HostOp}
+use Rattle.page_types.specs.declared.Op.TheVariants.{Log, TextOf, KindOf, Len, Push, Bind, MakeFault, FaultNameOf, FaultTextOf, NowOp, Busy, QueueMicrotask, MakePromise, ResolveOp, RejectOp, Resolved, Rejected, Then, SetTimeout, SetInterval, ClearTimeout, ClearInterval, RequestFrame, CancelFrame, RequestIdle, CancelIdle, DidTimeout, TimeRemaining, PostTask, YieldTask, MakeController, MakeTaskController, SignalOf, AbortOp, SetPriority, AbortedSignal, AnySignal, TaskAny, TimeoutSignal, Aborted, ReasonOf, PriorityOf, Listen, Unlisten, HostOp, PostMessage, AllOp, RaceOp, AnyOp, AllSettled, FinallyOp}
 use Rattle.page_parts.specs.Words.{same_bytes}
 
 -- ---- Ours: the names by which a script calls operations
@@ -64,6 +64,12 @@ op_names =
     record { name = codes "listen"; op = Listen } ∷
     record { name = codes "unlisten"; op = Unlisten } ∷
     record { name = codes "host"; op = HostOp } ∷
+    record { name = codes "postMessage"; op = PostMessage } ∷
+    record { name = codes "all"; op = AllOp } ∷
+    record { name = codes "race"; op = RaceOp } ∷
+    record { name = codes "any"; op = AnyOp } ∷
+    record { name = codes "allSettled"; op = AllSettled } ∷
+    record { name = codes "finally"; op = FinallyOp } ∷
     []
 
 -- the operation with this name

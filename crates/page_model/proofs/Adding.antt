@@ -7,7 +7,7 @@ use Rattle.lang_meaning.specs.Machine.{Done, finish}
 use Rattle.page_parts.specs.Words.{is_empty}
 use Rattle.page_parts.specs.Promises.{Settled, Fulfilled, Failed, Reaction}
 use Rattle.page_parts.specs.Notices.{Notices, Noticed, settle_promise, follow_promise, subscribe_promise, is_outstanding}
-use Rattle.page_model.specs.State.{Page, State, NotifyHandled, on_page, emit, emit_each, on_notices, queue_task, the_registration}
+use Rattle.page_model.specs.State.{Page, State, NotifyHandled, on_page, context, emit, emit_each, on_notices, queue_task, the_registration}
 use Rattle.page_model.specs.PagePromises as promises
 use Rattle.page_parts.specs.Timers as Timers
 use Rattle.page_parts.specs.Frames.{callback_in}
@@ -50,7 +50,7 @@ module _ (es : List Stamped) where
   on_notices-adds f p = emit_each-adds (f p.notices).lines (record p { notices = (f p.notices).notices })
 
   pub settle-adds : (n : ℕ) (how : Settled) → Adds es (promises.settle n how)
-  settle-adds n how p = on_notices-adds (settle_promise p.names n how) p
+  settle-adds n how p = on_notices-adds (settle_promise (context p) p.names n how) p
 
   pub resolve-adds : (n : ℕ) (v : Value) → Adds es (promises.resolve n v)
   resolve-adds n v = settle-adds n (Fulfilled v)
@@ -59,11 +59,11 @@ module _ (es : List Stamped) where
   reject-adds n v = settle-adds n (Failed v)
 
   pub follow-adds : (n : ℕ) (how : Settled) → Adds es (promises.follow n how)
-  follow-adds n how p = on_notices-adds (follow_promise p.names n how) p
+  follow-adds n how p = on_notices-adds (follow_promise (context p) p.names n how) p
 
   pub subscribe-adds : (n : ℕ) (r : Reaction) → Adds es (promises.subscribe n r)
   subscribe-adds n r p =
-      ap (cond (is_outstanding n p.notices) (queue_task Dom (NotifyHandled n)) (λ q. q)) (on_notices-adds (subscribe_promise n r) p)
+      ap (cond (is_outstanding n p.notices) (queue_task Dom (NotifyHandled n)) (λ q. q)) (on_notices-adds (subscribe_promise (context p) n r) p)
       ∙ cond_of-adds (is_outstanding n p.notices) (queue_task Dom (NotifyHandled n)) (λ q. q) (λ p. refl) (λ p. refl) _
 
   -- ---- time

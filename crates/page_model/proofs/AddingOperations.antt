@@ -1,7 +1,7 @@
 -- The operations of a page only add lines.
-use Rattle.std.proofs.Common.{◌≡◌, ℕ, Bool, true, false, List, Option, Some, None, refl, ap, ◌∙◌, ℤ, pos, negsuc, ◌&&◌, length}
+use Rattle.std.proofs.Common.{◌≡◌, ℕ, Bool, true, false, suc, ◌+◌, List, [], ◌∷◌, Option, Some, None, refl, ap, ◌∙◌, ℤ, pos, negsuc, ◌&&◌, length}
 use Rattle.std.specs.Prelude.{◌==◌, int_le}
-use Rattle.page_types.specs.Values.{Value, IntValue}
+use Rattle.page_types.specs.Values.{Value, IntValue, ListValue, PromiseValue, items_of, values_of}
 use Rattle.page_types.specs.declared.FaultName.TheVariants.{TypeError, RangeError, NotAllowedError}
 use Rattle.page_types.specs.Events.{Stamped}
 use Rattle.page_types.specs.declared.Priority.{Priority}
@@ -9,23 +9,26 @@ use Rattle.page_types.specs.declared.RegKind.{RegKind}
 use Rattle.page_types.specs.declared.RegKind.TheVariants.{Micro as MicroKind, Timeout as TimeoutKind, Interval as IntervalKind, Idle as IdleKind, Then as ThenKind, Yield as YieldKind}
 use Rattle.page_types.specs.Tree.{Program}
 use Rattle.page_types.specs.declared.Op.{Op}
-use Rattle.page_types.specs.declared.Op.TheVariants.{Log, TextOf, KindOf, Len, Push, Bind, MakeFault, FaultNameOf, FaultTextOf, NowOp, Busy, QueueMicrotask, MakePromise, ResolveOp, RejectOp, Resolved, Rejected, Then, SetTimeout, SetInterval, ClearTimeout, ClearInterval, RequestFrame, CancelFrame, RequestIdle, CancelIdle, DidTimeout, TimeRemaining, PostTask, YieldTask, MakeController, MakeTaskController, SignalOf, AbortOp, SetPriority, AbortedSignal, AnySignal, TaskAny, TimeoutSignal, Aborted, ReasonOf, PriorityOf, Listen, Unlisten, HostOp}
+use Rattle.page_types.specs.declared.Op.TheVariants.{Log, TextOf, KindOf, Len, Push, Bind, MakeFault, FaultNameOf, FaultTextOf, NowOp, Busy, QueueMicrotask, MakePromise, ResolveOp, RejectOp, Resolved, Rejected, Then, SetTimeout, SetInterval, ClearTimeout, ClearInterval, RequestFrame, CancelFrame, RequestIdle, CancelIdle, DidTimeout, TimeRemaining, PostTask, YieldTask, MakeController, MakeTaskController, SignalOf, AbortOp, SetPriority, AbortedSignal, AnySignal, TaskAny, TimeoutSignal, Aborted, ReasonOf, PriorityOf, Listen, Unlisten, HostOp, PostMessage, AllOp, RaceOp, AnyOp, AllSettled, FinallyOp}
 use Rattle.page_parts.specs.Words.{has_number, not_below_zero, is_there}
-use Rattle.page_parts.specs.Kinds.{Func, func_in, text_in, int_in, promise_in, signal_in, controller_in, deadline_in, a_fault}
+use Rattle.page_parts.specs.Kinds.{Func, func_in, text_in, list_in, int_in, promise_in, within_limits, signal_in, controller_in, deadline_in, a_fault}
 use Rattle.lang_meaning.specs.Machine.{hosted, done_hosted, Done, Gives, finish, branch, given, throw_fault, Caller}
 use Rattle.lang_meaning.specs.Evaluation.{calls, call_from_outside}
 use Rattle.page_parts.specs.Notices as Notices
-use Rattle.page_model.specs.State.{Page, State, PrioSource, SchedulingState, last_registration}
+use Rattle.page_model.specs.State.{Page, State, PrioSource, SchedulingState, context, last_registration, OfKind, Registration}
 use Rattle.page_parts.specs.HostClosures.{HostClosure}
 use Rattle.page_model.specs.PagePromises as promises
-use Rattle.page_model.specs.PagePromises.{new_promise, last_promise}
+use Rattle.page_model.specs.PagePromises.{new_promise, last_promise, new_settled}
+use Rattle.page_parts.specs.Combinators.{CombinatorKind, All, AnyOf, AllSettled as AllSettledKind}
+use Rattle.page_model.specs.PageCombinators.{all_made, race_made, are_promises_left}
+use Rattle.page_model.proofs.AddingCombinators.{all_made-adds, race_made-adds}
 use Rattle.page_model.specs.PageTime.{clear_timer, cancel_frame, idle_timeout, cancel_idle, time_remaining, enqueue, current_state}
 use Rattle.page_parts.specs.Listeners.{is_listening}
 use Rattle.page_parts.specs.TaskSignals.{priority_of, is_changing}
-use Rattle.page_model.specs.Invoke.{Ways, register, in_script}
+use Rattle.page_model.specs.Invoke.{Ways, register, register_as, in_script}
 use Rattle.page_model.specs.PageSignals.{is_aborted_source}
 use Rattle.lang_meaning.specs.PureOperations.{argument, text_answer, kind_answer, length_answer, push_answer, bind_answer, fault_answer, fault_name_answer, fault_text_answer, did_timeout_answer}
-use Rattle.page_model.specs.Operations.{does, answers, where_left, registration_left, promise_left, signal_left, is_left, priority_in, int_within, delay_in, signal_or_unit, busy_for, micro_registered, last_promise_value, script_promise, settle_own, new_settled, settled_promise, resolved_value, then_made, then_value, timer_set, set_timer, with_handle, frame_requested, idle_requested, controller_value, signal_value, task_signal_made, reason_given, change_by, signals_in, any_made, any_with_priority, followed_through, any_following, make_task_any, timeout_signal_made, target_in, listener_added, listener_removed, rejected_with, given_or_rejected, priority_or_unit, source_reason, prio_source_of, promised, post_queued, post_accepted, post_task, continuation_queued, yield_in, closure_at, is_fresh, fitting, host_queued, host_accepted, host_asked, host, operation, page_operations, may_operate}
+use Rattle.page_model.specs.Operations.{does, answers, where_left, registration_left, promise_left, signal_left, is_left, priority_in, int_within, delay_in, signal_or_unit, busy_for, micro_registered, last_promise_value, script_promise, settle_own, settled_promise, resolved_value, then_made, then_value, timer_set, set_timer, with_handle, frame_requested, idle_requested, controller_value, signal_value, task_signal_made, reason_given, change_by, signals_in, any_made, any_with_priority, followed_through, any_following, make_task_any, timeout_signal_made, target_in, listener_added, listener_removed, rejected_with, given_or_rejected, priority_or_unit, source_reason, prio_source_of, promised, post_queued, post_accepted, post_task, continuation_queued, yield_in, closure_at, is_fresh, fitting, host_queued, host_accepted, host_asked, host, operation, page_operations, may_operate, answers_first, combined, raced, promises_for_all, finally_made, finally_value, port_in, sendable_in, post_message}
 use Rattle.lang_meaning.proofs.Following.{given-follows, branch-follows, take_unit-follows, answered-follows, calls-follow}
 use Rattle.lang_meaning.specs.Following.{CallsFollow}
 use Rattle.page_model.proofs.Adding.{cond-adds, cond_of-adds, finish-adds, on_notices-adds, resolve-adds, reject-adds, subscribe-adds, clear_timer-adds, cancel_frame-adds, cancel_idle-adds}
@@ -55,7 +58,7 @@ module _ (es : List Stamped) where
   micro_registered-adds : (f : Func) → Adds es (micro_registered f)
   micro_registered-adds f p =
       let made = register MicroKind (Some f) None p in
-      on_notices-adds es (Notices.queue_micro (last_registration made)) made
+      on_notices-adds es (Notices.queue_micro (context made) (last_registration made)) made
 
   settle_own-adds : (settle : ℕ → Value → Page → Page) → ((n : ℕ) (v : Value) → Adds es (settle n v)) → (p v : Value) → AddsAll es (settle_own settle p v)
   settle_own-adds settle k p v =
@@ -188,6 +191,35 @@ module _ (es : List Stamped) where
   host-adds k x signal =
       given_or_rejected-adds (int_in k) _ (λ k. given_or_rejected-adds (int_in x) _ (λ x. given_or_rejected-adds (signal_or_unit signal) _ (λ signal. host_asked-adds k x signal)))
 
+  -- ---- combinators and messages
+
+  answers_first-adds : (f : Page → Page) → Adds es f → AddsAll es (answers_first f)
+  answers_first-adds f h m = answers-adds (λ p. PromiseValue (suc (last_promise m.host))) f (λ p. refl) h m
+
+  combined-adds : (kind : CombinatorKind) (l : Value) → AddsAll es (combined kind l)
+  combined-adds kind l =
+      given_or_rejected-adds (list_in l) _ (λ vs m.
+      where_left-adds (are_promises_left (1 + promises_for_all (items_of vs) + length (items_of vs)) m.host) _ (answers_first-adds (all_made kind (items_of vs)) (all_made-adds es kind (items_of vs))) m)
+
+  raced-adds : (l : Value) → AddsAll es (raced l)
+  raced-adds l =
+      given_or_rejected-adds (list_in l) _ (λ vs m.
+      where_left-adds (are_promises_left (1 + promises_for_all (items_of vs)) m.host) _ (answers_first-adds (race_made (items_of vs)) (race_made-adds es (items_of vs))) m)
+
+  finally_made-adds : (n : ℕ) (f : Value) → Adds es (finally_made n f)
+  finally_made-adds n f p =
+      let x : Registration = record { role = OfKind ThenKind; callback = func_in f; second_callback = func_in f; timer_id = 0; promise = 0; signal = None; finally = true } in
+      let made = register_as ThenKind x (new_promise p) in
+      subscribe-adds es n (record { registration = Some (last_registration made); into = last_promise made; state = made.scheduling }) made
+
+  finally_value-adds : (v f : Value) → AddsAll es (finally_value v f)
+  finally_value-adds v f =
+      given_or_rejected-adds (promise_in v) _ (λ n m. where_left-adds (promise_left m.host && registration_left m.host) _ (answers-adds last_promise_value (finally_made n f) (λ p. refl) (finally_made-adds n f)) m)
+
+  post_message-adds : (n v : Value) → AddsAll es (post_message n v)
+  post_message-adds n v =
+      given-adds (port_in n) _ (λ port. given-adds (sendable_in v) _ (λ v. given-follows (after es) (within_limits (ListValue (values_of (n ∷ v ∷ [])))) RangeError _ _ (λ whole m. refl)))
+
   -- ---- the table
 
   pub operation-adds : (w : Ways) → WaysAdd es w → (op : Op) (args : List Value) → AddsAll es (operation w op args)
@@ -240,6 +272,12 @@ module _ (es : List Stamped) where
   operation-adds w a Listen args m = given-adds (target_in (argument args 0)) _ (λ target. given-adds (text_in (argument args 1)) _ (λ name. given-adds (func_in (argument args 2)) _ (λ f m. where_left-adds (registration_left m.host) _ (answers-adds (λ p. IntValue (pos (last_registration p))) (listener_added target name f) (λ p. refl) (λ p. refl)) m))) m
   operation-adds w a Unlisten args m = with_handle-adds (argument args 0) listener_removed listener_removed-adds m
   operation-adds w a HostOp args m = host-adds (argument args 0) (argument args 1) (argument args 2) m
+  operation-adds w a PostMessage args m = post_message-adds (argument args 0) (argument args 1) m
+  operation-adds w a AllOp args m = combined-adds All (argument args 0) m
+  operation-adds w a RaceOp args m = raced-adds (argument args 0) m
+  operation-adds w a AnyOp args m = combined-adds AnyOf (argument args 0) m
+  operation-adds w a AllSettled args m = combined-adds AllSettledKind (argument args 0) m
+  operation-adds w a FinallyOp args m = finally_value-adds (argument args 0) (argument args 1) m
 
 pub page_operations-adds : (es : List Stamped) (call : Caller Page) → CallsFollow (after es) call call → (op : Op) (args : List Value) → AddsAll es (page_operations call op args)
 page_operations-adds es call c op args m =

@@ -3,7 +3,7 @@ use Rattle.std.proofs.Common.{◌≡◌, ℕ, zero, suc, Bool, true, false, List
 use Rattle.std.specs.Prelude.{codes, ◌==◌}
 use Rattle.page_types.specs.Values.{IntValue, PromiseValue, UnitValue}
 use Rattle.page_types.specs.declared.FaultName.TheVariants.{TimeoutError}
-use Rattle.page_types.specs.Events.{Stamped, Ret, Call, Unhandled, Handled, Host, Frame, IdleLine, Wait, Due}
+use Rattle.page_types.specs.Events.{Stamped, Ret, Unhandled, Handled, Host, Frame, IdleLine, Wait, Due}
 use Rattle.page_types.specs.declared.Source.{Source}
 use Rattle.page_types.specs.declared.Source.TheVariants.{User, Net, Dom, Timer, Render, Sched, Idle}
 use Rattle.page_parts.specs.Words.{is_empty}
@@ -17,14 +17,14 @@ use Rattle.page_parts.specs.HostClosures.{HostClosure}
 use Rattle.page_model.specs.PagePromises as promises
 use Rattle.page_model.specs.PagePromises.{promise_at}
 use Rattle.page_model.specs.PageTime.{without_frame, without_timer, deadline, idle_callback, completion_of, enqueue, first_sched, first_task, without_sched, idle_step}
-use Rattle.page_model.specs.Invoke.{Ways, in_task, settle_derived}
+use Rattle.page_model.specs.Invoke.{Ways, in_task, call_begun, call_ended, settle_derived}
 use Rattle.page_model.specs.PageSignals.{unwatch, is_aborted_source, host_task_of}
 use Rattle.page_model.specs.Tasks.{timer_goes_on, run_timer, frame_callback, run_frame, call_idle, invoke_idle_again, idle_called, invoke_idle, timed_out, promise_reason, notify_one, perform_steps, continued, post_state, run_post, perform_sched, fire_closure, settle_answer, answer_host, after_task}
 use Rattle.page_model.specs.Parallel.{ItemKind, ArrivalItem, HostItem, TimerItem, IdleItem, FrameItem, complete, complete_at, take_item, due_item, first_item, take_due, item_count, parallel}
 use Rattle.page_parts.specs.WrittenChoices.{Runnable}
 use Rattle.page_model.specs.Choosing.{Rules, Chosen, chosen_source, chosen_reading, chosen_answer}
 use Rattle.page_model.specs.View.{view}
-use Rattle.page_model.specs.Turns.{Turned, GoesOn, Ended, Stuck, goes_on, choose_turned, step_five, task_done, without_task, not_dropped, answered, perform_host, perform_task, perform_first, perform_first_sched, perform, turn_line, perform_picked, step_four, counted_turn, with_turn_fuel, step_three, is_pending, target, at_time, waited, step_two_at, step_two_by, step_two, step_one, after_step_one, from_step_one, turn, next_turn, turns}
+use Rattle.page_model.specs.Turns.{Turned, GoesOn, Ended, Stuck, goes_on, choose_turned, step_five, task_done, without_task, not_dropped, answered, perform_host, perform_task, perform_first, perform_first_sched, perform, turn_line, perform_picked, step_four, counted_turn, with_turn_fuel, step_three, from_step_three, is_pending, target, at_time, waited, step_two_at, step_two_by, step_two, step_one, after_step_one, from_step_one, turn, next_turn, turns}
 use Rattle.lang_meaning.proofs.Following.{afterwards-follows, branch-follows}
 use Rattle.lang_meaning.specs.Following.{CallsFollow}
 use Rattle.page_model.proofs.Adding.{cond-adds, cond_of-adds, elim-adds, finish-adds, resolve-adds, reject-adds, unwatch-adds, idle_step-adds}
@@ -90,8 +90,8 @@ module _ (es : List Stamped) where
 
   continued-adds : (r : ℕ) → Adds es (continued r)
   continued-adds r p =
-      let settled = promises.resolve (the_registration p r).promise UnitValue (emit (Call r) p) in
-      ap (λ q. unwatch r (emit Ret q)) (resolve-adds es (the_registration p r).promise UnitValue (emit (Call r) p)) ∙ unwatch-adds es r (emit Ret settled)
+      let settled = promises.resolve (the_registration p r).promise UnitValue (call_begun r p) in
+      ap (λ q. unwatch r (call_ended Ret q)) (resolve-adds es (the_registration p r).promise UnitValue (call_begun r p)) ∙ unwatch-adds es r (call_ended Ret settled)
 
   run_post-adds : (w : Ways) → WaysAdd es w → (t : SchedTask) → AddsAll es (run_post w t)
   run_post-adds w a t m =
@@ -158,23 +158,28 @@ module _ (es : List Stamped) where
   choose_turned-adds true then else h k m = h m
   choose_turned-adds false then else h k m = k m
 
-  step_five-adds : (m : State) → step_five (hosted (after es) m) ≡ hosted (after es) (step_five m)
+  pub step_five-adds : (m : State) → step_five (hosted (after es) m) ≡ hosted (after es) (step_five m)
   step_five-adds m = by_view (is_empty (view m.host))
     where
       by_view : (b : Bool) → cond b (on_page idle_step) (λ m. m) (hosted (after es) m) ≡ hosted (after es) (cond b (on_page idle_step) (λ m. m) m)
       by_view true = ap (λ p. record m { host = p }) (idle_step-adds es m.host)
       by_view false = refl
 
-  goes_on-adds : {C : Type 0} (c : C) (d : Done Page) → goes_on c step_five (done_hosted (after es) d) ≡ turned_after es (goes_on c step_five d)
-  goes_on-adds c (Gives v m) = ap (λ m. GoesOn m c) (step_five-adds m)
-  goes_on-adds c (Returns v m) = ap (λ m. GoesOn m c) (step_five-adds m)
-  goes_on-adds c (Throws v m) = ap (λ m. GoesOn m c) (step_five-adds m)
+  goes_on-adds : {C : Type 0} (c : C) (d : Done Page) → goes_on c (done_hosted (after es) d) ≡ turned_after es (goes_on c d)
+  goes_on-adds c (Gives v m) = refl
+  goes_on-adds c (Returns v m) = refl
+  goes_on-adds c (Throws v m) = refl
   goes_on-adds c (OutOfFuel m) = refl
+
+  next_turn-adds : {C : Type 0} (next : State → C → Turned C) → ((c : C) → TurnAdds es (λ m. next m c)) → (t : Turned C) → next_turn (turned_after es t) next ≡ turned_after es (next_turn t next)
+  next_turn-adds next k (GoesOn m c) = k c m
+  next_turn-adds next k (Ended end m c) = refl
+  next_turn-adds next k (Stuck m c) = refl
 
   module _ {C : Type 0} (rules : Rules C) (call : Caller Page) (calls_add : CallsFollow (after es) call call) where
     pub task_done-adds : (c : C) (d d' : Done Page) → d' ≡ done_hosted (after es) d → task_done call c d' ≡ turned_after es (task_done call c d)
     task_done-adds c d d' e =
-        ap (goes_on c step_five) (afterwards-follows (after es) d d' (after_task call) (after_task call) e (after_task-adds call calls_add)) ∙ goes_on-adds c (afterwards d (after_task call))
+        ap (goes_on c) (afterwards-follows (after es) d d' (after_task call) (after_task call) e (after_task-adds call calls_add)) ∙ goes_on-adds c (afterwards d (after_task call))
 
     pub answered-adds : (t : HostTask) (a : Option (Chosen (Result ℤ ℤ) C)) (c : C) → TurnAdds es (λ m. answered call t a m c)
     answered-adds t None c m = refl
@@ -210,7 +215,7 @@ module _ (es : List Stamped) where
     perform_picked-adds (Some s) c m = perform-adds s.choice s.left (turn_line (Some s.choice) m)
 
     step_four-adds : (rs : List Runnable) (c : C) → TurnAdds es (λ m. step_four rules call rs m c)
-    step_four-adds [] c m = ap (λ m. GoesOn m c) (step_five-adds (turn_line None m))
+    step_four-adds [] c m = refl
     step_four-adds (r ∷ rs) c m = perform_picked-adds (chosen_source rules (r ∷ rs) c) c m
 
     with_turn_fuel-adds : (fuel : ℕ) (c : C) → TurnAdds es (λ m. with_turn_fuel rules call fuel m c)
@@ -219,6 +224,11 @@ module _ (es : List Stamped) where
 
     step_three-adds : (until : ℕ) (c : C) → TurnAdds es (step_three rules call until c)
     step_three-adds until c m = choose_turned-adds (nat_le until m.host.now) _ _ (λ m. refl) (λ m. with_turn_fuel-adds m.fuel c m) m
+
+    from_step_three-adds : (until : ℕ) (c : C) → TurnAdds es (from_step_three rules call until c)
+    from_step_three-adds until c m =
+        ap (λ t. next_turn t (λ m c. GoesOn (step_five m) c)) (step_three-adds until c m)
+        ∙ next_turn-adds (λ m c. GoesOn (step_five m) c) (λ c m. ap (λ m. GoesOn m c) (step_five-adds m)) (step_three rules call until c m)
 
     pub waited-adds : (t : ℕ) (r : Option (Chosen ℕ C)) (again : State → C → Turned C) (c : C) → ((c : C) → TurnAdds es (λ m. again m c)) → TurnAdds es (waited t r again c)
     waited-adds t None again c k m = refl
@@ -244,7 +254,7 @@ module _ (es : List Stamped) where
 
     after_step_one-adds : (until : ℕ) (again : State → C → Turned C) (c : C) → ((c : C) → TurnAdds es (λ m. again m c)) → TurnAdds es (after_step_one rules call until again c)
     after_step_one-adds until again c k m =
-        choose_turned-adds (is_empty (view m.host)) _ _ (step_two-adds until again (step_three rules call until c) c k (step_three-adds until c)) (step_three-adds until c) m
+        choose_turned-adds (is_empty (view m.host)) _ _ (step_two-adds until again (from_step_three rules call until c) c k (from_step_three-adds until c)) (from_step_three-adds until c) m
 
     pub from_step_one-adds : (until n : ℕ) (c : C) → TurnAdds es (λ m. from_step_one rules call until n m c)
     from_step_one-adds until zero c m = refl
@@ -253,11 +263,6 @@ module _ (es : List Stamped) where
 
     pub turn-adds : (until : ℕ) (c : C) → TurnAdds es (λ m. turn rules call until m c)
     turn-adds until c m = from_step_one-adds until (suc (suc (item_count m.host))) c m
-
-    next_turn-adds : (next : State → C → Turned C) → ((c : C) → TurnAdds es (λ m. next m c)) → (t : Turned C) → next_turn (turned_after es t) next ≡ turned_after es (next_turn t next)
-    next_turn-adds next k (GoesOn m c) = k c m
-    next_turn-adds next k (Ended end m c) = refl
-    next_turn-adds next k (Stuck m c) = refl
 
     pub turns-adds : (until n : ℕ) (c : C) → TurnAdds es (λ m. turns rules call until n m c)
     turns-adds until zero c m = refl

@@ -4,28 +4,30 @@ use Rattle.std.specs.Prelude.{codes}
 use Rattle.page_types.specs.Values.{Value, SignalValue, PromiseValue, DeadlineValue, IntValue, UnitValue, items_of}
 use Rattle.page_types.specs.declared.FaultName.TheVariants.{TimeoutError}
 use Rattle.page_types.specs.declared.Source.TheVariants.{Dom, Idle}
-use Rattle.page_types.specs.Events.{Ret, Call, Frame, IdleLine, Unhandled, Handled, Host}
+use Rattle.page_types.specs.Events.{Ret, Frame, IdleLine, Unhandled, Handled, Host}
 use Rattle.lang_meaning.specs.Machine.{Done, Gives, Throws, Returns, OutOfFuel, and_then, afterwards, branch, with_fuel, take_unit, finish, Caller}
 use Rattle.page_parts.specs.Words.{is_empty}
 use Rattle.page_parts.specs.Kinds.{Func, a_fault}
-use Rattle.page_parts.specs.Promises.{Settled, Reaction, React, Adopt, Fulfilled, Failed, has_failed, settled_value}
-use Rattle.page_parts.specs.Notices.{Todo, Micro, OfPromise, WaitingJob, follow_promise}
+use Rattle.page_parts.specs.Promises.{Settled, Reaction, React, Adopt, Fulfilled, Failed, has_failed}
+use Rattle.page_parts.specs.Notices.{Todo, Micro, OfPromise, WaitingJob}
 use Rattle.page_parts.specs.AbortGraph.{marked, remove_algorithm}
 use Rattle.page_parts.specs.Timers.{is_live}
 use Rattle.page_parts.specs.Frames.{Callback, callback_in, keys}
 use Rattle.page_parts.specs.HostClosures.{HostClosure}
 use Rattle.page_parts.specs.Listeners.{Target, AtSignal, Window, snapshot, is_listening}
-use Rattle.page_model.specs.State.{Page, State, TimerTask, HostTask, SchedTask, Steps, RunScript, RunTimer, TimeOutSignal, FireAtWindow, AnswerHost, RunFrame, InvokeIdle, IdleTimeout, NotifyRejected, NotifyHandled, on_page, emit, the_registration, queue_task}
+use Rattle.page_model.specs.State.{Page, State, TimerTask, HostTask, SchedTask, Steps, RunScript, RunTimer, TimeOutSignal, FireAtWindow, AnswerHost, RunFrame, InvokeIdle, IdleTimeout, NotifyRejected, NotifyHandled, on_page, emit, the_registration, queue_task, Registration}
 use Rattle.page_model.specs.PagePromises as promises
-use Rattle.page_model.specs.PagePromises.{promise_at}
+use Rattle.page_model.specs.PagePromises.{promise_at, inner_subscription}
 use Rattle.page_model.specs.PageTime.{without_frame, without_idle, with_state, deadline, idle_callback}
-use Rattle.page_model.specs.Invoke.{Ways, WhenReported, BeforeCheckpoint, AfterCheckpoint, Never, when_reported, end_of_callback, call_back, callback_of, invoke, in_checkpoint, in_task, settle_derived, react_then, react_by, react, run_job, inner_subscription, run_oldest, begin_job, run_jobs, checkpoint_begun, checkpoint_ended, perform_checkpoint, checkpoint, report_before, report_after, thrown, with_scheduling}
+use Rattle.page_model.specs.Invoke.{Ways, WhenReported, BeforeCheckpoint, AfterCheckpoint, Never, when_reported, end_of_callback, call_back, callback_of, invoke, in_checkpoint, in_task, settle_derived, react_then, react_by, react, run_job, run_oldest, begin_job, run_jobs, checkpoint_begun, checkpoint_ended, perform_checkpoint, checkpoint, report_before, report_after, thrown, with_scheduling, call_begun, call_ended, settle_by, resolve_derived, handler_arguments}
 use Rattle.page_model.specs.PageSignals.{each_in_turn, call_listener, dispatch, abort_steps, abort, reason_set, run_algorithms, unwatch}
 use Rattle.page_model.specs.Tasks.{run_timer, frame_callback, run_frame, call_idle, background, invoke_idle_again, idle_called, invoke_idle, timed_out, promise_reason, notify_one, perform_steps, continued, post_state, run_post, perform_sched, fire_closure, settle_answer, answer_host, after_task}
 use Rattle.page_model.specs.FoldBounds.{counted, IsBounded}
-use Rattle.page_model.proofs.Counting.{Near, near-signals, with_numbered-length, alike-with, Leaves, settle-leaves, on_notices-leaves, run_algorithms-near, reason_set-near}
-use Rattle.page_model.proofs.Bounded.{Kept, near-kept, leaves-kept, subscribe-leaves}
+use Rattle.page_model.proofs.Counting.{Near, near-signals, with_numbered-length, alike-with, Leaves, settle-leaves, run_algorithms-near, reason_set-near}
+use Rattle.page_model.proofs.Bounded.{Kept, near-kept, leaves-kept, subscribe-leaves, relates-leaves}
 use Rattle.page_model.proofs.Twin.{After, after-then, after-same, Leads, leads-wider}
+use Rattle.page_model.proofs.Combining.{lead_into-related, resolve_derived-related}
+use Rattle.page_model.specs.PageCombinators.{lead_into}
 
 -- a step from m that ends so, and the same with another caller
 abbrev pub At : State → Done Page → Done Page → Type 0
@@ -110,10 +112,10 @@ report_after-leaves Never v p = refl
 
 end_of_callback-agrees : (after after' : State → Done Page) → Agree after after' → (when : WhenReported) (m : State) (d e : Done Page) → At m d e → At m (end_of_callback after when d) (end_of_callback after' when e)
 end_of_callback-agrees after after' k when m (Gives v n) e h =
-    let ended = and_then-agrees n (after (on_page (emit Ret) n)) (after' (on_page (emit Ret) n)) (λ u m. Gives v m) (λ u m. Gives v m) (then-agrees (emit Ret) (quiet (emit Ret) (λ p. refl)) after after' k n h.1.2) (λ u. gives-agrees v) in
+    let ended = and_then-agrees n (after (on_page (call_ended Ret) n)) (after' (on_page (call_ended Ret) n)) (λ u m. Gives v m) (λ u m. Gives v m) (then-agrees (call_ended Ret) (quiet (call_ended Ret) (λ p. refl)) after after' k n h.1.2) (λ u. gives-agrees v) in
     (ap (end_of_callback after' when) h.0 ∙ ended.0, leads-wider m n _ h.1 ended.1)
 end_of_callback-agrees after after' k when m (Returns v n) e h =
-    let ended = and_then-agrees n (after (on_page (emit Ret) n)) (after' (on_page (emit Ret) n)) (λ u m. Gives v m) (λ u m. Gives v m) (then-agrees (emit Ret) (quiet (emit Ret) (λ p. refl)) after after' k n h.1.2) (λ u. gives-agrees v) in
+    let ended = and_then-agrees n (after (on_page (call_ended Ret) n)) (after' (on_page (call_ended Ret) n)) (λ u m. Gives v m) (λ u m. Gives v m) (then-agrees (call_ended Ret) (quiet (call_ended Ret) (λ p. refl)) after after' k n h.1.2) (λ u. gives-agrees v) in
     (ap (end_of_callback after' when) h.0 ∙ ended.0, leads-wider m n _ h.1 ended.1)
 end_of_callback-agrees after after' k when m (Throws v n) e h =
     let line : Page → Page = λ p. report_before when v (thrown v p) in
@@ -130,8 +132,8 @@ call_back-agrees call call' c (Some f) args m b = c f.function (items_of f.bound
 pub invoke-agrees : (w w' : Ways) → WaysAgree w w' → (r : ℕ) (second : Bool) (args : List Value) → Agree (invoke w r second args) (invoke w' r second args)
 invoke-agrees w w' a r second args m b =
     let x = the_registration m.host r in
-    end_of_callback-agrees w.after w'.after a.after (when_reported x.role) m (call_back w.call (callback_of second x) args (on_page (emit (Call r)) m)) (call_back w'.call (callback_of second x) args (on_page (emit (Call r)) m))
-    (at-wider m (on_page (emit (Call r)) m) _ _ (after-same m b) (call_back-agrees w.call w'.call a.call (callback_of second x) args (on_page (emit (Call r)) m) b))
+    end_of_callback-agrees w.after w'.after a.after (when_reported x.role) m (call_back w.call (callback_of second x) args (on_page (call_begun r) m)) (call_back w'.call (callback_of second x) args (on_page (call_begun r) m))
+    (at-wider m (on_page (call_begun r) m) _ _ (after-same m b) (call_back-agrees w.call w'.call a.call (callback_of second x) args (on_page (call_begun r) m) b))
 
 -- ---- dispatch and abort
 
@@ -161,14 +163,20 @@ abort-agrees w w' a s reason m b =
 settle-keeps : (n : ℕ) (how : Settled) → Keeps (promises.settle n how)
 settle-keeps n how = quiet (promises.settle n how) (settle-leaves n how)
 
-follow-keeps : (n : ℕ) (how : Settled) → Keeps (promises.follow n how)
-follow-keeps n how = quiet (promises.follow n how) (λ p. on_notices-leaves (follow_promise p.names n how) p)
+settle_by-agrees : (resolve : Value → Page → Page) → ((v : Value) → Keeps (resolve v)) → (into : ℕ) (m : State) (d e : Done Page) → At m d e → At m (settle_by resolve into d) (settle_by resolve into e)
+settle_by-agrees resolve k into m (Gives v n) e h = (ap (settle_by resolve into) h.0, after-then m n (on_page (resolve v) n) h.1 (kept-after n (resolve v n.host) (k v n.host h.1.2)))
+settle_by-agrees resolve k into m (Returns v n) e h = (ap (settle_by resolve into) h.0, after-then m n (on_page (resolve v) n) h.1 (kept-after n (resolve v n.host) (k v n.host h.1.2)))
+settle_by-agrees resolve k into m (Throws v n) e h = (ap (settle_by resolve into) h.0, after-then m n (on_page (promises.reject into v) n) h.1 (kept-after n (promises.reject into v n.host) (settle-keeps into (Failed v) n.host h.1.2)))
+settle_by-agrees resolve k into m (OutOfFuel n) e h = (ap (settle_by resolve into) h.0, h.1)
 
 settle_derived-agrees : (into : ℕ) (m : State) (d e : Done Page) → At m d e → At m (settle_derived into d) (settle_derived into e)
-settle_derived-agrees into m (Gives v n) e h = (ap (settle_derived into) h.0, after-then m n (on_page (promises.resolve into v) n) h.1 (kept-after n (promises.resolve into v n.host) (settle-keeps into (Fulfilled v) n.host h.1.2)))
-settle_derived-agrees into m (Returns v n) e h = (ap (settle_derived into) h.0, after-then m n (on_page (promises.resolve into v) n) h.1 (kept-after n (promises.resolve into v n.host) (settle-keeps into (Fulfilled v) n.host h.1.2)))
-settle_derived-agrees into m (Throws v n) e h = (ap (settle_derived into) h.0, after-then m n (on_page (promises.reject into v) n) h.1 (kept-after n (promises.reject into v n.host) (settle-keeps into (Failed v) n.host h.1.2)))
-settle_derived-agrees into m (OutOfFuel n) e h = (ap (settle_derived into) h.0, h.1)
+settle_derived-agrees into m d e h = settle_by-agrees (promises.resolve into) (λ v. settle-keeps into (Fulfilled v)) into m d e h
+
+resolve_derived-keeps : (x : Registration) (into : ℕ) (how : Settled) (v : Value) → Keeps (resolve_derived x into how v)
+resolve_derived-keeps x into how v = quiet (resolve_derived x into how v) (resolve_derived-related (λ p q. counted q ≡ counted p) relates-leaves x into how v)
+
+lead_into-keeps : (into : ℕ) (how : Settled) → Keeps (lead_into into how)
+lead_into-keeps into how = quiet (lead_into into how) (lead_into-related (λ p q. counted q ≡ counted p) relates-leaves into how)
 
 module _ (call call' : Caller Page) (c : CallersAgree call call') where
   in_checkpoint-agrees : WaysAgree (in_checkpoint call) (in_checkpoint call')
@@ -177,10 +185,12 @@ module _ (call call' : Caller Page) (c : CallersAgree call call') where
   react_then-agrees : (r : ℕ) (f : Option Func) (x : Reaction) (how : Settled) → Agree (react_then call r f x how) (react_then call' r f x how)
   react_then-agrees r None x how m b = finish-agrees (promises.settle x.into how) (settle-keeps x.into how) m b
   react_then-agrees r (Some f) x how m b =
-      settle_derived-agrees x.into m _ _ (at-wider m (with_scheduling x.state m) _ _ (after-same m b) (invoke-agrees (in_checkpoint call) (in_checkpoint call') in_checkpoint-agrees r (has_failed how) (settled_value how ∷ []) (with_scheduling x.state m) b))
+      let registration = the_registration m.host r in
+      settle_by-agrees (resolve_derived registration x.into how) (resolve_derived-keeps registration x.into how) x.into m _ _
+      (at-wider m (with_scheduling x.state m) _ _ (after-same m b) (invoke-agrees (in_checkpoint call) (in_checkpoint call') in_checkpoint-agrees r (has_failed how) (handler_arguments registration how) (with_scheduling x.state m) b))
 
   react_by-agrees : (r : Option ℕ) (x : Reaction) (how : Settled) → Agree (react_by call r x how) (react_by call' r x how)
-  react_by-agrees None x how m b = finish-agrees (promises.follow x.into how) (follow-keeps x.into how) m b
+  react_by-agrees None x how m b = finish-agrees (lead_into x.into how) (lead_into-keeps x.into how) m b
   react_by-agrees (Some r) x how m b = react_then-agrees r (callback_of (has_failed how) (the_registration m.host r)) x how m b
 
   react-agrees : (x : Reaction) (how : Option Settled) → Agree (react call x how) (react call' x how)
@@ -188,7 +198,7 @@ module _ (call call' : Caller Page) (c : CallersAgree call call') where
   react-agrees x (Some how) m b = react_by-agrees x.registration x how m b
 
   run_job-agrees : (what : Todo) → Agree (run_job call what) (run_job call' what)
-  run_job-agrees (Micro r) m b = at-wider m (with_scheduling None m) _ _ (after-same m b) (invoke-agrees (in_checkpoint call) (in_checkpoint call') in_checkpoint-agrees r false [] (with_scheduling None m) b)
+  run_job-agrees (Micro r) m b = invoke-agrees (in_checkpoint call) (in_checkpoint call') in_checkpoint-agrees r false [] m b
   run_job-agrees (OfPromise (React of x)) m b = react-agrees x (promise_at m.host of).outcome m b
   run_job-agrees (OfPromise (Adopt into from)) m b = finish-agrees (promises.subscribe from (inner_subscription into)) (quiet (promises.subscribe from (inner_subscription into)) (subscribe-leaves from (inner_subscription into))) m b
 
@@ -301,8 +311,8 @@ module _ (w w' : Ways) (a : WaysAgree w w') where
 
   continued-keeps : (r : ℕ) → Keeps (continued r)
   continued-keeps r p b =
-      let q = emit Ret (promises.resolve (the_registration p r).promise UnitValue (emit (Call r) p)) in
-      let k = settle-keeps (the_registration p r).promise (Fulfilled UnitValue) (emit (Call r) p) b in
+      let q = call_ended Ret (promises.resolve (the_registration p r).promise UnitValue (call_begun r p)) in
+      let k = settle-keeps (the_registration p r).promise (Fulfilled UnitValue) (call_begun r p) b in
       let l = unwatch-keeps r q k.0 in
       (l.0, λ s h. l.1 s (k.1 s h))
 

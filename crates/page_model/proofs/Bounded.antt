@@ -10,24 +10,25 @@ use Rattle.page_types.specs.declared.RegKind.TheVariants.{Micro as MicroKind, Id
 use Rattle.page_parts.specs.Words.{and_last, without}
 use Rattle.page_parts.specs.Kinds.{Func, func_in}
 use Rattle.page_parts.specs.Notices as Notices
-use Rattle.page_parts.specs.Promises.{Reaction}
-use Rattle.page_parts.specs.Notices.{subscribe_promise, is_outstanding}
+use Rattle.page_parts.specs.Promises.{Reaction, Settled}
+use Rattle.page_parts.specs.Notices.{subscribe_promise, is_outstanding, follow_promise}
 use Rattle.page_parts.specs.AbortGraph.{SignalRecord, fresh_signal, make, any, add_algorithm}
 use Rattle.page_parts.specs.TaskSignals.{PrioRecord, Prios, changed_at, give, depend, followers}
 use Rattle.page_parts.specs.Listeners.{Listener, Target, off, is_listening, add}
 use Rattle.page_parts.specs.HostClosures.{HostClosure}
 use Rattle.page_types.specs.Events.{Drop}
-use Rattle.page_model.specs.State.{Page, emit, Registration, OfKind, NotifyHandled, PrioSource, SchedulingState, queue_task, on_notices, last_registration}
+use Rattle.page_model.specs.State.{Page, emit, Registration, OfKind, NotifyHandled, PrioSource, SchedulingState, queue_task, on_notices, last_registration, context}
 use Rattle.page_model.specs.PagePromises as promises
 use Rattle.page_model.specs.PagePromises.{new_promise, last_promise}
 use Rattle.page_model.specs.PageTime.{idle_timeout, enqueue}
 use Rattle.page_model.specs.PageSignals.{watch}
 use Rattle.page_model.specs.Invoke.{register, register_as}
-use Rattle.page_model.specs.Operations.{is_left, micro_registered, then_made, idle_requested, promised, post_queued, post_delayed, continuation_queued, host_queued, listener_added, listener_removed, timeout_signal_made, with_signals, task_signal_made, any_made, last_signal}
+use Rattle.page_model.specs.Operations.{is_left, micro_registered, then_made, idle_requested, promised, post_queued, post_delayed, continuation_queued, host_queued, listener_added, listener_removed, timeout_signal_made, with_signals, task_signal_made, any_made, last_signal, finally_made}
 use Rattle.page_model.specs.FoldBounds.{Counted, counted, AreBounded, IsBounded, HasRecord, AllHaveRecords}
-use Rattle.page_model.proofs.Counting.{Stays, Near, near-same, near-equal, near-then, near-signals, bounded-near, stays-near, stays-then, and_last-length, alike-with, with_numbered-length, Leaves, on_notices-leaves, cond_of-leaves}
+use Rattle.page_model.proofs.Counting.{Stays, Near, near-same, near-equal, near-then, near-signals, bounded-near, stays-near, stays-then, and_last-length, alike-with, with_numbered-length, Leaves, on_notices-leaves, cond_of-leaves, settle-leaves}
 use Rattle.page_model.proofs.Dependents.{last-bounded, any-bounded, any-length}
 use Rattle.page_model.proofs.Reaching.{changed-length, changed-stays, bounded-changed, all_have-stays, followers-at}
+use Rattle.page_model.proofs.Combining.{Relates}
 
 -- a page after p: within bounds, and signals with a priority stay
 abbrev pub Kept : Page → Page → Type 0
@@ -60,12 +61,35 @@ pub micro_registered-near : (f : Func) (p : Page) → Near 1 (counted p) (counte
 micro_registered-near f p =
     let made = register MicroKind (Some f) None p in
     near-then 1 (counted p) (counted made) (counted (micro_registered f p)) (registered-near p _)
-    (near-equal (counted made) (counted (micro_registered f p)) (on_notices-leaves (Notices.queue_micro (last_registration made)) made))
+    (near-equal (counted made) (counted (micro_registered f p)) (on_notices-leaves (Notices.queue_micro (context made) (last_registration made)) made))
 
 pub subscribe-leaves : (n : ℕ) (r : Reaction) → Leaves (promises.subscribe n r)
 subscribe-leaves n r p =
-    cond_of-leaves (is_outstanding n p.notices) (queue_task Dom (NotifyHandled n)) (λ q. q) (λ p. refl) (λ p. refl) (on_notices (subscribe_promise n r) p)
-    ∙ on_notices-leaves (subscribe_promise n r) p
+    cond_of-leaves (is_outstanding n p.notices) (queue_task Dom (NotifyHandled n)) (λ q. q) (λ p. refl) (λ p. refl) (on_notices (subscribe_promise (context p) n r) p)
+    ∙ on_notices-leaves (subscribe_promise (context p) n r) p
+
+pub follow-leaves : (n : ℕ) (how : Settled) → Leaves (promises.follow n how)
+follow-leaves n how p = on_notices-leaves (follow_promise (context p) p.names n how) p
+
+pub relates-leaves : Relates (λ p q. counted q ≡ counted p)
+relates-leaves =
+    record {
+      same = λ p. refl;
+      then = λ p q r f g. g ∙ f;
+      settles = settle-leaves;
+      follows = follow-leaves;
+      subscribes = subscribe-leaves;
+      makes = λ p. refl;
+      combines = λ cs p. refl;
+      elements = λ es p. refl;
+    }
+
+pub finally_made-near : (n : ℕ) (f : Value) (p : Page) → Near 1 (counted p) (counted (finally_made n f p))
+finally_made-near n f p =
+    let x : Registration = record { role = OfKind ThenKind; callback = func_in f; second_callback = func_in f; timer_id = 0; promise = 0; signal = None; finally = true } in
+    let made = register_as ThenKind x (new_promise p) in
+    near-then 1 (counted p) (counted made) (counted (finally_made n f p)) (registered-near (new_promise p) x)
+    (near-equal (counted made) (counted (finally_made n f p)) (subscribe-leaves n (record { registration = Some (last_registration made); into = last_promise made; state = made.scheduling }) made))
 
 pub then_made-near : (n : ℕ) (f g : Value) (p : Page) → Near 1 (counted p) (counted (then_made n f g p))
 then_made-near n f g p =
@@ -85,7 +109,7 @@ watch-near (Some s) r p = near-signals p (add_algorithm s r p.signals) (with_num
 
 promised-near : (kind : RegKind) (f : Option Func) (signal : Option ℕ) (p : Page) → Near 1 (counted p) (counted (promised kind f signal p))
 promised-near kind f signal p =
-    let x : Registration = record { role = OfKind kind; callback = f; second_callback = None; timer_id = 0; promise = last_promise (new_promise p); signal = signal } in
+    let x : Registration = record { role = OfKind kind; callback = f; second_callback = None; timer_id = 0; promise = last_promise (new_promise p); signal = signal; finally = false } in
     let made = register_as kind x (new_promise p) in
     near-then 1 (counted p) (counted made) (counted (promised kind f signal p)) (registered-near (new_promise p) x) (watch-near signal (last_registration made) made)
 
@@ -255,7 +279,7 @@ pub timeout_signal-kept : (ms : ℕ) (p : Page) → 1 + length p.signals ≤ 429
 timeout_signal-kept ms p few fewer b =
     let q = with_signals make p in
     let c = made-kept fresh_signal refl p few b in
-    near-kept 1 q (timeout_signal_made ms p) (registered-near q (record { role = OfKind SignalKind; callback = None; second_callback = None; timer_id = 0; promise = 0; signal = None })) fewer c.0
+    near-kept 1 q (timeout_signal_made ms p) (registered-near q (record { role = OfKind SignalKind; callback = None; second_callback = None; timer_id = 0; promise = 0; signal = None; finally = false })) fewer c.0
 
 pub task_signal-kept : (priority : Priority) (p : Page) → 1 + length p.signals ≤ 4294967295 → IsBounded p → Kept p (task_signal_made priority p)
 task_signal-kept priority p few b =

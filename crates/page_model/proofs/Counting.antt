@@ -10,7 +10,7 @@ use Rattle.page_parts.specs.Notices.{Notices, Noticed, settle_promise}
 use Rattle.page_parts.specs.AbortGraph.{Signals, SignalRecord, fresh_signal, the_signal, with_reason, with_algorithms}
 use Rattle.page_parts.specs.TaskSignals.{Prios, record_of}
 use Rattle.page_parts.specs.Listeners.{Listener, Target, same_target, snapshot}
-use Rattle.page_model.specs.State.{Page, emit, emit_each, on_notices, the_registration}
+use Rattle.page_model.specs.State.{Page, emit, emit_each, on_notices, the_registration, context}
 use Rattle.page_model.specs.PagePromises as promises
 use Rattle.page_model.specs.PageSignals.{has_not_begun, drop_registration, abort_registration, abort_registrations, run_algorithms, reason_value, reason_set}
 use Rattle.page_model.specs.FoldBounds.{Counted, counted, AreBounded, HasRecord, AllHaveRecords, times}
@@ -130,7 +130,7 @@ pub on_notices-leaves : (f : Notices → Noticed) → Leaves (on_notices f)
 on_notices-leaves f p = emit_each-leaves (f p.notices).lines (record p { notices = (f p.notices).notices })
 
 pub settle-leaves : (n : ℕ) (how : Settled) → Leaves (promises.settle n how)
-settle-leaves n how p = on_notices-leaves (settle_promise p.names n how) p
+settle-leaves n how p = on_notices-leaves (settle_promise (context p) p.names n how) p
 
 pub cond_of-leaves : (b : Bool) (f g : Page → Page) → Leaves f → Leaves g → Leaves (cond b f g)
 cond_of-leaves true f g h k = h

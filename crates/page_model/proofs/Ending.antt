@@ -20,7 +20,7 @@ use Rattle.page_model.specs.Operations.{page_operations}
 use Rattle.page_model.specs.Parallel.{item_count}
 use Rattle.page_model.specs.Choosing.{Rules, Chosen, chosen_source, chosen_reading, chosen_answer}
 use Rattle.page_model.specs.View.{first_number, runnable_at, view}
-use Rattle.page_model.specs.Turns.{Turned, GoesOn, Ended, Stuck, goes_on, choose_turned, step_five, task_done, without_task, not_dropped, answered, perform_host, perform_task, perform_first, perform_first_sched, perform, turn_line, perform_picked, step_four, counted_turn, with_turn_fuel, step_three, is_pending, target, waited, step_two_by, step_one, after_step_one, turn, next_turn, turns}
+use Rattle.page_model.specs.Turns.{Turned, GoesOn, Ended, Stuck, goes_on, choose_turned, step_five, task_done, without_task, not_dropped, answered, perform_host, perform_task, perform_first, perform_first_sched, perform, turn_line, perform_picked, step_four, counted_turn, with_turn_fuel, step_three, from_step_three, is_pending, target, waited, step_two_by, step_one, after_step_one, turn, next_turn, turns}
 use Rattle.page_model.specs.Bounds.{turns_or, from_step_one_or, BeginsWell, Refused, EndsOrIsRefused}
 use Rattle.page_model.proofs.HoldingOperations.{outside-go}
 use Rattle.page_model.proofs.HoldingTurns.{legal_choice, TurnKept, turn-kept}
@@ -79,7 +79,7 @@ module _ {C : Type 0} (rules : Rules C) (call : Caller Page) (until : ℕ) where
   choose-fine true then else m p q = p refl
   choose-fine false then else m p q = q refl
 
-  goes_on-fine : (c : C) (d : Done Page) → Fine (goes_on c step_five d)
+  goes_on-fine : (c : C) (d : Done Page) → Fine (goes_on c d)
   goes_on-fine c (Gives v m) = tt
   goes_on-fine c (Returns v m) = tt
   goes_on-fine c (Throws v m) = tt
@@ -135,23 +135,31 @@ module _ {C : Type 0} (rules : Rules C) (call : Caller Page) (until : ℕ) where
   step_three-fine : (c : C) (m : State) → Fine (step_three rules call until c m)
   step_three-fine c m = choose-fine (nat_le until m.host.now) _ _ m (λ e. tt) (λ e. with_turn_fuel-fine m.fuel m c)
 
+  from_step_three-fine : (c : C) (m : State) → Fine (from_step_three rules call until c m)
+  from_step_three-fine c m = by_end (step_three rules call until c m) (step_three-fine c m)
+    where
+      by_end : (t : Turned C) → Fine t → Fine (next_turn t (λ m c. GoesOn (step_five m) c))
+      by_end (GoesOn n d) h = tt
+      by_end (Ended end n d) h = tt
+      by_end (Stuck n d) h = h
+
   waited-fine : (t : ℕ) (r : Option (Chosen ℕ C)) (again : State → C → Turned C) (c : C) (m : State) → target m.host ≡ Some t → m.host.now < t → t < until → chosen_reading rules t c ≡ r → ((m : State) (c : C) → Fine (again m c)) → Fine (waited t r again c m)
   waited-fine t None again c m at before within e q = inr (inl (t, at, before, within, e))
   waited-fine t (Some r) again c m at before within e q = q _ r.left
 
-  step_two_by-fine : (t : Option ℕ) (again : State → C → Turned C) (c : C) (m : State) → target m.host ≡ t → ((m : State) (c : C) → Fine (again m c)) → Fine (step_two_by rules until t again (step_three rules call until c) c m)
+  step_two_by-fine : (t : Option ℕ) (again : State → C → Turned C) (c : C) (m : State) → target m.host ≡ t → ((m : State) (c : C) → Fine (again m c)) → Fine (step_two_by rules until t again (from_step_three rules call until c) c m)
   step_two_by-fine None again c m at q = tt
   step_two_by-fine (Some t) again c m at q =
       choose-fine (nat_le until m.host.now || nat_le until t) _ _ m (λ e. tt)
       (λ e. choose-fine (nat_lt m.host.now t) _ _ m
       (λ before. waited-fine t (chosen_reading rules t c) again c m at (ltb-true m.host.now t before) (leb-false until t (right_false (nat_le until m.host.now) (nat_le until t) e)) refl q)
-      (λ e. step_three-fine c m))
+      (λ e. from_step_three-fine c m))
 
   after_step_one-fine : (again : State → C → Turned C) (c : C) (m : State) → ((m : State) (c : C) → Fine (again m c)) → Fine (after_step_one rules call until again c m)
   after_step_one-fine again c m q =
       choose-fine (is_empty (view m.host)) _ _ m
       (λ e. choose-fine (is_pending m.host) _ _ m (λ e. step_two_by-fine (target m.host) again c m refl q) (λ e. tt))
-      (λ e. step_three-fine c m)
+      (λ e. from_step_three-fine c m)
 
   -- an end, in the place of what a bound's 0 answers
   ended : State → C → Turned C

@@ -25,10 +25,10 @@ use Rattle.page_model.specs.PageTime.{first_sched, first_task, without_sched}
 use Rattle.page_model.specs.Parallel.{item_count}
 use Rattle.page_model.specs.State.{Page, State, HostTask, Task, SchedTask, on_page, emit}
 use Rattle.page_model.specs.Tasks.{perform_steps, perform_sched, answer_host, after_task}
-use Rattle.page_model.specs.Turns.{Turned, GoesOn, Ended, Stuck, ends, goes_on, choose_turned, step_five, task_done, without_task, not_dropped, answered, perform_host, perform_task, perform_first, perform_first_sched, perform, turn_line, perform_picked, step_four, counted_turn, with_turn_fuel, step_three, is_pending, target, at_time, waited, step_two_at, step_two_by, step_two, step_one, after_step_one, from_step_one, turn, next_turn, turns, first_state, run, run_by, state_of}
+use Rattle.page_model.specs.Turns.{Turned, GoesOn, Ended, Stuck, ends, goes_on, choose_turned, step_five, task_done, without_task, not_dropped, answered, perform_host, perform_task, perform_first, perform_first_sched, perform, turn_line, perform_picked, step_four, counted_turn, with_turn_fuel, step_three, from_step_three, is_pending, target, at_time, waited, step_two_at, step_two_by, step_two, step_one, after_step_one, from_step_one, turn, next_turn, turns, first_state, run, run_by, state_of}
 use Rattle.page_model.specs.View.{view}
 use Rattle.page_model.proofs.AddingOperations.{outside-adds}
-use Rattle.page_model.proofs.AddingTurns.{answered-adds, perform_picked-adds, waited-adds, from_step_one-adds, turns-adds}
+use Rattle.page_model.proofs.AddingTurns.{step_five-adds, answered-adds, perform_picked-adds, waited-adds, from_step_one-adds, turns-adds}
 
 -- ---- lines that came before
 
@@ -125,7 +125,7 @@ module _ (more_sources : List Source) (more_readings : List ℕ) (more_answers :
   choose-further true m f g f' g' h k = h
   choose-further false m f g f' g' h k = k
 
-  goes_on-further : (c : Choices) (d : Done Page) → Further (goes_on c step_five d) (goes_on (longer c) step_five d)
+  goes_on-further : (c : Choices) (d : Done Page) → Further (goes_on c d) (goes_on (longer c) d)
   goes_on-further c (Gives v m) = refl
   goes_on-further c (Returns v m) = refl
   goes_on-further c (Throws v m) = refl
@@ -199,6 +199,11 @@ module _ (more_sources : List Source) (more_readings : List ℕ) (more_answers :
         choose-further (nat_le until m.host.now) m (ends ClockEnd c) (λ m. with_turn_fuel choice_rules call m.fuel m c) (ends ClockEnd (longer c)) (λ m. with_turn_fuel choice_rules call m.fuel m (longer c))
         refl (with_turn_fuel-further m.fuel m c)
 
+    from_step_three-further : (until : ℕ) (m : State) (c : Choices) → Further (from_step_three choice_rules call until c m) (from_step_three choice_rules call until (longer c) m)
+    from_step_three-further until m c =
+        next_turn-further (λ m c. GoesOn (step_five m) c) (λ es c m. ap (λ m. GoesOn m c) (step_five-adds es m)) (λ m c. refl)
+        (step_three choice_rules call until c m) (step_three choice_rules call until (longer c) m) (step_three-further until m c)
+
     module _ (until : ℕ) (begin : State → Choices → Turned Choices) (begin-adds : (es : List Stamped) (c : Choices) → TurnAdds es (λ m. begin m c)) (begin-further : (m : State) (c : Choices) → Further (begin m c) (begin m (longer c))) where
       waited-further : (t : ℕ) (o o' : Option (Chosen ℕ Choices)) → SameChoice o o' → (m : State) (c : Choices) → Further (waited t o begin c m) (waited t o' begin (longer c) m)
       waited-further t None o' h m c = grown (waited t o' begin (longer c)) (λ es. waited-adds es choice_rules call (adds es) t o' begin (longer c) (begin-adds es)) m
@@ -206,30 +211,30 @@ module _ (more_sources : List Source) (more_readings : List ℕ) (more_answers :
           let told : State = on_page (λ p. emit (Wait t) (at_time r.choice p)) m in
           subst (λ (o : Option (Chosen ℕ Choices)). Further (begin told r.left) (waited t o begin (longer c) m)) (sym h) (begin-further told r.left)
 
-      step_two_at-further : (t : ℕ) (m : State) (c : Choices) → Further (step_two_at choice_rules until t begin (step_three choice_rules call until c) c m) (step_two_at choice_rules until t begin (step_three choice_rules call until (longer c)) (longer c) m)
+      step_two_at-further : (t : ℕ) (m : State) (c : Choices) → Further (step_two_at choice_rules until t begin (from_step_three choice_rules call until c) c m) (step_two_at choice_rules until t begin (from_step_three choice_rules call until (longer c)) (longer c) m)
       step_two_at-further t m c =
           choose-further (nat_le until m.host.now || nat_le until t) m
           (λ m. ends ClockEnd c (on_page (λ p. at_time (max p.now until) p) m))
-          (choose_turned (nat_lt m.host.now t) (waited t (chosen_reading choice_rules t c) begin c) (step_three choice_rules call until c))
+          (choose_turned (nat_lt m.host.now t) (waited t (chosen_reading choice_rules t c) begin c) (from_step_three choice_rules call until c))
           (λ m. ends ClockEnd (longer c) (on_page (λ p. at_time (max p.now until) p) m))
-          (choose_turned (nat_lt m.host.now t) (waited t (chosen_reading choice_rules t (longer c)) begin (longer c)) (step_three choice_rules call until (longer c)))
+          (choose_turned (nat_lt m.host.now t) (waited t (chosen_reading choice_rules t (longer c)) begin (longer c)) (from_step_three choice_rules call until (longer c)))
           refl
-          (choose-further (nat_lt m.host.now t) m (waited t (chosen_reading choice_rules t c) begin c) (step_three choice_rules call until c) (waited t (chosen_reading choice_rules t (longer c)) begin (longer c)) (step_three choice_rules call until (longer c))
-          (waited-further t (chosen_reading choice_rules t c) (chosen_reading choice_rules t (longer c)) (reading-longer t c) m c) (step_three-further until m c))
+          (choose-further (nat_lt m.host.now t) m (waited t (chosen_reading choice_rules t c) begin c) (from_step_three choice_rules call until c) (waited t (chosen_reading choice_rules t (longer c)) begin (longer c)) (from_step_three choice_rules call until (longer c))
+          (waited-further t (chosen_reading choice_rules t c) (chosen_reading choice_rules t (longer c)) (reading-longer t c) m c) (from_step_three-further until m c))
 
-      step_two_by-further : (t : Option ℕ) (m : State) (c : Choices) → Further (step_two_by choice_rules until t begin (step_three choice_rules call until c) c m) (step_two_by choice_rules until t begin (step_three choice_rules call until (longer c)) (longer c) m)
+      step_two_by-further : (t : Option ℕ) (m : State) (c : Choices) → Further (step_two_by choice_rules until t begin (from_step_three choice_rules call until c) c m) (step_two_by choice_rules until t begin (from_step_three choice_rules call until (longer c)) (longer c) m)
       step_two_by-further None m c = refl
       step_two_by-further (Some t) m c = step_two_at-further t m c
 
-      step_two-further : (m : State) (c : Choices) → Further (step_two choice_rules until begin (step_three choice_rules call until c) c m) (step_two choice_rules until begin (step_three choice_rules call until (longer c)) (longer c) m)
+      step_two-further : (m : State) (c : Choices) → Further (step_two choice_rules until begin (from_step_three choice_rules call until c) c m) (step_two choice_rules until begin (from_step_three choice_rules call until (longer c)) (longer c) m)
       step_two-further m c =
-          choose-further (is_pending m.host) m (step_two_by choice_rules until (target m.host) begin (step_three choice_rules call until c) c) (ends DoneEnd c) (step_two_by choice_rules until (target m.host) begin (step_three choice_rules call until (longer c)) (longer c)) (ends DoneEnd (longer c))
+          choose-further (is_pending m.host) m (step_two_by choice_rules until (target m.host) begin (from_step_three choice_rules call until c) c) (ends DoneEnd c) (step_two_by choice_rules until (target m.host) begin (from_step_three choice_rules call until (longer c)) (longer c)) (ends DoneEnd (longer c))
           (step_two_by-further (target m.host) m c) refl
 
       after_step_one-further : (m : State) (c : Choices) → Further (after_step_one choice_rules call until begin c m) (after_step_one choice_rules call until begin (longer c) m)
       after_step_one-further m c =
-          choose-further (is_empty (view m.host)) m (step_two choice_rules until begin (step_three choice_rules call until c) c) (step_three choice_rules call until c) (step_two choice_rules until begin (step_three choice_rules call until (longer c)) (longer c)) (step_three choice_rules call until (longer c))
-          (step_two-further m c) (step_three-further until m c)
+          choose-further (is_empty (view m.host)) m (step_two choice_rules until begin (from_step_three choice_rules call until c) c) (from_step_three choice_rules call until c) (step_two choice_rules until begin (from_step_three choice_rules call until (longer c)) (longer c)) (from_step_three choice_rules call until (longer c))
+          (step_two-further m c) (from_step_three-further until m c)
 
     from_step_one-further : (until n : ℕ) (m : State) (c : Choices) → Further (from_step_one choice_rules call until n m c) (from_step_one choice_rules call until n m (longer c))
     from_step_one-further until zero m c = ([], refl)

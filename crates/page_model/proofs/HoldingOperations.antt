@@ -2,19 +2,19 @@
 use Rattle.std.proofs.Common.{◌≡◌, ℕ, suc, ◌+◌, Bool, true, false, List, [], ◌∷◌, Option, Some, None, refl, ap, ◌∙◌, ℤ, pos, negsuc, ◌&&◌, length, arith}
 use Rattle.std.specs.Prelude.{int_le}
 use Rattle.std.proofs.lemmas.List.{length-set}
-use Rattle.page_types.specs.Values.{Value, IntValue, SignalValue, BoolValue}
+use Rattle.page_types.specs.Values.{Value, IntValue, SignalValue, BoolValue, ListValue, PromiseValue, items_of, values_of}
 use Rattle.page_types.specs.declared.FaultName.TheVariants.{TypeError, RangeError, NotAllowedError}
 use Rattle.page_types.specs.declared.Priority.{Priority}
 use Rattle.page_types.specs.declared.RegKind.{RegKind}
 use Rattle.page_types.specs.declared.RegKind.TheVariants.{Timeout as TimeoutKind, Interval as IntervalKind}
 use Rattle.page_types.specs.Tree.{Program}
 use Rattle.page_types.specs.declared.Op.{Op}
-use Rattle.page_types.specs.declared.Op.TheVariants.{Log, TextOf, KindOf, Len, Push, Bind, MakeFault, FaultNameOf, FaultTextOf, NowOp, Busy, QueueMicrotask, MakePromise, ResolveOp, RejectOp, Resolved, Rejected, Then, SetTimeout, SetInterval, ClearTimeout, ClearInterval, RequestFrame, CancelFrame, RequestIdle, CancelIdle, DidTimeout, TimeRemaining, PostTask, YieldTask, MakeController, MakeTaskController, SignalOf, AbortOp, SetPriority, AbortedSignal, AnySignal, TaskAny, TimeoutSignal, Aborted, ReasonOf, PriorityOf, Listen, Unlisten, HostOp}
+use Rattle.page_types.specs.declared.Op.TheVariants.{Log, TextOf, KindOf, Len, Push, Bind, MakeFault, FaultNameOf, FaultTextOf, NowOp, Busy, QueueMicrotask, MakePromise, ResolveOp, RejectOp, Resolved, Rejected, Then, SetTimeout, SetInterval, ClearTimeout, ClearInterval, RequestFrame, CancelFrame, RequestIdle, CancelIdle, DidTimeout, TimeRemaining, PostTask, YieldTask, MakeController, MakeTaskController, SignalOf, AbortOp, SetPriority, AbortedSignal, AnySignal, TaskAny, TimeoutSignal, Aborted, ReasonOf, PriorityOf, Listen, Unlisten, HostOp, PostMessage, AllOp, RaceOp, AnyOp, AllSettled, FinallyOp}
 use Rattle.page_types.specs.Events as events
 use Rattle.page_types.specs.Events.{Prio}
 use Rattle.page_parts.specs.Words.{has_number, not_below_zero, is_there, and_last, with_numbered}
 use Rattle.page_parts.specs.Spelling.{spelled}
-use Rattle.page_parts.specs.Kinds.{Func, func_in, text_in, int_in, promise_in, signal_in, controller_in, deadline_in, a_fault}
+use Rattle.page_parts.specs.Kinds.{Func, func_in, text_in, int_in, promise_in, signal_in, controller_in, deadline_in, a_fault, list_in, within_limits}
 use Rattle.lang_meaning.specs.Machine.{Done, Gives, finish, branch, given, throw_fault, Caller}
 use Rattle.lang_meaning.specs.Evaluation.{Answer, answered, calls, call_from_outside}
 use Rattle.lang_meaning.specs.PureOperations.{argument, text_answer, kind_answer, length_answer, push_answer, bind_answer, fault_answer, fault_name_answer, fault_text_answer, did_timeout_answer}
@@ -28,10 +28,14 @@ use Rattle.page_model.specs.PagePromises as promises
 use Rattle.page_model.specs.PageTime.{clear_timer, cancel_frame, cancel_idle, time_remaining, current_state}
 use Rattle.page_model.specs.Invoke.{Ways, in_script}
 use Rattle.page_model.specs.PageSignals.{change, is_aborted, is_aborted_source, reason_value, priority_value}
-use Rattle.page_model.specs.Operations.{does, answers, where_left, registration_left, promise_left, signal_left, is_left, priority_in, int_within, delay_in, signal_or_unit, busy_for, micro_registered, last_promise_value, script_promise, settle_own, new_settled, settled_promise, resolved_value, then_made, then_value, timer_set, set_timer, with_handle, frame_requested, idle_requested, controller_value, signal_value, with_signals, task_signal_made, reason_given, change_by, signals_in, any_made, any_with_priority, followed_through, any_following, make_task_any, timeout_signal_made, target_in, listener_added, listener_removed, rejected_with, given_or_rejected, priority_or_unit, source_reason, prio_source_of, post_queued, post_accepted, post_task, continuation_queued, yield_in, closure_at, is_fresh, fitting, host_queued, host_accepted, host_asked, host, operation, page_operations, may_operate}
+use Rattle.page_model.specs.PagePromises.{new_settled, last_promise}
+use Rattle.page_model.specs.Operations.{does, answers, where_left, registration_left, promise_left, signal_left, is_left, priority_in, int_within, delay_in, signal_or_unit, busy_for, micro_registered, last_promise_value, script_promise, settle_own, settled_promise, resolved_value, then_made, then_value, timer_set, set_timer, with_handle, frame_requested, idle_requested, controller_value, signal_value, with_signals, task_signal_made, reason_given, change_by, signals_in, any_made, any_with_priority, followed_through, any_following, make_task_any, timeout_signal_made, target_in, listener_added, listener_removed, rejected_with, given_or_rejected, priority_or_unit, source_reason, prio_source_of, post_queued, post_accepted, post_task, continuation_queued, yield_in, closure_at, is_fresh, fitting, host_queued, host_accepted, host_asked, host, operation, page_operations, may_operate, combined, raced, promises_for_all, finally_value, finally_made, port_in, sendable_in, posted, post_message}
 use Rattle.page_model.proofs.Holding.{given_any, Holds, OperateHolds, calls-hold, given_any-holds, branch-holds, answered-holds, take_unit-holds, finish-holds, fault-holds}
-use Rattle.page_model.proofs.Leaving.{PageKeeping, Leaves, with_page, resolve-leaves, reject-leaves, clear_timer-leaves, cancel_frame-leaves, cancel_idle-leaves, micro_registered-leaves, then_made-leaves, idle_requested-leaves, listener_removed-leaves, post_queued-leaves, continuation_queued-leaves, host_queued-leaves}
+use Rattle.page_model.proofs.Leaving.{PageKeeping, Leaves, with_page, resolve-leaves, reject-leaves, clear_timer-leaves, cancel_frame-leaves, cancel_idle-leaves, micro_registered-leaves, then_made-leaves, idle_requested-leaves, listener_removed-leaves, post_queued-leaves, continuation_queued-leaves, host_queued-leaves, part, relates-leaves, finally_made-leaves}
 use Rattle.page_model.proofs.HoldingRuns.{K, Kept, Changes, Goes, CallsGo, WaysGo, kept-then, leaves-change, finish-leaves, abort-goes, change-goes, in_script-goes}
+use Rattle.page_parts.specs.Combinators.{CombinatorKind, All, AnyOf, AllSettled as AllSettledKind}
+use Rattle.page_model.specs.PageCombinators.{all_made, race_made, are_promises_left}
+use Rattle.page_model.proofs.Combining.{all_made-related, race_made-related}
 
 -- ---- how many signals there are
 
@@ -220,6 +224,29 @@ module _ (program : Program) (k : PageKeeping) where
   host-goes n x signal =
       given_or_rejected-goes (int_in n) _ (λ n. given_or_rejected-goes (int_in x) _ (λ x. given_or_rejected-goes (signal_or_unit signal) _ (λ signal. host_asked-goes n x signal)))
 
+  -- ---- combinators and messages
+
+  combined-goes : (kind : CombinatorKind) (l : Value) → G (combined kind l)
+  combined-goes kind l =
+      given_or_rejected-goes (list_in l) _ (λ vs m g.
+      where_left-goes (are_promises_left (1 + promises_for_all (items_of vs) + length (items_of vs)) m.host) m _ g
+      (answers-leaves (λ p. PromiseValue (suc (last_promise m.host))) (all_made kind (items_of vs)) (all_made-related (λ p q. part q ≡ part p) relates-leaves kind (items_of vs)) m g))
+
+  raced-goes : (l : Value) → G (raced l)
+  raced-goes l =
+      given_or_rejected-goes (list_in l) _ (λ vs m g.
+      where_left-goes (are_promises_left (1 + promises_for_all (items_of vs)) m.host) m _ g
+      (answers-leaves (λ p. PromiseValue (suc (last_promise m.host))) (race_made (items_of vs)) (race_made-related (λ p q. part q ≡ part p) relates-leaves (items_of vs)) m g))
+
+  finally_value-goes : (v f : Value) → G (finally_value v f)
+  finally_value-goes v f =
+      given_or_rejected-goes (promise_in v) _ (λ n m g. where_left-goes (promise_left m.host && registration_left m.host) m _ g (answers-leaves last_promise_value (finally_made n f) (finally_made-leaves n f) m g))
+
+  post_message-goes : (n v : Value) → G (post_message n v)
+  post_message-goes n v =
+      given-goes (port_in n) _ (λ port. given-goes (sendable_in v) _ (λ v m g.
+      given_any-holds (K program k) (within_limits (ListValue (values_of (n ∷ v ∷ [])))) RangeError m _ g (λ whole. finish-leaves program k (posted port v) (λ p. refl) m g)))
+
   -- ---- the table
 
   pub operation-goes : (w : Ways) → WaysGo program k w → (op : Op) (args : List Value) → G (operation w op args)
@@ -268,6 +295,12 @@ module _ (program : Program) (k : PageKeeping) where
   operation-goes w a Listen args m g = given-goes (target_in (argument args 0)) _ (λ target. given-goes (text_in (argument args 1)) _ (λ name. given-goes (func_in (argument args 2)) _ (λ f m g. where_left-goes (registration_left m.host) m _ g (answers-leaves (λ p. IntValue (pos (last_registration p))) (listener_added target name f) (λ p. refl) m g)))) m g
   operation-goes w a Unlisten args m g = with_handle-goes (argument args 0) listener_removed listener_removed-leaves m g
   operation-goes w a HostOp args m g = host-goes (argument args 0) (argument args 1) (argument args 2) m g
+  operation-goes w a PostMessage args m g = post_message-goes (argument args 0) (argument args 1) m g
+  operation-goes w a AllOp args m g = combined-goes All (argument args 0) m g
+  operation-goes w a RaceOp args m g = raced-goes (argument args 0) m g
+  operation-goes w a AnyOp args m g = combined-goes AnyOf (argument args 0) m g
+  operation-goes w a AllSettled args m g = combined-goes AllSettledKind (argument args 0) m g
+  operation-goes w a FinallyOp args m g = finally_value-goes (argument args 0) (argument args 1) m g
 
   -- the operations of a page, and a script's own calls at whatever depth
   pub page_operations-go : (call : Caller Page) → CallsGo program k call → OperateHolds (K program k) (page_operations call)

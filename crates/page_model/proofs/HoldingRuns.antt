@@ -1,13 +1,13 @@
 -- Callbacks, jobs, checkpoints, dispatch, abort and priority change hold for an order and a property of states.
-use Rattle.std.proofs.Common.{ℕ, zero, suc, Bool, false, List, [], ◌∷◌, ◌++◌, Option, Some, None, refl, ◌||◌}
+use Rattle.std.proofs.Common.{ℕ, zero, suc, Bool, false, List, [], ◌∷◌, ◌++◌, Option, Some, None, refl, ◌||◌, ◌≡◌}
 use Rattle.std.specs.Prelude.{codes}
 use Rattle.page_types.specs.Values.{Value, SignalValue, items_of}
 use Rattle.page_types.specs.Tree.{Program}
-use Rattle.page_types.specs.Events.{Ret, Call, Prio}
+use Rattle.page_types.specs.Events.{Ret, Prio}
 use Rattle.page_types.specs.declared.Priority.{Priority}
 use Rattle.lang_meaning.specs.Machine.{Done, Gives, Throws, Returns, OutOfFuel, finish, Caller}
 use Rattle.page_parts.specs.Kinds.{Func}
-use Rattle.page_parts.specs.Promises.{Settled, Reaction, React, Adopt, has_failed, settled_value}
+use Rattle.page_parts.specs.Promises.{Settled, Reaction, React, Adopt, has_failed}
 use Rattle.page_parts.specs.Notices.{Todo, Micro, OfPromise, WaitingJob}
 use Rattle.page_parts.specs.Listeners.{Target, AtSignal, snapshot, is_listening}
 use Rattle.page_parts.specs.AbortGraph.{marked}
@@ -15,11 +15,13 @@ use Rattle.page_parts.specs.TaskSignals as TaskSignals
 use Rattle.page_parts.specs.TaskSignals.{followers, priority_of}
 use Rattle.page_model.specs.State.{Page, State, on_page, emit, the_registration}
 use Rattle.page_model.specs.PagePromises as promises
-use Rattle.page_model.specs.PagePromises.{promise_at}
+use Rattle.page_model.specs.PagePromises.{promise_at, inner_subscription}
 use Rattle.page_model.specs.PageSignals.{each_in_turn, call_listener, dispatch, abort_steps, abort, reason_set, run_algorithms, change, change_through, change_begun, change_ended, has_priority, priority_value}
-use Rattle.page_model.specs.Invoke.{Ways, WhenReported, when_reported, end_of_callback, call_back, callback_of, invoke, in_checkpoint, in_script, in_task, settle_derived, react_then, react_by, react, run_job, inner_subscription, run_oldest, begin_job, run_jobs, checkpoint_begun, checkpoint_ended, perform_checkpoint, checkpoint, report_before, report_after, thrown, with_scheduling}
+use Rattle.page_model.specs.Invoke.{Ways, WhenReported, when_reported, end_of_callback, call_back, callback_of, invoke, in_checkpoint, in_script, in_task, settle_derived, react_then, react_by, react, run_job, run_oldest, begin_job, run_jobs, checkpoint_begun, checkpoint_ended, perform_checkpoint, checkpoint, report_before, report_after, thrown, with_scheduling, call_begun, call_ended, settle_by, resolve_derived, handler_arguments}
 use Rattle.page_model.proofs.Holding.{keeping_states, Keeping, every_any, Holds, Keeps, CallsHold, wider, and_then-holds, afterwards-holds, branch-holds, take_unit-holds, finish-holds}
-use Rattle.page_model.proofs.Leaving.{PageKeeping, Leaves, with_page, settle-leaves, resolve-leaves, reject-leaves, follow-leaves, subscribe-leaves, run_algorithms-leaves, reason_set-leaves, report_before-leaves, report_after-leaves, checkpoint_ended-leaves}
+use Rattle.page_model.proofs.Leaving.{PageKeeping, Leaves, with_page, settle-leaves, resolve-leaves, reject-leaves, subscribe-leaves, run_algorithms-leaves, reason_set-leaves, report_before-leaves, report_after-leaves, checkpoint_ended-leaves, part, relates-leaves}
+use Rattle.page_model.proofs.Combining.{lead_into-related, resolve_derived-related}
+use Rattle.page_model.specs.PageCombinators.{lead_into}
 
 module _ (program : Program) (k : PageKeeping) where
   -- the order and the property, with nothing said of values
@@ -73,9 +75,9 @@ module _ (program : Program) (k : PageKeeping) where
 
   end_of_callback-goes : (next : State → Done Page) → Goes next → (when : WhenReported) (m : State) (d : Done Page) → Holds K m d → Holds K m (end_of_callback next when d)
   end_of_callback-goes next q when m (Gives v n) h =
-      and_then-holds K m (next (on_page (emit Ret) n)) _ (wider K m n (next (on_page (emit Ret) n)) h.0 (then-leaves (emit Ret) next (λ p. refl) q n h.1)) (λ u r le g hu. (k.states.same r, g, tt))
+      and_then-holds K m (next (on_page (call_ended Ret) n)) _ (wider K m n (next (on_page (call_ended Ret) n)) h.0 (then-leaves (call_ended Ret) next (λ p. refl) q n h.1)) (λ u r le g hu. (k.states.same r, g, tt))
   end_of_callback-goes next q when m (Returns v n) h =
-      and_then-holds K m (next (on_page (emit Ret) n)) _ (wider K m n (next (on_page (emit Ret) n)) h.0 (then-leaves (emit Ret) next (λ p. refl) q n h.1)) (λ u r le g hu. (k.states.same r, g, tt))
+      and_then-holds K m (next (on_page (call_ended Ret) n)) _ (wider K m n (next (on_page (call_ended Ret) n)) h.0 (then-leaves (call_ended Ret) next (λ p. refl) q n h.1)) (λ u r le g hu. (k.states.same r, g, tt))
   end_of_callback-goes next q when m (Throws v n) h =
       and_then-holds K m (next (on_page (report_before when v) (on_page (thrown v) n))) _
       (wider K m n (next (on_page (report_before when v) (on_page (thrown v) n))) h.0
@@ -90,28 +92,32 @@ module _ (program : Program) (k : PageKeeping) where
   pub invoke-goes : (w : Ways) → WaysGo w → (r : ℕ) (second : Bool) (args : List Value) → Goes (invoke w r second args)
   invoke-goes w a r second args m g =
       let registration = the_registration m.host r in
-      end_of_callback-goes w.after a.after (when_reported registration.role) m (call_back w.call (callback_of second registration) args (on_page (emit (Call r)) m))
-      (then-leaves (emit (Call r)) (call_back w.call (callback_of second registration) args) (λ p. refl) (call_back-goes w.call a.call (callback_of second registration) args) m g)
+      end_of_callback-goes w.after a.after (when_reported registration.role) m (call_back w.call (callback_of second registration) args (on_page (call_begun r) m))
+      (then-leaves (call_begun r) (call_back w.call (callback_of second registration) args) (λ p. refl) (call_back-goes w.call a.call (callback_of second registration) args) m g)
 
   pub in_checkpoint-goes : (call : Caller Page) → CallsGo call → WaysGo (in_checkpoint call)
   in_checkpoint-goes call c = record { call = c; after = finish-holds K }
 
   -- ---- jobs
 
+  settle_by-goes : (resolve : Value → Page → Page) → ((v : Value) → Leaves (resolve v)) → (into : ℕ) (m : State) (d : Done Page) → Holds K m d → Holds K m (settle_by resolve into d)
+  settle_by-goes resolve l into m (Gives v n) h = wider K m n (settle_by resolve into (Gives v n)) h.0 (finish-leaves (resolve v) (l v) n h.1)
+  settle_by-goes resolve l into m (Returns v n) h = wider K m n (settle_by resolve into (Returns v n)) h.0 (finish-leaves (resolve v) (l v) n h.1)
+  settle_by-goes resolve l into m (Throws v n) h = wider K m n (settle_by resolve into (Throws v n)) h.0 (finish-leaves (promises.reject into v) (reject-leaves into v) n h.1)
+  settle_by-goes resolve l into m (OutOfFuel n) h = h
+
   pub settle_derived-goes : (into : ℕ) (m : State) (d : Done Page) → Holds K m d → Holds K m (settle_derived into d)
-  settle_derived-goes into m (Gives v n) h = wider K m n (settle_derived into (Gives v n)) h.0 (finish-leaves (promises.resolve into v) (resolve-leaves into v) n h.1)
-  settle_derived-goes into m (Returns v n) h = wider K m n (settle_derived into (Returns v n)) h.0 (finish-leaves (promises.resolve into v) (resolve-leaves into v) n h.1)
-  settle_derived-goes into m (Throws v n) h = wider K m n (settle_derived into (Throws v n)) h.0 (finish-leaves (promises.reject into v) (reject-leaves into v) n h.1)
-  settle_derived-goes into m (OutOfFuel n) h = h
+  settle_derived-goes into m d h = settle_by-goes (promises.resolve into) (resolve-leaves into) into m d h
 
   react_then-goes : (call : Caller Page) → CallsGo call → (r : ℕ) (f : Option Func) (x : Reaction) (how : Settled) → Goes (react_then call r f x how)
   react_then-goes call c r None x how m g = finish-leaves (promises.settle x.into how) (settle-leaves x.into how) m g
   react_then-goes call c r (Some f) x how m g =
-      settle_derived-goes x.into m (invoke (in_checkpoint call) r (has_failed how) (settled_value how ∷ []) (with_scheduling x.state m))
-      (then-leaves (λ p. record p { scheduling = x.state }) (invoke (in_checkpoint call) r (has_failed how) (settled_value how ∷ [])) (λ p. refl) (invoke-goes (in_checkpoint call) (in_checkpoint-goes call c) r (has_failed how) (settled_value how ∷ [])) m g)
+      let registration = the_registration m.host r in
+      settle_by-goes (resolve_derived registration x.into how) (resolve_derived-related (λ p q. part q ≡ part p) relates-leaves registration x.into how) x.into m (invoke (in_checkpoint call) r (has_failed how) (handler_arguments registration how) (with_scheduling x.state m))
+      (then-leaves (λ p. record p { scheduling = x.state }) (invoke (in_checkpoint call) r (has_failed how) (handler_arguments registration how)) (λ p. refl) (invoke-goes (in_checkpoint call) (in_checkpoint-goes call c) r (has_failed how) (handler_arguments registration how)) m g)
 
   react_by-goes : (call : Caller Page) → CallsGo call → (r : Option ℕ) (x : Reaction) (how : Settled) → Goes (react_by call r x how)
-  react_by-goes call c None x how m g = finish-leaves (promises.follow x.into how) (follow-leaves x.into how) m g
+  react_by-goes call c None x how m g = finish-leaves (lead_into x.into how) (lead_into-related (λ p q. part q ≡ part p) relates-leaves x.into how) m g
   react_by-goes call c (Some r) x how m g = react_then-goes call c r (callback_of (has_failed how) (the_registration m.host r)) x how m g
 
   react-goes : (call : Caller Page) → CallsGo call → (x : Reaction) (how : Option Settled) → Goes (react call x how)
@@ -120,7 +126,7 @@ module _ (program : Program) (k : PageKeeping) where
 
   pub run_job-goes : (call : Caller Page) → CallsGo call → (what : Todo) → Goes (run_job call what)
   run_job-goes call c (Micro r) m g =
-      then-leaves (λ p. record p { scheduling = None }) (invoke (in_checkpoint call) r false []) (λ p. refl) (invoke-goes (in_checkpoint call) (in_checkpoint-goes call c) r false []) m g
+      invoke-goes (in_checkpoint call) (in_checkpoint-goes call c) r false [] m g
   run_job-goes call c (OfPromise (React of x)) m g = react-goes call c x (promise_at m.host of).outcome m g
   run_job-goes call c (OfPromise (Adopt into from)) m g = finish-leaves (promises.subscribe from (inner_subscription into)) (subscribe-leaves from (inner_subscription into)) m g
 

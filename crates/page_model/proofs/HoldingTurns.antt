@@ -26,7 +26,7 @@ use Rattle.page_model.specs.Tasks.{where_live, timer_goes_on, run_timer, frame_c
 use Rattle.page_model.specs.Parallel.{item_count, parallel}
 use Rattle.page_model.specs.Choosing.{Rules, Chosen, legal, is_reading, chosen_source, chosen_reading, chosen_answer}
 use Rattle.page_model.specs.View.{view}
-use Rattle.page_model.specs.Turns.{Turned, GoesOn, Ended, Stuck, ends, goes_on, choose_turned, step_five, task_done, without_task, not_dropped, answered, perform_host, perform_task, perform_first, perform_first_sched, perform, turn_line, perform_picked, step_four, counted_turn, with_turn_fuel, step_three, is_pending, target, at_time, waited, step_two_at, step_two_by, step_two, step_one, after_step_one, from_step_one, turn, next_turn, turns, state_of}
+use Rattle.page_model.specs.Turns.{Turned, GoesOn, Ended, Stuck, ends, goes_on, choose_turned, step_five, task_done, without_task, not_dropped, answered, perform_host, perform_task, perform_first, perform_first_sched, perform, turn_line, perform_picked, step_four, counted_turn, with_turn_fuel, step_three, from_step_three, is_pending, target, at_time, waited, step_two_at, step_two_by, step_two, step_one, after_step_one, from_step_one, turn, next_turn, turns, state_of}
 use Rattle.page_model.proofs.Holding.{Holds, afterwards-holds, branch-holds, finish-holds}
 use Rattle.page_model.proofs.Leaving.{PageKeeping, with_page, unwatch-leaves, idle_step-leaves, invoke_idle_again-leaves, continued-leaves, answer_host-leaves, parallel-leaves}
 use Rattle.page_model.proofs.HoldingRuns.{K, Kept, Goes, CallsGo, WaysGo, kept-then, finish-leaves, then-leaves, invoke-goes, in_task-goes, checkpoint-goes, settle_derived-goes, each_in_turn-goes, dispatch-goes, abort-goes}
@@ -177,10 +177,10 @@ module _ (program : Program) (k : PageKeeping) where
     choose-kept true then else m p q = p refl
     choose-kept false then else m p q = q refl
 
-    goes_on-kept : (c : C) (m : State) (d : Done Page) → Holds (K program k) m d → PartKept m (goes_on c step_five d)
-    goes_on-kept c m (Gives v n) h = kept-then program k m n (step_five n) (h.0, h.1) (step_five-kept n)
-    goes_on-kept c m (Returns v n) h = kept-then program k m n (step_five n) (h.0, h.1) (step_five-kept n)
-    goes_on-kept c m (Throws v n) h = kept-then program k m n (step_five n) (h.0, h.1) (step_five-kept n)
+    goes_on-kept : (c : C) (m : State) (d : Done Page) → Holds (K program k) m d → PartKept m (goes_on c d)
+    goes_on-kept c m (Gives v n) h = (h.0, h.1)
+    goes_on-kept c m (Returns v n) h = (h.0, h.1)
+    goes_on-kept c m (Throws v n) h = (h.0, h.1)
     goes_on-kept c m (OutOfFuel n) h = part-wider m n (ends FuelEnd c n) h.0 (ends-kept FuelEnd c n h.1)
 
     module _ (rules : Rules C) (call : Caller Page) (calls : CallsGo program k call) where
@@ -227,7 +227,7 @@ module _ (program : Program) (k : PageKeeping) where
           part-wider m (turn_line (Some s.choice) m) _ after.0 (perform-kept s.choice (turn_line (Some s.choice) m) s.left after.1)
 
       step_four-kept : (rs : List Runnable) (m : State) (c : C) → k.states.Good m → PartKept m (step_four rules call rs m c)
-      step_four-kept [] m c g = kept-then program k m (turn_line None m) (step_five (turn_line None m)) (k.leave m (turn_line None m).host refl g) (step_five-kept (turn_line None m))
+      step_four-kept [] m c g = k.leave m (turn_line None m).host refl g
       step_four-kept (r ∷ rs) m c g = perform_picked-kept (chosen_source rules (r ∷ rs) c) m c g
 
       with_turn_fuel-kept : (fuel : ℕ) (m : State) (c : C) → m.fuel ≡ fuel → k.states.Good m → TurnKept m (with_turn_fuel rules call fuel m c)
@@ -238,6 +238,25 @@ module _ (program : Program) (k : PageKeeping) where
 
       step_three-kept : (until : ℕ) (c : C) (m : State) → k.states.Good m → TurnKept m (step_three rules call until c m)
       step_three-kept until c m g = choose-kept (nat_le until m.host.now) _ _ m (λ e. turn_ends-kept ClockEnd c m g) (λ e. with_turn_fuel-kept m.fuel m c refl g)
+
+      -- step 5, where the part of the turn before it went on
+      five-kept : (m : State) (t : Turned C) → PartKept m t → PartKept m (next_turn t (λ m c. GoesOn (step_five m) c))
+      five-kept m (GoesOn n c) h = kept-then program k m n (step_five n) h (step_five-kept n)
+      five-kept m (Ended end n c) h = h
+      five-kept m (Stuck n c) h = h
+
+      fuel_and_five-kept : (fuel : ℕ) (m : State) (c : C) → m.fuel ≡ fuel → k.states.Good m → TurnKept m (next_turn (with_turn_fuel rules call fuel m c) (λ m c. GoesOn (step_five m) c))
+      fuel_and_five-kept zero m c e g = turn_ends-kept FuelEnd c m g
+      fuel_and_five-kept (suc left) m c e g =
+          let taken = kept-then program k m (record m { fuel = left }) (counted_turn left m) (k.states.take m left e g) (λ h. k.count (record m { fuel = left }) h) in
+          with_unit m left _ e taken.0 (five-kept (counted_turn left m) (step_four rules call (view m.host) (counted_turn left m) c) (step_four-kept (view m.host) (counted_turn left m) c taken.1))
+
+      from_step_three-kept : (until : ℕ) (c : C) (m : State) → k.states.Good m → TurnKept m (from_step_three rules call until c m)
+      from_step_three-kept until c m g = by_time (nat_le until m.host.now)
+        where
+          by_time : (b : Bool) → TurnKept m (next_turn (choose_turned b (ends ClockEnd c) (λ m. with_turn_fuel rules call m.fuel m c) m) (λ m c. GoesOn (step_five m) c))
+          by_time true = turn_ends-kept ClockEnd c m g
+          by_time false = fuel_and_five-kept m.fuel m c refl g
 
       waited-kept : (t : ℕ) (r : Option (Chosen ℕ C)) (again : State → C → Turned C) (c : C) (m : State) → ((r' : Chosen ℕ C) → r ≡ Some r' → m.host.now ≤ r'.choice) → ((m : State) (c : C) → k.states.Good m → TurnKept m (again m c)) → k.states.Good m → TurnKept m (waited t r again c m)
       waited-kept t None again c m later q g = (k.states.same m, g)
@@ -280,7 +299,7 @@ module _ (program : Program) (k : PageKeeping) where
 
       after_step_one-kept : (until : ℕ) (again : State → C → Turned C) (c : C) (m : State) → ((m : State) (c : C) → k.states.Good m → TurnKept m (again m c)) → k.states.Good m → TurnKept m (after_step_one rules call until again c m)
       after_step_one-kept until again c m q g =
-          choose-kept (is_empty (view m.host)) _ _ m (λ e. step_two-kept until again (step_three rules call until c) c m q (step_three-kept until c) g) (λ e. step_three-kept until c m g)
+          choose-kept (is_empty (view m.host)) _ _ m (λ e. step_two-kept until again (from_step_three rules call until c) c m q (from_step_three-kept until c) g) (λ e. from_step_three-kept until c m g)
 
       pub from_step_one-kept : (until n : ℕ) (m : State) (c : C) → k.states.Good m → TurnKept m (from_step_one rules call until n m c)
       from_step_one-kept until zero m c g = (k.states.same m, g)

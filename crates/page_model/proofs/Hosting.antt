@@ -5,7 +5,7 @@ use Rattle.page_types.specs.declared.FaultName.TheVariants.{TypeError}
 use Rattle.page_types.specs.Tree.{Program}
 use Rattle.page_types.specs.declared.RegKind.TheVariants.{Timeout as TimeoutKind, Interval as IntervalKind}
 use Rattle.page_types.specs.declared.Op.{Op}
-use Rattle.page_types.specs.declared.Op.TheVariants.{Log, TextOf, KindOf, Len, Push, Bind, MakeFault, FaultNameOf, FaultTextOf, NowOp, Busy, QueueMicrotask, MakePromise, ResolveOp, RejectOp, Resolved, Rejected, Then, SetTimeout, SetInterval, ClearTimeout, ClearInterval, RequestFrame, CancelFrame, RequestIdle, CancelIdle, DidTimeout, TimeRemaining, PostTask, YieldTask, MakeController, MakeTaskController, SignalOf, AbortOp, SetPriority, AbortedSignal, AnySignal, TaskAny, TimeoutSignal, Aborted, ReasonOf, PriorityOf, Listen, Unlisten, HostOp}
+use Rattle.page_types.specs.declared.Op.TheVariants.{Log, TextOf, KindOf, Len, Push, Bind, MakeFault, FaultNameOf, FaultTextOf, NowOp, Busy, QueueMicrotask, MakePromise, ResolveOp, RejectOp, Resolved, Rejected, Then, SetTimeout, SetInterval, ClearTimeout, ClearInterval, RequestFrame, CancelFrame, RequestIdle, CancelIdle, DidTimeout, TimeRemaining, PostTask, YieldTask, MakeController, MakeTaskController, SignalOf, AbortOp, SetPriority, AbortedSignal, AnySignal, TaskAny, TimeoutSignal, Aborted, ReasonOf, PriorityOf, Listen, Unlisten, HostOp, PostMessage, AllOp, RaceOp, AnyOp, AllSettled, FinallyOp}
 use Rattle.page_types.specs.Events as events
 use Rattle.page_parts.specs.Spelling.{spelled}
 use Rattle.page_parts.specs.Kinds.{int_in, controller_in, deadline_in}
@@ -26,10 +26,11 @@ use Rattle.page_model.specs.PageHost.{Hosting, with_folds, done_step, page_rules
 use Rattle.page_model.specs.FoldBounds.{IsBounded}
 use Rattle.page_model.specs.Hosted.{EndsBounded}
 use Rattle.page_model.proofs.Bounded.{listener_removed-kept, made-kept, any-kept, task_signal-kept}
-use Rattle.page_model.proofs.PlainOperations.{moved, Alike, KeepsDone, gives-plain, does-leaves, answers-leaves, answered-plain, given-plain, settle_own-plain, settled_promise-plain, resolve-leaves, reject-leaves, resolved_value-plain, then_value-plain, queue_microtask-plain, set_timer-plain, with_handle-plain, clear_timer-kept, cancel_frame-kept, cancel_idle-kept, request_frame-plain, request_idle-plain, makes, make_task_any-plain, make_timeout_signal-plain, listen-plain, yield_in-plain, post_task-plain, host-plain, of_signal-plain, where_left-plain, signal_few, busy-plain, fault-plain}
+use Rattle.page_model.proofs.PlainOperations.{moved, Alike, KeepsDone, gives-plain, does-leaves, answers-leaves, answered-plain, given-plain, settle_own-plain, settled_promise-plain, resolve-leaves, reject-leaves, resolved_value-plain, then_value-plain, queue_microtask-plain, set_timer-plain, with_handle-plain, clear_timer-kept, cancel_frame-kept, cancel_idle-kept, request_frame-plain, request_idle-plain, makes, make_task_any-plain, make_timeout_signal-plain, listen-plain, yield_in-plain, post_task-plain, host-plain, of_signal-plain, where_left-plain, signal_few, busy-plain, fault-plain, combined-plain, raced-plain, finally_value-plain, post_message-plain}
 use Rattle.page_model.proofs.Twin.{after-same, Leads, Twin, wider, OperateFollow, CallersFollow, callers-follow}
 use Rattle.page_model.proofs.Stepping.{steps-value, steps-throw, steps_on, abort-follows, change-follows}
 use Rattle.page_model.specs.Invoke.{in_script}
+use Rattle.page_parts.specs.Combinators.{All, AnyOf, AllSettled as AllSettledKind}
 
 -- an operation that calls nothing is done at once
 plain : (call : Caller Hosting) (n : ℕ) (folds : List Fold) (m : State) (d e : Done Page) → Alike m d e → Twin folds m d (steps_on call n (done_step folds e) m)
@@ -91,6 +92,12 @@ operations-alike call args m b PriorityOf = of_signal-plain 1 m b (argument args
 operations-alike call args m b Listen = listen-plain 1 m b (argument args 0) (argument args 1) (argument args 2)
 operations-alike call args m b Unlisten = with_handle-plain 1 m b (argument args 0) listener_removed (λ r. listener_removed-kept r m.host b)
 operations-alike call args m b HostOp = host-plain 1 m b (argument args 0) (argument args 1) (argument args 2)
+operations-alike call args m b PostMessage = post_message-plain 1 m b (argument args 0) (argument args 1)
+operations-alike call args m b AllOp = combined-plain 1 m b All (argument args 0)
+operations-alike call args m b RaceOp = raced-plain 1 m b (argument args 0)
+operations-alike call args m b AnyOp = combined-plain 1 m b AnyOf (argument args 0)
+operations-alike call args m b AllSettled = combined-plain 1 m b AllSettledKind (argument args 0)
+operations-alike call args m b FinallyOp = finally_value-plain 1 m b (argument args 0) (argument args 1)
 operations-alike call args m b Busy = tt
 operations-alike call args m b AbortOp = tt
 operations-alike call args m b SetPriority = tt

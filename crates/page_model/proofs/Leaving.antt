@@ -7,7 +7,7 @@ use Rattle.page_types.specs.declared.Source.TheVariants.{Dom}
 use Rattle.page_types.specs.declared.Priority.{Priority}
 use Rattle.page_types.specs.declared.RegKind.{RegKind}
 use Rattle.page_types.specs.declared.RegKind.TheVariants.{Micro as MicroKind, Idle as IdleKind, Then as ThenKind, Yield as YieldKind, Post as PostKind, Host as HostKind}
-use Rattle.page_types.specs.Events.{Abort, Event, Call, Ret, Host, Due}
+use Rattle.page_types.specs.Events.{Abort, Event, Ret, Host, Due}
 use Rattle.page_parts.specs.Words.{is_empty, with_numbered}
 use Rattle.page_parts.specs.Kinds.{Func, func_in}
 use Rattle.page_parts.specs.Promises.{Settled, Fulfilled, Failed, Reaction}
@@ -21,16 +21,17 @@ use Rattle.page_parts.specs.TaskSignals as TaskSignals
 use Rattle.page_parts.specs.TaskSignals.{Prios, priority_of}
 use Rattle.page_parts.specs.HostClosures.{HostClosure}
 use Rattle.page_parts.specs.Listeners.{is_listening}
-use Rattle.page_model.specs.State.{Page, State, Registration, OfKind, HostTask, PrioSource, SchedulingState, Completion, QueueTimer, EnqueuePost, QueueSignal, NotifyHandled, emit, emit_each, on_notices, queue_task, the_registration, last_registration}
+use Rattle.page_model.specs.State.{Page, State, Registration, OfKind, HostTask, PrioSource, SchedulingState, Completion, QueueTimer, EnqueuePost, QueueSignal, NotifyHandled, emit, emit_each, on_notices, queue_task, the_registration, last_registration, context}
 use Rattle.page_model.specs.PagePromises as promises
 use Rattle.page_model.specs.PagePromises.{new_promise, last_promise}
 use Rattle.page_model.specs.PageTime.{clear_timer, cancel_frame, start_period, idle_step, cancel_idle, idle_callback, idle_timeout, deadline, enqueue, without_timer, completion_of}
 use Rattle.page_model.specs.PageSignals.{has_not_begun, drop_registration, abort_registration, abort_registrations, run_algorithms, reason_value, reason_set, watch, unwatch, is_aborted_source}
-use Rattle.page_model.specs.Invoke.{WhenReported, BeforeCheckpoint, AfterCheckpoint, Never, report_before, report_after, notify_rejected, checkpoint_ended, register, register_as}
-use Rattle.page_model.specs.Operations.{micro_registered, then_made, idle_requested, listener_removed, promised, post_queued, post_delayed, continuation_queued, host_queued, followed_through}
+use Rattle.page_model.specs.Invoke.{WhenReported, BeforeCheckpoint, AfterCheckpoint, Never, report_before, report_after, notify_rejected, checkpoint_ended, register, register_as, call_begun, call_ended}
+use Rattle.page_model.specs.Operations.{micro_registered, then_made, idle_requested, listener_removed, promised, post_queued, post_delayed, continuation_queued, host_queued, followed_through, finally_made}
 use Rattle.page_model.specs.Tasks.{invoke_idle_again, continued, fire_closure, settle_answer, answer_host}
 use Rattle.page_model.specs.Parallel.{ItemKind, ArrivalItem, HostItem, TimerItem, IdleItem, FrameItem, complete, complete_at, take_item, due_item, first_item, take_due, item_count, parallel}
 use Rattle.page_model.proofs.Holding.{KeepingStates}
+use Rattle.page_model.proofs.Combining.{Relates}
 
 -- the time, the number of turns, the priorities and the number of signals
 pub record Part : Type 0 where
@@ -96,7 +97,7 @@ pub on_notices-leaves : (f : Notices → Noticed) → Leaves (on_notices f)
 on_notices-leaves f p = emit_each-leaves (f p.notices).lines (record p { notices = (f p.notices).notices })
 
 pub settle-leaves : (n : ℕ) (how : Settled) → Leaves (promises.settle n how)
-settle-leaves n how p = on_notices-leaves (settle_promise p.names n how) p
+settle-leaves n how p = on_notices-leaves (settle_promise (context p) p.names n how) p
 
 pub resolve-leaves : (n : ℕ) (v : Value) → Leaves (promises.resolve n v)
 resolve-leaves n v = settle-leaves n (Fulfilled v)
@@ -105,12 +106,27 @@ pub reject-leaves : (n : ℕ) (v : Value) → Leaves (promises.reject n v)
 reject-leaves n v = settle-leaves n (Failed v)
 
 pub follow-leaves : (n : ℕ) (how : Settled) → Leaves (promises.follow n how)
-follow-leaves n how p = on_notices-leaves (follow_promise p.names n how) p
+follow-leaves n how p = on_notices-leaves (follow_promise (context p) p.names n how) p
 
 pub subscribe-leaves : (n : ℕ) (r : Reaction) → Leaves (promises.subscribe n r)
 subscribe-leaves n r p =
-    cond_of-leaves (is_outstanding n p.notices) (queue_task Dom (NotifyHandled n)) (λ q. q) (λ p. refl) (λ p. refl) (on_notices (subscribe_promise n r) p)
-    ∙ on_notices-leaves (subscribe_promise n r) p
+    cond_of-leaves (is_outstanding n p.notices) (queue_task Dom (NotifyHandled n)) (λ q. q) (λ p. refl) (λ p. refl) (on_notices (subscribe_promise (context p) n r) p)
+    ∙ on_notices-leaves (subscribe_promise (context p) n r) p
+
+-- ---- combinators
+
+pub relates-leaves : Relates (λ p q. part q ≡ part p)
+relates-leaves =
+    record {
+      same = λ p. refl;
+      then = λ p q r f g. g ∙ f;
+      settles = settle-leaves;
+      follows = follow-leaves;
+      subscribes = subscribe-leaves;
+      makes = λ p. refl;
+      combines = λ cs p. refl;
+      elements = λ es p. refl;
+    }
 
 -- ---- time
 
@@ -187,7 +203,13 @@ checkpoint_ended-leaves before p = notify_rejected-leaves p
 pub micro_registered-leaves : (f : Func) → Leaves (micro_registered f)
 micro_registered-leaves f p =
     let made = register MicroKind (Some f) None p in
-    on_notices-leaves (Notices.queue_micro (last_registration made)) made
+    on_notices-leaves (Notices.queue_micro (context made) (last_registration made)) made
+
+pub finally_made-leaves : (n : ℕ) (f : Value) → Leaves (finally_made n f)
+finally_made-leaves n f p =
+    let x : Registration = record { role = OfKind ThenKind; callback = func_in f; second_callback = func_in f; timer_id = 0; promise = 0; signal = None; finally = true } in
+    let made = register_as ThenKind x (new_promise p) in
+    subscribe-leaves n (record { registration = Some (last_registration made); into = last_promise made; state = made.scheduling }) made
 
 pub then_made-leaves : (n : ℕ) (f g : Value) → Leaves (then_made n f g)
 then_made-leaves n f g p =
@@ -204,7 +226,7 @@ listener_removed-leaves r p = cond-leaves (is_listening r p.listeners) p _ p ref
 
 promised-leaves : (kind : RegKind) (f : Option Func) (signal : Option ℕ) → Leaves (promised kind f signal)
 promised-leaves kind f signal p =
-    let x : Registration = record { role = OfKind kind; callback = f; second_callback = None; timer_id = 0; promise = last_promise (new_promise p); signal = signal } in
+    let x : Registration = record { role = OfKind kind; callback = f; second_callback = None; timer_id = 0; promise = last_promise (new_promise p); signal = signal; finally = false } in
     watch-leaves signal (last_registration (register_as kind x (new_promise p))) (register_as kind x (new_promise p))
 
 pub post_queued-leaves : (f : Func) (source : PrioSource) (signal : Option ℕ) (ms : ℕ) → Leaves (post_queued f source signal ms)
@@ -226,8 +248,8 @@ invoke_idle_again-leaves p = cond-leaves (is_empty p.idle.runnable) p p _ refl r
 
 pub continued-leaves : (r : ℕ) → Leaves (continued r)
 continued-leaves r p =
-    let settled = promises.resolve (the_registration p r).promise UnitValue (emit (Call r) p) in
-    unwatch-leaves r (emit Ret settled) ∙ resolve-leaves (the_registration p r).promise UnitValue (emit (Call r) p)
+    let settled = promises.resolve (the_registration p r).promise UnitValue (call_begun r p) in
+    unwatch-leaves r (call_ended Ret settled) ∙ resolve-leaves (the_registration p r).promise UnitValue (call_begun r p)
 
 fire_closure-leaves : (k : ℕ) (c : Option HostClosure) → Leaves (fire_closure k c)
 fire_closure-leaves k None p = refl

@@ -1,6 +1,8 @@
 mod Examples
 mod TimeStays
 pub mod Adding
+pub mod Combining
+pub mod AddingCombinators
 pub mod AddingRuns
 pub mod Noticing
 pub mod AddingOperations
@@ -30,6 +32,7 @@ pub mod Replaying
 pub mod FurtherChoices
 pub mod RunsAlike
 pub mod NumbersEvaluation
+pub mod NumbersCombinators
 pub mod NumbersRuns
 pub mod NumbersMaking
 pub mod NumbersOperations

@@ -13,8 +13,11 @@ use Rattle.page_parts.specs.AbortGraph.{SignalRecord}
 use Rattle.page_parts.specs.TaskSignals.{PrioRecord}
 use Rattle.page_parts.specs.Listeners.{Listener, Target, Window, AtSignal}
 use Rattle.lang_meaning.specs.Machine.{Variable}
-use Rattle.page_model.specs.State.{HostTask, Task, Registration, no_registration, TimerTask, Steps, RunScript, RunTimer, TimeOutSignal, FireAtWindow, AnswerHost, RunFrame, InvokeIdle, IdleTimeout, NotifyRejected, NotifyHandled, PrioSource, Fixed, OfSignal, SchedTask, Completion, QueueTimer, EnqueuePost, QueueSignal, Completing, IdleTimer, SchedulingState, Page}
-use Rattle.page_model.specs.Numbers.{JobIsGiven, TaskIsGiven, HostTaskIsGiven, Each, IfThere, GoesOnFrom, Made, made_by, Grows, IsGiven, IsRegistered, HasPromise, IsKnown, AreKnown, RegistrationIsGiven, ReactionIsGiven, PromiseIsGiven, PromiseJobIsGiven, TodoIsGiven, NoticesAreGiven, TimerTaskIsGiven, StepsAreGiven, PrioSourceIsGiven, SchedTaskIsGiven, StateIsGiven, CompletionIsGiven, CompletingIsGiven, TimerIdIsGiven, TimersAreGiven, IdleTimerIsGiven, CallbackIsGiven, IdleIsGiven, SignalIsGiven, PrioIsGiven, TargetIsGiven, ListenerIsGiven, AreWithin, VariablesAreKnown}
+use Rattle.page_model.specs.State.{HostTask, Task, Registration, no_registration, TimerTask, Steps, RunScript, RunTimer, TimeOutSignal, FireAtWindow, AnswerHost, RunFrame, InvokeIdle, IdleTimeout, NotifyRejected, NotifyHandled, PrioSource, Fixed, OfSignal, SchedTask, Completion, QueueTimer, EnqueuePost, QueueSignal, Completing, IdleTimer, SchedulingState, Page, Combining, Element, Role, ScriptRole, OfKind}
+use Rattle.page_model.specs.Numbers.{JobIsGiven, TaskIsGiven, HostTaskIsGiven, Each, IfThere, GoesOnFrom, Made, made_by, Grows, IsGiven, IsRegistered, HasPromise, IsKnown, AreKnown, RegistrationIsGiven, ReactionIsGiven, PromiseIsGiven, PromiseJobIsGiven, TodoIsGiven, NoticesAreGiven, TimerTaskIsGiven, StepsAreGiven, PrioSourceIsGiven, SchedTaskIsGiven, StateIsGiven, CompletionIsGiven, CompletingIsGiven, TimerIdIsGiven, TimersAreGiven, IdleTimerIsGiven, CallbackIsGiven, IdleIsGiven, SignalIsGiven, PrioIsGiven, TargetIsGiven, ListenerIsGiven, AreWithin, VariablesAreKnown, OutcomeIsKnown, KindIsGiven, CombiningIsGiven, ElementIsGiven, IsFor, timer_role, sched_role}
+use Rattle.page_parts.specs.Combinators.{CombinatorKind, All, AnyOf, AllSettled, Pass, Report}
+use Rattle.page_types.specs.declared.RegKind.{RegKind}
+use Rattle.page_types.specs.declared.RegKind.TheVariants.{Frame as FrameKind, Idle as IdleKind, Post as PostKind, Host as HostKind, Listener as ListenerKind, Then as ThenKind, Micro as MicroKind, Signal as SignalKind}
 
 -- ---- lists
 
@@ -129,6 +132,7 @@ Grows-same n =
       tasks = omega arith;
       jobs = omega arith;
       hosts = omega arith;
+      combinators = omega arith;
     }
 
 pub Grows-then : (n n' n'' : Made) → Grows n n' → Grows n' n'' → Grows n n''
@@ -146,6 +150,7 @@ Grows-then n n' n'' g h =
       tasks = omega (arith, g.tasks, h.tasks);
       jobs = omega (arith, g.jobs, h.jobs);
       hosts = omega (arith, g.hosts, h.hosts);
+      combinators = omega (arith, g.combinators, h.combinators);
     }
 
 pub IsGiven-more : (last last' k : ℕ) → last ≤ last' → IsGiven last k → IsGiven last' k
@@ -175,6 +180,13 @@ module _ (n n' : Made) (g : Grows n n') where
 
   pub registered-grows : (r : ℕ) → IsRegistered n r → IsRegistered n' r
   registered-grows r = IsGiven-more (length n.registrations) (length n'.registrations) r (length-goes_on n.registrations n'.registrations g.registrations)
+
+  pub IsFor-grows : (what : Role) (r : ℕ) → IsFor what n r → IsFor what n' r
+  IsFor-grows what r h =
+      record {
+        registration = registered-grows r h.registration;
+        role = ap {A = Registration} {B = Role} (λ x. x.role) (numbered-goes_on n.registrations n'.registrations r no_registration g.registrations h.registration) ∙ h.role;
+      }
 
   pub HasPromise-grows : (r : ℕ) → HasPromise n r → HasPromise n' r
   HasPromise-grows r h =
@@ -232,7 +244,7 @@ module _ (n n' : Made) (g : Grows n n') where
   pub Reaction-grows : (x : Reaction) → ReactionIsGiven n x → ReactionIsGiven n' x
   Reaction-grows x h =
       record {
-        registration = IfThere-more (IsRegistered n) (IsRegistered n') registered-grows x.registration h.registration;
+        registration = IfThere-more (IsFor (OfKind ThenKind) n) (IsFor (OfKind ThenKind) n') (IsFor-grows (OfKind ThenKind)) x.registration h.registration;
         into = promise-grows x.into h.into;
         state = if_state-grows x.state h.state;
       }
@@ -249,11 +261,11 @@ module _ (n n' : Made) (g : Grows n n') where
   PromiseJob-grows (Adopt into from) h = (promise-grows into h.0, promise-grows from h.1)
 
   pub Todo-grows : (what : Todo) → TodoIsGiven n what → TodoIsGiven n' what
-  Todo-grows (Micro r) h = registered-grows r h
+  Todo-grows (Micro r) h = IsFor-grows (OfKind MicroKind) r h
   Todo-grows (OfPromise job) h = PromiseJob-grows job h
 
   pub Job-grows : (job : WaitingJob) → JobIsGiven n job → JobIsGiven n' job
-  Job-grows job h = record { number = IsGiven-more n.jobs n'.jobs job.number g.jobs h.number; what = Todo-grows job.what h.what }
+  Job-grows job h = record { number = IsGiven-more n.jobs n'.jobs job.number g.jobs h.number; what = Todo-grows job.what h.what; state = if_state-grows job.context.state h.state }
 
   pub Notices-grow : (s : Notices) → NoticesAreGiven n s → NoticesAreGiven n' s
   Notices-grow s h =
@@ -267,16 +279,16 @@ module _ (n n' : Made) (g : Grows n n') where
   pub TimerTask-grows : (t : TimerTask) → TimerTaskIsGiven n t → TimerTaskIsGiven n' t
   TimerTask-grows t h =
       record {
-        registration = registered-grows t.registration h.registration;
+        registration = IsFor-grows (timer_role t.repeats) t.registration h.registration;
         id = IsGiven-more n.ids n'.ids t.id g.ids h.id;
         handle = IsGiven-more n.handles n'.handles t.handle g.handles h.handle;
       }
 
   pub HostTask-grows : (t : HostTask) → HostTaskIsGiven n t → HostTaskIsGiven n' t
-  HostTask-grows t h = record { registration = HasPromise-grows t.registration h.registration; closure = omega (arith, g.hosts, h.closure) }
+  HostTask-grows t h = record { registration = HasPromise-grows t.registration h.registration; kind = IsFor-grows (OfKind HostKind) t.registration h.kind; closure = omega (arith, g.hosts, h.closure) }
 
   pub Steps-grow : (steps : Steps) → StepsAreGiven n steps → StepsAreGiven n' steps
-  Steps-grow RunScript h = registered-grows 1 h
+  Steps-grow RunScript h = IsFor-grows ScriptRole 1 h
   Steps-grow (RunTimer t) h = TimerTask-grows t h
   Steps-grow (TimeOutSignal s) h = signal-grows s h
   Steps-grow (FireAtWindow name v) h = IsKnown-grows v h
@@ -295,15 +307,15 @@ module _ (n n' : Made) (g : Grows n n') where
   PrioSource-grows (OfSignal s) h = signal-grows s h
 
   pub SchedTask-grows : (t : SchedTask) → SchedTaskIsGiven n t → SchedTaskIsGiven n' t
-  SchedTask-grows t h = record { registration = HasPromise-grows t.registration h.registration; source = PrioSource-grows t.source h.source; order = IsGiven-more n.tasks n'.tasks t.order g.tasks h.order }
+  SchedTask-grows t h = record { registration = HasPromise-grows t.registration h.registration; kind = IsFor-grows (sched_role t.continuation) t.registration h.kind; source = PrioSource-grows t.source h.source; order = IsGiven-more n.tasks n'.tasks t.order g.tasks h.order }
 
   pub State-grows : (s : SchedulingState) → StateIsGiven n s → StateIsGiven n' s
   State-grows s h = record { abort_source = if_signal-grows s.abort_source h.abort_source; prio_source = PrioSource-grows s.prio_source h.prio_source }
 
   pub Completion-grows : (c : Completion) → CompletionIsGiven n c → CompletionIsGiven n' c
   Completion-grows (QueueTimer t) h = TimerTask-grows t h
-  Completion-grows (EnqueuePost r source) h = (HasPromise-grows r h.0, PrioSource-grows source h.1)
-  Completion-grows (QueueSignal r s) h = (registered-grows r h.0, signal-grows s h.1)
+  Completion-grows (EnqueuePost r source) h = (HasPromise-grows r h.0, PrioSource-grows source h.1, IsFor-grows (OfKind PostKind) r h.2)
+  Completion-grows (QueueSignal r s) h = (IsFor-grows (OfKind SignalKind) r h.0, signal-grows s h.1)
 
   Completing-grows : (c : Completing) → CompletingIsGiven n c → CompletingIsGiven n' c
   Completing-grows c h = record { start = IsGiven-more n.starts n'.starts c.start g.starts h.start; completion = Completion-grows c.completion h.completion }
@@ -319,16 +331,16 @@ module _ (n n' : Made) (g : Grows n n') where
       }
 
   IdleTimer-grows : (t : IdleTimer) → IdleTimerIsGiven n t → IdleTimerIsGiven n' t
-  IdleTimer-grows t h = record { handle = idle-grows t.handle h.handle; registration = registered-grows t.registration h.registration }
+  IdleTimer-grows t h = record { handle = idle-grows t.handle h.handle; registration = IsFor-grows (OfKind IdleKind) t.registration h.registration }
 
-  pub Callback-grows : (last last' : ℕ) → last ≤ last' → (c : Callback) → CallbackIsGiven last n c → CallbackIsGiven last' n' c
-  Callback-grows last last' le c h = record { handle = IsGiven-more last last' c.handle le h.handle; registration = registered-grows c.registration h.registration }
+  pub Callback-grows : (kind : RegKind) (last last' : ℕ) → last ≤ last' → (c : Callback) → CallbackIsGiven kind last n c → CallbackIsGiven kind last' n' c
+  Callback-grows kind last last' le c h = record { handle = IsGiven-more last last' c.handle le h.handle; registration = IsFor-grows (OfKind kind) c.registration h.registration }
 
   Idle-grows : (i : Idle) → IdleIsGiven n i → IdleIsGiven n' i
   Idle-grows i h =
       record {
-        pending = Each-more (CallbackIsGiven n.idle n) (CallbackIsGiven n'.idle n') (Callback-grows n.idle n'.idle g.idle) i.pending h.pending;
-        runnable = Each-more (CallbackIsGiven n.idle n) (CallbackIsGiven n'.idle n') (Callback-grows n.idle n'.idle g.idle) i.runnable h.runnable;
+        pending = Each-more (CallbackIsGiven IdleKind n.idle n) (CallbackIsGiven IdleKind n'.idle n') (Callback-grows IdleKind n.idle n'.idle g.idle) i.pending h.pending;
+        runnable = Each-more (CallbackIsGiven IdleKind n.idle n) (CallbackIsGiven IdleKind n'.idle n') (Callback-grows IdleKind n.idle n'.idle g.idle) i.runnable h.runnable;
       }
 
   pub Signal-grows : (x : SignalRecord Value) → SignalIsGiven n x → SignalIsGiven n' x
@@ -348,21 +360,48 @@ module _ (n n' : Made) (g : Grows n n') where
   Target-grows (AtSignal s) h = signal-grows s h
 
   Listener-grows : (l : Listener) → ListenerIsGiven n l → ListenerIsGiven n' l
-  Listener-grows l h = record { registration = registered-grows l.registration h.registration; target = Target-grows l.target h.target }
+  Listener-grows l h = record { registration = IsFor-grows (OfKind ListenerKind) l.registration h.registration; target = Target-grows l.target h.target }
+
+  pub Kind-grows : (kind : CombinatorKind) → KindIsGiven n kind → KindIsGiven n' kind
+  Kind-grows All h = tt
+  Kind-grows AnyOf h = tt
+  Kind-grows AllSettled h = tt
+  Kind-grows (Pass how) h = IsKnown-grows (settled_value how) h
+
+  pub Combining-grows : (c : Combining) → CombiningIsGiven n c → CombiningIsGiven n' c
+  Combining-grows c h =
+      record {
+        kind = Kind-grows c.combine.kind h.kind;
+        reports = Each-more (λ (r : Report). OutcomeIsKnown n r.outcome) (λ (r : Report). OutcomeIsKnown n' r.outcome) (λ r. IsKnown-grows (settled_value r.outcome)) c.combine.reports h.reports;
+        result = promise-grows c.result h.result;
+      }
+
+  pub Element-grows : (e : Element) → ElementIsGiven n e → ElementIsGiven n' e
+  Element-grows e h = record { promise = promise-grows e.promise h.promise; combinator = IsGiven-more n.combinators n'.combinators e.combinator g.combinators h.combinator }
 
   pub Variables-grow : (xs : List Variable) → VariablesAreKnown n xs → VariablesAreKnown n' xs
   Variables-grow = Each-more (λ x. IsKnown n x.value) (λ x. IsKnown n' x.value) (λ x. IsKnown-grows x.value)
+
+-- the registration that was just made is for what it is for
+pub last-for : (xs : List Registration) (x : Registration) (n : Made) → n.registrations ≡ and_last xs x → IsFor x.role n (length (and_last xs x))
+last-for xs x n e =
+    record {
+      registration = subst (λ (l : List Registration). IsGiven (length l) (length (and_last xs x))) (sym e) (last-given xs x);
+      role = ap {A = Registration} {B = Role} (λ y. y.role) (ap {A = List Registration} {B = Registration} (λ l. numbered l (length (and_last xs x)) no_registration) e ∙ numbered-last xs x no_registration);
+    }
 
 -- ---- the parts of a page
 
 -- the parts of a page in which numbers stand
 pub data Part : Type 0 where
-  InRegistrations InScriptPromises InScheduling InNotices InTasks InSchedTasks InTimers InCompletions InIdleTimers InHostAnswers InArrivals InFrames InIdle InSignals InPrios InListeners InStates : Part
+  InRegistrations InScriptPromises InScheduling InNotices InTasks InSchedTasks InTimers InCompletions InIdleTimers InHostAnswers InArrivals InFrames InIdle InSignals InPrios InListeners InStates InCombinators InElements InPosts InCalls : Part
 
 -- the page without what holds no such numbers
 abbrev pub relevant : Page → Page
 relevant p =
     record p {
+      form = 0;
+      trace = 0;
       now = 0;
       turns = 0;
       events = [];
@@ -392,12 +431,16 @@ Holds n p InCompletions = Each (CompletingIsGiven n) p.completions
 Holds n p InIdleTimers = Each (IdleTimerIsGiven n) p.idle_timers
 Holds n p InHostAnswers = Each (λ a. HostTaskIsGiven n a.task) p.host_answers
 Holds n p InArrivals = Each (λ a. IsKnown n a.value) p.arrivals
-Holds n p InFrames = Each (CallbackIsGiven n.frames n) p.frames.callbacks
+Holds n p InFrames = Each (CallbackIsGiven FrameKind n.frames n) p.frames.callbacks
 Holds n p InIdle = IdleIsGiven n p.idle
 Holds n p InSignals = Each (SignalIsGiven n) p.signals
 Holds n p InPrios = Each (PrioIsGiven n) p.prios
 Holds n p InListeners = Each (ListenerIsGiven n) p.listeners
 Holds n p InStates = Each (StateIsGiven n) p.scheduling_states
+Holds n p InCombinators = Each (CombiningIsGiven n) p.combinators
+Holds n p InElements = Each (ElementIsGiven n) p.elements
+Holds n p InPosts = Each (λ x. IsKnown n x.value) p.posts
+Holds n p InCalls = Each (IsRegistered n) p.calls
 
 -- those of all parts
 abbrev pub Held : Made → Page → Type 0
@@ -425,6 +468,10 @@ held n p h InSignals = h.signals
 held n p h InPrios = h.prios
 held n p h InListeners = h.listeners
 held n p h InStates = h.scheduling_states
+held n p h InCombinators = h.combinators
+held n p h InElements = h.elements
+held n p h InPosts = h.posts
+held n p h InCalls = h.calls
 
 pub within : (n : Made) (p : Page) → Held n p → AreWithin n p
 within n p h =
@@ -446,6 +493,10 @@ within n p h =
       prios = h InPrios;
       listeners = h InListeners;
       scheduling_states = h InStates;
+      combinators = h InCombinators;
+      elements = h InElements;
+      posts = h InPosts;
+      calls = h InCalls;
     }
 
 pub Held-grows : (n n' : Made) (p : Page) → Grows n n' → Held n p → Held n' p
@@ -460,12 +511,16 @@ Held-grows n n' p g h InCompletions = Each-more (CompletingIsGiven n) (Completin
 Held-grows n n' p g h InIdleTimers = Each-more (IdleTimerIsGiven n) (IdleTimerIsGiven n') (IdleTimer-grows n n' g) p.idle_timers (h InIdleTimers)
 Held-grows n n' p g h InHostAnswers = Each-more (λ a. HostTaskIsGiven n a.task) (λ a. HostTaskIsGiven n' a.task) (λ a. HostTask-grows n n' g a.task) p.host_answers (h InHostAnswers)
 Held-grows n n' p g h InArrivals = Each-more (λ a. IsKnown n a.value) (λ a. IsKnown n' a.value) (λ a. IsKnown-grows n n' g a.value) p.arrivals (h InArrivals)
-Held-grows n n' p g h InFrames = Each-more (CallbackIsGiven n.frames n) (CallbackIsGiven n'.frames n') (Callback-grows n n' g n.frames n'.frames g.frames) p.frames.callbacks (h InFrames)
+Held-grows n n' p g h InFrames = Each-more (CallbackIsGiven FrameKind n.frames n) (CallbackIsGiven FrameKind n'.frames n') (Callback-grows n n' g FrameKind n.frames n'.frames g.frames) p.frames.callbacks (h InFrames)
 Held-grows n n' p g h InIdle = Idle-grows n n' g p.idle (h InIdle)
 Held-grows n n' p g h InSignals = Each-more (SignalIsGiven n) (SignalIsGiven n') (Signal-grows n n' g) p.signals (h InSignals)
 Held-grows n n' p g h InPrios = Each-more (PrioIsGiven n) (PrioIsGiven n') (Prio-grows n n' g) p.prios (h InPrios)
 Held-grows n n' p g h InListeners = Each-more (ListenerIsGiven n) (ListenerIsGiven n') (Listener-grows n n' g) p.listeners (h InListeners)
 Held-grows n n' p g h InStates = Each-more (StateIsGiven n) (StateIsGiven n') (State-grows n n' g) p.scheduling_states (h InStates)
+Held-grows n n' p g h InCombinators = Each-more (CombiningIsGiven n) (CombiningIsGiven n') (Combining-grows n n' g) p.combinators (h InCombinators)
+Held-grows n n' p g h InElements = Each-more (ElementIsGiven n) (ElementIsGiven n') (Element-grows n n' g) p.elements (h InElements)
+Held-grows n n' p g h InPosts = Each-more (λ x. IsKnown n x.value) (λ x. IsKnown n' x.value) (λ x. IsKnown-grows n n' g x.value) p.posts (h InPosts)
+Held-grows n n' p g h InCalls = Each-more (IsRegistered n) (IsRegistered n') (registered-grows n n' g) p.calls (h InCalls)
 
 -- ---- steps of a page
 
@@ -481,44 +536,49 @@ onward-then n p q o k = (Grows-then n (made_by p) (made_by q) o.0 k.0, k.1)
 pub Grows-promises : (n : Made) (k : ℕ) → n.promises ≤ k → Grows n (record n { promises = k })
 Grows-promises n k le =
     let s = Grows-same n in
-    record { promises = le; signals = s.signals; states = s.states; registrations = s.registrations; ids = s.ids; handles = s.handles; starts = s.starts; frames = s.frames; idle = s.idle; tasks = s.tasks; jobs = s.jobs; hosts = s.hosts }
+    record { promises = le; signals = s.signals; states = s.states; registrations = s.registrations; ids = s.ids; handles = s.handles; starts = s.starts; frames = s.frames; idle = s.idle; tasks = s.tasks; jobs = s.jobs; hosts = s.hosts; combinators = s.combinators }
 
 pub Grows-signals : (n : Made) (k : ℕ) → n.signals ≤ k → Grows n (record n { signals = k })
 Grows-signals n k le =
     let s = Grows-same n in
-    record { promises = s.promises; signals = le; states = s.states; registrations = s.registrations; ids = s.ids; handles = s.handles; starts = s.starts; frames = s.frames; idle = s.idle; tasks = s.tasks; jobs = s.jobs; hosts = s.hosts }
+    record { promises = s.promises; signals = le; states = s.states; registrations = s.registrations; ids = s.ids; handles = s.handles; starts = s.starts; frames = s.frames; idle = s.idle; tasks = s.tasks; jobs = s.jobs; hosts = s.hosts; combinators = s.combinators }
 
 pub Grows-states : (n : Made) (k : ℕ) → n.states ≤ k → Grows n (record n { states = k })
 Grows-states n k le =
     let s = Grows-same n in
-    record { promises = s.promises; signals = s.signals; states = le; registrations = s.registrations; ids = s.ids; handles = s.handles; starts = s.starts; frames = s.frames; idle = s.idle; tasks = s.tasks; jobs = s.jobs; hosts = s.hosts }
+    record { promises = s.promises; signals = s.signals; states = le; registrations = s.registrations; ids = s.ids; handles = s.handles; starts = s.starts; frames = s.frames; idle = s.idle; tasks = s.tasks; jobs = s.jobs; hosts = s.hosts; combinators = s.combinators }
 
 pub Grows-registrations : (n : Made) (xs : List Registration) → GoesOnFrom n.registrations xs → Grows n (record n { registrations = xs })
 Grows-registrations n xs g =
     let s = Grows-same n in
-    record { promises = s.promises; signals = s.signals; states = s.states; registrations = g; ids = s.ids; handles = s.handles; starts = s.starts; frames = s.frames; idle = s.idle; tasks = s.tasks; jobs = s.jobs; hosts = s.hosts }
+    record { promises = s.promises; signals = s.signals; states = s.states; registrations = g; ids = s.ids; handles = s.handles; starts = s.starts; frames = s.frames; idle = s.idle; tasks = s.tasks; jobs = s.jobs; hosts = s.hosts; combinators = s.combinators }
 
 pub Grows-timers : (n : Made) (ids handles starts : ℕ) → n.ids ≤ ids → n.handles ≤ handles → n.starts ≤ starts → Grows n (record n { ids = ids; handles = handles; starts = starts })
 Grows-timers n ids handles starts i h t =
     let s = Grows-same n in
-    record { promises = s.promises; signals = s.signals; states = s.states; registrations = s.registrations; ids = i; handles = h; starts = t; frames = s.frames; idle = s.idle; tasks = s.tasks; jobs = s.jobs; hosts = s.hosts }
+    record { promises = s.promises; signals = s.signals; states = s.states; registrations = s.registrations; ids = i; handles = h; starts = t; frames = s.frames; idle = s.idle; tasks = s.tasks; jobs = s.jobs; hosts = s.hosts; combinators = s.combinators }
 
 pub Grows-frames : (n : Made) (k : ℕ) → n.frames ≤ k → Grows n (record n { frames = k })
 Grows-frames n k le =
     let s = Grows-same n in
-    record { promises = s.promises; signals = s.signals; states = s.states; registrations = s.registrations; ids = s.ids; handles = s.handles; starts = s.starts; frames = le; idle = s.idle; tasks = s.tasks; jobs = s.jobs; hosts = s.hosts }
+    record { promises = s.promises; signals = s.signals; states = s.states; registrations = s.registrations; ids = s.ids; handles = s.handles; starts = s.starts; frames = le; idle = s.idle; tasks = s.tasks; jobs = s.jobs; hosts = s.hosts; combinators = s.combinators }
 
 pub Grows-idle : (n : Made) (k : ℕ) → n.idle ≤ k → Grows n (record n { idle = k })
 Grows-idle n k le =
     let s = Grows-same n in
-    record { promises = s.promises; signals = s.signals; states = s.states; registrations = s.registrations; ids = s.ids; handles = s.handles; starts = s.starts; frames = s.frames; idle = le; tasks = s.tasks; jobs = s.jobs; hosts = s.hosts }
+    record { promises = s.promises; signals = s.signals; states = s.states; registrations = s.registrations; ids = s.ids; handles = s.handles; starts = s.starts; frames = s.frames; idle = le; tasks = s.tasks; jobs = s.jobs; hosts = s.hosts; combinators = s.combinators }
 
 pub Grows-tasks : (n : Made) (k : ℕ) → n.tasks ≤ k → Grows n (record n { tasks = k })
 Grows-tasks n k le =
     let s = Grows-same n in
-    record { promises = s.promises; signals = s.signals; states = s.states; registrations = s.registrations; ids = s.ids; handles = s.handles; starts = s.starts; frames = s.frames; idle = s.idle; tasks = le; jobs = s.jobs; hosts = s.hosts }
+    record { promises = s.promises; signals = s.signals; states = s.states; registrations = s.registrations; ids = s.ids; handles = s.handles; starts = s.starts; frames = s.frames; idle = s.idle; tasks = le; jobs = s.jobs; hosts = s.hosts; combinators = s.combinators }
 
 pub Grows-notices : (n : Made) (k j : ℕ) → n.promises ≤ k → n.jobs ≤ j → Grows n (record n { promises = k; jobs = j })
 Grows-notices n k j le le' =
     let s = Grows-same n in
-    record { promises = le; signals = s.signals; states = s.states; registrations = s.registrations; ids = s.ids; handles = s.handles; starts = s.starts; frames = s.frames; idle = s.idle; tasks = s.tasks; jobs = le'; hosts = s.hosts }
+    record { promises = le; signals = s.signals; states = s.states; registrations = s.registrations; ids = s.ids; handles = s.handles; starts = s.starts; frames = s.frames; idle = s.idle; tasks = s.tasks; jobs = le'; hosts = s.hosts; combinators = s.combinators }
+
+pub Grows-combinators : (n : Made) (k : ℕ) → n.combinators ≤ k → Grows n (record n { combinators = k })
+Grows-combinators n k le =
+    let s = Grows-same n in
+    record { promises = s.promises; signals = s.signals; states = s.states; registrations = s.registrations; ids = s.ids; handles = s.handles; starts = s.starts; frames = s.frames; idle = s.idle; tasks = s.tasks; jobs = s.jobs; hosts = s.hosts; combinators = le }

@@ -1,18 +1,18 @@
 -- Each operation leaves all numbers given, and what it gives or throws is known.
-use Rattle.std.proofs.Common.{arith, zero, suc, ◌<◌, ℕ, Bool, true, false, List, [], ◌∷◌, ◌++◌, length, Option, Some, None, ℤ, pos, negsuc, ◌+◌, ◌&&◌, cond, slice_get, Ok}
+use Rattle.std.proofs.Common.{◌≡◌, refl, arith, zero, suc, ◌<◌, ℕ, Bool, true, false, List, [], ◌∷◌, ◌++◌, length, Option, Some, None, ℤ, pos, negsuc, ◌+◌, ◌&&◌, cond, slice_get, Ok}
 use Rattle.std.specs.Prelude.{int_le}
-use Rattle.page_types.specs.Values.{Value, UnitValue, IntValue, TextValue, SignalValue, BoolValue, ListValue, FunValue, FaultValue, Values, items_of, values_of}
+use Rattle.page_types.specs.Values.{Value, UnitValue, IntValue, TextValue, SignalValue, BoolValue, ListValue, FunValue, FaultValue, Values, items_of, values_of, PromiseValue}
 use Rattle.page_types.specs.Tree.{Program}
 use Rattle.page_types.specs.declared.FaultName.TheVariants.{TypeError, RangeError, AbortError, NotAllowedError, Error}
 use Rattle.page_types.specs.declared.Priority.{Priority}
 use Rattle.page_types.specs.declared.RegKind.{RegKind}
 use Rattle.page_types.specs.declared.RegKind.TheVariants.{Timeout as TimeoutKind, Interval as IntervalKind}
 use Rattle.page_types.specs.declared.Op.{Op}
-use Rattle.page_types.specs.declared.Op.TheVariants.{Log, TextOf, KindOf, Len, Push, Bind, MakeFault, FaultNameOf, FaultTextOf, NowOp, Busy, QueueMicrotask, MakePromise, ResolveOp, RejectOp, Resolved, Rejected, Then, SetTimeout, SetInterval, ClearTimeout, ClearInterval, RequestFrame, CancelFrame, RequestIdle, CancelIdle, DidTimeout, TimeRemaining, PostTask, YieldTask, MakeController, MakeTaskController, SignalOf, AbortOp, SetPriority, AbortedSignal, AnySignal, TaskAny, TimeoutSignal, Aborted, ReasonOf, PriorityOf, Listen, Unlisten, HostOp}
+use Rattle.page_types.specs.declared.Op.TheVariants.{Log, TextOf, KindOf, Len, Push, Bind, MakeFault, FaultNameOf, FaultTextOf, NowOp, Busy, QueueMicrotask, MakePromise, ResolveOp, RejectOp, Resolved, Rejected, Then, SetTimeout, SetInterval, ClearTimeout, ClearInterval, RequestFrame, CancelFrame, RequestIdle, CancelIdle, DidTimeout, TimeRemaining, PostTask, YieldTask, MakeController, MakeTaskController, SignalOf, AbortOp, SetPriority, AbortedSignal, AnySignal, TaskAny, TimeoutSignal, Aborted, ReasonOf, PriorityOf, Listen, Unlisten, HostOp, PostMessage, AllOp, RaceOp, AnyOp, AllSettled, FinallyOp}
 use Rattle.page_types.specs.Events as events
 use Rattle.page_parts.specs.Words.{and_last, has_number, not_below_zero, is_there, numbered}
 use Rattle.page_parts.specs.Spelling.{spelled, fault_text}
-use Rattle.page_parts.specs.Kinds.{Func, func_in, int_in, text_in, list_in, promise_in, signal_in, controller_in, deadline_in, fault_in, is_unit, a_fault}
+use Rattle.page_parts.specs.Kinds.{Func, func_in, int_in, text_in, list_in, promise_in, signal_in, controller_in, deadline_in, fault_in, is_unit, a_fault, within_limits, is_sendable}
 use Rattle.page_parts.specs.AbortGraph as AbortGraph
 use Rattle.page_parts.specs.TaskSignals as TaskSignals
 use Rattle.page_parts.specs.TaskSignals.{priority_of, is_changing}
@@ -20,21 +20,24 @@ use Rattle.page_parts.specs.HostClosures.{HostClosure}
 use Rattle.lang_meaning.specs.Machine.{Done, Gives, throw_fault, finish, given, branch, Caller}
 use Rattle.lang_meaning.specs.Evaluation.{Answer, answered, calls, call_from_outside}
 use Rattle.lang_meaning.specs.PureOperations.{argument, text_answer, kind_answer, length_answer, push_answer, bind_answer, fault_answer, fault_name_answer, fault_text_answer, did_timeout_answer}
-use Rattle.page_model.specs.State.{OfSignal, SchedulingState, Page, State, emit, last_registration}
+use Rattle.page_model.specs.State.{OfKind, OfSignal, SchedulingState, Page, State, emit, last_registration}
 use Rattle.page_model.specs.PagePromises as promises
-use Rattle.page_model.specs.PagePromises.{new_promise, last_promise}
+use Rattle.page_model.specs.PagePromises.{new_promise, last_promise, new_settled}
 use Rattle.page_model.specs.PageTime.{clear_timer, cancel_frame, cancel_idle, time_remaining, current_state, no_state}
 use Rattle.page_model.specs.Invoke.{Ways, in_script}
 use Rattle.page_model.specs.PageSignals.{change, is_aborted, is_aborted_source, reason_value, priority_value}
-use Rattle.page_model.specs.Operations.{does, answers, where_left, registration_left, promise_left, signal_left, is_left, priority_in, int_within, delay_in, signal_or_unit, busy_for, busy, micro_registered, queue_microtask, last_promise_value, script_promise, settle_own, new_settled, settled_promise, resolved_value, then_made, then_value, timer_set, set_timer, with_handle, frame_requested, request_animation_frame, idle_requested, request_idle_callback, remaining, with_signals, controller_value, signal_value, make_controller, task_signal_made, make_task_controller, reason_given, abort_by, change_by, set_priority_by, aborted_signal, all_signals, signals_in, make_any, any_made, any_with_priority, followed_through, any_following, make_task_any, timeout_signal_made, make_timeout_signal, of_signal, target_in, listener_added, listen, listener_removed, rejected_with, given_or_rejected, priority_or_unit, source_reason, signal_source, prio_source_of, post_queued, post_accepted, post_task, continuation_queued, yield_in, closure_at, is_fresh, fitting, host_queued, host_accepted, host_asked, host, operation, page_operations, may_operate}
-use Rattle.page_model.specs.Numbers.{Each, IfThere, Made, made_by, IsGiven, IsKnown, AreKnown, PrioSourceIsGiven, StateIsGiven, TargetIsGiven, AllAreGiven, EndsGiven, CallsKeepGiven}
-use Rattle.page_model.proofs.NumbersGrow.{IfThere-more, Each-last, Each-append, Each-get, Each-numbered, unwrapped, last-given, Grows-same, InPrios, InStates, Held, Onward, stays}
+use Rattle.page_model.specs.Operations.{does, answers, where_left, registration_left, promise_left, signal_left, is_left, priority_in, int_within, delay_in, signal_or_unit, busy_for, busy, micro_registered, queue_microtask, last_promise_value, script_promise, settle_own, settled_promise, resolved_value, then_made, then_value, timer_set, set_timer, with_handle, frame_requested, request_animation_frame, idle_requested, request_idle_callback, remaining, with_signals, controller_value, signal_value, make_controller, task_signal_made, make_task_controller, reason_given, abort_by, change_by, set_priority_by, aborted_signal, all_signals, signals_in, make_any, any_made, any_with_priority, followed_through, any_following, make_task_any, timeout_signal_made, make_timeout_signal, of_signal, target_in, listener_added, listen, listener_removed, rejected_with, given_or_rejected, priority_or_unit, source_reason, signal_source, prio_source_of, post_queued, post_accepted, post_task, continuation_queued, yield_in, closure_at, is_fresh, fitting, host_queued, host_accepted, host_asked, host, operation, page_operations, may_operate, combined, raced, promises_for_all, finally_value, finally_made, answers_first, port_in, sendable_in, posted, post_message}
+use Rattle.page_model.specs.Numbers.{Each, IfThere, Made, made_by, IsGiven, IsKnown, AreKnown, PrioSourceIsGiven, StateIsGiven, TargetIsGiven, AllAreGiven, EndsGiven, CallsKeepGiven, KindIsGiven, timer_role}
+use Rattle.page_model.proofs.NumbersGrow.{IfThere-more, Each-last, Each-append, Each-get, Each-numbered, unwrapped, last-given, Grows-same, InPrios, InStates, Held, Onward, stays, IfThere-cond}
 use Rattle.page_model.proofs.NumbersParts.{items-known, values-known, promise_in-given, signal_in-given, controller_in-given, list_in-given, func_in-given, followed-known, any-count}
 use Rattle.page_model.proofs.NumbersPages.{resolve-held, reject-held, clear_timer-held, cancel_frame-held, cancel_idle-held, reason_value-known}
-use Rattle.page_model.proofs.NumbersMaking.{micro_registered-held, after_new, script_promise-held, SettleKeeps, new_settled-held, then_made-held, timer_set-held, frame_requested-held, idle_requested-held, make-held, make_aborted-held, any-held, signal_given, task_signal_made-held, any_made-held, timeout_signal_made-held, listener_added-held, listener_removed-held, post_queued-held, continuation_queued-held, host_queued-held}
+use Rattle.page_model.proofs.NumbersMaking.{micro_registered-held, after_new, script_promise-held, SettleKeeps, new_settled-held, then_made-held, timer_set-held, frame_requested-held, idle_requested-held, make-held, make_aborted-held, any-held, signal_given, task_signal_made-held, any_made-held, timeout_signal_made-held, listener_added-held, listener_removed-held, post_queued-held, continuation_queued-held, host_queued-held, finally_made-held, posted-held}
 use Rattle.page_model.proofs.NumbersEvaluation.{every, each, good, all_given, ends_given, holds_given, Good, keeping, on_page-good, Known, need-known, need_any-known, limited-known}
 use Rattle.page_model.proofs.NumbersRuns.{CallsGo, Goes, WaysGo, finish_page, finish-goes, branch-goes, in_script-goes, abort-goes, change-goes, priority_value-known}
 use Rattle.page_model.proofs.Holding.{answered-holds, fault-holds, take_unit-holds, calls-hold}
+use Rattle.page_parts.specs.Combinators.{CombinatorKind, All, AnyOf, AllSettled as AllSettledKind}
+use Rattle.page_model.specs.PageCombinators.{all_made, race_made, are_promises_left}
+use Rattle.page_model.proofs.NumbersCombinators.{all_made-held, race_made-held}
 
 -- ---- arguments
 
@@ -202,11 +205,11 @@ module _ (program : Program) where
 
   -- ---- time
 
-  set_timer-goes : (kind : RegKind) (repeats : Bool) (f ms : Value) (m : State) → Good m → IsKnown (made_by m.host) f → Ends m (set_timer kind repeats f ms m)
-  set_timer-goes kind repeats f ms m g h =
+  set_timer-goes : (kind : RegKind) (repeats : Bool) (f ms : Value) (m : State) → OfKind kind ≡ timer_role repeats → Good m → IsKnown (made_by m.host) f → Ends m (set_timer kind repeats f ms m)
+  set_timer-goes kind repeats f ms m role g h =
       given_func-goes f m _ g h (λ f x. given_any-goes (int_in ms) m _ g (λ i.
       where_left-goes (registration_left m.host && is_left m.host.timers.ids_made) m (answers (λ p. IntValue (pos p.timers.ids_made)) (timer_set kind repeats f i)) g
-      (answers-goes (λ p. IntValue (pos p.timers.ids_made)) (timer_set kind repeats f i) m g (timer_set-held kind repeats f i m.host g.0 x) tt)))
+      (answers-goes (λ p. IntValue (pos p.timers.ids_made)) (timer_set kind repeats f i) m g (timer_set-held kind repeats f i m.host role g.0 x) tt)))
 
   with_handle-goes : (v : Value) (f : ℕ → Page → Page) → ((k : ℕ) (p : Page) → Held (made_by p) p → Onward (made_by p) (f k p)) → (m : State) → Good m → Ends m (with_handle v f m)
   with_handle-goes v f k m g = given_any-goes (int_in v) m _ g by_sign
@@ -363,6 +366,36 @@ module _ (program : Program) where
       given_any_or_rejected-goes (int_in k) m _ g (λ k. given_any_or_rejected-goes (int_in x) m _ g
       (λ x. given_or_rejected-goes (IfThere (IsGiven (length m.host.signals))) (signal_or_unit signal) m _ g (signal_or_unit-given (made_by m.host) signal h) (λ signal y. host_asked-goes k x signal m g y)))
 
+  -- ---- combinators and messages
+
+  combined-goes : (kind : CombinatorKind) (l : Value) (m : State) → Good m → KindIsGiven (made_by m.host) kind → IsKnown (made_by m.host) l → Ends m (combined kind l m)
+  combined-goes kind l m g k h =
+      given_or_rejected-goes (AreKnown (made_by m.host)) (list_in l) m _ g (list_in-given (made_by m.host) l h) (λ vs x.
+      let all = all_made-held kind (items_of vs) m.host g.0 k (items-known (made_by m.host) vs x) in
+      where_left-goes (are_promises_left (1 + promises_for_all (items_of vs) + length (items_of vs)) m.host) m (answers_first (all_made kind (items_of vs))) g
+      (answers-goes (λ p. PromiseValue (suc (last_promise m.host))) (all_made kind (items_of vs)) m g all.onward all.given))
+
+  raced-goes : (l : Value) (m : State) → Good m → IsKnown (made_by m.host) l → Ends m (raced l m)
+  raced-goes l m g h =
+      given_or_rejected-goes (AreKnown (made_by m.host)) (list_in l) m _ g (list_in-given (made_by m.host) l h) (λ vs x.
+      let all = race_made-held (items_of vs) m.host g.0 (items-known (made_by m.host) vs x) in
+      where_left-goes (are_promises_left (1 + promises_for_all (items_of vs)) m.host) m (answers_first (race_made (items_of vs))) g
+      (answers-goes (λ p. PromiseValue (suc (last_promise m.host))) (race_made (items_of vs)) m g all.onward all.given))
+
+  finally_value-goes : (v f : Value) (m : State) → Good m → IsKnown (made_by m.host) v → IsKnown (made_by m.host) f → Ends m (finally_value v f m)
+  finally_value-goes v f m g x y =
+      given_or_rejected-goes (IsGiven (length m.host.notices.promises)) (promise_in v) m _ g (promise_in-given (made_by m.host) v x)
+      (λ k w. where_left-goes (promise_left m.host && registration_left m.host) m (answers last_promise_value (finally_made k f)) g (new-goes (finally_made k f) m g (finally_made-held k f m.host g.0 w y)))
+
+  post_message-goes : (n v : Value) (m : State) → Good m → IsKnown (made_by m.host) v → Ends m (post_message n v m)
+  post_message-goes n v m g h =
+      given_any-goes (port_in n) m _ g (λ port. given-goes (IsKnown (made_by m.host)) (sendable_in v) m _ g (IfThere-cond (IsKnown (made_by m.host)) (is_sendable v) (Some v) None h tt)
+      (λ v k. by_list port v k (within_limits (ListValue (values_of (n ∷ v ∷ []))))))
+    where
+      by_list : (port : ℕ) (v : Value) → IsKnown (made_by m.host) v → (o : Option Value) → Ends m (given o RangeError m (λ whole m. does (posted port v) m))
+      by_list port v k None = fault-holds (keeping program) m RangeError g
+      by_list port v k (Some whole) = finish_page program m (posted port v) g (posted-held port v m.host g.0 k)
+
   -- ---- the table
 
   pub operation-goes : (w : Ways) → WaysGo program w → (op : Op) (args : List Value) (m : State) → Good m → Each (IsKnown (made_by m.host)) args → Ends m (operation w op args m)
@@ -384,8 +417,8 @@ module _ (program : Program) where
   operation-goes w a Resolved args m g h = resolved_value-goes (argument args 0) m g (argument-known (made_by m.host) args 0 h)
   operation-goes w a Rejected args m g h = settled_promise-goes promises.reject reject-held (argument args 0) m g (argument-known (made_by m.host) args 0 h)
   operation-goes w a Then args m g h = then_value-goes (argument args 0) (argument args 1) (argument args 2) m g (argument-known (made_by m.host) args 0 h) (argument-known (made_by m.host) args 1 h) (argument-known (made_by m.host) args 2 h)
-  operation-goes w a SetTimeout args m g h = set_timer-goes TimeoutKind false (argument args 0) (argument args 1) m g (argument-known (made_by m.host) args 0 h)
-  operation-goes w a SetInterval args m g h = set_timer-goes IntervalKind true (argument args 0) (argument args 1) m g (argument-known (made_by m.host) args 0 h)
+  operation-goes w a SetTimeout args m g h = set_timer-goes TimeoutKind false (argument args 0) (argument args 1) m refl g (argument-known (made_by m.host) args 0 h)
+  operation-goes w a SetInterval args m g h = set_timer-goes IntervalKind true (argument args 0) (argument args 1) m refl g (argument-known (made_by m.host) args 0 h)
   operation-goes w a ClearTimeout args m g h = with_handle-goes (argument args 0) clear_timer clear_timer-held m g
   operation-goes w a ClearInterval args m g h = with_handle-goes (argument args 0) clear_timer clear_timer-held m g
   operation-goes w a RequestFrame args m g h = request_frame-goes (argument args 0) m g (argument-known (made_by m.host) args 0 h)
@@ -411,6 +444,12 @@ module _ (program : Program) where
   operation-goes w a Listen args m g h = listen-goes (argument args 0) (argument args 1) (argument args 2) m g (argument-known (made_by m.host) args 0 h) (argument-known (made_by m.host) args 2 h)
   operation-goes w a Unlisten args m g h = with_handle-goes (argument args 0) listener_removed listener_removed-held m g
   operation-goes w a HostOp args m g h = host-goes (argument args 0) (argument args 1) (argument args 2) m g (argument-known (made_by m.host) args 2 h)
+  operation-goes w a PostMessage args m g h = post_message-goes (argument args 0) (argument args 1) m g (argument-known (made_by m.host) args 1 h)
+  operation-goes w a AllOp args m g h = combined-goes All (argument args 0) m g tt (argument-known (made_by m.host) args 0 h)
+  operation-goes w a RaceOp args m g h = raced-goes (argument args 0) m g (argument-known (made_by m.host) args 0 h)
+  operation-goes w a AnyOp args m g h = combined-goes AnyOf (argument args 0) m g tt (argument-known (made_by m.host) args 0 h)
+  operation-goes w a AllSettled args m g h = combined-goes AllSettledKind (argument args 0) m g tt (argument-known (made_by m.host) args 0 h)
+  operation-goes w a FinallyOp args m g h = finally_value-goes (argument args 0) (argument args 1) m g (argument-known (made_by m.host) args 0 h) (argument-known (made_by m.host) args 1 h)
 
   -- ---- calls
 

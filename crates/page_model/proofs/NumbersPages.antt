@@ -1,4 +1,5 @@
 -- What changes a page leaves its numbers given.
+use Rattle.lang_meaning.specs.Evaluation.{without_first}
 use Rattle.std.proofs.Common.{◌≤◌, ◌∙◌, ◌≡◌, ℕ, suc, Bool, true, false, List, [], ◌∷◌, length, map, Option, Some, None, refl, sym, ap, subst, arith, cond, ℤ, ◌&&◌, nat_lt, nat_le}
 use Rattle.std.specs.Prelude.{◌==◌}
 use Rattle.page_types.specs.Values.{Value, UnitValue}
@@ -11,27 +12,44 @@ use Rattle.page_parts.specs.Words.{and_last, without}
 use Rattle.page_parts.specs.Promises.{Settled, Fulfilled, Failed, settled_value, Reaction}
 use Rattle.page_parts.specs.Notices.{Notices, Noticed, settle_promise, follow_promise, subscribe_promise, is_outstanding}
 use Rattle.page_parts.specs.Timers as Timers
-use Rattle.page_parts.specs.Timers.{Armed, armed, with_armed, with_id}
+use Rattle.page_parts.specs.Timers.{Armed, armed, with_armed}
 use Rattle.page_parts.specs.Frames as Frames
-use Rattle.page_parts.specs.Frames.{Callback, callback_in, without_handle}
+use Rattle.page_parts.specs.Frames.{Callback, callback_in}
 use Rattle.page_parts.specs.IdleCallbacks as IdleCallbacks
 use Rattle.page_parts.specs.IdleCallbacks.{waits}
 use Rattle.page_parts.specs.AbortGraph as AbortGraph
 use Rattle.page_parts.specs.AbortGraph.{Signals, the_signal, with_reason, with_algorithms}
 use Rattle.page_parts.specs.TaskSignals as TaskSignals
 use Rattle.page_parts.specs.TaskSignals.{Prios}
-use Rattle.page_model.specs.State.{Registration, no_registration, Steps, InvokeIdle, NotifyHandled, PrioSource, Completion, Completing, SchedulingState, Page, the_registration, last_registration, emit, emit_each, on_notices, queue_task}
+use Rattle.page_model.specs.State.{Registration, no_registration, Steps, InvokeIdle, NotifyHandled, PrioSource, Completion, Completing, SchedulingState, Page, the_registration, last_registration, emit, emit_each, on_notices, queue_task, context, OfKind}
+use Rattle.page_types.specs.declared.RegKind.TheVariants.{Frame as FrameKind, Idle as IdleKind}
 use Rattle.page_model.specs.PagePromises as promises
-use Rattle.page_model.specs.PagePromises.{new_promise, last_promise}
+use Rattle.page_model.specs.PagePromises.{new_promise}
 use Rattle.page_model.specs.PageTime.{run_after, timer_armed, init_timer, clear_id, clear_timer, without_timer, request_frame, without_frame, cancel_frame, deadline, period_begun, start_period, idle_step, idle_timeout, request_idle, idle_callback, without_idle, cancel_idle, enqueue, without_sched, with_state}
-use Rattle.page_model.specs.Invoke.{register_as, register}
+use Rattle.page_model.specs.Invoke.{register_as, register, call_begun, call_ended}
 use Rattle.page_parts.specs.Kinds.{Func}
 use Rattle.page_parts.specs.Promises as Promises
 use Rattle.page_model.specs.PageSignals.{drop_closure, task_in_answer, task_in_net, waiting_answer, waiting_net_task, has_not_begun, drop_registration, abort_registration, abort_registrations, run_algorithms, reason_value, reason_set, watch, unwatch, give_priority, change_begun, change_ended}
 use Rattle.page_parts.specs.HostClosures.{HostClosure}
-use Rattle.page_model.specs.Numbers.{HostTaskIsGiven, TaskIsGiven, Each, IfThere, Made, made_by, Grows, IsGiven, IsRegistered, HasPromise, IsKnown, AreKnown, RegistrationIsGiven, ReactionIsGiven, NoticesAreGiven, StepsAreGiven, PrioSourceIsGiven, SchedTaskIsGiven, StateIsGiven, CompletionIsGiven, CompletingIsGiven, TimerIdIsGiven, TimersAreGiven, IdleTimerIsGiven, CallbackIsGiven, IdleIsGiven, SignalIsGiven, PrioIsGiven}
-use Rattle.page_model.proofs.NumbersGrow.{Grows-tasks, Grows-notices, promise-grows, Reaction-grows, Steps-grow, PrioSource-grows, Each-more, Each-append, Each-last, Each-without, Each-numbered, unwrapped, length-last, last-given, goes_on-last, Grows-same, IsGiven-last, Registration-grows, onward-then, IsGiven-more, HasPromise-grows, IsKnown-grows, Completion-grows, State-grows, InRegistrations, InScriptPromises, InScheduling, InNotices, InTasks, InSchedTasks, InTimers, InCompletions, InIdleTimers, InHostAnswers, InFrames, InIdle, InSignals, InPrios, InStates, Held, Onward, stays, goes_onward, Grows-promises, Grows-signals, Grows-states, Grows-registrations, Grows-timers, Grows-frames, Grows-idle}
+use Rattle.page_model.specs.Numbers.{HostTaskIsGiven, TaskIsGiven, Each, IfThere, Made, made_by, Grows, IsGiven, IsRegistered, HasPromise, IsKnown, AreKnown, RegistrationIsGiven, ReactionIsGiven, NoticesAreGiven, StepsAreGiven, PrioSourceIsGiven, SchedTaskIsGiven, StateIsGiven, CompletionIsGiven, CompletingIsGiven, TimerIdIsGiven, TimersAreGiven, IdleTimerIsGiven, CallbackIsGiven, IdleIsGiven, SignalIsGiven, PrioIsGiven, IsFor, timer_role, sched_role}
+use Rattle.page_model.proofs.NumbersGrow.{Grows-tasks, Grows-notices, promise-grows, Reaction-grows, Steps-grow, PrioSource-grows, Each-more, Each-append, Each-last, Each-without, Each-numbered, unwrapped, length-last, last-given, goes_on-last, Grows-same, IsGiven-last, Registration-grows, onward-then, IsGiven-more, HasPromise-grows, IsKnown-grows, Completion-grows, State-grows, InRegistrations, InScriptPromises, InScheduling, InNotices, InTasks, InSchedTasks, InTimers, InCompletions, InIdleTimers, InHostAnswers, InFrames, InIdle, InSignals, InPrios, InStates, Held, Onward, stays, goes_onward, Grows-promises, Grows-signals, Grows-states, Grows-registrations, Grows-timers, Grows-frames, Grows-idle, if_state-grows, IsFor-grows, InCalls}
 use Rattle.page_model.proofs.NumbersParts.{settle_promise-more, follow_promise-more, subscribe_promise-more, drop_closure-count, settle_promise-given, follow_promise-given, subscribe_promise-given, make-given, settle_promise-count, follow_promise-count, subscribe_promise-count, the_signal-given, with_reason-given, with_algorithms-given, with_reason-count, with_algorithms-count, changed_at-given}
+
+-- ---- a call begins and ends
+
+Each-rest : {X : Type 0} (P : X → Type 0) (xs : List X) → Each P xs → Each P (without_first xs)
+Each-rest P [] h = tt
+Each-rest P (x ∷ xs) h = h.1
+
+put_calls : (n : Made) (p : Page) (rs : List ℕ) → Each (IsRegistered n) rs → Held n p → Held n (record p { calls = rs })
+put_calls n p rs new h InCalls = new
+put_calls n p rs new h part = h part
+
+pub call_begun-held : (r : ℕ) (p : Page) → Held (made_by p) p → IsRegistered (made_by p) r → Onward (made_by p) (call_begun r p)
+call_begun-held r p h x = stays (call_begun r p) (put_calls (made_by p) p (r ∷ p.calls) (x, h InCalls) h)
+
+pub call_ended-held : (line : Event) (p : Page) → Held (made_by p) p → Onward (made_by p) (call_ended line p)
+call_ended-held line p h = stays (call_ended line p) (put_calls (made_by p) p (without_first p.calls) (Each-rest (IsRegistered (made_by p)) p.calls (h InCalls)) h)
 
 -- ---- one part of a page is changed
 
@@ -56,10 +74,10 @@ module _ (n : Made) (p : Page) where
   put_task source steps le new h InTasks = Each-last (TaskIsGiven n) p.tasks _ (h InTasks) (record { number = record { from_one = omega arith; to_last = le }; steps = new })
   put_task source steps le new h part = h part
 
-  pub put_sched : (r : ℕ) (source : PrioSource) (continuation : Bool) → suc p.tasks_made ≤ n.tasks → HasPromise n r → PrioSourceIsGiven n source → Held n p → Held n (enqueue r source continuation p)
-  put_sched r source continuation le has given h InSchedTasks =
-      Each-last (SchedTaskIsGiven n) p.sched_tasks _ (h InSchedTasks) (record { registration = has; source = given; order = record { from_one = omega arith; to_last = le } })
-  put_sched r source continuation le has given h part = h part
+  pub put_sched : (r : ℕ) (source : PrioSource) (continuation : Bool) → suc p.tasks_made ≤ n.tasks → HasPromise n r → IsFor (sched_role continuation) n r → PrioSourceIsGiven n source → Held n p → Held n (enqueue r source continuation p)
+  put_sched r source continuation le has kind given h InSchedTasks =
+      Each-last (SchedTaskIsGiven n) p.sched_tasks _ (h InSchedTasks) (record { registration = has; kind = kind; source = given; order = record { from_one = omega arith; to_last = le } })
+  put_sched r source continuation le has kind given h part = h part
 
   pub put_timers : (t : Timers.Timers) → TimersAreGiven n t → Held n p → Held n (record p { timers = t })
   put_timers t new h InTimers = new
@@ -70,7 +88,7 @@ module _ (n : Made) (p : Page) where
   put_timers_and t c new given h InCompletions = Each-last (CompletingIsGiven n) p.completions c (h InCompletions) given
   put_timers_and t c new given h part = h part
 
-  pub put_frames : (f : Frames.Frames) → Each (CallbackIsGiven n.frames n) f.callbacks → Held n p → Held n (record p { frames = f })
+  pub put_frames : (f : Frames.Frames) → Each (CallbackIsGiven FrameKind n.frames n) f.callbacks → Held n p → Held n (record p { frames = f })
   put_frames f new h InFrames = new
   put_frames f new h part = h part
 
@@ -113,8 +131,8 @@ on_notices-held f p h e more new =
 
 pub settle-held : (k : ℕ) (how : Settled) (p : Page) → Held (made_by p) p → IsGiven (length p.notices.promises) k → IsKnown (made_by p) (settled_value how) → Onward (made_by p) (promises.settle k how p)
 settle-held k how p h x v =
-    on_notices-held (settle_promise p.names k how) p h (settle_promise-count p.names k how p.notices) (settle_promise-more p.names k how p.notices)
-    (λ n g le s. settle_promise-given n p.names k how p.notices le (promise-grows (made_by p) n g k x) (IsKnown-grows (made_by p) n g (settled_value how) v) s)
+    on_notices-held (settle_promise (context p) p.names k how) p h (settle_promise-count (context p) p.names k how p.notices) (settle_promise-more (context p) p.names k how p.notices)
+    (λ n g le s. settle_promise-given n (context p) (if_state-grows (made_by p) n g p.scheduling (h InScheduling)) p.names k how p.notices le (promise-grows (made_by p) n g k x) (IsKnown-grows (made_by p) n g (settled_value how) v) s)
 
 pub resolve-held : (k : ℕ) (v : Value) (p : Page) → Held (made_by p) p → IsGiven (length p.notices.promises) k → IsKnown (made_by p) v → Onward (made_by p) (promises.resolve k v p)
 resolve-held k v = settle-held k (Fulfilled v)
@@ -124,8 +142,8 @@ reject-held k v = settle-held k (Failed v)
 
 pub follow-held : (k : ℕ) (how : Settled) (p : Page) → Held (made_by p) p → IsGiven (length p.notices.promises) k → IsKnown (made_by p) (settled_value how) → Onward (made_by p) (promises.follow k how p)
 follow-held k how p h x v =
-    on_notices-held (follow_promise p.names k how) p h (follow_promise-count p.names k how p.notices) (follow_promise-more p.names k how p.notices)
-    (λ n g le s. follow_promise-given n p.names k how p.notices le (promise-grows (made_by p) n g k x) (IsKnown-grows (made_by p) n g (settled_value how) v) s)
+    on_notices-held (follow_promise (context p) p.names k how) p h (follow_promise-count (context p) p.names k how p.notices) (follow_promise-more (context p) p.names k how p.notices)
+    (λ n g le s. follow_promise-given n (context p) (if_state-grows (made_by p) n g p.scheduling (h InScheduling)) p.names k how p.notices le (promise-grows (made_by p) n g k x) (IsKnown-grows (made_by p) n g (settled_value how) v) s)
 
 pub queue_task-held : (source : Source) (steps : Steps) (p : Page) → Held (made_by p) p → StepsAreGiven (made_by p) steps → Onward (made_by p) (queue_task source steps p)
 queue_task-held source steps p h s =
@@ -135,10 +153,10 @@ queue_task-held source steps p h s =
 
 pub subscribe-held : (k : ℕ) (r : Reaction) (p : Page) → Held (made_by p) p → IsGiven (length p.notices.promises) k → ReactionIsGiven (made_by p) r → Onward (made_by p) (promises.subscribe k r p)
 subscribe-held k r p h g x =
-    let q = on_notices (subscribe_promise k r) p in
+    let q = on_notices (subscribe_promise (context p) k r) p in
     let here : Onward (made_by p) q =
-    on_notices-held (subscribe_promise k r) p h (subscribe_promise-count k r p.notices) (subscribe_promise-more k r p.notices)
-    (λ n grows le s. subscribe_promise-given n k r p.notices le (promise-grows (made_by p) n grows k g) (Reaction-grows (made_by p) n grows r x) s) in
+    on_notices-held (subscribe_promise (context p) k r) p h (subscribe_promise-count (context p) k r p.notices) (subscribe_promise-more (context p) k r p.notices)
+    (λ n grows le s. subscribe_promise-given n (context p) (if_state-grows (made_by p) n grows p.scheduling (h InScheduling)) k r p.notices le (promise-grows (made_by p) n grows k g) (Reaction-grows (made_by p) n grows r x) s) in
     let still = IsGiven-more (length p.notices.promises) (length q.notices.promises) k here.0.promises g in
     cond_of-onward (made_by p) (is_outstanding k p.notices) (queue_task Dom (NotifyHandled k)) (λ q. q) q
     (onward-then (made_by p) q (queue_task Dom (NotifyHandled k) q) here (queue_task-held Dom (NotifyHandled k) q here.1 still)) here
@@ -184,7 +202,7 @@ run_after-held ms c p h new =
     (record { start = start; completion = Completion-grows (made_by p) n g c new }) k)
 
 -- a timer is initialised: what its numbers are
-pub armed_put : (n : Made) (again : Option ℕ) (a : Armed) (r : ℕ) (repeats : Bool) (timeout : ℤ) (p : Page) → IsGiven n.ids a.id → IsGiven n.handles a.handle → IsGiven n.starts a.start → IsRegistered n r → Held n p → Held n (timer_armed again a r repeats timeout p)
+pub armed_put : (n : Made) (again : Option ℕ) (a : Armed) (r : ℕ) (repeats : Bool) (timeout : ℤ) (p : Page) → IsGiven n.ids a.id → IsGiven n.handles a.handle → IsGiven n.starts a.start → IsFor (timer_role repeats) n r → Held n p → Held n (timer_armed again a r repeats timeout p)
 armed_put n again a r repeats timeout p id handle start registered h =
     let t : TimersAreGiven n p.timers = h InTimers in
     put_timers_and n p (with_armed again a p.timers) _
@@ -194,12 +212,13 @@ armed_put n again a r repeats timeout p id handle start registered h =
     })
     (record { start = start; completion = record { registration = registered; id = id; handle = handle } }) h
 
-pub init_again-held : (id r : ℕ) (repeats : Bool) (timeout : ℤ) (p : Page) → Held (made_by p) p → IsGiven p.timers.ids_made id → IsRegistered (made_by p) r → Onward (made_by p) (init_timer (Some id) r repeats timeout p)
+pub init_again-held : (id r : ℕ) (repeats : Bool) (timeout : ℤ) (p : Page) → Held (made_by p) p → IsGiven p.timers.ids_made id → IsFor (timer_role repeats) (made_by p) r → Onward (made_by p) (init_timer (Some id) r repeats timeout p)
 init_again-held id r repeats timeout p h i x =
     let q = init_timer (Some id) r repeats timeout p in
     let a = armed (Some id) timeout p.level p.now p.timers in
-    moves p q h (Grows-timers (made_by p) p.timers.ids_made (suc p.timers.handles_made) (suc p.timers.starts_made) (omega arith) (omega arith) (omega arith))
-    (λ k. armed_put (made_by q) (Some id) a r repeats timeout p i (IsGiven-last _ p.timers.handles_made refl) (IsGiven-last _ p.timers.starts_made refl) x k)
+    let g : Grows (made_by p) (made_by q) = Grows-timers (made_by p) p.timers.ids_made (suc p.timers.handles_made) (suc p.timers.starts_made) (omega arith) (omega arith) (omega arith) in
+    moves p q h g
+    (λ k. armed_put (made_by q) (Some id) a r repeats timeout p i (IsGiven-last _ p.timers.handles_made refl) (IsGiven-last _ p.timers.starts_made refl) (IsFor-grows (made_by p) (made_by q) g (timer_role repeats) r x) k)
 
 clear_put : (id : ℕ) (p : Page) → Held (made_by p) p → Held (made_by p) (clear_id id p)
 clear_put id p h =
@@ -225,16 +244,17 @@ without_timer-held start p h = stays (without_timer start p) (without_timer-put 
 
 -- ---- frames and idle callbacks
 
-pub request_frame-held : (r : ℕ) (p : Page) → Held (made_by p) p → IsRegistered (made_by p) r → Onward (made_by p) (request_frame r p)
+pub request_frame-held : (r : ℕ) (p : Page) → Held (made_by p) p → IsFor (OfKind FrameKind) (made_by p) r → Onward (made_by p) (request_frame r p)
 request_frame-held r p h x =
     let q = request_frame r p in
     let n = made_by q in
-    moves p q h (Grows-frames (made_by p) (suc p.frames.made) (omega arith))
-    (λ k. put_frames n p q.frames (Each-last (CallbackIsGiven n.frames n) p.frames.callbacks _ (k InFrames) (record { handle = IsGiven-last _ p.frames.made refl; registration = x })) k)
+    let g : Grows (made_by p) n = Grows-frames (made_by p) (suc p.frames.made) (omega arith) in
+    moves p q h g
+    (λ k. put_frames n p q.frames (Each-last (CallbackIsGiven FrameKind n.frames n) p.frames.callbacks _ (k InFrames) (record { handle = IsGiven-last _ p.frames.made refl; registration = IsFor-grows (made_by p) n g (OfKind FrameKind) r x })) k)
 
 pub without_frame-held : (handle : ℕ) (p : Page) → Held (made_by p) p → Onward (made_by p) (without_frame handle p)
 without_frame-held handle p h =
-    stays (without_frame handle p) (put_frames (made_by p) p (Frames.cancel handle p.frames) (Each-without (CallbackIsGiven p.frames.made (made_by p)) (λ c. c.handle == handle) p.frames.callbacks (h InFrames)) h)
+    stays (without_frame handle p) (put_frames (made_by p) p (Frames.cancel handle p.frames) (Each-without (CallbackIsGiven FrameKind p.frames.made (made_by p)) (λ c. c.handle == handle) p.frames.callbacks (h InFrames)) h)
 
 pub cancel_frame-held : (handle : ℕ) (p : Page) → Held (made_by p) p → Onward (made_by p) (cancel_frame handle p)
 cancel_frame-held handle p h = by_callback (callback_in p.frames.callbacks handle)
@@ -244,7 +264,7 @@ cancel_frame-held handle p h = by_callback (callback_in p.frames.callbacks handl
     by_callback (Some c) = without_frame-held handle p h
 
 started_put : (n : Made) (i : IdleCallbacks.Idle) → IdleIsGiven n i → IdleIsGiven n (IdleCallbacks.started i)
-started_put n i h = record { pending = tt; runnable = Each-append (CallbackIsGiven n.idle n) i.runnable i.pending h.runnable h.pending }
+started_put n i h = record { pending = tt; runnable = Each-append (CallbackIsGiven IdleKind n.idle n) i.runnable i.pending h.runnable h.pending }
 
 pub start_period-held : (p : Page) → Held (made_by p) p → Onward (made_by p) (start_period p)
 start_period-held p h =
@@ -256,23 +276,24 @@ start_period-held p h =
 pub idle_step-held : (p : Page) → Held (made_by p) p → Onward (made_by p) (idle_step p)
 idle_step-held p h = start_period-held (record p { last_idle_start = p.now }) h
 
-pub idle_timeout-held : (ms r : ℕ) (p : Page) → Held (made_by p) p → IsRegistered (made_by p) r → IsGiven p.idle.made p.idle.made → Onward (made_by p) (idle_timeout ms r p)
+pub idle_timeout-held : (ms r : ℕ) (p : Page) → Held (made_by p) p → IsFor (OfKind IdleKind) (made_by p) r → IsGiven p.idle.made p.idle.made → Onward (made_by p) (idle_timeout ms r p)
 idle_timeout-held ms r p h x g = (Grows-same (made_by p), put)
   where
     put : Held (made_by p) (idle_timeout ms r p)
     put InIdleTimers = Each-last (IdleTimerIsGiven (made_by p)) p.idle_timers _ (h InIdleTimers) (record { handle = g; registration = x })
     put part = h part
 
-pub request_idle-held : (ms r : ℕ) (p : Page) → Held (made_by p) p → IsRegistered (made_by p) r → Onward (made_by p) (request_idle ms r p)
+pub request_idle-held : (ms r : ℕ) (p : Page) → Held (made_by p) p → IsFor (OfKind IdleKind) (made_by p) r → Onward (made_by p) (request_idle ms r p)
 request_idle-held ms r p h x =
     let q : Page = record p { idle = IdleCallbacks.request r p.idle } in
     let n = made_by q in
     let last : IsGiven n.idle n.idle = IsGiven-last (suc p.idle.made) p.idle.made refl in
+    let g : Grows (made_by p) n = Grows-idle (made_by p) (suc p.idle.made) (omega arith) in
     let requested : Onward (made_by p) q =
-    moves p q h (Grows-idle (made_by p) (suc p.idle.made) (omega arith)) (λ k.
+    moves p q h g (λ k.
     let i : IdleIsGiven n p.idle = k InIdle in
-    put_idle n p q.idle (record { pending = Each-last (CallbackIsGiven n.idle n) p.idle.pending _ i.pending (record { handle = last; registration = x }); runnable = i.runnable }) k) in
-    cond_of-onward (made_by p) (ms == 0) (λ q. q) (idle_timeout ms r) q requested (onward-then (made_by p) q (idle_timeout ms r q) requested (idle_timeout-held ms r q requested.1 x last))
+    put_idle n p q.idle (record { pending = Each-last (CallbackIsGiven IdleKind n.idle n) p.idle.pending _ i.pending (record { handle = last; registration = IsFor-grows (made_by p) n g (OfKind IdleKind) r x }); runnable = i.runnable }) k) in
+    cond_of-onward (made_by p) (ms == 0) (λ q. q) (idle_timeout ms r) q requested (onward-then (made_by p) q (idle_timeout ms r q) requested (idle_timeout-held ms r q requested.1 (IsFor-grows (made_by p) n g (OfKind IdleKind) r x) last))
 
 pub without_idle-held : (handle : ℕ) (p : Page) → Held (made_by p) p → Onward (made_by p) (without_idle handle p)
 without_idle-held handle p h =
@@ -280,8 +301,8 @@ without_idle-held handle p h =
     let i : IdleIsGiven n p.idle = h InIdle in
     stays (without_idle handle p) (put_idle n p (IdleCallbacks.cancel handle p.idle)
     (record {
-      pending = Each-without (CallbackIsGiven n.idle n) (λ c. c.handle == handle) p.idle.pending i.pending;
-      runnable = Each-without (CallbackIsGiven n.idle n) (λ c. c.handle == handle) p.idle.runnable i.runnable;
+      pending = Each-without (CallbackIsGiven IdleKind n.idle n) (λ c. c.handle == handle) p.idle.pending i.pending;
+      runnable = Each-without (CallbackIsGiven IdleKind n.idle n) (λ c. c.handle == handle) p.idle.runnable i.runnable;
     }) h)
 
 pub cancel_idle-held : (handle : ℕ) (p : Page) → Held (made_by p) p → Onward (made_by p) (cancel_idle handle p)
@@ -293,11 +314,11 @@ cancel_idle-held handle p h = by_callback (idle_callback handle p)
 
 -- ---- scheduler tasks
 
-pub enqueue-held : (r : ℕ) (source : PrioSource) (continuation : Bool) (p : Page) → Held (made_by p) p → HasPromise (made_by p) r → PrioSourceIsGiven (made_by p) source → Onward (made_by p) (enqueue r source continuation p)
-enqueue-held r source continuation p h x s =
+pub enqueue-held : (r : ℕ) (source : PrioSource) (continuation : Bool) (p : Page) → Held (made_by p) p → HasPromise (made_by p) r → IsFor (sched_role continuation) (made_by p) r → PrioSourceIsGiven (made_by p) source → Onward (made_by p) (enqueue r source continuation p)
+enqueue-held r source continuation p h x kind s =
     let q = enqueue r source continuation p in
     let g : Grows (made_by p) (made_by q) = Grows-tasks (made_by p) (suc p.tasks_made) (omega arith) in
-    moves p q h g (λ k. put_sched (made_by q) p r source continuation (omega arith) (HasPromise-grows (made_by p) (made_by q) g r x) (PrioSource-grows (made_by p) (made_by q) g source s) k)
+    moves p q h g (λ k. put_sched (made_by q) p r source continuation (omega arith) (HasPromise-grows (made_by p) (made_by q) g r x) (IsFor-grows (made_by p) (made_by q) g (sched_role continuation) r kind) (PrioSource-grows (made_by p) (made_by q) g source s) k)
 
 without_sched-put : (n : Made) (r : ℕ) (p : Page) → Held n p → Held n (without_sched r p)
 without_sched-put n r p h InSchedTasks = Each-without (SchedTaskIsGiven n) (λ t. t.registration == r) p.sched_tasks (h InSchedTasks)

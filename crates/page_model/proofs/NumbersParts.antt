@@ -6,17 +6,18 @@ use Rattle.page_types.specs.declared.FaultName.TheVariants.{TypeError}
 use Rattle.page_parts.specs.Words.{without, with_numbered, and_last, has_number, is_empty}
 use Rattle.page_parts.specs.Kinds.{promise_in, signal_in, controller_in, list_in, func_in, a_fault}
 use Rattle.page_parts.specs.Promises as Promises
-use Rattle.page_parts.specs.Promises.{Settled, Fulfilled, Failed, settled_value, Reaction, PromiseRecord, PromiseJob, React, Adopt, Change, pending_promise, no_change}
+use Rattle.page_parts.specs.Promises.{Settled, Fulfilled, Failed, settled_value, Reaction, PromiseRecord, PromiseJob, React, Change, pending_promise, no_change}
 use Rattle.page_parts.specs.Notices as Notices
-use Rattle.page_parts.specs.Notices.{Todo, Micro, OfPromise, Notices, Noticed, the_promise, queue_job, queue_jobs, promise_changed, changed, settle_promise, follow_promise, subscribe_promise, note_outstanding}
+use Rattle.page_parts.specs.Notices.{Context, Todo, OfPromise, Notices, the_promise, queue_job, queue_jobs, promise_changed, changed, settle_promise, follow_promise, subscribe_promise, note_outstanding}
 use Rattle.page_parts.specs.AbortGraph as AbortGraph
 use Rattle.page_parts.specs.AbortGraph.{SignalRecord, Signals, fresh_signal, the_signal, reason_of, make_aborted, first_reason, sources_through, and_new, all_sources, with_dependent, depend_on, marked, with_reason, with_algorithms, is_aborted}
 use Rattle.page_parts.specs.TaskSignals.{PrioRecord, Prios, changed_at, record_of, followed, followers}
 use Rattle.page_parts.specs.Listeners.{Listener, Target, snapshot}
 use Rattle.page_parts.specs.HostClosures.{HostClosure}
-use Rattle.page_model.specs.State.{HostTask}
+use Rattle.page_types.specs.declared.RegKind.TheVariants.{Listener as ListenerKind}
+use Rattle.page_model.specs.State.{OfKind, HostTask}
 use Rattle.page_model.specs.PageSignals.{closure_dropped, drop_at, drop_closure}
-use Rattle.page_model.specs.Numbers.{JobIsGiven, Each, IfThere, Made, IsGiven, IsRegistered, HasPromise, IsKnown, AreKnown, ReactionIsGiven, PromiseIsGiven, PromiseJobIsGiven, TodoIsGiven, NoticesAreGiven, SignalIsGiven, PrioIsGiven, ListenerIsGiven}
+use Rattle.page_model.specs.Numbers.{IsFor, JobIsGiven, Each, IfThere, Made, IsGiven, HasPromise, IsKnown, AreKnown, ReactionIsGiven, PromiseIsGiven, PromiseJobIsGiven, TodoIsGiven, NoticesAreGiven, SignalIsGiven, PrioIsGiven, ListenerIsGiven}
 use Rattle.page_model.proofs.NumbersGrow.{Each-more, Each-last, Each-cond, Each-without, Each-filter, Each-map, Each-numbered, Each-set, Each-find, length-last}
 
 pub length-put : {X : Type 0} (xs : List X) (k : ℕ) (x : X) → length (slice_set xs k x) ≡ length xs
@@ -26,23 +27,23 @@ length-put (y ∷ xs) (suc k) x = ap suc (length-put xs k x)
 
 -- ---- no number is given back
 
-queue_jobs-more : (js : List PromiseJob) (s : Notices) → s.jobs_made ≤ (queue_jobs js s).notices.jobs_made
-queue_jobs-more [] s = omega arith
-queue_jobs-more (x ∷ js) s = omega (arith, queue_jobs-more js (queue_job (OfPromise x) s).notices)
+queue_jobs-more : (now : Context) (js : List PromiseJob) (s : Notices) → s.jobs_made ≤ (queue_jobs now js s).notices.jobs_made
+queue_jobs-more now [] s = omega arith
+queue_jobs-more now (x ∷ js) s = omega (arith, queue_jobs-more now js (queue_job now (OfPromise x) s).notices)
 
-changed-more : (names : List (List ℕ)) (k : ℕ) (c : Change) (s : Notices) → s.jobs_made ≤ (changed names k c s).notices.jobs_made
-changed-more names k c s = queue_jobs-more c.jobs (promise_changed names k c s).notices
+changed-more : (now : Context) (names : List (List ℕ)) (k : ℕ) (c : Change) (s : Notices) → s.jobs_made ≤ (changed now names k c s).notices.jobs_made
+changed-more now names k c s = queue_jobs-more now c.jobs (promise_changed names k c s).notices
 
-pub settle_promise-more : (names : List (List ℕ)) (k : ℕ) (how : Settled) (s : Notices) → s.jobs_made ≤ (settle_promise names k how s).notices.jobs_made
-settle_promise-more names k (Fulfilled v) s = changed-more names k (Promises.resolve k (the_promise s k) v) s
-settle_promise-more names k (Failed v) s = changed-more names k (Promises.reject k (the_promise s k) v) s
+pub settle_promise-more : (now : Context) (names : List (List ℕ)) (k : ℕ) (how : Settled) (s : Notices) → s.jobs_made ≤ (settle_promise now names k how s).notices.jobs_made
+settle_promise-more now names k (Fulfilled v) s = changed-more now names k (Promises.resolve k (the_promise s k) v) s
+settle_promise-more now names k (Failed v) s = changed-more now names k (Promises.reject k (the_promise s k) v) s
 
-pub follow_promise-more : (names : List (List ℕ)) (k : ℕ) (how : Settled) (s : Notices) → s.jobs_made ≤ (follow_promise names k how s).notices.jobs_made
-follow_promise-more names k how s = changed-more names k (Promises.follow k (the_promise s k) how) s
+pub follow_promise-more : (now : Context) (names : List (List ℕ)) (k : ℕ) (how : Settled) (s : Notices) → s.jobs_made ≤ (follow_promise now names k how s).notices.jobs_made
+follow_promise-more now names k how s = changed-more now names k (Promises.follow k (the_promise s k) how) s
 
-pub subscribe_promise-more : (k : ℕ) (r : Reaction) (s : Notices) → s.jobs_made ≤ (subscribe_promise k r s).notices.jobs_made
-subscribe_promise-more k r s =
-    changed-more [] k (Promises.subscribe k (the_promise s k) r) (record s { rejected = without (λ m. m == k) s.rejected; outstanding = without (λ m. m == k) s.outstanding })
+pub subscribe_promise-more : (now : Context) (k : ℕ) (r : Reaction) (s : Notices) → s.jobs_made ≤ (subscribe_promise now k r s).notices.jobs_made
+subscribe_promise-more now k r s =
+    changed-more now [] k (Promises.subscribe k (the_promise s k) r) (record s { rejected = without (λ m. m == k) s.rejected; outstanding = without (λ m. m == k) s.outstanding })
 
 -- ---- values
 
@@ -127,24 +128,24 @@ module _ (n : Made) where
   pub the_promise-given : (s : Notices) (k : ℕ) → NoticesAreGiven n s → PromiseIsGiven n (the_promise s k)
   the_promise-given s k h = Each-numbered (PromiseIsGiven n) s.promises k pending_promise h.promises pending-given
 
-  pub queue_job-given : (what : Todo) (s : Notices) → suc s.jobs_made ≤ n.jobs → TodoIsGiven n what → NoticesAreGiven n s → NoticesAreGiven n (queue_job what s).notices
-  queue_job-given what s le t h =
+  pub queue_job-given : (now : Context) → IfThere (IsGiven n.states) now.state → (what : Todo) (s : Notices) → suc s.jobs_made ≤ n.jobs → TodoIsGiven n what → NoticesAreGiven n s → NoticesAreGiven n (queue_job now what s).notices
+  queue_job-given now y what s le t h =
       record {
         promises = h.promises;
-        jobs = Each-last (JobIsGiven n) s.jobs _ h.jobs (record { number = record { from_one = omega arith; to_last = le }; what = t });
+        jobs = Each-last (JobIsGiven n) s.jobs _ h.jobs (record { number = record { from_one = omega arith; to_last = le }; what = t; state = y });
         rejected = h.rejected;
         outstanding = h.outstanding;
       }
 
-  queue_jobs-given : (js : List PromiseJob) (s : Notices) → (queue_jobs js s).notices.jobs_made ≤ n.jobs → Each (PromiseJobIsGiven n) js → NoticesAreGiven n s → NoticesAreGiven n (queue_jobs js s).notices
-  queue_jobs-given [] s le j h = h
-  queue_jobs-given (x ∷ js) s le j h =
-      let next = (queue_job (OfPromise x) s).notices in
-      queue_jobs-given js next le j.1 (queue_job-given (OfPromise x) s (omega (arith, le, queue_jobs-more js next)) j.0 h)
+  queue_jobs-given : (now : Context) → IfThere (IsGiven n.states) now.state → (js : List PromiseJob) (s : Notices) → (queue_jobs now js s).notices.jobs_made ≤ n.jobs → Each (PromiseJobIsGiven n) js → NoticesAreGiven n s → NoticesAreGiven n (queue_jobs now js s).notices
+  queue_jobs-given now y [] s le j h = h
+  queue_jobs-given now y (x ∷ js) s le j h =
+      let next = (queue_job now (OfPromise x) s).notices in
+      queue_jobs-given now y js next le j.1 (queue_job-given now y (OfPromise x) s (omega (arith, le, queue_jobs-more now js next)) j.0 h)
 
-  changed-given : (names : List (List ℕ)) (k : ℕ) (c : Change) (s : Notices) → (changed names k c s).notices.jobs_made ≤ n.jobs → IsGiven n.promises k → ChangeIsGiven c → NoticesAreGiven n s → NoticesAreGiven n (changed names k c s).notices
-  changed-given names k c s le g x h =
-      queue_jobs-given c.jobs (promise_changed names k c s).notices le x.jobs
+  changed-given : (now : Context) → IfThere (IsGiven n.states) now.state → (names : List (List ℕ)) (k : ℕ) (c : Change) (s : Notices) → (changed now names k c s).notices.jobs_made ≤ n.jobs → IsGiven n.promises k → ChangeIsGiven c → NoticesAreGiven n s → NoticesAreGiven n (changed now names k c s).notices
+  changed-given now y names k c s le g x h =
+      queue_jobs-given now y c.jobs (promise_changed names k c s).notices le x.jobs
       (record {
         promises = Each-set (PromiseIsGiven n) s.promises (pred k) c.promise h.promises x.promise;
         jobs = h.jobs;
@@ -152,16 +153,16 @@ module _ (n : Made) where
         outstanding = h.outstanding;
       })
 
-  pub settle_promise-given : (names : List (List ℕ)) (k : ℕ) (how : Settled) (s : Notices) → (settle_promise names k how s).notices.jobs_made ≤ n.jobs → IsGiven n.promises k → IsKnown n (settled_value how) → NoticesAreGiven n s → NoticesAreGiven n (settle_promise names k how s).notices
-  settle_promise-given names k (Fulfilled v) s le g x h = changed-given names k (Promises.resolve k (the_promise s k) v) s le g (resolved-given k (the_promise s k) v g (the_promise-given s k h) x) h
-  settle_promise-given names k (Failed v) s le g x h = changed-given names k (Promises.reject k (the_promise s k) v) s le g (rejected-given k (the_promise s k) v g (the_promise-given s k h) x) h
+  pub settle_promise-given : (now : Context) → IfThere (IsGiven n.states) now.state → (names : List (List ℕ)) (k : ℕ) (how : Settled) (s : Notices) → (settle_promise now names k how s).notices.jobs_made ≤ n.jobs → IsGiven n.promises k → IsKnown n (settled_value how) → NoticesAreGiven n s → NoticesAreGiven n (settle_promise now names k how s).notices
+  settle_promise-given now y names k (Fulfilled v) s le g x h = changed-given now y names k (Promises.resolve k (the_promise s k) v) s le g (resolved-given k (the_promise s k) v g (the_promise-given s k h) x) h
+  settle_promise-given now y names k (Failed v) s le g x h = changed-given now y names k (Promises.reject k (the_promise s k) v) s le g (rejected-given k (the_promise s k) v g (the_promise-given s k h) x) h
 
-  pub follow_promise-given : (names : List (List ℕ)) (k : ℕ) (how : Settled) (s : Notices) → (follow_promise names k how s).notices.jobs_made ≤ n.jobs → IsGiven n.promises k → IsKnown n (settled_value how) → NoticesAreGiven n s → NoticesAreGiven n (follow_promise names k how s).notices
-  follow_promise-given names k how s le g x h = changed-given names k (Promises.follow k (the_promise s k) how) s le g (followed-given k (the_promise s k) how g (the_promise-given s k h) x) h
+  pub follow_promise-given : (now : Context) → IfThere (IsGiven n.states) now.state → (names : List (List ℕ)) (k : ℕ) (how : Settled) (s : Notices) → (follow_promise now names k how s).notices.jobs_made ≤ n.jobs → IsGiven n.promises k → IsKnown n (settled_value how) → NoticesAreGiven n s → NoticesAreGiven n (follow_promise now names k how s).notices
+  follow_promise-given now y names k how s le g x h = changed-given now y names k (Promises.follow k (the_promise s k) how) s le g (followed-given k (the_promise s k) how g (the_promise-given s k h) x) h
 
-  pub subscribe_promise-given : (k : ℕ) (r : Reaction) (s : Notices) → (subscribe_promise k r s).notices.jobs_made ≤ n.jobs → IsGiven n.promises k → ReactionIsGiven n r → NoticesAreGiven n s → NoticesAreGiven n (subscribe_promise k r s).notices
-  subscribe_promise-given k r s le g x h =
-      changed-given [] k (Promises.subscribe k (the_promise s k) r) (record s { rejected = without (λ m. m == k) s.rejected; outstanding = without (λ m. m == k) s.outstanding }) le g
+  pub subscribe_promise-given : (now : Context) → IfThere (IsGiven n.states) now.state → (k : ℕ) (r : Reaction) (s : Notices) → (subscribe_promise now k r s).notices.jobs_made ≤ n.jobs → IsGiven n.promises k → ReactionIsGiven n r → NoticesAreGiven n s → NoticesAreGiven n (subscribe_promise now k r s).notices
+  subscribe_promise-given now y k r s le g x h =
+      changed-given now y [] k (Promises.subscribe k (the_promise s k) r) (record s { rejected = without (λ m. m == k) s.rejected; outstanding = without (λ m. m == k) s.outstanding }) le g
       (subscribed_by-given k (the_promise s k) r (the_promise s k).outcome g (the_promise-given s k h) x)
       (record {
         promises = h.promises;
@@ -278,28 +279,28 @@ module _ (n : Made) where
 
   -- ---- listeners
 
-  pub snapshot-given : (target : Target) (name : List ℕ) (ls : List Listener) → Each (ListenerIsGiven n) ls → Each (IsRegistered n) (snapshot target name ls)
+  pub snapshot-given : (target : Target) (name : List ℕ) (ls : List Listener) → Each (ListenerIsGiven n) ls → Each (IsFor (OfKind ListenerKind) n) (snapshot target name ls)
   snapshot-given target name ls h =
-      Each-map (IsRegistered n) (λ (l : Listener). l.registration) _ (Each-more (ListenerIsGiven n) (λ l. IsRegistered n l.registration) (λ l x. x.registration) _ (Each-filter (ListenerIsGiven n) _ ls h))
+      Each-map (IsFor (OfKind ListenerKind) n) (λ (l : Listener). l.registration) _ (Each-more (ListenerIsGiven n) (λ l. IsFor (OfKind ListenerKind) n l.registration) (λ l x. x.registration) _ (Each-filter (ListenerIsGiven n) _ ls h))
 
 -- ---- how many there are
 
-queue_jobs-count : (js : List PromiseJob) (s : Notices) → length (queue_jobs js s).notices.promises ≡ length s.promises
-queue_jobs-count [] s = refl
-queue_jobs-count (x ∷ js) s = queue_jobs-count js (queue_job (OfPromise x) s).notices
+queue_jobs-count : (now : Context) (js : List PromiseJob) (s : Notices) → length (queue_jobs now js s).notices.promises ≡ length s.promises
+queue_jobs-count now [] s = refl
+queue_jobs-count now (x ∷ js) s = queue_jobs-count now js (queue_job now (OfPromise x) s).notices
 
-changed-count : (names : List (List ℕ)) (k : ℕ) (c : Change) (s : Notices) → length (changed names k c s).notices.promises ≡ length s.promises
-changed-count names k c s = queue_jobs-count c.jobs (promise_changed names k c s).notices ∙ length-put s.promises (pred k) c.promise
+changed-count : (now : Context) (names : List (List ℕ)) (k : ℕ) (c : Change) (s : Notices) → length (changed now names k c s).notices.promises ≡ length s.promises
+changed-count now names k c s = queue_jobs-count now c.jobs (promise_changed names k c s).notices ∙ length-put s.promises (pred k) c.promise
 
-pub settle_promise-count : (names : List (List ℕ)) (k : ℕ) (how : Settled) (s : Notices) → length (settle_promise names k how s).notices.promises ≡ length s.promises
-settle_promise-count names k (Fulfilled v) s = changed-count names k (Promises.resolve k (the_promise s k) v) s
-settle_promise-count names k (Failed v) s = changed-count names k (Promises.reject k (the_promise s k) v) s
+pub settle_promise-count : (now : Context) (names : List (List ℕ)) (k : ℕ) (how : Settled) (s : Notices) → length (settle_promise now names k how s).notices.promises ≡ length s.promises
+settle_promise-count now names k (Fulfilled v) s = changed-count now names k (Promises.resolve k (the_promise s k) v) s
+settle_promise-count now names k (Failed v) s = changed-count now names k (Promises.reject k (the_promise s k) v) s
 
-pub follow_promise-count : (names : List (List ℕ)) (k : ℕ) (how : Settled) (s : Notices) → length (follow_promise names k how s).notices.promises ≡ length s.promises
-follow_promise-count names k how s = changed-count names k (Promises.follow k (the_promise s k) how) s
+pub follow_promise-count : (now : Context) (names : List (List ℕ)) (k : ℕ) (how : Settled) (s : Notices) → length (follow_promise now names k how s).notices.promises ≡ length s.promises
+follow_promise-count now names k how s = changed-count now names k (Promises.follow k (the_promise s k) how) s
 
-pub subscribe_promise-count : (k : ℕ) (r : Reaction) (s : Notices) → length (subscribe_promise k r s).notices.promises ≡ length s.promises
-subscribe_promise-count k r s = changed-count [] k (Promises.subscribe k (the_promise s k) r) _
+pub subscribe_promise-count : (now : Context) (k : ℕ) (r : Reaction) (s : Notices) → length (subscribe_promise now k r s).notices.promises ≡ length s.promises
+subscribe_promise-count now k r s = changed-count now [] k (Promises.subscribe k (the_promise s k) r) _
 
 with_dependent-count : (d : ℕ) (sources : List ℕ) (ss : Signals Value) → length (with_dependent d sources ss) ≡ length ss
 with_dependent-count d [] ss = refl

@@ -1,10 +1,11 @@
 -- Tasks and parallel items leave all numbers given.
-use Rattle.std.proofs.Common.{ℕ, zero, suc, Bool, true, false, List, [], ◌∷◌, length, Option, Some, None, cond, ℤ, pos, nat_lt, nat_le, Result, Ok, Err, slice_get}
+use Rattle.page_types.specs.declared.RegKind.TheVariants.{Frame as FrameKind, Idle as IdleKind}
+use Rattle.std.proofs.Common.{ℕ, zero, suc, Bool, true, false, List, [], ◌∷◌, length, Option, Some, None, cond, ℤ, pos, nat_lt, nat_le, Result, Ok, Err, slice_get, ◌++◌}
 use Rattle.std.specs.Prelude.{slice_set, codes, ◌==◌, find, option_map}
 use Rattle.page_types.specs.Values.{IntValue, PromiseValue, UnitValue, DeadlineValue}
 use Rattle.page_types.specs.Tree.{Program}
 use Rattle.page_types.specs.declared.FaultName.TheVariants.{TimeoutError}
-use Rattle.page_types.specs.Events.{Ret, Call, Unhandled, Handled, Host, Frame, IdleLine, Due}
+use Rattle.page_types.specs.Events.{Ret, Unhandled, Handled, Host, Frame, IdleLine, Due}
 use Rattle.page_types.specs.declared.Source.TheVariants.{Net, Timer, Render, Idle}
 use Rattle.page_parts.specs.Words.{is_empty, without, and_last}
 use Rattle.page_parts.specs.Kinds.{a_fault}
@@ -20,14 +21,14 @@ use Rattle.page_model.specs.State.{Page, State, TimerTask, HostTask, HostAnswer,
 use Rattle.page_model.specs.PagePromises as promises
 use Rattle.page_model.specs.PagePromises.{promise_at}
 use Rattle.page_model.specs.PageTime.{init_timer, clear_id, without_frame, without_idle, without_timer, with_state, deadline, idle_callback, completion_of, next_frame, enqueue}
-use Rattle.page_model.specs.Invoke.{Ways, invoke, settle_derived, checkpoint}
+use Rattle.page_model.specs.Invoke.{Ways, invoke, settle_derived, checkpoint, call_begun, call_ended}
 use Rattle.page_model.specs.PageSignals.{dispatch, unwatch, is_aborted_source}
 use Rattle.page_model.specs.Tasks.{initialised_again, timer_goes_on, where_live, run_timer, frame_callback, run_frame, background, call_idle, invoke_idle_again, idle_called, invoke_idle, timed_out, promise_reason, outstanding_if_unhandled, notify_one, perform_steps, continued, post_state, run_post, perform_sched, fire_closure, settle_answer, answer_host, after_task}
 use Rattle.page_model.specs.Parallel.{ItemKind, ArrivalItem, HostItem, TimerItem, IdleItem, FrameItem, Item, frame_items, items_in_order, first_item_from, first_item_of, first_item, complete, complete_at, take_item, due_item, take_due, item_count, parallel}
-use Rattle.page_model.specs.Numbers.{HostTaskIsGiven, Each, IfThere, Made, made_by, IsGiven, HasPromise, IsKnown, NoticesAreGiven, TimerTaskIsGiven, StepsAreGiven, SchedTaskIsGiven, CompletionIsGiven, CompletingIsGiven, IdleTimerIsGiven}
-use Rattle.page_model.proofs.NumbersGrow.{Each-append, Each-last, Each-map, Each-without, Each-find, Grows-same, promise-grows, TimerTask-grows, InNotices, InIdleTimers, InHostAnswers, InArrivals, InCompletions, Held, Onward, stays, onward-then}
+use Rattle.page_model.specs.Numbers.{HostTaskIsGiven, Each, IfThere, Made, made_by, IsGiven, HasPromise, IsKnown, NoticesAreGiven, TimerTaskIsGiven, StepsAreGiven, SchedTaskIsGiven, CompletionIsGiven, CompletingIsGiven, IdleTimerIsGiven, CallbackIsGiven, IdleIsGiven}
+use Rattle.page_model.proofs.NumbersGrow.{Each-append, Each-last, Each-map, Each-without, Each-find, Grows-same, promise-grows, TimerTask-grows, InNotices, InIdleTimers, InHostAnswers, InArrivals, InCompletions, Held, Onward, stays, onward-then, InFrames, InIdle}
 use Rattle.page_model.proofs.NumbersParts.{length-put, the_promise-given}
-use Rattle.page_model.proofs.NumbersPages.{hosts-held, put_notices, cond_of-onward, cond-onward, resolve-held, reject-held, queue_task-held, the_registration-given, init_again-held, clear_id-held, without_timer-held, without_frame-held, without_idle-held, enqueue-held, with_state-held, unwatch-held}
+use Rattle.page_model.proofs.NumbersPages.{hosts-held, put_notices, cond_of-onward, cond-onward, resolve-held, reject-held, queue_task-held, the_registration-given, init_again-held, clear_id-held, without_timer-held, without_frame-held, without_idle-held, enqueue-held, with_state-held, unwatch-held, call_begun-held, call_ended-held}
 use Rattle.page_model.proofs.NumbersEvaluation.{Good}
 use Rattle.page_model.proofs.NumbersRuns.{CallsGo, Goes, WaysGo, then_page, finish_page, finish-goes, branch-goes, afterwards-goes, invoke-goes, settle_derived-goes, checkpoint-goes, scheduling-held, each_in_turn-goes, dispatch-goes, abort-goes}
 
@@ -54,10 +55,13 @@ invoke_idle_again-held p h = cond-onward (made_by p) (is_empty p.idle.runnable) 
 
 continued-held : (r : ℕ) (p : Page) → Held (made_by p) p → HasPromise (made_by p) r → Onward (made_by p) (continued r p)
 continued-held r p h x =
-    let called = emit (Call r) p in
+    let called = call_begun r p in
     let settled = promises.resolve (the_registration p r).promise UnitValue called in
-    let here : Onward (made_by p) settled = resolve-held (the_registration p r).promise UnitValue called h x.promise tt in
-    onward-then (made_by p) settled (continued r p) here (unwatch-held r (emit Ret settled) here.1)
+    let first : Onward (made_by p) called = call_begun-held r p h x.registration in
+    let here : Onward (made_by p) settled = resolve-held (the_registration p r).promise UnitValue called first.1 x.promise tt in
+    let ended = call_ended Ret settled in
+    let there : Onward (made_by p) ended = onward-then (made_by p) settled ended here (call_ended-held Ret settled here.1) in
+    onward-then (made_by p) ended (continued r p) there (unwatch-held r ended there.1)
 
 post_state-held : (t : SchedTask) (p : Page) → Held (made_by p) p → SchedTaskIsGiven (made_by p) t → Onward (made_by p) (post_state t p)
 post_state-held t p h x =
@@ -83,6 +87,9 @@ answer_host-held t answer p h x =
     onward-then (made_by p) fired (answer_host t answer p) here
     (onward-then (made_by fired) settled (answer_host t answer p) there (unwatch-held t.registration settled there.1))
 
+idle_given : (m : State) → Good m → IdleIsGiven (made_by m.host) m.host.idle
+idle_given m g = g.0 InIdle
+
 module _ (program : Program) where
   -- ---- timers
 
@@ -100,15 +107,15 @@ module _ (program : Program) where
       let begun = on_page (λ p. record p { level = t.level }) m in
       then_page program m (λ p. record p { level = t.level }) (run_timer w t m) g (stays m.host g.0) (λ b.
       where_live-goes t (λ m. afterwards (invoke w t.registration false [] m) (where_live t (timer_goes_on t))) begun b.1
-      (afterwards-goes program begun (invoke w t.registration false [] begun) (where_live t (timer_goes_on t)) (invoke-goes program w a t.registration false [] begun b.1 tt)
+      (afterwards-goes program begun (invoke w t.registration false [] begun) (where_live t (timer_goes_on t)) (invoke-goes program w a t.registration false [] begun b.1 x.registration.registration tt)
       (λ r le gr. where_live-goes t (timer_goes_on t) r gr (timer_goes_on-goes t r gr (TimerTask-grows (made_by m.host) (made_by r.host) le t x)))))
 
   -- ---- frames and idle callbacks
 
-  frame_callback-goes : (w : Ways) → WaysGo program w → (t : ℕ) (c : Option Callback) (m : State) → Good m → Goes program m (frame_callback w t c m)
-  frame_callback-goes w a t None m g = finish-goes program m g
-  frame_callback-goes w a t (Some c) m g =
-      then_page program m (without_frame c.handle) (frame_callback w t (Some c) m) g (without_frame-held c.handle m.host g.0) (λ b. invoke-goes program w a c.registration false (IntValue (pos t) ∷ []) (on_page (without_frame c.handle) m) b.1 (tt, tt))
+  frame_callback-goes : (w : Ways) → WaysGo program w → (t : ℕ) (c : Option Callback) (m : State) → Good m → IfThere (CallbackIsGiven FrameKind m.host.frames.made (made_by m.host)) c → Goes program m (frame_callback w t c m)
+  frame_callback-goes w a t None m g x = finish-goes program m g
+  frame_callback-goes w a t (Some c) m g x =
+      then_page program m (without_frame c.handle) (frame_callback w t (Some c) m) g (without_frame-held c.handle m.host g.0) (λ b. invoke-goes program w a c.registration false (IntValue (pos t) ∷ []) (on_page (without_frame c.handle) m) b.1 x.registration.registration (tt, tt))
 
   abbrev IsAny : Made → ℕ → Type 0
   IsAny n k = Unit {0}
@@ -122,30 +129,30 @@ module _ (program : Program) where
       let begun = on_page (emit (Frame t)) m in
       then_page program m (emit (Frame t)) (run_frame w t m) g (stays m.host g.0)
       (λ b. each_in_turn-goes program begun IsAny (λ n n' h k x. tt) (λ key m. frame_callback w t (callback_in m.host.frames.callbacks key) m)
-      (λ key r le gr x. frame_callback-goes w a t (callback_in r.host.frames.callbacks key) r gr) (keys m.host.frames) begun (Grows-same (made_by m.host)) b.1 (any_numbers (made_by m.host) (keys m.host.frames)))
+      (λ key r le gr x. frame_callback-goes w a t (callback_in r.host.frames.callbacks key) r gr (Each-find (CallbackIsGiven FrameKind r.host.frames.made (made_by r.host)) (λ c. c.handle == key) r.host.frames.callbacks (gr.0 InFrames))) (keys m.host.frames) begun (Grows-same (made_by m.host)) b.1 (any_numbers (made_by m.host) (keys m.host.frames)))
 
-  call_idle-goes : (w : Ways) → WaysGo program w → (c : Callback) (t : Option ℕ) (m : State) → Good m → Goes program m (call_idle w c t m)
-  call_idle-goes w a c t m g =
+  call_idle-goes : (w : Ways) → WaysGo program w → (c : Callback) (t : Option ℕ) (m : State) → Good m → CallbackIsGiven IdleKind m.host.idle.made (made_by m.host) c → Goes program m (call_idle w c t m)
+  call_idle-goes w a c t m g x =
       let gone = on_page (without_idle c.handle) m in
       then_page program m (without_idle c.handle) (call_idle w c t m) g (without_idle-held c.handle m.host g.0)
       (λ b. then_page program gone (with_state background) (call_idle w c t m) b.1 (with_state-held background gone.host b.1.0 (record { abort_source = tt; prio_source = tt }))
-      (λ d. invoke-goes program w a c.registration false (DeadlineValue t ∷ []) (on_page (with_state background) gone) d.1 (tt, tt)))
+      (λ d. invoke-goes program w a c.registration false (DeadlineValue t ∷ []) (on_page (with_state background) gone) d.1 x.registration.registration (tt, tt)))
 
-  idle_called-goes : (w : Ways) → WaysGo program w → (cs : List Callback) (m : State) → Good m → Goes program m (idle_called w cs m)
-  idle_called-goes w a [] m g = finish-goes program m g
-  idle_called-goes w a (c ∷ others) m g =
+  idle_called-goes : (w : Ways) → WaysGo program w → (cs : List Callback) (m : State) → Good m → Each (CallbackIsGiven IdleKind m.host.idle.made (made_by m.host)) cs → Goes program m (idle_called w cs m)
+  idle_called-goes w a [] m g x = finish-goes program m g
+  idle_called-goes w a (c ∷ others) m g x =
       let told = on_page (λ p. emit (IdleLine (deadline p.last_idle_start p)) p) m in
       afterwards-goes program m (call_idle w c None told) (λ m. finish (on_page invoke_idle_again m))
-      (then_page program m (λ p. emit (IdleLine (deadline p.last_idle_start p)) p) (call_idle w c None told) g (stays m.host g.0) (λ b. call_idle-goes w a c None told b.1))
+      (then_page program m (λ p. emit (IdleLine (deadline p.last_idle_start p)) p) (call_idle w c None told) g (stays m.host g.0) (λ b. call_idle-goes w a c None told b.1 x.0))
       (λ r le gr. finish_page program r invoke_idle_again gr (invoke_idle_again-held r.host gr.0))
 
   invoke_idle-goes : (w : Ways) → WaysGo program w → (m : State) → Good m → Goes program m (invoke_idle w m)
   invoke_idle-goes w a m g =
-      branch-goes program (nat_lt m.host.now (deadline m.host.last_idle_start m.host)) m (λ m. idle_called w m.host.idle.runnable m) finish (idle_called-goes w a m.host.idle.runnable m g) (finish-goes program m g)
+      branch-goes program (nat_lt m.host.now (deadline m.host.last_idle_start m.host)) m (λ m. idle_called w m.host.idle.runnable m) finish (idle_called-goes w a m.host.idle.runnable m g (idle_given m g).runnable) (finish-goes program m g)
 
-  timed_out-goes : (w : Ways) → WaysGo program w → (c : Option Callback) (m : State) → Good m → Goes program m (timed_out w c m)
-  timed_out-goes w a None m g = finish-goes program m g
-  timed_out-goes w a (Some c) m g = call_idle-goes w a c (Some m.host.now) m g
+  timed_out-goes : (w : Ways) → WaysGo program w → (c : Option Callback) (m : State) → Good m → IfThere (CallbackIsGiven IdleKind m.host.idle.made (made_by m.host)) c → Goes program m (timed_out w c m)
+  timed_out-goes w a None m g x = finish-goes program m g
+  timed_out-goes w a (Some c) m g x = call_idle-goes w a c (Some m.host.now) m g x
 
   -- ---- rejected promises
 
@@ -165,14 +172,14 @@ module _ (program : Program) where
   -- ---- steps of tasks
 
   pub perform_steps-goes : (w : Ways) → WaysGo program w → (steps : Steps) (m : State) → Good m → StepsAreGiven (made_by m.host) steps → Goes program m (perform_steps w steps m)
-  perform_steps-goes w a RunScript m g x = invoke-goes program w a 1 false [] m g tt
+  perform_steps-goes w a RunScript m g x = invoke-goes program w a 1 false [] m g x.registration tt
   perform_steps-goes w a (RunTimer t) m g x = run_timer-goes w a t m g x
   perform_steps-goes w a (TimeOutSignal s) m g x = abort-goes program w a s (a_fault TimeoutError) m g x tt
   perform_steps-goes w a (FireAtWindow name v) m g x = dispatch-goes program w a Window name (v ∷ []) m g (x, tt)
   perform_steps-goes w a (AnswerHost t) m g x = finish-goes program m g
   perform_steps-goes w a (RunFrame t) m g x = run_frame-goes w a t m g
   perform_steps-goes w a InvokeIdle m g x = invoke_idle-goes w a m g
-  perform_steps-goes w a (IdleTimeout handle) m g x = timed_out-goes w a (idle_callback handle m.host) m g
+  perform_steps-goes w a (IdleTimeout handle) m g x = timed_out-goes w a (idle_callback handle m.host) m g (Each-find (CallbackIsGiven IdleKind m.host.idle.made (made_by m.host)) (λ c. c.handle == handle) (m.host.idle.runnable ++ m.host.idle.pending) (Each-append (CallbackIsGiven IdleKind m.host.idle.made (made_by m.host)) m.host.idle.runnable m.host.idle.pending (idle_given m g).runnable (idle_given m g).pending))
   perform_steps-goes w a (NotifyRejected ks) m g x =
       each_in_turn-goes program m IsPromise promise-grows (notify_one w) (λ k r le gr y. notify_one-goes w a k r gr y) ks m (Grows-same (made_by m.host)) g x
   perform_steps-goes w a (NotifyHandled k) m g x =
@@ -188,7 +195,7 @@ module _ (program : Program) where
       let promise : IsGiven (length m.host.notices.promises) into = x.registration.promise in
       afterwards-goes program m (settle_derived into (invoke w t.registration false [] begun)) (λ m. finish (on_page (unwatch t.registration) m))
       (settle_derived-goes program into m (invoke w t.registration false [] begun) promise
-      (then_page program m (post_state t) (invoke w t.registration false [] begun) g (post_state-held t m.host g.0 x) (λ b. invoke-goes program w a t.registration false [] begun b.1 tt)))
+      (then_page program m (post_state t) (invoke w t.registration false [] begun) g (post_state-held t m.host g.0 x) (λ b. invoke-goes program w a t.registration false [] begun b.1 x.kind.registration tt)))
       (λ r le gr. finish_page program r (unwatch t.registration) gr (unwatch-held t.registration r.host gr.0))
 
   pub perform_sched-goes : (w : Ways) → WaysGo program w → (t : SchedTask) (m : State) → Good m → SchedTaskIsGiven (made_by m.host) t → Goes program m (perform_sched w t m)
@@ -263,7 +270,7 @@ due_item-given n now (Some a) h = by_due (nat_le a.due now)
 complete-held : (c : Completion) (p : Page) → Held (made_by p) p → CompletionIsGiven (made_by p) c → Onward (made_by p) (complete c p)
 complete-held (QueueTimer t) p h x = queue_task-held Timer (RunTimer t) (emit (Due t.registration) p) h x
 complete-held (EnqueuePost r source) p h x =
-    cond_of-onward (made_by p) (is_aborted_source p (the_registration p r).signal) (λ q. q) (enqueue r source false) (emit (Due r) p) (stays p h) (enqueue-held r source false (emit (Due r) p) h x.0 x.1)
+    cond_of-onward (made_by p) (is_aborted_source p (the_registration p r).signal) (λ q. q) (enqueue r source false) (emit (Due r) p) (stays p h) (enqueue-held r source false (emit (Due r) p) h x.0 x.2 x.1)
 complete-held (QueueSignal r s) p h x = queue_task-held Timer (TimeOutSignal s) (emit (Due r) p) h x.1
 
 complete_at-held : (c : Option Completion) (p : Page) → Held (made_by p) p → IfThere (CompletionIsGiven (made_by p)) c → Onward (made_by p) (complete_at c p)

@@ -24,7 +24,7 @@ use Rattle.page_model.specs.Tasks.{perform_steps, perform_sched, answer_host, af
 use Rattle.page_model.specs.Parallel.{item_count, parallel}
 use Rattle.page_model.specs.View.{view}
 use Rattle.page_model.specs.Choosing.{Rules, Chosen, chosen_source, chosen_reading, chosen_answer}
-use Rattle.page_model.specs.Turns.{Turned, GoesOn, Ended, Stuck, state_of, ends, goes_on, choose_turned, step_five, task_done, without_task, not_dropped, answered, perform_host, perform_task, perform_first, perform_first_sched, perform, turn_line, perform_picked, step_four, counted_turn, with_turn_fuel, step_three, is_pending, target, at_time, waited, step_two_at, step_two_by, step_two, step_one, after_step_one, from_step_one, turn, next_turn, turns, first_page, first_state}
+use Rattle.page_model.specs.Turns.{Turned, GoesOn, Ended, Stuck, state_of, ends, goes_on, choose_turned, step_five, task_done, without_task, not_dropped, answered, perform_host, perform_task, perform_first, perform_first_sched, perform, turn_line, perform_picked, step_four, counted_turn, with_turn_fuel, step_three, from_step_three, is_pending, target, at_time, waited, step_two_at, step_two_by, step_two, step_one, after_step_one, from_step_one, turn, next_turn, turns, first_page, first_state}
 use Rattle.page_model.specs.Numbers.{TaskIsGiven, Each, IfThere, Made, made_by, Grows, HasPromise, IsKnown, StepsAreGiven, SchedTaskIsGiven, VariablesAreKnown, AllAreGiven, nothing_made, HoldsNoNumbers, IsAfter}
 use Rattle.page_model.proofs.NumbersGrow.{Each-more, Each-without, Each-find, Grows-same, Grows-then, IsKnown-grows, InRegistrations, InNotices, InTasks, InSchedTasks, InTimers, InIdle, InArrivals, Held, Onward, stays}
 use Rattle.page_model.proofs.NumbersPages.{without_sched-held, idle_step-held}
@@ -99,10 +99,10 @@ module _ {C : Type 0} (program : Program) where
   ends-lands : (end : End) (c : C) (m : State) → Good m → Lands m (ends end c m)
   ends-lands end c m g = on_page-good m (emit (EndLine end)) g (stays m.host g.0)
 
-  goes_on-lands : (c : C) (m : State) (d : Done Page) → Goes program m d → Lands m (goes_on c step_five d)
-  goes_on-lands c m (Gives v r) h = then_reached m r (step_five r) (h.0, h.1) (step_five-reaches r)
-  goes_on-lands c m (Returns v r) h = then_reached m r (step_five r) (h.0, h.1) (step_five-reaches r)
-  goes_on-lands c m (Throws v r) h = then_reached m r (step_five r) (h.0, h.1) (step_five-reaches r)
+  goes_on-lands : (c : C) (m : State) (d : Done Page) → Goes program m d → Lands m (goes_on c d)
+  goes_on-lands c m (Gives v r) h = (h.0, h.1)
+  goes_on-lands c m (Returns v r) h = (h.0, h.1)
+  goes_on-lands c m (Throws v r) h = (h.0, h.1)
   goes_on-lands c m (OutOfFuel r) h = lands-then m r (ends FuelEnd c r) (h.0, h.1) (ends-lands FuelEnd c r)
 
   choose-lands : (b : Bool) (then else : State → Turned C) (m : State) → Lands m (then m) → Lands m (else m) → Lands m (choose_turned b then else m)
@@ -168,7 +168,7 @@ module _ {C : Type 0} (program : Program) where
         lands-then m told (perform rules call s.choice told s.left) (turn_line-reaches (Some s.choice) m g) (perform-lands s.choice told s.left)
 
     step_four-lands : (rs : List Runnable) (m : State) (c : C) → Good m → Lands m (step_four rules call rs m c)
-    step_four-lands [] m c g = then_reached m (turn_line None m) (step_five (turn_line None m)) (turn_line-reaches None m g) (step_five-reaches (turn_line None m))
+    step_four-lands [] m c g = turn_line-reaches None m g
     step_four-lands (r ∷ rs) m c g = perform_picked-lands (chosen_source rules (r ∷ rs) c) m c g
 
     with_turn_fuel-lands : (fuel : ℕ) (m : State) (c : C) → Good m → Lands m (with_turn_fuel rules call fuel m c)
@@ -180,6 +180,10 @@ module _ {C : Type 0} (program : Program) where
     step_three-lands : (until : ℕ) (c : C) (m : State) → Good m → Lands m (step_three rules call until c m)
     step_three-lands until c m g =
         choose-lands (nat_le until m.host.now) (ends ClockEnd c) (λ m. with_turn_fuel rules call m.fuel m c) m (ends-lands ClockEnd c m g) (with_turn_fuel-lands m.fuel m c g)
+
+    from_step_three-lands : (until : ℕ) (c : C) (m : State) → Good m → Lands m (from_step_three rules call until c m)
+    from_step_three-lands until c m g =
+        next_turn-lands m (step_three rules call until c m) (λ m c. GoesOn (step_five m) c) (step_three-lands until c m g) (λ r c gr. step_five-reaches r gr)
 
     -- the turn from its beginning, or a step of it
     abbrev LandsAgain : (State → C → Turned C) → Type 0
@@ -211,8 +215,8 @@ module _ {C : Type 0} (program : Program) where
 
     after_step_one-lands : (until : ℕ) (again : State → C → Turned C) (c : C) (m : State) → LandsAgain again → Good m → Lands m (after_step_one rules call until again c m)
     after_step_one-lands until again c m k g =
-        choose-lands (is_empty (view m.host)) (step_two rules until again (step_three rules call until c) c) (step_three rules call until c) m
-        (step_two-lands until again (step_three rules call until c) c m k (step_three-lands until c) g) (step_three-lands until c m g)
+        choose-lands (is_empty (view m.host)) (step_two rules until again (from_step_three rules call until c) c) (from_step_three rules call until c) m
+        (step_two-lands until again (from_step_three rules call until c) c m k (from_step_three-lands until c) g) (from_step_three-lands until c m g)
 
     from_step_one-lands : (until n : ℕ) (m : State) (c : C) → Good m → Lands m (from_step_one rules call until n m c)
     from_step_one-lands until zero m c g = here_reached m g
@@ -249,12 +253,13 @@ from_nothing n =
       tasks = omega arith;
       jobs = omega arith;
       hosts = omega arith;
+      combinators = omega arith;
     }
 
 first_page-held : (program : Program) (setup : Setup) (hosts : List HostClosure) → HoldsNoNumbers setup → Held (made_by (first_page program setup hosts)) (first_page program setup hosts)
 first_page-held program setup hosts h InRegistrations = (record { callback = tt; second_callback = tt; timer_id = omega arith; promise = omega arith; signal = tt }, tt)
 first_page-held program setup hosts h InNotices = record { promises = tt; jobs = tt; rejected = tt; outstanding = tt }
-first_page-held program setup hosts h InTasks = (record { number = record { from_one = omega arith; to_last = omega arith }; steps = record { from_one = omega arith; to_last = omega arith } }, tt)
+first_page-held program setup hosts h InTasks = (record { number = record { from_one = omega arith; to_last = omega arith }; steps = record { registration = record { from_one = omega arith; to_last = omega arith }; role = refl } }, tt)
 first_page-held program setup hosts h InTimers = record { ids = tt; active = tt }
 first_page-held program setup hosts h InIdle = record { pending = tt; runnable = tt }
 first_page-held program setup hosts h InArrivals =

@@ -1,7 +1,7 @@
 -- Operations that call nothing look at nothing but the page, and keep it within bounds.
-use Rattle.std.proofs.Common.{◌≡◌, ℕ, suc, ◌+◌, ◌≤◌, Bool, true, false, cond, List, [], Option, Some, None, refl, ℤ, pos, negsuc, ◌&&◌, length, Ok, Err}
+use Rattle.std.proofs.Common.{◌≡◌, ℕ, suc, ◌+◌, ◌≤◌, Bool, true, false, cond, List, [], Option, Some, None, refl, ℤ, pos, negsuc, ◌&&◌, length, Ok, Err, ◌∷◌}
 use Rattle.std.specs.Prelude.{int_le}
-use Rattle.page_types.specs.Values.{Value, IntValue}
+use Rattle.page_types.specs.Values.{Value, IntValue, ListValue, items_of, values_of}
 use Rattle.page_types.specs.declared.FaultName.{FaultName}
 use Rattle.page_types.specs.declared.FaultName.TheVariants.{TypeError, RangeError, NotAllowedError}
 use Rattle.page_types.specs.declared.Priority.{Priority}
@@ -9,7 +9,7 @@ use Rattle.page_types.specs.declared.RegKind.{RegKind}
 use Rattle.page_types.specs.declared.RegKind.TheVariants.{Frame as FrameKind}
 use Rattle.page_types.specs.Events as events
 use Rattle.page_parts.specs.Words.{has_number, not_below_zero}
-use Rattle.page_parts.specs.Kinds.{Func, func_in, text_in, int_in, promise_in, signal_in, a_fault}
+use Rattle.page_parts.specs.Kinds.{Func, func_in, text_in, int_in, promise_in, signal_in, a_fault, list_in, within_limits}
 use Rattle.page_parts.specs.Promises.{Fulfilled, Failed}
 use Rattle.page_parts.specs.HostClosures.{HostClosure}
 use Rattle.page_parts.specs.Timers as Timers
@@ -20,13 +20,16 @@ use Rattle.lang_meaning.specs.Evaluation.{Answer, answered}
 use Rattle.lang_meaning.specs.HostSteps.{with_host}
 use Rattle.page_model.specs.State.{Page, State, OfKind, SchedulingState, emit, last_registration}
 use Rattle.page_model.specs.PagePromises as promises
-use Rattle.page_model.specs.PagePromises.{new_promise, last_promise}
+use Rattle.page_model.specs.PagePromises.{new_promise, last_promise, new_settled}
 use Rattle.page_model.specs.PageTime.{clear_timer, cancel_frame, cancel_idle, idle_callback, registration_with_id, clear_id, without_frame, without_idle}
 use Rattle.page_model.specs.PageSignals.{is_aborted_source}
-use Rattle.page_model.specs.Operations.{does, answers, where_left, registration_left, promise_left, signal_left, is_left, priority_in, int_within, delay_in, signal_or_unit, busy_for, queue_microtask, micro_registered, last_promise_value, settle_own, new_settled, settled_promise, resolved_value, then_made, then_value, timer_set, set_timer, with_handle, frame_requested, request_animation_frame, idle_requested, request_idle_callback, signal_value, signals_in, any_made, any_with_priority, followed_through, any_following, make_task_any, timeout_signal_made, make_timeout_signal, of_signal, target_in, listener_added, listen, rejected_with, given_or_rejected, priority_or_unit, source_reason, prio_source_of, post_queued, post_accepted, post_task, continuation_queued, yield_in, closure_at, is_fresh, fitting, host_queued, host_accepted, host_asked, host}
-use Rattle.page_model.specs.FoldBounds.{IsBounded}
+use Rattle.page_model.specs.Operations.{does, answers, where_left, registration_left, promise_left, signal_left, is_left, priority_in, int_within, delay_in, signal_or_unit, busy_for, queue_microtask, micro_registered, last_promise_value, settle_own, settled_promise, resolved_value, then_made, then_value, timer_set, set_timer, with_handle, frame_requested, request_animation_frame, idle_requested, request_idle_callback, signal_value, signals_in, any_made, any_with_priority, followed_through, any_following, make_task_any, timeout_signal_made, make_timeout_signal, of_signal, target_in, listener_added, listen, rejected_with, given_or_rejected, priority_or_unit, source_reason, prio_source_of, post_queued, post_accepted, post_task, continuation_queued, yield_in, closure_at, is_fresh, fitting, host_queued, host_accepted, host_asked, host, combined, raced, promises_for_all, finally_value, finally_made, answers_first, port_in, sendable_in, posted, post_message}
+use Rattle.page_model.specs.FoldBounds.{IsBounded, counted}
 use Rattle.page_model.proofs.Counting.{Leaves, settle-leaves}
-use Rattle.page_model.proofs.Bounded.{Kept, near-kept, leaves-kept, left-fewer, and-first, and-second, registered-near, micro_registered-near, then_made-near, idle_requested-near, post_queued-near, continuation_queued-near, host_queued-near, listener_added-kept, timeout_signal-kept, any_made-kept}
+use Rattle.page_model.proofs.Bounded.{Kept, near-kept, leaves-kept, left-fewer, and-first, and-second, registered-near, micro_registered-near, then_made-near, idle_requested-near, post_queued-near, continuation_queued-near, host_queued-near, listener_added-kept, timeout_signal-kept, any_made-kept, relates-leaves, finally_made-near}
+use Rattle.page_parts.specs.Combinators.{CombinatorKind}
+use Rattle.page_model.specs.PageCombinators.{all_made, race_made, are_promises_left}
+use Rattle.page_model.proofs.Combining.{all_made-related, race_made-related}
 
 and-middle : (a b c : Bool) → a && b && c ≡ true → b ≡ true
 and-middle true true c e = refl
@@ -152,7 +155,7 @@ module _ (k : ℕ) (m : State) (b : IsBounded m.host) where
 
   pub set_timer-plain : (kind : RegKind) (repeats : Bool) (f ms : Value) → Plain (set_timer kind repeats f ms)
   set_timer-plain kind repeats f ms =
-      given-plain (func_in f) _ (λ f. given-plain (int_in ms) _ (λ ms. registers (timer_set kind repeats f ms) (λ e. near-kept 1 m.host (timer_set kind repeats f ms m.host) (registered-near m.host (record { role = OfKind kind; callback = Some f; second_callback = None; timer_id = suc m.host.timers.ids_made; promise = 0; signal = None })) (registration_few e) b)
+      given-plain (func_in f) _ (λ f. given-plain (int_in ms) _ (λ ms. registers (timer_set kind repeats f ms) (λ e. near-kept 1 m.host (timer_set kind repeats f ms m.host) (registered-near m.host (record { role = OfKind kind; callback = Some f; second_callback = None; timer_id = suc m.host.timers.ids_made; promise = 0; signal = None; finally = false })) (registration_few e) b)
       (λ p. IntValue (pos p.timers.ids_made)) (registration_left m.host && is_left m.host.timers.ids_made) (and-first (registration_left m.host) (is_left m.host.timers.ids_made))))
 
   pub with_handle-plain : (v : Value) (f : ℕ → Page → Page) → ((n : ℕ) → Kept m.host (f n m.host)) → Plain (with_handle v f)
@@ -188,7 +191,7 @@ module _ (k : ℕ) (m : State) (b : IsBounded m.host) where
 
   pub request_frame-plain : (f : Value) → Plain (request_animation_frame f)
   request_frame-plain f =
-      given-plain (func_in f) _ (λ f. registers (frame_requested f) (λ e. near-kept 1 m.host (frame_requested f m.host) (registered-near m.host (record { role = OfKind FrameKind; callback = Some f; second_callback = None; timer_id = 0; promise = 0; signal = None })) (registration_few e) b)
+      given-plain (func_in f) _ (λ f. registers (frame_requested f) (λ e. near-kept 1 m.host (frame_requested f m.host) (registered-near m.host (record { role = OfKind FrameKind; callback = Some f; second_callback = None; timer_id = 0; promise = 0; signal = None; finally = false })) (registration_few e) b)
       (λ p. IntValue (pos p.frames.made)) (registration_left m.host && is_left m.host.frames.made) (and-first (registration_left m.host) (is_left m.host.frames.made)))
 
   pub request_idle-plain : (f ms : Value) → Plain (request_idle_callback f ms)
@@ -273,3 +276,27 @@ module _ (k : ℕ) (m : State) (b : IsBounded m.host) where
   -- what is read of a signal
   pub of_signal-plain : (v : Value) (read : ℕ → Page → Value) → Plain (of_signal v read)
   of_signal-plain v read = given-plain (signal_in v) _ (λ s. gives-plain (read s m.host))
+
+  -- ---- combinators and messages
+
+  pub combined-plain : (kind : CombinatorKind) (l : Value) → Plain (combined kind l)
+  combined-plain kind l =
+      given_or_rejected-plain (list_in l) _ (λ vs. where_left-plain (are_promises_left (1 + promises_for_all (items_of vs) + length (items_of vs)) m.host) (answers_first (all_made kind (items_of vs)))
+      (λ e. (refl, leaves-kept (all_made kind (items_of vs)) (all_made-related (λ p q. counted q ≡ counted p) relates-leaves kind (items_of vs)) m.host b)))
+
+  pub raced-plain : (l : Value) → Plain (raced l)
+  raced-plain l =
+      given_or_rejected-plain (list_in l) _ (λ vs. where_left-plain (are_promises_left (1 + promises_for_all (items_of vs)) m.host) (answers_first (race_made (items_of vs)))
+      (λ e. (refl, leaves-kept (race_made (items_of vs)) (race_made-related (λ p q. counted q ≡ counted p) relates-leaves (items_of vs)) m.host b)))
+
+  pub finally_value-plain : (v f : Value) → Plain (finally_value v f)
+  finally_value-plain v f =
+      given_or_rejected-plain (promise_in v) _ (λ n. registers (finally_made n f) (λ e. near-kept 1 m.host (finally_made n f m.host) (finally_made-near n f m.host) (registration_few e) b) last_promise_value
+      (promise_left m.host && registration_left m.host) (and-second (promise_left m.host) (registration_left m.host)))
+
+  pub post_message-plain : (n v : Value) → Plain (post_message n v)
+  post_message-plain n v = given-plain (port_in n) _ (λ port. given-plain (sendable_in v) _ (λ v. by_list port v (within_limits (ListValue (values_of (n ∷ v ∷ []))))))
+    where
+      by_list : (port : ℕ) (v : Value) (o : Option Value) → Plain (λ m. given o RangeError m (λ whole m. does (posted port v) m))
+      by_list port v None = fault-plain RangeError
+      by_list port v (Some whole) = does-leaves (posted port v) (λ p. refl)

@@ -4,15 +4,15 @@ use Rattle.std.specs.Prelude.{◌==◌, filter, codes, option_map}
 use Rattle.page_types.specs.Values.{Value, SignalValue}
 use Rattle.page_types.specs.declared.Priority.{Priority}
 use Rattle.page_types.specs.declared.Priority.TheVariants.{Background, UserVisible, UserBlocking}
-use Rattle.page_types.specs.Events.{Call, Ret}
+use Rattle.page_types.specs.Events.{Ret}
 use Rattle.page_parts.specs.Kinds.{Func}
 use Rattle.page_parts.specs.Words.{same_bytes}
 use Rattle.page_parts.specs.AbortGraph.{the_signal, marked}
 use Rattle.page_parts.specs.AbortGraph as AbortGraph
 use Rattle.page_parts.specs.TaskSignals.{PrioRecord, Prios, same_priority, record_of, changed_at, begun, ended, is_changing, followers, priority_of}
 use Rattle.page_parts.specs.Listeners.{Listener, Target, Window, AtSignal, same_target, snapshot, is_listening}
-use Rattle.page_model.specs.State.{Page, emit, the_registration}
-use Rattle.page_model.specs.Invoke.{WhenReported, when_reported}
+use Rattle.page_model.specs.State.{Page, the_registration}
+use Rattle.page_model.specs.Invoke.{WhenReported, when_reported, call_begun, call_ended}
 use Rattle.page_model.specs.PageSignals.{run_algorithms, reason_set, change_begun, change_ended, has_priority, priority_value}
 use Rattle.page_model.specs.Folds.{Change, ChangeOf, EndChange, Rest, AbortsLeft, ChangesLeft, Fold, Reached, Finished, Calls, begin_listener, next_listener, fire, aborts_from, changes_of, each_change, change_from, changes_from, rest_from, go_on, begin_abort, begin_change}
 use Rattle.page_model.specs.FoldBounds.{others, heard, all_heard, times, rest_left, fold_left, Counted, counted, AreBounded, IsBounded, HasRecord, AllHaveRecords, CanChange, RestIsBounded, FoldIsBounded, FoldsAreBounded}
@@ -245,11 +245,11 @@ module _ (args : List Value) (rest : Rest) (next : Page → Reached) (k : RestRe
   one-reaches : (r : ℕ) (rs : List ℕ) → ListenersReach rs → ListenersReach (r ∷ rs)
   one-reaches r rs again p most b h few l = by (is_listening r p.listeners)
     where
-      by_callback : (f : Option Func) (when : WhenReported) → ReachesFewer p.prios most (begin_listener f when args rs rest (next_listener args rs rest next) (emit (Call r) p))
-      by_callback None when = again (emit Ret (emit (Call r) p)) most b h (omega (arith, few)) (omega (arith, l))
+      by_callback : (f : Option Func) (when : WhenReported) → ReachesFewer p.prios most (begin_listener f when args rs rest (next_listener args rs rest next) (call_begun r p))
+      by_callback None when = again (call_ended Ret (call_begun r p)) most b h (omega (arith, few)) (omega (arith, l))
       by_callback (Some f) when = (b, λ s h. h, (omega (arith, few), h), omega (arith, l))
 
-      by : (c : Bool) → ReachesFewer p.prios most (cond c (begin_listener (the_registration p r).callback (when_reported (the_registration p r).role) args rs rest (next_listener args rs rest next) (emit (Call r) p)) (next_listener args rs rest next p))
+      by : (c : Bool) → ReachesFewer p.prios most (cond c (begin_listener (the_registration p r).callback (when_reported (the_registration p r).role) args rs rest (next_listener args rs rest next) (call_begun r p)) (next_listener args rs rest next p))
       by false = again p most b h (omega (arith, few)) (omega (arith, l))
       by true = by_callback (the_registration p r).callback (when_reported (the_registration p r).role)
 

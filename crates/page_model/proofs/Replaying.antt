@@ -25,7 +25,7 @@ use Rattle.page_model.specs.PageTime.{first_sched, first_task, without_sched}
 use Rattle.page_model.specs.Parallel.{item_count}
 use Rattle.page_model.specs.State.{Page, State, HostTask, Task, SchedTask, on_page, emit}
 use Rattle.page_model.specs.Tasks.{perform_steps, perform_sched, answer_host, after_task}
-use Rattle.page_model.specs.Turns.{Turned, GoesOn, Ended, Stuck, ends, goes_on, choose_turned, step_five, task_done, without_task, not_dropped, answered, perform_host, perform_task, perform_first, perform_first_sched, perform, turn_line, perform_picked, step_four, counted_turn, with_turn_fuel, step_three, is_pending, target, at_time, waited, step_two_at, step_two_by, step_two, step_one, after_step_one, from_step_one, turn, next_turn, turns, first_state, run, run_by, state_of, events_of_run}
+use Rattle.page_model.specs.Turns.{Turned, GoesOn, Ended, Stuck, ends, goes_on, choose_turned, step_five, task_done, without_task, not_dropped, answered, perform_host, perform_task, perform_first, perform_first_sched, perform, turn_line, perform_picked, step_four, counted_turn, with_turn_fuel, step_three, from_step_three, is_pending, target, at_time, waited, step_two_at, step_two_by, step_two, step_one, after_step_one, from_step_one, turn, next_turn, turns, first_state, run, run_by, state_of, events_of_run}
 use Rattle.page_model.specs.View.{view}
 use Rattle.page_model.proofs.Silent.{Has, DoneHas, CallsKeep, afterwards-keeps}
 use Rattle.page_model.proofs.SilentRuns.{in_task-keeps}
@@ -186,13 +186,13 @@ module _ {C : Type 0} where
   ends-replays : (end : End) (c : C) (m n : State) → ((x : Choices) → Has x m.host → Has x n.host) → Replays m (ends end c n) (λ x. ends end x n)
   ends-replays end c m n k = silent-replays m (ends end c n) _ k (λ x. refl)
 
-  goes_on-has : (x : Choices) (c : C) (d : Done Page) → DoneHas x d → Has x (state_of (goes_on c step_five d)).host
-  goes_on-has x c (Gives v m) h = step_five-keeps x m h
-  goes_on-has x c (Returns v m) h = step_five-keeps x m h
-  goes_on-has x c (Throws v m) h = step_five-keeps x m h
+  goes_on-has : (x : Choices) (c : C) (d : Done Page) → DoneHas x d → Has x (state_of (goes_on c d)).host
+  goes_on-has x c (Gives v m) h = h
+  goes_on-has x c (Returns v m) h = h
+  goes_on-has x c (Throws v m) h = h
   goes_on-has x c (OutOfFuel m) h = h
 
-  goes_on-same : (x : Choices) (c : C) (d : Done Page) → goes_on x step_five d ≡ with_left x (goes_on c step_five d)
+  goes_on-same : (x : Choices) (c : C) (d : Done Page) → goes_on x d ≡ with_left x (goes_on c d)
   goes_on-same x c (Gives v m) = refl
   goes_on-same x c (Returns v m) = refl
   goes_on-same x c (Throws v m) = refl
@@ -277,7 +277,7 @@ module _ {C : Type 0} where
         (perform-replays s.choice told s.left)
 
     step_four-replays : (rs : List Runnable) (m : State) (c : C) → Replays m (step_four rules call rs m c) (λ x. step_four choice_rules call rs m x)
-    step_four-replays [] m c = silent-replays m (GoesOn (step_five (turn_line None m)) c) _ (λ x h. step_five-keeps x (turn_line None m) h) (λ x. refl)
+    step_four-replays [] m c = silent-replays m (GoesOn (turn_line None m) c) _ (λ x h. h) (λ x. refl)
     step_four-replays (r ∷ rs) m c =
         perform_picked-replays (r ∷ rs) (chosen_source rules (r ∷ rs) c) (legal-is_legal (is_runnable (r ∷ rs)) (rules.source (r ∷ rs) c)) m c
 
@@ -293,6 +293,11 @@ module _ {C : Type 0} where
         choose-replays (nat_le until m.host.now) m (ends ClockEnd c) (λ m. with_turn_fuel rules call m.fuel m c) (λ x. ends ClockEnd x) (λ x m. with_turn_fuel choice_rules call m.fuel m x)
         (ends-replays ClockEnd c m m (λ x h. h)) (with_turn_fuel-replays m.fuel m c)
 
+    from_step_three-replays : (until : ℕ) (m : State) (c : C) → Replays m (from_step_three rules call until c m) (λ x. from_step_three choice_rules call until x m)
+    from_step_three-replays until m c =
+        next_turn-replays m (step_three rules call until c m) (λ x. step_three choice_rules call until x m) (λ m c. GoesOn (step_five m) c) (λ m c. GoesOn (step_five m) c)
+        (step_three-replays until m c) (λ n c. silent-replays n (GoesOn (step_five n) c) _ (λ x h. step_five-keeps x n h) (λ x. refl))
+
     -- again, once a turn can be done again from its beginning
     module _ (until : ℕ) (begin : State → C → Turned C) (begin' : State → Choices → Turned Choices) (begin-replays : (m : State) (c : C) → Replays m (begin m c) (begin' m)) where
       waited-replays : (t : ℕ) (o : Option (Chosen ℕ C)) → IsLegalChoice (is_reading t) o → (m : State) (c : C) → Replays m (waited t o begin c m) (λ x. waited t (chosen_reading choice_rules t x) begin' x m)
@@ -304,30 +309,30 @@ module _ {C : Type 0} where
           (λ rest. ap (λ (o : Option (Chosen ℕ Choices)). waited t o begin' (recorded (with_pick (Read r.choice) rest)) m) (reading-again t r.choice rest l))
           (begin-replays told r.left)
 
-      step_two_at-replays : (t : ℕ) (m : State) (c : C) → Replays m (step_two_at rules until t begin (step_three rules call until c) c m) (λ x. step_two_at choice_rules until t begin' (step_three choice_rules call until x) x m)
+      step_two_at-replays : (t : ℕ) (m : State) (c : C) → Replays m (step_two_at rules until t begin (from_step_three rules call until c) c m) (λ x. step_two_at choice_rules until t begin' (from_step_three choice_rules call until x) x m)
       step_two_at-replays t m c =
           choose-replays (nat_le until m.host.now || nat_le until t) m
           (λ m. ends ClockEnd c (on_page (λ p. at_time (max p.now until) p) m))
-          (choose_turned (nat_lt m.host.now t) (waited t (chosen_reading rules t c) begin c) (step_three rules call until c))
+          (choose_turned (nat_lt m.host.now t) (waited t (chosen_reading rules t c) begin c) (from_step_three rules call until c))
           (λ x m. ends ClockEnd x (on_page (λ p. at_time (max p.now until) p) m))
-          (λ x n. choose_turned (nat_lt m.host.now t) (waited t (chosen_reading choice_rules t x) begin' x) (step_three choice_rules call until x) n)
+          (λ x n. choose_turned (nat_lt m.host.now t) (waited t (chosen_reading choice_rules t x) begin' x) (from_step_three choice_rules call until x) n)
           (ends-replays ClockEnd c m (on_page (λ p. at_time (max p.now until) p) m) (λ x h. h))
-          (choose-replays (nat_lt m.host.now t) m (waited t (chosen_reading rules t c) begin c) (step_three rules call until c) (λ x. waited t (chosen_reading choice_rules t x) begin' x) (λ x. step_three choice_rules call until x)
-          (waited-replays t (chosen_reading rules t c) (legal-is_legal (is_reading t) (rules.reading t c)) m c) (step_three-replays until m c))
+          (choose-replays (nat_lt m.host.now t) m (waited t (chosen_reading rules t c) begin c) (from_step_three rules call until c) (λ x. waited t (chosen_reading choice_rules t x) begin' x) (λ x. from_step_three choice_rules call until x)
+          (waited-replays t (chosen_reading rules t c) (legal-is_legal (is_reading t) (rules.reading t c)) m c) (from_step_three-replays until m c))
 
-      step_two_by-replays : (t : Option ℕ) (m : State) (c : C) → Replays m (step_two_by rules until t begin (step_three rules call until c) c m) (λ x. step_two_by choice_rules until t begin' (step_three choice_rules call until x) x m)
+      step_two_by-replays : (t : Option ℕ) (m : State) (c : C) → Replays m (step_two_by rules until t begin (from_step_three rules call until c) c m) (λ x. step_two_by choice_rules until t begin' (from_step_three choice_rules call until x) x m)
       step_two_by-replays None m c = ends-replays DoneEnd c m m (λ x h. h)
       step_two_by-replays (Some t) m c = step_two_at-replays t m c
 
-      step_two-replays : (m : State) (c : C) → Replays m (step_two rules until begin (step_three rules call until c) c m) (λ x. step_two choice_rules until begin' (step_three choice_rules call until x) x m)
+      step_two-replays : (m : State) (c : C) → Replays m (step_two rules until begin (from_step_three rules call until c) c m) (λ x. step_two choice_rules until begin' (from_step_three choice_rules call until x) x m)
       step_two-replays m c =
-          choose-replays (is_pending m.host) m (step_two_by rules until (target m.host) begin (step_three rules call until c) c) (ends DoneEnd c) (λ x n. step_two_by choice_rules until (target m.host) begin' (step_three choice_rules call until x) x n) (λ x. ends DoneEnd x)
+          choose-replays (is_pending m.host) m (step_two_by rules until (target m.host) begin (from_step_three rules call until c) c) (ends DoneEnd c) (λ x n. step_two_by choice_rules until (target m.host) begin' (from_step_three choice_rules call until x) x n) (λ x. ends DoneEnd x)
           (step_two_by-replays (target m.host) m c) (ends-replays DoneEnd c m m (λ x h. h))
 
       after_step_one-replays : (m : State) (c : C) → Replays m (after_step_one rules call until begin c m) (λ x. after_step_one choice_rules call until begin' x m)
       after_step_one-replays m c =
-          choose-replays (is_empty (view m.host)) m (step_two rules until begin (step_three rules call until c) c) (step_three rules call until c) (λ x. step_two choice_rules until begin' (step_three choice_rules call until x) x) (λ x. step_three choice_rules call until x)
-          (step_two-replays m c) (step_three-replays until m c)
+          choose-replays (is_empty (view m.host)) m (step_two rules until begin (from_step_three rules call until c) c) (from_step_three rules call until c) (λ x. step_two choice_rules until begin' (from_step_three choice_rules call until x) x) (λ x. from_step_three choice_rules call until x)
+          (step_two-replays m c) (from_step_three-replays until m c)
 
     from_step_one-replays : (until n : ℕ) (m : State) (c : C) → Replays m (from_step_one rules call until n m c) (λ x. from_step_one choice_rules call until n m x)
     from_step_one-replays until zero m c = silent-replays m (Stuck m c) _ (λ x h. h) (λ x. refl)

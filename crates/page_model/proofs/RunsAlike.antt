@@ -20,7 +20,7 @@ use Rattle.page_model.specs.PageTime.{first_sched, first_task, without_sched}
 use Rattle.page_model.specs.Parallel.{item_count}
 use Rattle.page_model.specs.State.{Page, State, HostTask, Task, SchedTask, on_page, emit}
 use Rattle.page_model.specs.Tasks.{perform_steps, perform_sched, answer_host, after_task}
-use Rattle.page_model.specs.Turns.{Turned, GoesOn, Ended, Stuck, ends, goes_on, choose_turned, step_five, task_done, without_task, not_dropped, answered, perform_host, perform_task, perform_first, perform_first_sched, perform, turn_line, perform_picked, step_four, counted_turn, with_turn_fuel, step_three, is_pending, target, at_time, waited, step_two_at, step_two_by, step_two, step_one, after_step_one, from_step_one, turn, next_turn, turns, first_state, run_by, events_of_run}
+use Rattle.page_model.specs.Turns.{Turned, GoesOn, Ended, Stuck, ends, goes_on, choose_turned, step_five, task_done, without_task, not_dropped, answered, perform_host, perform_task, perform_first, perform_first_sched, perform, turn_line, perform_picked, step_four, counted_turn, with_turn_fuel, step_three, from_step_three, is_pending, target, at_time, waited, step_two_at, step_two_by, step_two, step_one, after_step_one, from_step_one, turn, next_turn, turns, first_state, run_by, events_of_run}
 use Rattle.page_model.specs.View.{view}
 
 module _ {C D : Type 0} (Together : C → D → Type 0) where
@@ -38,7 +38,7 @@ module _ {C D : Type 0} (Together : C → D → Type 0) where
   choose-alike true m f g f' g' h k = h
   choose-alike false m f g f' g' h k = k
 
-  goes_on-alike : (c : C) (d : D) → Together c d → (x : Done Page) → EndAlike Together (goes_on c step_five x) (goes_on d step_five x)
+  goes_on-alike : (c : C) (d : D) → Together c d → (x : Done Page) → EndAlike Together (goes_on c x) (goes_on d x)
   goes_on-alike c d h (Gives v m) = (d, refl, h)
   goes_on-alike c d h (Returns v m) = (d, refl, h)
   goes_on-alike c d h (Throws v m) = (d, refl, h)
@@ -106,6 +106,10 @@ module _ {C D : Type 0} (Together : C → D → Type 0) where
         choose-alike (nat_le until m.host.now) m (ends ClockEnd c) (λ m. with_turn_fuel rules call m.fuel m c) (ends ClockEnd d) (λ m. with_turn_fuel others call m.fuel m d)
         (d, refl, h) (with_turn_fuel-alike m.fuel m c d h)
 
+    from_step_three-alike : (until : ℕ) (m : State) (c : C) (d : D) → Together c d → EndAlike Together (from_step_three rules call until c m) (from_step_three others call until d m)
+    from_step_three-alike until m c d h =
+        next_turn-alike (λ m c. GoesOn (step_five m) c) (λ m d. GoesOn (step_five m) d) (λ m c d h. (d, refl, h)) (step_three rules call until c m) (step_three others call until d m) (step_three-alike until m c d h)
+
     module _ (until : ℕ) (begin : State → C → Turned C) (begin' : State → D → Turned D) (begin-alike : (m : State) (c : C) (d : D) → Together c d → EndAlike Together (begin m c) (begin' m d)) where
       waited-alike : (t : ℕ) (o : Option (Chosen ℕ C)) (o' : Option (Chosen ℕ D)) → SameChoice Together o o' → (m : State) (c : C) (d : D) → Together c d → EndAlike Together (waited t o begin c m) (waited t o' begin' d m)
       waited-alike t None o' s m c d h = (d, ap (λ (o : Option (Chosen ℕ D)). waited t o begin' d m) s, h)
@@ -113,30 +117,30 @@ module _ {C D : Type 0} (Together : C → D → Type 0) where
           let told : State = on_page (λ p. emit (Wait t) (at_time r.choice p)) m in
           subst (λ (o : Option (Chosen ℕ D)). EndAlike Together (begin told r.left) (waited t o begin' d m)) (sym s.1) (begin-alike told r.left s.0 s.2)
 
-      step_two_at-alike : (t : ℕ) (m : State) (c : C) (d : D) → Together c d → EndAlike Together (step_two_at rules until t begin (step_three rules call until c) c m) (step_two_at others until t begin' (step_three others call until d) d m)
+      step_two_at-alike : (t : ℕ) (m : State) (c : C) (d : D) → Together c d → EndAlike Together (step_two_at rules until t begin (from_step_three rules call until c) c m) (step_two_at others until t begin' (from_step_three others call until d) d m)
       step_two_at-alike t m c d h =
           choose-alike (nat_le until m.host.now || nat_le until t) m
           (λ m. ends ClockEnd c (on_page (λ p. at_time (max p.now until) p) m))
-          (choose_turned (nat_lt m.host.now t) (waited t (chosen_reading rules t c) begin c) (step_three rules call until c))
+          (choose_turned (nat_lt m.host.now t) (waited t (chosen_reading rules t c) begin c) (from_step_three rules call until c))
           (λ m. ends ClockEnd d (on_page (λ p. at_time (max p.now until) p) m))
-          (choose_turned (nat_lt m.host.now t) (waited t (chosen_reading others t d) begin' d) (step_three others call until d))
+          (choose_turned (nat_lt m.host.now t) (waited t (chosen_reading others t d) begin' d) (from_step_three others call until d))
           (d, refl, h)
-          (choose-alike (nat_lt m.host.now t) m (waited t (chosen_reading rules t c) begin c) (step_three rules call until c) (waited t (chosen_reading others t d) begin' d) (step_three others call until d)
-          (waited-alike t (chosen_reading rules t c) (chosen_reading others t d) (alike.reading t c d h) m c d h) (step_three-alike until m c d h))
+          (choose-alike (nat_lt m.host.now t) m (waited t (chosen_reading rules t c) begin c) (from_step_three rules call until c) (waited t (chosen_reading others t d) begin' d) (from_step_three others call until d)
+          (waited-alike t (chosen_reading rules t c) (chosen_reading others t d) (alike.reading t c d h) m c d h) (from_step_three-alike until m c d h))
 
-      step_two_by-alike : (t : Option ℕ) (m : State) (c : C) (d : D) → Together c d → EndAlike Together (step_two_by rules until t begin (step_three rules call until c) c m) (step_two_by others until t begin' (step_three others call until d) d m)
+      step_two_by-alike : (t : Option ℕ) (m : State) (c : C) (d : D) → Together c d → EndAlike Together (step_two_by rules until t begin (from_step_three rules call until c) c m) (step_two_by others until t begin' (from_step_three others call until d) d m)
       step_two_by-alike None m c d h = (d, refl, h)
       step_two_by-alike (Some t) m c d h = step_two_at-alike t m c d h
 
-      step_two-alike : (m : State) (c : C) (d : D) → Together c d → EndAlike Together (step_two rules until begin (step_three rules call until c) c m) (step_two others until begin' (step_three others call until d) d m)
+      step_two-alike : (m : State) (c : C) (d : D) → Together c d → EndAlike Together (step_two rules until begin (from_step_three rules call until c) c m) (step_two others until begin' (from_step_three others call until d) d m)
       step_two-alike m c d h =
-          choose-alike (is_pending m.host) m (step_two_by rules until (target m.host) begin (step_three rules call until c) c) (ends DoneEnd c) (step_two_by others until (target m.host) begin' (step_three others call until d) d) (ends DoneEnd d)
+          choose-alike (is_pending m.host) m (step_two_by rules until (target m.host) begin (from_step_three rules call until c) c) (ends DoneEnd c) (step_two_by others until (target m.host) begin' (from_step_three others call until d) d) (ends DoneEnd d)
           (step_two_by-alike (target m.host) m c d h) (d, refl, h)
 
       after_step_one-alike : (m : State) (c : C) (d : D) → Together c d → EndAlike Together (after_step_one rules call until begin c m) (after_step_one others call until begin' d m)
       after_step_one-alike m c d h =
-          choose-alike (is_empty (view m.host)) m (step_two rules until begin (step_three rules call until c) c) (step_three rules call until c) (step_two others until begin' (step_three others call until d) d) (step_three others call until d)
-          (step_two-alike m c d h) (step_three-alike until m c d h)
+          choose-alike (is_empty (view m.host)) m (step_two rules until begin (from_step_three rules call until c) c) (from_step_three rules call until c) (step_two others until begin' (from_step_three others call until d) d) (from_step_three others call until d)
+          (step_two-alike m c d h) (from_step_three-alike until m c d h)
 
     from_step_one-alike : (until n : ℕ) (m : State) (c : C) (d : D) → Together c d → EndAlike Together (from_step_one rules call until n m c) (from_step_one others call until n m d)
     from_step_one-alike until zero m c d h = (d, refl, h)

@@ -20,7 +20,7 @@ use Rattle.page_model.specs.Tasks.{answer_host, after_task}
 use Rattle.page_model.specs.Parallel.{ItemKind, ArrivalItem, HostItem, TimerItem, IdleItem, FrameItem, complete, complete_at, take_item, due_item, first_item, take_due, item_count, parallel}
 use Rattle.page_model.specs.Choosing.{Rules, Chosen, chosen_source, chosen_reading, chosen_answer}
 use Rattle.page_model.specs.View.{view}
-use Rattle.page_model.specs.Turns.{Turned, GoesOn, Ended, Stuck, goes_on, choose_turned, step_five, task_done, without_task, not_dropped, answered, perform_host, perform_task, perform_first, perform_first_sched, perform, turn_line, perform_picked, step_four, counted_turn, with_turn_fuel, step_three, is_pending, target, at_time, waited, step_two_at, step_two_by, step_one, after_step_one, from_step_one, turn, next_turn, turns}
+use Rattle.page_model.specs.Turns.{Turned, GoesOn, Ended, Stuck, goes_on, choose_turned, step_five, task_done, without_task, not_dropped, answered, perform_host, perform_task, perform_first, perform_first_sched, perform, turn_line, perform_picked, step_four, counted_turn, with_turn_fuel, step_three, from_step_three, is_pending, target, at_time, waited, step_two_at, step_two_by, step_one, after_step_one, from_step_one, turn, next_turn, turns}
 use Rattle.page_model.specs.PageHost.{Hosting}
 use Rattle.page_model.specs.FoldBounds.{counted, IsBounded}
 use Rattle.page_model.specs.Hosted.{EndsSame, call_by_steps, TurnEndsBounded}
@@ -100,11 +100,16 @@ step_one-bounded m b = by (m.host.turns == 0)
     by true = b
     by false = (leaves-kept parallel parallel-leaves m.host b).0
 
-goes_on-agrees : {C : Type 0} (c : C) (m : State) (d e : Done Page) → At m d e → AtTurn (goes_on c step_five d) (goes_on c step_five e)
-goes_on-agrees c m (Gives v n) e h = (ap (goes_on c step_five) h.0, step_five-bounded n h.1.2)
-goes_on-agrees c m (Returns v n) e h = (ap (goes_on c step_five) h.0, step_five-bounded n h.1.2)
-goes_on-agrees c m (Throws v n) e h = (ap (goes_on c step_five) h.0, step_five-bounded n h.1.2)
-goes_on-agrees c m (OutOfFuel n) e h = (ap (goes_on c step_five) h.0, h.1.2)
+goes_on-agrees : {C : Type 0} (c : C) (m : State) (d e : Done Page) → At m d e → AtTurn (goes_on c d) (goes_on c e)
+goes_on-agrees c m (Gives v n) e h = (ap (goes_on c) h.0, h.1.2)
+goes_on-agrees c m (Returns v n) e h = (ap (goes_on c) h.0, h.1.2)
+goes_on-agrees c m (Throws v n) e h = (ap (goes_on c) h.0, h.1.2)
+goes_on-agrees c m (OutOfFuel n) e h = (ap (goes_on c) h.0, h.1.2)
+
+next_turn-agrees : {C : Type 0} (next next' : State → C → Turned C) → ((c : C) → TurnsAgree (λ m. next m c) (λ m. next' m c)) → (t u : Turned C) → AtTurn t u → AtTurn (next_turn t next) (next_turn u next')
+next_turn-agrees next next' k (GoesOn m c) u h = let then = k c m h.1 in (ap (λ x. next_turn x next') h.0 ∙ then.0, then.1)
+next_turn-agrees next next' k (Ended end m c) u h = (ap (λ x. next_turn x next') h.0, h.1)
+next_turn-agrees next next' k (Stuck m c) u h = (ap (λ x. next_turn x next') h.0, h.1)
 
 module _ {C : Type 0} (rules : Rules C) (call call' : Caller Page) (agree : CallersAgree call call') where
   task_done-agrees : (c : C) (m : State) (d e : Done Page) → At m d e → AtTurn (task_done call c d) (task_done call' c e)
@@ -146,7 +151,7 @@ module _ {C : Type 0} (rules : Rules C) (call call' : Caller Page) (agree : Call
   perform_picked-agrees (Some s) c m b = perform-agrees s.choice s.left (turn_line (Some s.choice) m) b
 
   step_four-agrees : (rs : List Runnable) (c : C) → TurnsAgree (λ m. step_four rules call rs m c) (λ m. step_four rules call' rs m c)
-  step_four-agrees [] c m b = (refl, step_five-bounded (turn_line None m) b)
+  step_four-agrees [] c m b = (refl, b)
   step_four-agrees (r ∷ rs) c m b = perform_picked-agrees (chosen_source rules (r ∷ rs) c) c m b
 
   with_turn_fuel-agrees : (fuel : ℕ) (c : C) → TurnsAgree (λ m. with_turn_fuel rules call fuel m c) (λ m. with_turn_fuel rules call' fuel m c)
@@ -155,6 +160,10 @@ module _ {C : Type 0} (rules : Rules C) (call call' : Caller Page) (agree : Call
 
   step_three-agrees : (until : ℕ) (c : C) → TurnsAgree (step_three rules call until c) (step_three rules call' until c)
   step_three-agrees until c m b = choose-agrees (nat_le until m.host.now) _ _ _ _ m (refl, b) (with_turn_fuel-agrees m.fuel c m b)
+
+  from_step_three-agrees : (until : ℕ) (c : C) → TurnsAgree (from_step_three rules call until c) (from_step_three rules call' until c)
+  from_step_three-agrees until c m b =
+      next_turn-agrees (λ m c. GoesOn (step_five m) c) (λ m c. GoesOn (step_five m) c) (λ c m b. (refl, step_five-bounded m b)) (step_three rules call until c m) (step_three rules call' until c m) (step_three-agrees until c m b)
 
   waited-agrees : (t : ℕ) (r : Option (Chosen ℕ C)) (again again' : State → C → Turned C) (c : C) → ((c : C) → TurnsAgree (λ m. again m c) (λ m. again' m c)) → TurnsAgree (waited t r again c) (waited t r again' c)
   waited-agrees t None again again' c k m b = (refl, b)
@@ -172,18 +181,13 @@ module _ {C : Type 0} (rules : Rules C) (call call' : Caller Page) (agree : Call
   after_step_one-agrees : (until : ℕ) (again again' : State → C → Turned C) (c : C) → ((c : C) → TurnsAgree (λ m. again m c) (λ m. again' m c)) → TurnsAgree (after_step_one rules call until again c) (after_step_one rules call' until again' c)
   after_step_one-agrees until again again' c k m b =
       choose-agrees (is_empty (view m.host)) _ _ _ _ m
-      (choose-agrees (is_pending m.host) _ _ _ _ m (step_two_by-agrees until (target m.host) again again' (step_three rules call until c) (step_three rules call' until c) c k (step_three-agrees until c) m b) (refl, b))
-      (step_three-agrees until c m b)
+      (choose-agrees (is_pending m.host) _ _ _ _ m (step_two_by-agrees until (target m.host) again again' (from_step_three rules call until c) (from_step_three rules call' until c) c k (from_step_three-agrees until c) m b) (refl, b))
+      (from_step_three-agrees until c m b)
 
   from_step_one-agrees : (until n : ℕ) (c : C) → TurnsAgree (λ m. from_step_one rules call until n m c) (λ m. from_step_one rules call' until n m c)
   from_step_one-agrees until zero c m b = (refl, b)
   from_step_one-agrees until (suc n) c m b =
       after_step_one-agrees until (from_step_one rules call until n) (from_step_one rules call' until n) c (from_step_one-agrees until n) (step_one m) (step_one-bounded m b)
-
-  next_turn-agrees : (next next' : State → C → Turned C) → ((c : C) → TurnsAgree (λ m. next m c) (λ m. next' m c)) → (t u : Turned C) → AtTurn t u → AtTurn (next_turn t next) (next_turn u next')
-  next_turn-agrees next next' k (GoesOn m c) u h = let then = k c m h.1 in (ap (λ x. next_turn x next') h.0 ∙ then.0, then.1)
-  next_turn-agrees next next' k (Ended end m c) u h = (ap (λ x. next_turn x next') h.0, h.1)
-  next_turn-agrees next next' k (Stuck m c) u h = (ap (λ x. next_turn x next') h.0, h.1)
 
   pub turns-agree : (until n : ℕ) (c : C) → TurnsAgree (λ m. turns rules call until n m c) (λ m. turns rules call' until n m c)
   turns-agree until zero c m b = (refl, b)

@@ -8,10 +8,10 @@ use Rattle.lang_meaning.specs.Machine.{Done, Gives, Throws, Returns, OutOfFuel, 
 use Rattle.lang_meaning.specs.Evaluation.{Answer, answered}
 use Rattle.page_parts.specs.Words.{is_empty}
 use Rattle.page_parts.specs.Promises.{Settled, Fulfilled, Failed, Reaction, PromiseJob, Change, resolve, reject, follow, subscribe}
-use Rattle.page_parts.specs.Notices.{Notices, Noticed, Todo, OfPromise, queue_job, queue_jobs, settle_line, promise_changed, changed, settle_promise, follow_promise, subscribe_promise, is_outstanding, the_promise}
+use Rattle.page_parts.specs.Notices.{Context, Notices, Noticed, Todo, OfPromise, queue_job, queue_jobs, settle_line, promise_changed, changed, settle_promise, follow_promise, subscribe_promise, is_outstanding, the_promise}
 use Rattle.page_parts.specs.TraceText.{choices_in}
 use Rattle.page_parts.specs.WrittenChoices.{Choices}
-use Rattle.page_model.specs.State.{Page, State, NotifyHandled, on_page, emit, emit_each, on_notices, queue_task, the_registration}
+use Rattle.page_model.specs.State.{Page, State, NotifyHandled, on_page, context, emit, emit_each, on_notices, queue_task, the_registration}
 use Rattle.page_model.specs.PagePromises as promises
 use Rattle.page_parts.specs.Timers as Timers
 use Rattle.page_parts.specs.Frames.{callback_in}
@@ -20,6 +20,7 @@ use Rattle.page_model.specs.PageTime.{clear_timer, cancel_frame, start_period, i
 use Rattle.page_parts.specs.AbortGraph.{the_signal, with_reason, with_algorithms}
 use Rattle.page_model.specs.PageSignals.{has_not_begun, drop_registration, abort_registration, abort_registrations, run_algorithms, reason_value, reason_set, watch, unwatch}
 use Rattle.page_model.specs.Invoke.{WhenReported, BeforeCheckpoint, AfterCheckpoint, Never, report_before, report_after, notify_rejected, checkpoint_ended}
+use Rattle.page_model.proofs.Combining.{Relates}
 
 -- ---- lines without a choice
 
@@ -39,9 +40,9 @@ aborts-silent : (ss : List ℕ) → AllSilent (map Abort ss)
 aborts-silent [] = tt
 aborts-silent (s ∷ ss) = (λ time es. refl, aborts-silent ss)
 
-queue_jobs-silent : (jobs : List PromiseJob) (s : Notices) → AllSilent (queue_jobs jobs s).lines
-queue_jobs-silent [] s = tt
-queue_jobs-silent (job ∷ more) s = (λ time es. refl, queue_jobs-silent more (queue_job (OfPromise job) s).notices)
+queue_jobs-silent : (now : Context) (jobs : List PromiseJob) (s : Notices) → AllSilent (queue_jobs now jobs s).lines
+queue_jobs-silent now [] s = tt
+queue_jobs-silent now (job ∷ more) s = (λ time es. refl, queue_jobs-silent now more (queue_job now (OfPromise job) s).notices)
 
 settle_line-silent : (names : List (List ℕ)) (n : ℕ) (how : Option Settled) → AllSilent (settle_line names n how)
 settle_line-silent names n None = tt
@@ -52,15 +53,15 @@ cond-silent : (b : Bool) (xs : List Event) → AllSilent xs → AllSilent (cond 
 cond-silent true xs h = h
 cond-silent false xs h = tt
 
-changed-silent : (names : List (List ℕ)) (n : ℕ) (c : Change) (s : Notices) → AllSilent (changed names n c s).lines
-changed-silent names n c s =
-    append-silent (promise_changed names n c s).lines (queue_jobs c.jobs (promise_changed names n c s).notices).lines
+changed-silent : (now : Context) (names : List (List ℕ)) (n : ℕ) (c : Change) (s : Notices) → AllSilent (changed now names n c s).lines
+changed-silent now names n c s =
+    append-silent (promise_changed names n c s).lines (queue_jobs now c.jobs (promise_changed names n c s).notices).lines
     (cond-silent c.settled (settle_line names n c.promise.outcome) (settle_line-silent names n c.promise.outcome))
-    (queue_jobs-silent c.jobs (promise_changed names n c s).notices)
+    (queue_jobs-silent now c.jobs (promise_changed names n c s).notices)
 
-settle_promise-silent : (names : List (List ℕ)) (n : ℕ) (how : Settled) (s : Notices) → AllSilent (settle_promise names n how s).lines
-settle_promise-silent names n (Fulfilled v) s = changed-silent names n (resolve n (the_promise s n) v) s
-settle_promise-silent names n (Failed v) s = changed-silent names n (reject n (the_promise s n) v) s
+settle_promise-silent : (now : Context) (names : List (List ℕ)) (n : ℕ) (how : Settled) (s : Notices) → AllSilent (settle_promise now names n how s).lines
+settle_promise-silent now names n (Fulfilled v) s = changed-silent now names n (resolve n (the_promise s n) v) s
+settle_promise-silent now names n (Failed v) s = changed-silent now names n (reject n (the_promise s n) v) s
 
 -- ---- steps after which these choices stand in the lines
 
@@ -141,11 +142,11 @@ module _ (c : Choices) where
   on_notices-keeps : (f : Notices → Noticed) → ((s : Notices) → AllSilent (f s).lines) → Keeps (on_notices f)
   on_notices-keeps f k p h = emit_each-keeps (f p.notices).lines (k p.notices) (record p { notices = (f p.notices).notices }) h
 
-  pub queue_job-keeps : (what : Todo) → Keeps (on_notices (queue_job what))
-  queue_job-keeps what p h = h
+  pub queue_job-keeps : (now : Context) (what : Todo) → Keeps (on_notices (queue_job now what))
+  queue_job-keeps now what p h = h
 
   pub settle-keeps : (n : ℕ) (how : Settled) → Keeps (promises.settle n how)
-  settle-keeps n how p h = on_notices-keeps (settle_promise p.names n how) (settle_promise-silent p.names n how) p h
+  settle-keeps n how p h = on_notices-keeps (settle_promise (context p) p.names n how) (settle_promise-silent (context p) p.names n how) p h
 
   pub resolve-keeps : (n : ℕ) (v : Value) → Keeps (promises.resolve n v)
   resolve-keeps n v p h = settle-keeps n (Fulfilled v) p h
@@ -154,12 +155,27 @@ module _ (c : Choices) where
   reject-keeps n v p h = settle-keeps n (Failed v) p h
 
   pub follow-keeps : (n : ℕ) (how : Settled) → Keeps (promises.follow n how)
-  follow-keeps n how p h = on_notices-keeps (follow_promise p.names n how) (λ s. changed-silent p.names n (follow n (the_promise s n) how) s) p h
+  follow-keeps n how p h = on_notices-keeps (follow_promise (context p) p.names n how) (λ s. changed-silent (context p) p.names n (follow n (the_promise s n) how) s) p h
 
   pub subscribe-keeps : (n : ℕ) (r : Reaction) → Keeps (promises.subscribe n r)
   subscribe-keeps n r p h =
-      cond_of-keeps (is_outstanding n p.notices) (queue_task Dom (NotifyHandled n)) (λ q. q) (λ q k. k) (λ q k. k) (on_notices (subscribe_promise n r) p)
-      (on_notices-keeps (subscribe_promise n r) (λ s. changed-silent [] n (subscribe n (the_promise s n) r) _) p h)
+      cond_of-keeps (is_outstanding n p.notices) (queue_task Dom (NotifyHandled n)) (λ q. q) (λ q k. k) (λ q k. k) (on_notices (subscribe_promise (context p) n r) p)
+      (on_notices-keeps (subscribe_promise (context p) n r) (λ s. changed-silent (context p) [] n (subscribe n (the_promise s n) r) _) p h)
+
+  -- ---- combinators
+
+  pub relates-keeps : Relates (λ p q. Has p → Has q)
+  relates-keeps =
+      record {
+        same = λ p h. h;
+        then = λ p q r f g h. g (f h);
+        settles = settle-keeps;
+        follows = follow-keeps;
+        subscribes = subscribe-keeps;
+        makes = λ p h. h;
+        combines = λ cs p h. h;
+        elements = λ es p h. h;
+      }
 
   -- ---- time
 

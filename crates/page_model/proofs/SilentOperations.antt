@@ -1,34 +1,37 @@
 -- The operations of a page, and so a script's calls on it, give no line that holds a choice.
-use Rattle.std.proofs.Common.{ℕ, Bool, true, false, cond, List, Option, Some, None, ℤ, pos, negsuc, ◌&&◌, length}
+use Rattle.std.proofs.Common.{ℕ, Bool, true, false, cond, List, Option, Some, None, ℤ, pos, negsuc, ◌&&◌, length, suc, ◌+◌, [], ◌∷◌}
 use Rattle.std.specs.Prelude.{◌==◌, int_le}
-use Rattle.page_types.specs.Values.{Value, IntValue}
+use Rattle.page_types.specs.Values.{Value, IntValue, ListValue, PromiseValue, items_of, values_of}
 use Rattle.page_types.specs.declared.FaultName.TheVariants.{TypeError, RangeError, NotAllowedError}
 use Rattle.page_types.specs.declared.Priority.{Priority}
 use Rattle.page_types.specs.declared.RegKind.{RegKind}
 use Rattle.page_types.specs.declared.RegKind.TheVariants.{Timeout as TimeoutKind, Interval as IntervalKind, Idle as IdleKind, Then as ThenKind, Yield as YieldKind}
 use Rattle.page_types.specs.Tree.{Program}
 use Rattle.page_types.specs.declared.Op.{Op}
-use Rattle.page_types.specs.declared.Op.TheVariants.{Log, TextOf, KindOf, Len, Push, Bind, MakeFault, FaultNameOf, FaultTextOf, NowOp, Busy, QueueMicrotask, MakePromise, ResolveOp, RejectOp, Resolved, Rejected, Then, SetTimeout, SetInterval, ClearTimeout, ClearInterval, RequestFrame, CancelFrame, RequestIdle, CancelIdle, DidTimeout, TimeRemaining, PostTask, YieldTask, MakeController, MakeTaskController, SignalOf, AbortOp, SetPriority, AbortedSignal, AnySignal, TaskAny, TimeoutSignal, Aborted, ReasonOf, PriorityOf, Listen, Unlisten, HostOp}
+use Rattle.page_types.specs.declared.Op.TheVariants.{Log, TextOf, KindOf, Len, Push, Bind, MakeFault, FaultNameOf, FaultTextOf, NowOp, Busy, QueueMicrotask, MakePromise, ResolveOp, RejectOp, Resolved, Rejected, Then, SetTimeout, SetInterval, ClearTimeout, ClearInterval, RequestFrame, CancelFrame, RequestIdle, CancelIdle, DidTimeout, TimeRemaining, PostTask, YieldTask, MakeController, MakeTaskController, SignalOf, AbortOp, SetPriority, AbortedSignal, AnySignal, TaskAny, TimeoutSignal, Aborted, ReasonOf, PriorityOf, Listen, Unlisten, HostOp, PostMessage, AllOp, RaceOp, AnyOp, AllSettled, FinallyOp}
 use Rattle.page_parts.specs.Words.{has_number, not_below_zero, is_there}
-use Rattle.page_parts.specs.Kinds.{Func, func_in, text_in, int_in, promise_in, signal_in, controller_in, deadline_in, a_fault}
+use Rattle.page_parts.specs.Kinds.{Func, func_in, text_in, int_in, promise_in, signal_in, controller_in, deadline_in, a_fault, list_in, within_limits}
 use Rattle.lang_meaning.specs.Machine.{Done, Gives, Throws, Returns, OutOfFuel, Caller, finish, branch, given, throw_fault, assigned, locals, value_in, with_local, with_value_in}
 use Rattle.lang_meaning.specs.Evaluation.{call_from_outside}
 use Rattle.page_parts.specs.AbortGraph as AbortGraph
-use Rattle.page_model.specs.State.{Page, State, PrioSource, SchedulingState, last_registration}
+use Rattle.page_model.specs.State.{Page, State, PrioSource, SchedulingState, last_registration, Registration, OfKind}
 use Rattle.page_parts.specs.HostClosures.{HostClosure}
 use Rattle.page_model.specs.PagePromises as promises
-use Rattle.page_model.specs.PagePromises.{new_promise, last_promise}
+use Rattle.page_model.specs.PagePromises.{new_promise, last_promise, new_settled}
 use Rattle.page_model.specs.PageTime.{clear_timer, cancel_frame, idle_timeout, cancel_idle, time_remaining, enqueue, current_state}
 use Rattle.page_parts.specs.Listeners.{is_listening}
 use Rattle.page_parts.specs.TaskSignals.{priority_of, is_changing}
-use Rattle.page_model.specs.Invoke.{Ways, register, in_script}
+use Rattle.page_model.specs.Invoke.{Ways, register, in_script, register_as}
 use Rattle.page_model.specs.PageSignals.{is_aborted_source}
 use Rattle.lang_meaning.specs.PureOperations.{argument, text_answer, kind_answer, length_answer, push_answer, bind_answer, fault_answer, fault_name_answer, fault_text_answer, did_timeout_answer}
-use Rattle.page_model.specs.Operations.{with_signals, does, answers, where_left, registration_left, promise_left, signal_left, is_left, priority_in, int_within, delay_in, signal_or_unit, busy_for, micro_registered, last_promise_value, script_promise, settle_own, new_settled, settled_promise, resolved_value, then_made, then_value, timer_set, set_timer, with_handle, frame_requested, idle_requested, controller_value, signal_value, task_signal_made, reason_given, change_by, signals_in, any_made, any_with_priority, followed_through, any_following, make_task_any, timeout_signal_made, target_in, listener_added, listener_removed, rejected_with, given_or_rejected, priority_or_unit, source_reason, prio_source_of, promised, post_queued, post_accepted, post_task, continuation_queued, yield_in, closure_at, is_fresh, fitting, host_queued, host_accepted, host_asked, host, operation, page_operations, may_operate}
-use Rattle.page_model.proofs.Silent.{Has, DoneHas, Keeps, KeepsAll, CallsKeep, cond-keeps, cond_of-keeps, branch-keeps, given-keeps, take_unit-keeps, answered-keeps, finish-keeps, resolve-keeps, reject-keeps, subscribe-keeps, clear_timer-keeps, cancel_frame-keeps, cancel_idle-keeps}
+use Rattle.page_model.specs.Operations.{with_signals, does, answers, where_left, registration_left, promise_left, signal_left, is_left, priority_in, int_within, delay_in, signal_or_unit, busy_for, micro_registered, last_promise_value, script_promise, settle_own, settled_promise, resolved_value, then_made, then_value, timer_set, set_timer, with_handle, frame_requested, idle_requested, controller_value, signal_value, task_signal_made, reason_given, change_by, signals_in, any_made, any_with_priority, followed_through, any_following, make_task_any, timeout_signal_made, target_in, listener_added, listener_removed, rejected_with, given_or_rejected, priority_or_unit, source_reason, prio_source_of, promised, post_queued, post_accepted, post_task, continuation_queued, yield_in, closure_at, is_fresh, fitting, host_queued, host_accepted, host_asked, host, operation, page_operations, may_operate, combined, raced, promises_for_all, finally_value, finally_made, port_in, sendable_in, post_message}
+use Rattle.page_model.proofs.Silent.{Has, DoneHas, Keeps, KeepsAll, CallsKeep, cond-keeps, cond_of-keeps, branch-keeps, given-keeps, take_unit-keeps, answered-keeps, finish-keeps, resolve-keeps, reject-keeps, subscribe-keeps, clear_timer-keeps, cancel_frame-keeps, cancel_idle-keeps, relates-keeps}
 use Rattle.page_parts.specs.WrittenChoices.{Choices}
 use Rattle.page_model.proofs.SilentRuns.{WaysKeep, in_script-keeps, abort-keeps, change-keeps}
 use Rattle.page_model.proofs.Holding.{Keeping, keeping_states, Holds, CallsHold, every_any, outside-holds}
+use Rattle.page_parts.specs.Combinators.{CombinatorKind, All, AnyOf, AllSettled as AllSettledKind}
+use Rattle.page_model.specs.PageCombinators.{all_made, race_made, are_promises_left}
+use Rattle.page_model.proofs.Combining.{all_made-related, race_made-related}
 
 module _ (c : Choices) where
   -- ---- ways to put operations together
@@ -183,6 +186,34 @@ module _ (c : Choices) where
   host-keeps k x signal =
       given_or_rejected-keeps (int_in k) _ (λ k. given_or_rejected-keeps (int_in x) _ (λ x. given_or_rejected-keeps (signal_or_unit signal) _ (λ signal. host_asked-keeps k x signal)))
 
+  -- ---- combinators and messages
+
+  combined-keeps : (kind : CombinatorKind) (l : Value) → KeepsAll c (combined kind l)
+  combined-keeps kind l =
+      given_or_rejected-keeps (list_in l) _ (λ vs m.
+      where_left-keeps (are_promises_left (1 + promises_for_all (items_of vs) + length (items_of vs)) m.host) _
+      (answers-keeps (λ p. PromiseValue (suc (last_promise m.host))) (all_made kind (items_of vs)) (all_made-related (λ p q. Has c p → Has c q) (relates-keeps c) kind (items_of vs))) m)
+
+  raced-keeps : (l : Value) → KeepsAll c (raced l)
+  raced-keeps l =
+      given_or_rejected-keeps (list_in l) _ (λ vs m.
+      where_left-keeps (are_promises_left (1 + promises_for_all (items_of vs)) m.host) _
+      (answers-keeps (λ p. PromiseValue (suc (last_promise m.host))) (race_made (items_of vs)) (race_made-related (λ p q. Has c p → Has c q) (relates-keeps c) (items_of vs))) m)
+
+  finally_made-keeps : (n : ℕ) (f : Value) → Keeps c (finally_made n f)
+  finally_made-keeps n f p =
+      let x : Registration = record { role = OfKind ThenKind; callback = func_in f; second_callback = func_in f; timer_id = 0; promise = 0; signal = None; finally = true } in
+      let made = register_as ThenKind x (new_promise p) in
+      subscribe-keeps c n (record { registration = Some (last_registration made); into = last_promise made; state = made.scheduling }) made
+
+  finally_value-keeps : (v f : Value) → KeepsAll c (finally_value v f)
+  finally_value-keeps v f =
+      given_or_rejected-keeps (promise_in v) _ (λ n m. where_left-keeps (promise_left m.host && registration_left m.host) _ (answers-keeps last_promise_value (finally_made n f) (finally_made-keeps n f)) m)
+
+  post_message-keeps : (n v : Value) → KeepsAll c (post_message n v)
+  post_message-keeps n v =
+      needed-keeps (port_in n) _ (λ port. needed-keeps (sendable_in v) _ (λ v. given-keeps c (within_limits (ListValue (values_of (n ∷ v ∷ [])))) RangeError _ (λ whole m h. h)))
+
   -- ---- the table
 
   pub operation-keeps : (w : Ways) → WaysKeep c w → (op : Op) (args : List Value) → KeepsAll c (operation w op args)
@@ -235,6 +266,12 @@ module _ (c : Choices) where
   operation-keeps w a Listen args m h = needed-keeps (target_in (argument args 0)) _ (λ target. needed-keeps (text_in (argument args 1)) _ (λ name. needed-keeps (func_in (argument args 2)) _ (λ f m. where_left-keeps (registration_left m.host) _ (answers-keeps (λ p. IntValue (pos (last_registration p))) (listener_added target name f) (λ p h. h)) m))) m h
   operation-keeps w a Unlisten args m h = with_handle-keeps (argument args 0) listener_removed listener_removed-keeps m h
   operation-keeps w a HostOp args m h = host-keeps (argument args 0) (argument args 1) (argument args 2) m h
+  operation-keeps w a PostMessage args m h = post_message-keeps (argument args 0) (argument args 1) m h
+  operation-keeps w a AllOp args m h = combined-keeps All (argument args 0) m h
+  operation-keeps w a RaceOp args m h = raced-keeps (argument args 0) m h
+  operation-keeps w a AnyOp args m h = combined-keeps AnyOf (argument args 0) m h
+  operation-keeps w a AllSettled args m h = combined-keeps AllSettledKind (argument args 0) m h
+  operation-keeps w a FinallyOp args m h = finally_value-keeps (argument args 0) (argument args 1) m h
 
 -- ---- a script's own calls
 

@@ -2,22 +2,24 @@
 use Rattle.std.proofs.Common.{ℕ, zero, suc, Bool, false, List, [], ◌∷◌, ◌++◌, Option, Some, None, ◌||◌}
 use Rattle.std.specs.Prelude.{codes}
 use Rattle.page_types.specs.Values.{Value, SignalValue, items_of}
-use Rattle.page_types.specs.Events.{Ret, Call}
+use Rattle.page_types.specs.Events.{Ret}
 use Rattle.page_types.specs.declared.Priority.{Priority}
 use Rattle.lang_meaning.specs.Machine.{Done, Gives, Throws, Returns, OutOfFuel, Caller}
 use Rattle.page_parts.specs.Kinds.{Func}
-use Rattle.page_parts.specs.Promises.{Settled, Reaction, React, Adopt, has_failed, settled_value}
+use Rattle.page_parts.specs.Promises.{Settled, Reaction, React, Adopt, has_failed}
 use Rattle.page_parts.specs.Notices.{Todo, Micro, OfPromise, WaitingJob}
 use Rattle.page_parts.specs.WrittenChoices.{Choices}
-use Rattle.page_model.specs.State.{Page, State, on_page, emit, the_registration}
-use Rattle.page_model.specs.PagePromises.{promise_at}
+use Rattle.page_model.specs.State.{Page, State, on_page, the_registration}
+use Rattle.page_model.specs.PagePromises as promises
+use Rattle.page_model.specs.PagePromises.{promise_at, inner_subscription}
 use Rattle.page_parts.specs.Listeners.{Target, AtSignal, snapshot, is_listening}
 use Rattle.page_parts.specs.AbortGraph.{marked}
 use Rattle.page_parts.specs.TaskSignals as TaskSignals
 use Rattle.page_parts.specs.TaskSignals.{followers, priority_of}
 use Rattle.page_model.specs.PageSignals.{each_in_turn, call_listener, dispatch, abort_steps, abort, reason_set, run_algorithms, change, change_through, change_begun, has_priority, priority_value}
-use Rattle.page_model.specs.Invoke.{Ways, WhenReported, when_reported, end_of_callback, call_back, callback_of, invoke, in_checkpoint, in_script, in_task, settle_derived, react_then, react_by, react, run_job, inner_subscription, run_oldest, begin_job, run_jobs, checkpoint_begun, checkpoint_ended, perform_checkpoint, checkpoint, report_before, thrown, with_scheduling}
-use Rattle.page_model.proofs.Silent.{DoneHas, KeepsAll, CallsKeep, and_then-keeps, afterwards-keeps, branch-keeps, take_unit-keeps, finish-keeps, settle-keeps, resolve-keeps, reject-keeps, follow-keeps, subscribe-keeps, run_algorithms-keeps, reason_set-keeps, report_before-keeps, report_after-keeps, checkpoint_ended-keeps}
+use Rattle.page_model.specs.Invoke.{Ways, WhenReported, when_reported, end_of_callback, call_back, callback_of, invoke, in_checkpoint, in_script, in_task, settle_derived, react_then, react_by, react, run_job, run_oldest, begin_job, run_jobs, checkpoint_begun, checkpoint_ended, perform_checkpoint, checkpoint, report_before, thrown, with_scheduling, call_begun, call_ended, settle_by, resolve_derived, handler_arguments}
+use Rattle.page_model.proofs.Silent.{DoneHas, KeepsAll, CallsKeep, and_then-keeps, afterwards-keeps, branch-keeps, take_unit-keeps, finish-keeps, settle-keeps, resolve-keeps, reject-keeps, subscribe-keeps, run_algorithms-keeps, reason_set-keeps, report_before-keeps, report_after-keeps, checkpoint_ended-keeps, Has, Keeps, relates-keeps}
+use Rattle.page_model.proofs.Combining.{lead_into-related, resolve_derived-related}
 
 module _ (c : Choices) where
   pub record WaysKeep (w : Ways) : Type 0 where
@@ -27,8 +29,8 @@ module _ (c : Choices) where
   -- ---- callbacks
 
   end_of_callback-keeps : (next : State → Done Page) → KeepsAll c next → (when : WhenReported) (d : Done Page) → DoneHas c d → DoneHas c (end_of_callback next when d)
-  end_of_callback-keeps next k when (Gives v m) h = and_then-keeps c (next (on_page (emit Ret) m)) _ (k (on_page (emit Ret) m) h) (λ u m q. q)
-  end_of_callback-keeps next k when (Returns v m) h = and_then-keeps c (next (on_page (emit Ret) m)) _ (k (on_page (emit Ret) m) h) (λ u m q. q)
+  end_of_callback-keeps next k when (Gives v m) h = and_then-keeps c (next (on_page (call_ended Ret) m)) _ (k (on_page (call_ended Ret) m) h) (λ u m q. q)
+  end_of_callback-keeps next k when (Returns v m) h = and_then-keeps c (next (on_page (call_ended Ret) m)) _ (k (on_page (call_ended Ret) m) h) (λ u m q. q)
   end_of_callback-keeps next k when (Throws v m) h =
       let reported : State = on_page (report_before when v) (on_page (thrown v) m) in
       and_then-keeps c (next reported) _ (k reported (report_before-keeps c when v (on_page (thrown v) m).host h)) (λ u m q. report_after-keeps c when v m.host q)
@@ -41,28 +43,33 @@ module _ (c : Choices) where
   pub invoke-keeps : (w : Ways) → WaysKeep w → (r : ℕ) (second : Bool) (args : List Value) → KeepsAll c (invoke w r second args)
   invoke-keeps w a r second args m h =
       let registration = the_registration m.host r in
-      end_of_callback-keeps w.after a.after (when_reported registration.role) (call_back w.call (callback_of second registration) args (on_page (emit (Call r)) m))
-      (call_back-keeps w.call a.call (callback_of second registration) args (on_page (emit (Call r)) m) h)
+      end_of_callback-keeps w.after a.after (when_reported registration.role) (call_back w.call (callback_of second registration) args (on_page (call_begun r) m))
+      (call_back-keeps w.call a.call (callback_of second registration) args (on_page (call_begun r) m) h)
 
   in_checkpoint-keeps : (call : Caller Page) → CallsKeep c call → WaysKeep (in_checkpoint call)
   in_checkpoint-keeps call k = record { call = k; after = λ m h. h }
 
   -- ---- jobs
 
+  settle_by-keeps : (resolve : Value → Page → Page) → ((v : Value) → Keeps c (resolve v)) → (into : ℕ) (d : Done Page) → DoneHas c d → DoneHas c (settle_by resolve into d)
+  settle_by-keeps resolve k into (Gives v m) h = k v m.host h
+  settle_by-keeps resolve k into (Returns v m) h = k v m.host h
+  settle_by-keeps resolve k into (Throws v m) h = reject-keeps c into v m.host h
+  settle_by-keeps resolve k into (OutOfFuel m) h = h
+
   pub settle_derived-keeps : (into : ℕ) (d : Done Page) → DoneHas c d → DoneHas c (settle_derived into d)
-  settle_derived-keeps into (Gives v m) h = resolve-keeps c into v m.host h
-  settle_derived-keeps into (Returns v m) h = resolve-keeps c into v m.host h
-  settle_derived-keeps into (Throws v m) h = reject-keeps c into v m.host h
-  settle_derived-keeps into (OutOfFuel m) h = h
+  settle_derived-keeps into d h = settle_by-keeps (promises.resolve into) (resolve-keeps c into) into d h
 
   react_then-keeps : (call : Caller Page) → CallsKeep c call → (r : ℕ) (f : Option Func) (x : Reaction) (how : Settled) → KeepsAll c (react_then call r f x how)
   react_then-keeps call k r None x how m h = settle-keeps c x.into how m.host h
   react_then-keeps call k r (Some f) x how m h =
-      settle_derived-keeps x.into (invoke (in_checkpoint call) r (has_failed how) (settled_value how ∷ []) (with_scheduling x.state m))
-      (invoke-keeps (in_checkpoint call) (in_checkpoint-keeps call k) r (has_failed how) (settled_value how ∷ []) (with_scheduling x.state m) h)
+      let registration = the_registration m.host r in
+      settle_by-keeps (resolve_derived registration x.into how) (resolve_derived-related (λ p q. Has c p → Has c q) (relates-keeps c) registration x.into how) x.into
+      (invoke (in_checkpoint call) r (has_failed how) (handler_arguments registration how) (with_scheduling x.state m))
+      (invoke-keeps (in_checkpoint call) (in_checkpoint-keeps call k) r (has_failed how) (handler_arguments registration how) (with_scheduling x.state m) h)
 
   react_by-keeps : (call : Caller Page) → CallsKeep c call → (r : Option ℕ) (x : Reaction) (how : Settled) → KeepsAll c (react_by call r x how)
-  react_by-keeps call k None x how m h = follow-keeps c x.into how m.host h
+  react_by-keeps call k None x how m h = lead_into-related (λ p q. Has c p → Has c q) (relates-keeps c) x.into how m.host h
   react_by-keeps call k (Some r) x how m h = react_then-keeps call k r (callback_of (has_failed how) (the_registration m.host r)) x how m h
 
   react-keeps : (call : Caller Page) → CallsKeep c call → (x : Reaction) (how : Option Settled) → KeepsAll c (react call x how)
@@ -70,7 +77,7 @@ module _ (c : Choices) where
   react-keeps call k x (Some how) m h = react_by-keeps call k x.registration x how m h
 
   run_job-keeps : (call : Caller Page) → CallsKeep c call → (what : Todo) → KeepsAll c (run_job call what)
-  run_job-keeps call k (Micro r) m h = invoke-keeps (in_checkpoint call) (in_checkpoint-keeps call k) r false [] (with_scheduling None m) h
+  run_job-keeps call k (Micro r) m h = invoke-keeps (in_checkpoint call) (in_checkpoint-keeps call k) r false [] m h
   run_job-keeps call k (OfPromise (React of x)) m h = react-keeps call k x (promise_at m.host of).outcome m h
   run_job-keeps call k (OfPromise (Adopt into from)) m h = subscribe-keeps c from (inner_subscription into) m.host h
 

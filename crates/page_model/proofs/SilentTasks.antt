@@ -3,7 +3,7 @@ use Rattle.std.proofs.Common.{ℕ, zero, suc, Bool, true, false, List, [], ◌�
 use Rattle.std.specs.Prelude.{codes, ◌==◌}
 use Rattle.page_types.specs.Values.{Value, IntValue, PromiseValue, UnitValue}
 use Rattle.page_types.specs.declared.FaultName.TheVariants.{TimeoutError}
-use Rattle.page_types.specs.Events.{Ret, Call, Unhandled, Handled, Host, Frame, IdleLine, Due}
+use Rattle.page_types.specs.Events.{Ret, Unhandled, Handled, Host, Frame, IdleLine, Due}
 use Rattle.page_parts.specs.Words.{is_empty}
 use Rattle.page_parts.specs.Kinds.{a_fault}
 use Rattle.lang_meaning.specs.Machine.{Done, Caller}
@@ -16,7 +16,7 @@ use Rattle.page_model.specs.State.{Page, State, TimerTask, HostTask, Steps, RunS
 use Rattle.page_model.specs.PagePromises as promises
 use Rattle.page_model.specs.PagePromises.{promise_at}
 use Rattle.page_model.specs.PageTime.{without_frame, without_timer, without_idle, with_state, deadline, idle_callback, completion_of, enqueue, idle_step}
-use Rattle.page_model.specs.Invoke.{Ways, invoke, settle_derived}
+use Rattle.page_model.specs.Invoke.{Ways, invoke, settle_derived, call_begun, call_ended}
 use Rattle.page_model.specs.PageSignals.{unwatch, is_aborted_source, dispatch}
 use Rattle.page_model.specs.Tasks.{background, timer_goes_on, where_live, run_timer, frame_callback, run_frame, call_idle, invoke_idle_again, idle_called, invoke_idle, timed_out, promise_reason, notify_one, perform_steps, continued, post_state, run_post, perform_sched, fire_closure, settle_answer, answer_host, after_task}
 use Rattle.page_model.specs.Parallel.{ItemKind, ArrivalItem, HostItem, TimerItem, IdleItem, FrameItem, complete, complete_at, take_item, due_item, first_item, take_due, item_count, parallel}
@@ -86,8 +86,8 @@ module _ (c : Choices) where
 
   continued-keeps : (r : ℕ) → Keeps c (continued r)
   continued-keeps r p h =
-      let settled = promises.resolve (the_registration p r).promise UnitValue (emit (Call r) p) in
-      unwatch-keeps c r (emit Ret settled) (resolve-keeps c (the_registration p r).promise UnitValue (emit (Call r) p) h)
+      let settled = promises.resolve (the_registration p r).promise UnitValue (call_begun r p) in
+      unwatch-keeps c r (call_ended Ret settled) (resolve-keeps c (the_registration p r).promise UnitValue (call_begun r p) h)
 
   run_post-keeps : (w : Ways) → WaysKeep c w → (t : SchedTask) → KeepsAll c (run_post w t)
   run_post-keeps w a t m h =

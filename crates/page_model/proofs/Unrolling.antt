@@ -2,15 +2,15 @@
 use Rattle.std.proofs.Common.{◌≡◌, ℕ, zero, suc, Bool, true, false, List, [], ◌∷◌, Option, Some, None, refl, sym, ◌∙◌, cond, ◌||◌}
 use Rattle.std.specs.Prelude.{codes}
 use Rattle.page_types.specs.Values.{Value, SignalValue}
-use Rattle.page_types.specs.Events.{Call, Ret}
+use Rattle.page_types.specs.Events.{Ret}
 use Rattle.page_types.specs.declared.Priority.{Priority}
 use Rattle.lang_meaning.specs.Machine.{Done, Gives, Throws, Returns, OutOfFuel, Caller, afterwards, finish, branch}
 use Rattle.page_parts.specs.Kinds.{Func}
 use Rattle.page_parts.specs.AbortGraph.{marked}
 use Rattle.page_parts.specs.TaskSignals.{is_changing, followers, priority_of}
 use Rattle.page_parts.specs.Listeners.{Target, AtSignal, snapshot, is_listening}
-use Rattle.page_model.specs.State.{Page, State, on_page, emit, the_registration}
-use Rattle.page_model.specs.Invoke.{WhenReported, when_reported, end_of_callback, call_back, invoke, in_script}
+use Rattle.page_model.specs.State.{Page, State, on_page, the_registration}
+use Rattle.page_model.specs.Invoke.{WhenReported, when_reported, end_of_callback, call_back, invoke, in_script, call_begun, call_ended}
 use Rattle.page_model.specs.PageSignals.{each_in_turn, call_listener, dispatch, abort_steps, abort, reason_set, run_algorithms, change, change_through, change_begun, change_ended, has_priority, priority_value}
 use Rattle.page_model.specs.Folds.{Change, ChangeOf, EndChange, Rest, AbortsLeft, ChangesLeft, Fold, Reached, Finished, Calls, begin_listener, next_listener, fire, aborts_from, changes_of, each_change, change_from, changes_from, rest_from, go_on, begin_dispatch, begin_abort, begin_change}
 use Rattle.page_model.specs.NestedFolds.{nested_changes, nested_rest, nested_fold, nested_reached}
@@ -49,11 +49,11 @@ module _ (call : Caller Page) where
         ∙ by_place (is_listening r m.host.listeners)
       where
         begun : State
-        begun = on_page (emit (Call r)) m
+        begun = on_page (call_begun r) m
 
         by_callback : (f : Option Func) (when : WhenReported) → afterwards (end_of_callback finish when (call_back call f args begun)) (then rs)
             ≡ nested_reached call (begin_listener f when args rs rest (next_listener args rs rest next) begun.host) m
-        by_callback None when = again (on_page (emit Ret) begun) ∙ reached-page (next_listener args rs rest next (emit Ret begun.host)) m (emit Ret begun.host)
+        by_callback None when = again (on_page (call_ended Ret) begun) ∙ reached-page (next_listener args rs rest next (call_ended Ret begun.host)) m (call_ended Ret begun.host)
         by_callback (Some f) when = refl
 
         by_place : (b : Bool) → afterwards (branch b m (invoke (in_script call) r false args) finish) (then rs)

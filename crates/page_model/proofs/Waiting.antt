@@ -11,7 +11,7 @@ use Rattle.page_model.specs.PageTime.{deadline, idle_moment, completion_of, with
 use Rattle.page_model.specs.Parallel.{ItemKind, ArrivalItem, HostItem, TimerItem, IdleItem, FrameItem, Item, first_item, due_item, complete, complete_at, take_item, take_due, item_count, parallel}
 use Rattle.page_model.specs.Choosing.{Rules, Chosen, is_reading, chosen_reading}
 use Rattle.page_model.specs.View.{view}
-use Rattle.page_model.specs.Turns.{Turned, Stuck, choose_turned, step_three, is_pending, target, at_time, waited, step_two_by, step_one, after_step_one, from_step_one, turn}
+use Rattle.page_model.specs.Turns.{Turned, Stuck, choose_turned, from_step_three, is_pending, target, at_time, waited, step_two_by, step_one, after_step_one, from_step_one, turn}
 use Rattle.page_model.specs.Bounds.{from_step_one_or, BeginsWell}
 use Rattle.page_model.proofs.Holding.{IfThere}
 use Rattle.page_model.proofs.Leaving.{parallel-leaves}
@@ -189,7 +189,7 @@ module _ {C : Type 0} (rules : Rules C) (call : Caller Page) (until : ℕ) (othe
       by_reading e t at before None k = refl
       by_reading e t at before (Some r) k = q e t r.choice r.left at (ltb-true m.host.now t before) (leb-true t r.choice (and_left (nat_le t r.choice) (nat_lt r.choice (2 ^ 63)) (legal_choice (is_reading t) (rules.reading t c) r k)))
 
-      by_target : is_empty (view m.host) ≡ true → (o : Option ℕ) → target m.host ≡ o → step_two_by rules until o again (step_three rules call until c) c m ≡ step_two_by rules until o again' (step_three rules call until c) c m
+      by_target : is_empty (view m.host) ≡ true → (o : Option ℕ) → target m.host ≡ o → step_two_by rules until o again (from_step_three rules call until c) c m ≡ step_two_by rules until o again' (from_step_three rules call until c) c m
       by_target e None at = refl
       by_target e (Some t) at =
           choose-same (nat_le until m.host.now || nat_le until t) _ _ _ _ m (λ k. refl)

@@ -2,13 +2,13 @@
 use Rattle.std.specs.Prelude.{ℕ, zero, suc, cond, ◌||◌, List, [], ◌∷◌, ◌++◌, map, Option, Some, None, codes}
 use Rattle.page_types.specs.Values.{Value, SignalValue}
 use Rattle.page_types.specs.declared.Priority.{Priority}
-use Rattle.page_types.specs.Events.{Call, Ret}
+use Rattle.page_types.specs.Events.{Ret}
 use Rattle.page_parts.specs.Kinds.{Func}
 use Rattle.page_parts.specs.AbortGraph.{marked}
 use Rattle.page_parts.specs.TaskSignals.{priority_of, is_changing, followers}
 use Rattle.page_parts.specs.Listeners.{Target, AtSignal, snapshot, is_listening}
-use Rattle.page_model.specs.State.{Page, the_registration, emit}
-use Rattle.page_model.specs.Invoke.{WhenReported, when_reported, thrown, report_before, report_after}
+use Rattle.page_model.specs.State.{Page, the_registration}
+use Rattle.page_model.specs.Invoke.{WhenReported, when_reported, call_begun, call_ended, thrown, report_before, report_after}
 use Rattle.page_model.specs.PageSignals.{run_algorithms, reason_set, change_begun, change_ended, has_priority, priority_value}
 use Rattle.lang_meaning.specs.HostSteps.{CallbackEnd, CallbackValue, CallbackThrow}
 
@@ -36,7 +36,7 @@ pub data Reached : Type 0 where
 
 -- a listener's callback begins, with its line; an absent one has ended at once
 abbrev pub begin_listener : Option Func → WhenReported → List Value → List ℕ → Rest → (Page → Reached) → Page → Reached
-begin_listener None when args rs rest next p = next (emit Ret p)
+begin_listener None when args rs rest next p = next (call_ended Ret p)
 begin_listener (Some f) when args rs rest next p = Calls f (record { when = when; args = args; listeners = rs; rest = rest }) p
 
 -- DOM, "Dispatching events": the first of these listeners that was not removed is called; where there is none comes the rest
@@ -44,7 +44,7 @@ abbrev pub next_listener : List Value → List ℕ → Rest → (Page → Reache
 next_listener args [] rest next p = next p
 next_listener args (r ∷ rs) rest next p =
     cond (is_listening r p.listeners)
-    (begin_listener (the_registration p r).callback (when_reported (the_registration p r).role) args rs rest (next_listener args rs rest next) (emit (Call r) p))
+    (begin_listener (the_registration p r).callback (when_reported (the_registration p r).role) args rs rest (next_listener args rs rest next) (call_begun r p))
     (next_listener args rs rest next p)
 
 -- an event is fired at a signal
@@ -93,7 +93,7 @@ go_on fold p = next_listener fold.args fold.listeners fold.rest (rest_from fold.
 
 -- the line of a callback's end, and the report of a throw
 abbrev pub callback_ended : WhenReported → CallbackEnd → Page → Page
-callback_ended when (CallbackValue v) p = emit Ret p
+callback_ended when (CallbackValue v) p = call_ended Ret p
 callback_ended when (CallbackThrow v) p = report_after when v (report_before when v (thrown v p))
 
 -- an event is fired at a target: its first callback

@@ -1,5 +1,6 @@
 pub mod State
 pub mod PagePromises
+pub mod PageCombinators
 pub mod PageTime
 pub mod Invoke
 pub mod PageSignals
@@ -10,6 +11,11 @@ pub mod View
 pub mod Choosing
 pub mod Turns
 pub mod PageTrace
+pub mod Gaps
+pub mod PageRuns
+pub mod Windows
+pub mod Loops
+pub mod RunsText
 pub mod Additions
 pub mod Folds
 pub mod PageHost

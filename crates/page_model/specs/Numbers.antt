@@ -1,8 +1,9 @@
 -- The numbers that stand in a page were given out before.
-use Rattle.std.specs.Prelude.{◌≡◌, ℕ, ◌≤◌, ◌<◌, List, [], ◌∷◌, ◌++◌, length, Option, Some, None}
+use Rattle.std.specs.Prelude.{◌≡◌, ℕ, Bool, true, false, ◌≤◌, ◌<◌, List, [], ◌∷◌, ◌++◌, length, Option, Some, None}
 use Rattle.page_types.specs.Values.{Value, UnitValue, BoolValue, IntValue, TextValue, ListValue, FunValue, PromiseValue, SignalValue, ControllerValue, DeadlineValue, FaultValue, Values, no_values, with_value}
 use Rattle.page_parts.specs.Words.{numbered}
-use Rattle.page_parts.specs.Promises.{settled_value, Reaction, PromiseRecord, PromiseJob, React, Adopt}
+use Rattle.page_parts.specs.Combinators.{CombinatorKind, All, AnyOf, AllSettled, Pass}
+use Rattle.page_parts.specs.Promises.{Settled, settled_value, Reaction, PromiseRecord, PromiseJob, React, Adopt}
 use Rattle.page_parts.specs.Notices.{Todo, Micro, OfPromise, WaitingJob, Notices}
 use Rattle.page_parts.specs.Timers.{Timers, TimerId}
 use Rattle.page_parts.specs.Frames.{Callback}
@@ -12,7 +13,9 @@ use Rattle.page_parts.specs.TaskSignals.{PrioRecord}
 use Rattle.page_parts.specs.Listeners.{Listener, Target, Window, AtSignal}
 use Rattle.page_parts.specs.Setup.{Setup}
 use Rattle.lang_meaning.specs.Machine.{Variable, Done, Gives, Throws, Returns, OutOfFuel, Caller}
-use Rattle.page_model.specs.State.{HostTask, Task, Registration, no_registration, TimerTask, Steps, RunScript, RunTimer, TimeOutSignal, FireAtWindow, AnswerHost, RunFrame, InvokeIdle, IdleTimeout, NotifyRejected, NotifyHandled, PrioSource, Fixed, OfSignal, SchedTask, Completion, QueueTimer, EnqueuePost, QueueSignal, Completing, IdleTimer, SchedulingState, Page, State}
+use Rattle.page_model.specs.State.{HostTask, Task, Registration, no_registration, TimerTask, Steps, RunScript, RunTimer, TimeOutSignal, FireAtWindow, AnswerHost, RunFrame, InvokeIdle, IdleTimeout, NotifyRejected, NotifyHandled, PrioSource, Fixed, OfSignal, SchedTask, Completion, QueueTimer, EnqueuePost, QueueSignal, Completing, IdleTimer, SchedulingState, Combining, Element, Page, State, Role, ScriptRole, OfKind}
+use Rattle.page_types.specs.declared.RegKind.{RegKind}
+use Rattle.page_types.specs.declared.RegKind.TheVariants.{Timeout as TimeoutKind, Interval as IntervalKind, Frame as FrameKind, Idle as IdleKind, Post as PostKind, Yield as YieldKind, Host as HostKind, Listener as ListenerKind, Then as ThenKind, Micro as MicroKind, Signal as SignalKind}
 
 -- ---- Ours: a law by which numbers may stand for things that are there
 
@@ -32,7 +35,7 @@ pub record GoesOnFrom {X : Type 0} (before after : List X) : Type 0 where
   pub whole : after ≡ before ++ rest
 
 -- what was given out: how many promises, signals and scheduling states were made; the registrations; how many timer ids, timer handles and start numbers, frame handles, idle handles, task numbers and
--- job numbers were given; how many host closures there are
+-- job numbers were given; how many host closures and combinators there are
 pub record Made : Type 0 where
   pub promises : ℕ
   pub signals : ℕ
@@ -46,6 +49,7 @@ pub record Made : Type 0 where
   pub tasks : ℕ
   pub jobs : ℕ
   pub hosts : ℕ
+  pub combinators : ℕ
 
 -- what a page has given out
 abbrev pub made_by : Page → Made
@@ -63,6 +67,7 @@ made_by p =
       tasks = p.tasks_made;
       jobs = p.notices.jobs_made;
       hosts = length p.hosts;
+      combinators = length p.combinators;
     }
 
 -- more was given out, and what was given before stays
@@ -79,6 +84,7 @@ pub record Grows (before after : Made) : Type 0 where
   pub tasks : before.tasks ≤ after.tasks
   pub jobs : before.jobs ≤ after.jobs
   pub hosts : before.hosts ≤ after.hosts
+  pub combinators : before.combinators ≤ after.combinators
 
 -- a number from 1 to the last one that was given
 pub record IsGiven (last number : ℕ) : Type 0 where
@@ -88,6 +94,21 @@ pub record IsGiven (last number : ℕ) : Type 0 where
 -- the number of a registration
 abbrev pub IsRegistered : Made → ℕ → Type 0
 IsRegistered n r = IsGiven (length n.registrations) r
+
+-- the number of a registration that is for this
+pub record IsFor (what : Role) (n : Made) (r : ℕ) : Type 0 where
+  pub registration : IsRegistered n r
+  pub role : (numbered n.registrations r no_registration).role ≡ what
+
+-- what a timer's registration is for: an interval repeats
+abbrev pub timer_role : Bool → Role
+timer_role true = OfKind IntervalKind
+timer_role false = OfKind TimeoutKind
+
+-- what a scheduler task's registration is for
+abbrev pub sched_role : Bool → Role
+sched_role true = OfKind YieldKind
+sched_role false = OfKind PostKind
 
 -- the number of a registration that has a promise
 pub record HasPromise (n : Made) (r : ℕ) : Type 0 where
@@ -126,7 +147,7 @@ pub record RegistrationIsGiven (n : Made) (x : Registration) : Type 0 where
 
 -- a reaction: its registration, the promise that it settles, its scheduling state
 pub record ReactionIsGiven (n : Made) (x : Reaction) : Type 0 where
-  pub registration : IfThere (IsRegistered n) x.registration
+  pub registration : IfThere (IsFor (OfKind ThenKind) n) x.registration
   pub into : IsGiven n.promises x.into
   pub state : IfThere (IsGiven n.states) x.state
 
@@ -142,13 +163,14 @@ PromiseJobIsGiven n (Adopt into from) = IsGiven n.promises into × IsGiven n.pro
 
 -- what a job does
 abbrev pub TodoIsGiven : Made → Todo → Type 0
-TodoIsGiven n (Micro r) = IsRegistered n r
+TodoIsGiven n (Micro r) = IsFor (OfKind MicroKind) n r
 TodoIsGiven n (OfPromise job) = PromiseJobIsGiven n job
 
--- a job that waits: its number and what it does
+-- a job that waits: its number, what it does and the scheduling state that it keeps
 pub record JobIsGiven (n : Made) (job : WaitingJob) : Type 0 where
   pub number : IsGiven n.jobs job.number
   pub what : TodoIsGiven n job.what
+  pub state : IfThere (IsGiven n.states) job.context.state
 
 -- promises, jobs and the lists of rejected promises
 pub record NoticesAreGiven (n : Made) (s : Notices) : Type 0 where
@@ -157,22 +179,47 @@ pub record NoticesAreGiven (n : Made) (s : Notices) : Type 0 where
   pub rejected : Each (IsGiven n.promises) s.rejected
   pub outstanding : Each (IsGiven n.promises) s.outstanding
 
+-- ---- Ours: combinators
+
+-- an outcome: its value or its reason
+abbrev pub OutcomeIsKnown : Made → Settled → Type 0
+OutcomeIsKnown n how = IsKnown n (settled_value how)
+
+-- which combinator it is: that of `finally` holds an outcome
+abbrev pub KindIsGiven : Made → CombinatorKind → Type 0
+KindIsGiven n All = Unit {0}
+KindIsGiven n AnyOf = Unit {0}
+KindIsGiven n AllSettled = Unit {0}
+KindIsGiven n (Pass how) = OutcomeIsKnown n how
+
+-- a combinator: its kind, what was reported, and the promise that its answer settles
+pub record CombiningIsGiven (n : Made) (c : Combining) : Type 0 where
+  pub kind : KindIsGiven n c.combine.kind
+  pub reports : Each (λ r. OutcomeIsKnown n r.outcome) c.combine.reports
+  pub result : IsGiven n.promises c.result
+
+-- an element: its promise and its combinator
+pub record ElementIsGiven (n : Made) (e : Element) : Type 0 where
+  pub promise : IsGiven n.promises e.promise
+  pub combinator : IsGiven n.combinators e.combinator
+
 -- ---- Ours: tasks
 
 -- the task of a timer: its registration, its id and its handle
 pub record TimerTaskIsGiven (n : Made) (t : TimerTask) : Type 0 where
-  pub registration : IsRegistered n t.registration
+  pub registration : IsFor (timer_role t.repeats) n t.registration
   pub id : IsGiven n.ids t.id
   pub handle : IsGiven n.handles t.handle
 
 -- what was asked of a host closure: the registration, which has a promise, and the closure, whose number counts from 0
 pub record HostTaskIsGiven (n : Made) (t : HostTask) : Type 0 where
   pub registration : HasPromise n t.registration
+  pub kind : IsFor (OfKind HostKind) n t.registration
   pub closure : t.closure < n.hosts
 
 -- the steps of a task
 abbrev pub StepsAreGiven : Made → Steps → Type 0
-StepsAreGiven n RunScript = IsRegistered n 1
+StepsAreGiven n RunScript = IsFor ScriptRole n 1
 StepsAreGiven n (RunTimer t) = TimerTaskIsGiven n t
 StepsAreGiven n (TimeOutSignal s) = IsGiven n.signals s
 StepsAreGiven n (FireAtWindow name v) = IsKnown n v
@@ -196,6 +243,7 @@ PrioSourceIsGiven n (OfSignal s) = IsGiven n.signals s
 -- a scheduler task: its registration, which has a promise, its priority source, and its order, which is a task number
 pub record SchedTaskIsGiven (n : Made) (t : SchedTask) : Type 0 where
   pub registration : HasPromise n t.registration
+  pub kind : IsFor (sched_role t.continuation) n t.registration
   pub source : PrioSourceIsGiven n t.source
   pub order : IsGiven n.tasks t.order
 
@@ -209,8 +257,8 @@ pub record StateIsGiven (n : Made) (s : SchedulingState) : Type 0 where
 -- what a timer does when it completes
 abbrev pub CompletionIsGiven : Made → Completion → Type 0
 CompletionIsGiven n (QueueTimer t) = TimerTaskIsGiven n t
-CompletionIsGiven n (EnqueuePost r source) = HasPromise n r × PrioSourceIsGiven n source
-CompletionIsGiven n (QueueSignal r s) = IsRegistered n r × IsGiven n.signals s
+CompletionIsGiven n (EnqueuePost r source) = HasPromise n r × PrioSourceIsGiven n source × IsFor (OfKind PostKind) n r
+CompletionIsGiven n (QueueSignal r s) = IsFor (OfKind SignalKind) n r × IsGiven n.signals s
 
 -- the completion steps of an active timer, by its start number
 pub record CompletingIsGiven (n : Made) (c : Completing) : Type 0 where
@@ -230,17 +278,17 @@ pub record TimersAreGiven (n : Made) (t : Timers) : Type 0 where
 -- an idle timeout: the handle of its callback and its registration
 pub record IdleTimerIsGiven (n : Made) (t : IdleTimer) : Type 0 where
   pub handle : IsGiven n.idle t.handle
-  pub registration : IsRegistered n t.registration
+  pub registration : IsFor (OfKind IdleKind) n t.registration
 
--- a callback that waits, where `last` is the last handle of its kind
-pub record CallbackIsGiven (last : ℕ) (n : Made) (c : Callback) : Type 0 where
+-- a callback of this kind that waits, where `last` is the last handle of the kind
+pub record CallbackIsGiven (kind : RegKind) (last : ℕ) (n : Made) (c : Callback) : Type 0 where
   pub handle : IsGiven last c.handle
-  pub registration : IsRegistered n c.registration
+  pub registration : IsFor (OfKind kind) n c.registration
 
 -- the two lists of idle callbacks
 pub record IdleIsGiven (n : Made) (i : Idle) : Type 0 where
-  pub pending : Each (CallbackIsGiven n.idle n) i.pending
-  pub runnable : Each (CallbackIsGiven n.idle n) i.runnable
+  pub pending : Each (CallbackIsGiven IdleKind n.idle n) i.pending
+  pub runnable : Each (CallbackIsGiven IdleKind n.idle n) i.runnable
 
 -- ---- Ours: signals
 
@@ -264,7 +312,7 @@ TargetIsGiven n (AtSignal s) = IsGiven n.signals s
 
 -- a listener: its registration and its target
 pub record ListenerIsGiven (n : Made) (l : Listener) : Type 0 where
-  pub registration : IsRegistered n l.registration
+  pub registration : IsFor (OfKind ListenerKind) n l.registration
   pub target : TargetIsGiven n l.target
 
 -- ---- Ours: the law
@@ -282,12 +330,16 @@ pub record AreWithin (n : Made) (p : Page) : Type 0 where
   pub idle_timers : Each (IdleTimerIsGiven n) p.idle_timers
   pub host_answers : Each (λ a. HostTaskIsGiven n a.task) p.host_answers
   pub arrivals : Each (λ a. IsKnown n a.value) p.arrivals
-  pub frames : Each (CallbackIsGiven n.frames n) p.frames.callbacks
+  pub frames : Each (CallbackIsGiven FrameKind n.frames n) p.frames.callbacks
   pub idle : IdleIsGiven n p.idle
   pub signals : Each (SignalIsGiven n) p.signals
   pub prios : Each (PrioIsGiven n) p.prios
   pub listeners : Each (ListenerIsGiven n) p.listeners
   pub scheduling_states : Each (StateIsGiven n) p.scheduling_states
+  pub combinators : Each (CombiningIsGiven n) p.combinators
+  pub elements : Each (ElementIsGiven n) p.elements
+  pub posts : Each (λ x. IsKnown n x.value) p.posts
+  pub calls : Each (IsRegistered n) p.calls
 
 -- each number that stands in a page was given out by it before
 abbrev pub AreGiven : Page → Type 0
@@ -325,7 +377,7 @@ CallsKeepGiven call = (f : ℕ) (args : List Value) (m : State) → AllAreGiven 
 
 -- nothing was given out
 abbrev pub nothing_made : Made
-nothing_made = record { promises = 0; signals = 0; states = 0; registrations = []; ids = 0; handles = 0; starts = 0; frames = 0; idle = 0; tasks = 0; jobs = 0; hosts = 0 }
+nothing_made = record { promises = 0; signals = 0; states = 0; registrations = []; ids = 0; handles = 0; starts = 0; frames = 0; idle = 0; tasks = 0; jobs = 0; hosts = 0; combinators = 0 }
 
 -- the values that arrive hold no number of a promise, signal or controller
 abbrev pub HoldsNoNumbers : Setup → Type 0

@@ -1,18 +1,18 @@
 -- What each operation does.
 use Rattle.std.specs.Prelude.{ℕ, suc, ◌+◌, ◌*◌, Bool, true, false, cond, ◌&&◌, ◌||◌, List, [], ◌∷◌, length, Option, Some, None, ℤ, pos, negsuc, int_le, nat_lt, nat_le, ◌==◌, slice_get, slice_set, unwrap_or}
-use Rattle.page_types.specs.Values.{Value, UnitValue, BoolValue, IntValue, TextValue, ListValue, FunValue, PromiseValue, SignalValue, ControllerValue, DeadlineValue, FaultValue, Values, no_values, with_value, items_of}
+use Rattle.page_types.specs.Values.{Value, UnitValue, BoolValue, IntValue, TextValue, ListValue, FunValue, PromiseValue, SignalValue, ControllerValue, DeadlineValue, FaultValue, Values, no_values, with_value, items_of, values_of}
 use Rattle.page_types.specs.declared.FaultName.TheVariants.{TypeError, RangeError, AbortError, NotAllowedError}
 use Rattle.page_types.specs.declared.Op.{Op}
-use Rattle.page_types.specs.declared.Op.TheVariants.{Log, TextOf, KindOf, Len, Push, Bind, MakeFault, FaultNameOf, FaultTextOf, NowOp, Busy, QueueMicrotask, MakePromise, ResolveOp, RejectOp, Resolved, Rejected, Then, SetTimeout, SetInterval, ClearTimeout, ClearInterval, RequestFrame, CancelFrame, RequestIdle, CancelIdle, DidTimeout, TimeRemaining, PostTask, YieldTask, MakeController, MakeTaskController, SignalOf, AbortOp, SetPriority, AbortedSignal, AnySignal, TaskAny, TimeoutSignal, Aborted, ReasonOf, PriorityOf, Listen, Unlisten, HostOp}
+use Rattle.page_types.specs.declared.Op.TheVariants.{Log, TextOf, KindOf, Len, Push, Bind, MakeFault, FaultNameOf, FaultTextOf, NowOp, Busy, QueueMicrotask, MakePromise, ResolveOp, RejectOp, Resolved, Rejected, Then, SetTimeout, SetInterval, ClearTimeout, ClearInterval, RequestFrame, CancelFrame, RequestIdle, CancelIdle, DidTimeout, TimeRemaining, PostTask, YieldTask, MakeController, MakeTaskController, SignalOf, AbortOp, SetPriority, AbortedSignal, AnySignal, TaskAny, TimeoutSignal, Aborted, ReasonOf, PriorityOf, Listen, Unlisten, HostOp, PostMessage, AllOp, RaceOp, AnyOp, AllSettled, FinallyOp}
 use Rattle.page_types.specs.Events as events
 use Rattle.page_types.specs.declared.Priority.{Priority}
 use Rattle.page_types.specs.declared.Priority.TheVariants.{Background, UserVisible, UserBlocking}
 use Rattle.page_types.specs.declared.RegKind.{RegKind}
 use Rattle.page_types.specs.declared.RegKind.TheVariants.{Timeout as TimeoutKind, Interval as IntervalKind, Frame as FrameKind, Idle as IdleKind, Post as PostKind, Yield as YieldKind, Host as HostKind, Listener as ListenerKind, Then as ThenKind, Micro as MicroKind, Signal as SignalKind}
-use Rattle.page_types.specs.Events.{Arm, Drop}
+use Rattle.page_types.specs.Events.{Arm, Drop, Send}
 use Rattle.page_parts.specs.Words.{and_last, has_number, same_bytes, not_below_zero, is_there}
 use Rattle.page_parts.specs.Spelling.{spelled, priority_text}
-use Rattle.page_parts.specs.Kinds.{Func, func_in, int_in, text_in, list_in, promise_in, signal_in, controller_in, deadline_in, is_unit, a_fault}
+use Rattle.page_parts.specs.Kinds.{Func, func_in, int_in, text_in, list_in, promise_in, signal_in, controller_in, deadline_in, is_unit, is_sendable, within_limits, a_fault}
 use Rattle.lang_meaning.specs.Machine.{Done, Gives, throw_fault, finish, given, branch, take_unit, Caller}
 use Rattle.lang_meaning.specs.Evaluation.{answered}
 use Rattle.lang_meaning.specs.HostSteps.{is_busy}
@@ -22,13 +22,15 @@ use Rattle.page_parts.specs.AbortGraph as AbortGraph
 use Rattle.page_parts.specs.TaskSignals as TaskSignals
 use Rattle.page_parts.specs.TaskSignals.{priority_of, is_changing}
 use Rattle.page_parts.specs.Listeners.{Target, Window, AtSignal, add, off, is_listening}
-use Rattle.page_model.specs.State.{Registration, OfKind, EnqueuePost, QueueSignal, PrioSource, Fixed, OfSignal, SchedulingState, Page, State, on_page, last_registration, emit, on_notices}
+use Rattle.page_model.specs.State.{Registration, OfKind, EnqueuePost, QueueSignal, PrioSource, Fixed, OfSignal, SchedulingState, Page, State, on_page, last_registration, context, emit, on_notices}
 use Rattle.page_parts.specs.HostClosures.{HostClosure}
 use Rattle.page_types.specs.declared.HostMark.{HostMark}
 use Rattle.page_types.specs.declared.HostMark.TheVariants.{Live, Queued as QueuedMark, Fired, Dropped}
 use Rattle.page_parts.specs.Setup.{Latency}
 use Rattle.page_model.specs.PagePromises as promises
-use Rattle.page_model.specs.PagePromises.{new_promise, last_promise}
+use Rattle.page_model.specs.PagePromises.{new_promise, last_promise, new_settled}
+use Rattle.page_model.specs.PageCombinators.{all_made, race_made, promises_for, are_promises_left}
+use Rattle.page_parts.specs.Combinators.{CombinatorKind, All, AnyOf, AllSettled as AllSettledKind}
 use Rattle.page_model.specs.PageTime.{init_timer, run_after, clear_timer, request_frame, cancel_frame, request_idle, cancel_idle, time_remaining, enqueue, current_state}
 use Rattle.page_model.specs.Invoke.{Ways, register, register_as, in_script}
 use Rattle.page_model.specs.PageSignals.{abort, change, is_aborted, is_aborted_source, reason_value, watch, give_priority, priority_value}
@@ -101,7 +103,7 @@ busy n m = take_unit m (λ m. given (int_in n) TypeError m busy_for)
 abbrev pub micro_registered : Func → Page → Page
 micro_registered f p =
     let made = register MicroKind (Some f) None p in
-    on_notices (Notices.queue_micro (last_registration made)) made
+    on_notices (Notices.queue_micro (context made) (last_registration made)) made
 
 -- `queueMicrotask`
 abbrev pub queue_microtask : Value → State → Done Page
@@ -123,11 +125,7 @@ abbrev pub settle_own : (ℕ → Value → Page → Page) → Value → Value �
 settle_own settle p v m =
     given (promise_in p) TypeError m (λ n m. branch (has_number m.host.script_promises n) m (does (settle n v)) (throw_fault TypeError))
 
--- a new promise which is resolved or rejected at once
-abbrev pub new_settled : (ℕ → Value → Page → Page) → Value → Page → Page
-new_settled settle v p = let made = new_promise p in settle (last_promise made) v made
-
--- the same as an operation, which answers that promise
+-- a new promise which is settled at once, as the answer
 abbrev pub settled_promise : (ℕ → Value → Page → Page) → Value → State → Done Page
 settled_promise settle v m = where_left (promise_left m.host) m (answers last_promise_value (new_settled settle v))
 
@@ -151,7 +149,7 @@ then_value v f g m =
 -- a timer is registered under the id that it will get
 abbrev pub timer_registered : RegKind → Func → Page → Page
 timer_registered kind f p =
-    register_as kind (record { role = OfKind kind; callback = Some f; second_callback = None; timer_id = suc p.timers.ids_made; promise = 0; signal = None }) p
+    register_as kind (record { role = OfKind kind; callback = Some f; second_callback = None; timer_id = suc p.timers.ids_made; promise = 0; signal = None; finally = false }) p
 
 -- a timer is registered and initialised
 abbrev pub timer_set : RegKind → Bool → Func → ℤ → Page → Page
@@ -373,7 +371,7 @@ prio_source_of p None signal = signal_source p signal
 abbrev pub promised : RegKind → Option Func → Option ℕ → Page → Page
 promised kind f signal p =
     let made = new_promise p in
-    let x : Registration = record { role = OfKind kind; callback = f; second_callback = None; timer_id = 0; promise = last_promise made; signal = signal } in
+    let x : Registration = record { role = OfKind kind; callback = f; second_callback = None; timer_id = 0; promise = last_promise made; signal = signal; finally = false } in
     let registered = register_as kind x made in
     watch signal (last_registration registered) registered
 
@@ -481,6 +479,64 @@ host k x signal m =
     given_or_rejected (int_in k) m (λ k m. given_or_rejected (int_in x) m (λ x m.
     given_or_rejected (signal_or_unit signal) m (λ signal m. host_asked k x signal m)))
 
+-- ---- ECMA-262, "Promise.all", "Promise.race", "Promise.any", "Promise.allSettled" and "Promise.prototype.finally"
+
+-- how many promises are made for items
+abbrev pub promises_for_all : List Value → ℕ
+promises_for_all [] = 0
+promises_for_all (v ∷ vs) = promises_for v + promises_for_all vs
+
+-- a promise that is made first, as the answer, whatever else is made then
+abbrev pub answers_first : (Page → Page) → State → Done Page
+answers_first f m = answers (λ p. PromiseValue (suc (last_promise m.host))) f m
+
+-- `all`, `any` and `allSettled`: for each item an element is made, and a promise where the item is none
+abbrev pub combined : CombinatorKind → Value → State → Done Page
+combined kind l m =
+    given_or_rejected (list_in l) m (λ vs m.
+    where_left (are_promises_left (1 + promises_for_all (items_of vs) + length (items_of vs)) m.host) m (answers_first (all_made kind (items_of vs))))
+
+-- `race`
+abbrev pub raced : Value → State → Done Page
+raced l m =
+    given_or_rejected (list_in l) m (λ vs m. where_left (are_promises_left (1 + promises_for_all (items_of vs)) m.host) m (answers_first (race_made (items_of vs))))
+
+-- the derived promise and the registration of a `finally` are made, and the promise gets the reaction
+abbrev pub finally_made : ℕ → Value → Page → Page
+finally_made n f p =
+    let x : Registration = record { role = OfKind ThenKind; callback = func_in f; second_callback = func_in f; timer_id = 0; promise = 0; signal = None; finally = true } in
+    let made = register_as ThenKind x (new_promise p) in
+    promises.subscribe n (record { registration = Some (last_registration made); into = last_promise made; state = made.scheduling }) made
+
+-- `finally`: a handler that is no function is absent
+abbrev pub finally_value : Value → Value → State → Done Page
+finally_value v f m =
+    given_or_rejected (promise_in v) m (λ n m. where_left (promise_left m.host && registration_left m.host) m (answers last_promise_value (finally_made n f)))
+
+-- ---- HTML, "Cross-document messaging". Ours: a message goes to a port by its number, and tells no function, promise, signal, controller or deadline
+
+-- a port: a number from 1 to 64
+abbrev pub port_in : Value → Option ℕ
+port_in v = elim (int_in v) [ None ↦ None | Some n ↦ cond (int_within (pos 1) (pos 64) n) (Some (not_below_zero n)) None ]
+
+-- the value, where it may be sent
+abbrev pub sendable_in : Value → Option Value
+sendable_in v = cond (is_sendable v) (Some v) None
+
+-- a message is posted, with its line
+abbrev pub posted : ℕ → Value → Page → Page
+posted port v p = emit (Send port (spelled p.names v)) (record p { posts = and_last p.posts (record { port = port; value = v; at = p.now }) })
+
+-- the messages since the last taking are taken
+abbrev pub posts_taken : Page → Page
+posts_taken p = record p { posts = [] }
+
+-- `postMessage`: RangeError where the list of port and value would be too heavy
+abbrev pub post_message : Value → Value → State → Done Page
+post_message n v m =
+    given (port_in n) TypeError m (λ port m. given (sendable_in v) TypeError m (λ v m.
+    given (within_limits (ListValue (values_of (n ∷ v ∷ [])))) RangeError m (λ whole m. does (posted port v) m)))
+
 -- ---- the table of operations; what a row does stands above, under its section
 
 -- what each operation does, by its arguments
@@ -530,6 +586,12 @@ operation w PriorityOf args m = of_signal (argument args 0) (λ s p. priority_va
 operation w Listen args m = listen (argument args 0) (argument args 1) (argument args 2) m
 operation w Unlisten args m = with_handle (argument args 0) listener_removed m
 operation w HostOp args m = host (argument args 0) (argument args 1) (argument args 2) m
+operation w PostMessage args m = post_message (argument args 0) (argument args 1) m
+operation w AllOp args m = combined All (argument args 0) m
+operation w RaceOp args m = raced (argument args 0) m
+operation w AnyOp args m = combined AnyOf (argument args 0) m
+operation w AllSettled args m = combined AllSettledKind (argument args 0) m
+operation w FinallyOp args m = finally_value (argument args 0) (argument args 1) m
 
 -- ---- Ours: numbers that were not given out. No run meets them
 

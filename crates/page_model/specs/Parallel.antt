@@ -20,6 +20,15 @@ pub data ItemKind : Type 0 where
   IdleItem : IdleTimer → ItemKind
   FrameItem : ItemKind
 
+-- the arrivals with one more, which stands behind those of the same or an earlier time
+abbrev pub with_arrival : Arrival → List Arrival → List Arrival
+with_arrival a [] = a ∷ []
+with_arrival a (b ∷ more) = cond (nat_le b.at a.at) (b ∷ with_arrival a more) (a ∷ b ∷ more)
+
+-- a further arrival is to come
+abbrev pub arrive : Arrival → Page → Page
+arrive a p = record p { arrivals = with_arrival a p.arrivals }
+
 -- a parallel item, and when it is due
 pub record Item : Type 0 where
   pub due : ℕ

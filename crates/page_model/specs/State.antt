@@ -1,5 +1,5 @@
 -- The state of a page: one record of plain lists and numbers.
-use Rattle.std.specs.Prelude.{ℕ, suc, Bool, List, [], ◌∷◌, length, Option, None, ℤ}
+use Rattle.std.specs.Prelude.{ℕ, suc, Bool, List, [], ◌∷◌, false, cond, length, Option, Some, None, ℤ, ◌==◌, slice_get, unwrap_or}
 use Rattle.page_types.specs.Values.{Value}
 use Rattle.page_types.specs.declared.Source.{Source}
 use Rattle.page_types.specs.declared.RegKind.{RegKind}
@@ -9,8 +9,10 @@ use Rattle.page_parts.specs.Words.{and_last, numbered}
 use Rattle.page_parts.specs.Kinds.{Func}
 use Rattle.lang_meaning.specs.Machine.{Machine}
 use Rattle.page_parts.specs.Setup.{Arrival, Latency}
+use Rattle.page_parts.specs.Channels.{Post}
 use Rattle.page_parts.specs.HostClosures.{HostClosure}
-use Rattle.page_parts.specs.Notices.{Notices, Noticed}
+use Rattle.page_parts.specs.Notices.{Context, Notices, Noticed}
+use Rattle.page_parts.specs.Combinators.{Combine}
 use Rattle.page_parts.specs.Timers.{Timers}
 use Rattle.page_parts.specs.Frames.{Frames}
 use Rattle.page_parts.specs.IdleCallbacks.{Idle}
@@ -26,6 +28,7 @@ pub data Role : Type 0 where
   OfKind : RegKind → Role
 
 -- A registration: what it is for, its callbacks, and where it has one its timer id, its promise and the signal that can abort it. A handler that is no function is absent.
+-- A handler of `finally` is called with no argument and passes the outcome on.
 pub record Registration : Type 0 where
   pub role : Role
   pub callback : Option Func
@@ -33,6 +36,7 @@ pub record Registration : Type 0 where
   pub timer_id : ℕ
   pub promise : ℕ
   pub signal : Option ℕ
+  pub finally : Bool
 
 -- ---- HTML, "Event loops: processing model" and "Task sources": tasks
 
@@ -114,21 +118,39 @@ pub record SchedulingState : Type 0 where
   pub abort_source : Option ℕ
   pub prio_source : PrioSource
 
+-- ---- ECMA-262, "Promise.all" and its like
+
+-- a combinator, and the promise that its answer settles
+pub record Combining : Type 0 where
+  pub combine : Combine
+  pub result : ℕ
+
+-- an element of a combinator: the promise into which an item is subscribed and which is never settled, the combinator's number and the place there
+pub record Element : Type 0 where
+  pub promise : ℕ
+  pub combinator : ℕ
+  pub place : ℕ
+
 -- the page: all that a run keeps besides the variables and the fuel of the script
 pub record Page : Type 0 where
   -- the run
+  pub form : ℕ  -- in form 2 a microtask inherits
+  pub trace : ℕ  -- the form of the trace
   pub now : ℕ
   pub turns : ℕ
   pub events : List Stamped  -- the last one first
   -- the script
   pub names : List (List ℕ)
-  pub level : ℕ  -- the nesting level of the current task
+  pub calls : List ℕ  -- the registrations whose callbacks are open, the innermost first
+  pub level : ℕ  -- the current nesting level
   pub scheduling : Option ℕ  -- the current scheduling state
   pub performing : Bool  -- whether a checkpoint is being performed
   pub registrations : List Registration
   pub script_promises : List ℕ  -- those made by `promise`
   -- promises and jobs
   pub notices : Notices
+  pub combinators : List Combining
+  pub elements : List Element
   -- tasks
   pub tasks : List Task
   pub sched_tasks : List SchedTask
@@ -155,6 +177,8 @@ pub record Page : Type 0 where
   -- hosts
   pub hosts : List HostClosure
   pub latencies : List Latency
+  -- messages
+  pub posts : List Post  -- those since the last taking
 
 -- the whole state: the script machine around its page
 abbrev pub State : Type 0
@@ -166,7 +190,7 @@ on_page f m = record m { host = f m.host }
 
 -- what stands for a registration that was never made
 abbrev pub no_registration : Registration
-no_registration = record { role = ScriptRole; callback = None; second_callback = None; timer_id = 0; promise = 0; signal = None }
+no_registration = record { role = ScriptRole; callback = None; second_callback = None; timer_id = 0; promise = 0; signal = None; finally = false }
 
 -- registration number r
 abbrev pub the_registration : Page → ℕ → Registration
@@ -184,6 +208,14 @@ emit e p = record p { events = record { time = p.now; event = e } ∷ p.events }
 abbrev pub emit_each : List Event → Page → Page
 emit_each [] p = p
 emit_each (e ∷ es) p = emit_each es (emit e p)
+
+-- the registration of the innermost open call, which a trace of form 2 tells
+abbrev pub caller : Page → Option ℕ
+caller p = cond (p.trace == 2) (Some (unwrap_or (slice_get p.calls 0) 0)) None
+
+-- the nesting level and the scheduling state that are current
+abbrev pub context : Page → Context
+context p = record { level = p.level; state = p.scheduling }
 
 -- a call on the promises and jobs of the page, with its lines
 abbrev pub on_notices : (Notices → Noticed) → Page → Page

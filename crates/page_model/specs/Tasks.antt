@@ -4,7 +4,7 @@ use Rattle.page_types.specs.Values.{Value, UnitValue, IntValue, PromiseValue, De
 use Rattle.page_types.specs.declared.FaultName.TheVariants.{TimeoutError}
 use Rattle.page_types.specs.declared.Source.TheVariants.{Idle}
 use Rattle.page_types.specs.declared.Priority.TheVariants.{Background}
-use Rattle.page_types.specs.Events.{Call, Ret, Frame, IdleLine, Unhandled, Handled, Host}
+use Rattle.page_types.specs.Events.{Ret, Frame, IdleLine, Unhandled, Handled, Host}
 use Rattle.page_parts.specs.Words.{is_empty}
 use Rattle.page_parts.specs.Kinds.{a_fault}
 use Rattle.lang_meaning.specs.Machine.{Done, afterwards, finish, branch, Caller}
@@ -18,7 +18,7 @@ use Rattle.page_parts.specs.HostClosures.{HostClosure, fired}
 use Rattle.page_model.specs.PagePromises as promises
 use Rattle.page_model.specs.PagePromises.{promise_at}
 use Rattle.page_model.specs.PageTime.{init_timer, clear_id, without_frame, deadline, idle_callback, without_idle, with_state}
-use Rattle.page_model.specs.Invoke.{Ways, invoke, settle_derived, checkpoint}
+use Rattle.page_model.specs.Invoke.{Ways, invoke, call_begun, call_ended, settle_derived, checkpoint}
 use Rattle.page_model.specs.PageSignals.{each_in_turn, dispatch, abort, unwatch}
 
 -- ---- HTML, "Timers": the task of the timer initialisation steps
@@ -121,7 +121,7 @@ perform_steps w (NotifyHandled n) m =
 
 -- a continuation resolves its promise; it runs no script
 abbrev pub continued : ℕ → Page → Page
-continued r p = unwatch r (emit Ret (promises.resolve (the_registration p r).promise UnitValue (emit (Call r) p)))
+continued r p = unwatch r (call_ended Ret (promises.resolve (the_registration p r).promise UnitValue (call_begun r p)))
 
 -- the scheduling state of a posted callback: the signal of its registration and its priority source
 abbrev pub post_state : SchedTask → Page → Page

@@ -48,24 +48,26 @@ abbrev pub ends : {C : Type 0} → End → C → State → Turned C
 ends end c m = Ended end (on_page (emit (EndLine end)) m) c
 
 -- the end of a task: where fuel ended, the run ends at once
-abbrev pub goes_on : {C : Type 0} → C → (State → State) → Done Page → Turned C
-goes_on c next (Gives v m) = GoesOn (next m) c
-goes_on c next (Returns v m) = GoesOn (next m) c
-goes_on c next (Throws v m) = GoesOn (next m) c
-goes_on c next (OutOfFuel m) = ends FuelEnd c m
+abbrev pub goes_on : {C : Type 0} → C → Done Page → Turned C
+goes_on c (Gives v m) = GoesOn m c
+goes_on c (Returns v m) = GoesOn m c
+goes_on c (Throws v m) = GoesOn m c
+goes_on c (OutOfFuel m) = ends FuelEnd c m
+
+-- what is next, where the run goes on
+abbrev pub next_turn : {C : Type 0} → Turned C → (State → C → Turned C) → Turned C
+next_turn (GoesOn m c) next = next m c
+next_turn (Ended end m c) next = Ended end m c
+next_turn (Stuck m c) next = Stuck m c
 
 -- one way or the other
 abbrev pub choose_turned : {C : Type 0} → Bool → (State → Turned C) → (State → Turned C) → State → Turned C
 choose_turned true then else m = then m
 choose_turned false then else m = else m
 
--- step 5: where no task is runnable now, the idle step is done
-abbrev pub step_five : State → State
-step_five m = cond (is_empty (view m.host)) (on_page idle_step) (λ m. m) m
-
--- a task has been performed: a checkpoint, and then step 5
+-- a task has been performed: a checkpoint
 abbrev pub task_done : {C : Type 0} → Caller Page → C → Done Page → Turned C
-task_done call c done = goes_on c step_five (afterwards done (after_task call))
+task_done call c done = goes_on c (afterwards done (after_task call))
 
 -- a task is taken out of its queue
 abbrev pub without_task : ℕ → Page → Page
@@ -115,24 +117,32 @@ abbrev pub perform_picked : {C : Type 0} → Rules C → Caller Page → Option 
 perform_picked rules call None m c = Stuck m c
 perform_picked rules call (Some s) m c = perform rules call s.choice (turn_line (Some s.choice) m) s.left
 
--- steps 4 and 5
+-- step 4
 abbrev pub step_four : {C : Type 0} → Rules C → Caller Page → List Runnable → State → C → Turned C
-step_four rules call [] m c = GoesOn (step_five (turn_line None m)) c
+step_four rules call [] m c = GoesOn (turn_line None m) c
 step_four rules call (r ∷ rs) m c = perform_picked rules call (chosen_source rules (r ∷ rs) c) m c
 
 -- one more turn, with so much fuel left
 abbrev pub counted_turn : ℕ → State → State
 counted_turn left m = on_page (λ p. record p { turns = suc p.turns }) (record m { fuel = left })
 
--- step 3: a unit of fuel is taken
+-- step 3: a unit of fuel is taken, and then comes step 4
 abbrev pub with_turn_fuel : {C : Type 0} → Rules C → Caller Page → ℕ → State → C → Turned C
 with_turn_fuel rules call zero m c = ends FuelEnd c m
 with_turn_fuel rules call (suc left) m c = step_four rules call (view m.host) (counted_turn left m) c
 
--- step 3: the run ends where the time is up or no fuel is left
+-- steps 3 and 4: the run ends where the time is up or no fuel is left
 abbrev pub step_three : {C : Type 0} → Rules C → Caller Page → ℕ → C → State → Turned C
 step_three rules call until c m =
     choose_turned (nat_le until m.host.now) (ends ClockEnd c) (λ m. with_turn_fuel rules call m.fuel m c) m
+
+-- step 5: where no task is runnable now, the idle step is done
+abbrev pub step_five : State → State
+step_five m = cond (is_empty (view m.host)) (on_page idle_step) (λ m. m) m
+
+-- steps 3 to 5
+abbrev pub from_step_three : {C : Type 0} → Rules C → Caller Page → ℕ → C → State → Turned C
+from_step_three rules call until c m = next_turn (step_three rules call until c m) (λ m c. GoesOn (step_five m) c)
 
 -- whether anything is pending
 abbrev pub is_pending : Page → Bool
@@ -173,10 +183,10 @@ step_two rules until again next c m =
 abbrev pub step_one : State → State
 step_one m = cond (m.host.turns == 0) m (on_page parallel m)
 
--- step 2 where no task is runnable, and else step 3
+-- step 2 where no task is runnable, and else steps 3 to 5
 abbrev pub after_step_one : {C : Type 0} → Rules C → Caller Page → ℕ → (State → C → Turned C) → C → State → Turned C
 after_step_one rules call until again c m =
-    choose_turned (is_empty (view m.host)) (step_two rules until again (step_three rules call until c) c) (step_three rules call until c) m
+    choose_turned (is_empty (view m.host)) (step_two rules until again (from_step_three rules call until c) c) (from_step_three rules call until c) m
 
 -- steps 1 and 2, again after each wait; each wait takes an item, opens a frame or comes to the idle moment, so n of them are enough
 abbrev pub from_step_one : {C : Type 0} → Rules C → Caller Page → ℕ → ℕ → State → C → Turned C
@@ -187,12 +197,6 @@ from_step_one rules call until (suc n) m c = after_step_one rules call until (fr
 abbrev pub turn : {C : Type 0} → Rules C → Caller Page → ℕ → State → C → Turned C
 turn rules call until m c = from_step_one rules call until (suc (suc (item_count m.host))) m c
 
--- what is next, where the run goes on
-abbrev pub next_turn : {C : Type 0} → Turned C → (State → C → Turned C) → Turned C
-next_turn (GoesOn m c) next = next m c
-next_turn (Ended end m c) next = Ended end m c
-next_turn (Stuck m c) next = Stuck m c
-
 -- at most n turns
 abbrev pub turns : {C : Type 0} → Rules C → Caller Page → ℕ → ℕ → State → C → Turned C
 turns rules call until zero m c = Stuck m c
@@ -201,22 +205,27 @@ turns rules call until (suc n) m c = next_turn (turn rules call until m c) (turn
 -- the script's own body has the number after the last function
 abbrev pub the_script : Program → Registration
 the_script program =
-    record { role = ScriptRole; callback = Some (record { function = length program.names; bound = no_values }); second_callback = None; timer_id = 0; promise = 0; signal = None }
+    record { role = ScriptRole; callback = Some (record { function = length program.names; bound = no_values }); second_callback = None; timer_id = 0; promise = 0; signal = None; finally = false }
 
 -- the page before the first turn: the script is task 1, on the dom source, and the time is 0
 abbrev pub first_page : Program → Setup → List HostClosure → Page
 first_page program setup hosts =
     record {
+      form = setup.form;
+      trace = setup.trace;
       now = 0;
       turns = 0;
       events = [];
       names = program.names;
+      calls = [];
       level = 0;
       scheduling = None;
       performing = false;
       registrations = the_script program ∷ [];
       script_promises = [];
       notices = no_notices;
+      combinators = [];
+      elements = [];
       tasks = record { number = 1; source = Dom; steps = RunScript } ∷ [];
       sched_tasks = [];
       tasks_made = 1;
@@ -238,6 +247,7 @@ first_page program setup hosts =
       scheduling_states = [];
       hosts = hosts;
       latencies = setup.latencies;
+      posts = [];
     }
 
 -- the whole state before the first turn: the global variables are unit

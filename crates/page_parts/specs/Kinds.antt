@@ -157,6 +157,26 @@ abbrev mutual
 abbrev pub within_limits : Value → Option Value
 within_limits v = cond (nat_le (weight v) 65536 && nat_le (nesting v) 64) (Some v) None
 
+abbrev mutual
+  -- whether a value may be sent to another page: it holds no function, promise, signal, controller or deadline at any depth
+  pub is_sendable : Value → Bool
+  is_sendable UnitValue = true
+  is_sendable (BoolValue x) = true
+  is_sendable (IntValue x) = true
+  is_sendable (TextValue x) = true
+  is_sendable (ListValue xs) = are_sendable xs
+  is_sendable (FunValue f xs) = false
+  is_sendable (PromiseValue x) = false
+  is_sendable (SignalValue x) = false
+  is_sendable (ControllerValue x) = false
+  is_sendable (DeadlineValue x) = false
+  is_sendable (FaultValue name x) = true
+
+  -- the same of values in a row
+  pub are_sendable : Values → Bool
+  are_sendable no_values = true
+  are_sendable (with_value x xs) = is_sendable x && are_sendable xs
+
 -- the word that `kind` answers
 abbrev pub kind_text : Value → List ℕ
 kind_text UnitValue = codes "unit"

@@ -3,6 +3,7 @@ pub mod Spelling
 pub mod Kinds
 pub mod Promises
 pub mod Notices
+pub mod Combinators
 pub mod Timers
 pub mod Frames
 pub mod IdleCallbacks
@@ -11,6 +12,7 @@ pub mod TaskSignals
 pub mod Listeners
 pub mod Sources
 pub mod Setup
+pub mod Channels
 pub mod HostClosures
 pub mod WrittenChoices
 pub mod TraceText

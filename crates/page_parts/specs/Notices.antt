@@ -12,10 +12,20 @@ pub data Todo : Type 0 where
   Micro : ℕ → Todo
   OfPromise : PromiseJob → Todo
 
--- a job that waits, with its number
+-- HTML, "Timers"; Prioritized Task Scheduling, "Scheduling tasks and continuations": the nesting level and the scheduling state that are current
+pub record Context : Type 0 where
+  pub level : ℕ
+  pub state : Option ℕ
+
+-- level 0, and no scheduling state
+abbrev pub no_context : Context
+no_context = record { level = 0; state = None }
+
+-- a job that waits, with its number and what was current when it was queued
 pub record WaitingJob : Type 0 where
   pub number : ℕ
   pub what : Todo
+  pub context : Context
 
 -- all promises in the order of their numbers; the jobs that wait, and how many were ever queued;
 -- the promises about to be notified about, and the outstanding rejected ones (HTML, "Unhandled promise rejections")
@@ -57,18 +67,18 @@ queued_as (OfPromise (Adopt into from)) = AdoptJob into
 abbrev pub followed_by : Noticed → (Notices → Noticed) → Noticed
 followed_by d next = record { notices = (next d.notices).notices; lines = d.lines ++ (next d.notices).lines }
 
--- a job is queued, with the next number and its line
-abbrev pub queue_job : Todo → Notices → Noticed
-queue_job what s =
+-- a job is queued, with the next number and its line; it keeps what is current
+abbrev pub queue_job : Context → Todo → Notices → Noticed
+queue_job now what s =
     record {
-      notices = record s { jobs_made = suc s.jobs_made; jobs = and_last s.jobs (record { number = suc s.jobs_made; what = what }) };
+      notices = record s { jobs_made = suc s.jobs_made; jobs = and_last s.jobs (record { number = suc s.jobs_made; what = what; context = now }) };
       lines = Job (suc s.jobs_made) (queued_as what) ∷ [];
     }
 
 -- jobs of promises are queued in order
-abbrev pub queue_jobs : List PromiseJob → Notices → Noticed
-queue_jobs [] s = record { notices = s; lines = [] }
-queue_jobs (j ∷ more) s = followed_by (queue_job (OfPromise j) s) (queue_jobs more)
+abbrev pub queue_jobs : Context → List PromiseJob → Notices → Noticed
+queue_jobs now [] s = record { notices = s; lines = [] }
+queue_jobs now (j ∷ more) s = followed_by (queue_job now (OfPromise j) s) (queue_jobs now more)
 
 -- the line of a settled promise: nothing for a pending one
 abbrev pub settle_line : List (List ℕ) → ℕ → Option Settled → List Event
@@ -85,26 +95,26 @@ promise_changed names n c s =
     }
 
 -- the change of promise number n, and then its jobs in order
-abbrev pub changed : List (List ℕ) → ℕ → Change → Notices → Noticed
-changed names n c s = followed_by (promise_changed names n c s) (queue_jobs c.jobs)
+abbrev pub changed : Context → List (List ℕ) → ℕ → Change → Notices → Noticed
+changed now names n c s = followed_by (promise_changed names n c s) (queue_jobs now c.jobs)
 
 -- ---- ECMA-262, "Promise Resolve Functions": each with its lines
 
 -- a promise is resolved with a value or rejected with a reason
-abbrev pub settle_promise : List (List ℕ) → ℕ → Settled → Notices → Noticed
-settle_promise names n (Fulfilled v) s = changed names n (resolve n (the_promise s n) v) s
-settle_promise names n (Failed v) s = changed names n (reject n (the_promise s n) v) s
+abbrev pub settle_promise : Context → List (List ℕ) → ℕ → Settled → Notices → Noticed
+settle_promise now names n (Fulfilled v) s = changed now names n (resolve n (the_promise s n) v) s
+settle_promise now names n (Failed v) s = changed now names n (reject n (the_promise s n) v) s
 
 -- a promise follows the outcome of the one that it was resolved with
-abbrev pub follow_promise : List (List ℕ) → ℕ → Settled → Notices → Noticed
-follow_promise names n how s = changed names n (follow n (the_promise s n) how) s
+abbrev pub follow_promise : Context → List (List ℕ) → ℕ → Settled → Notices → Noticed
+follow_promise now names n how s = changed now names n (follow n (the_promise s n) how) s
 
 -- ---- ECMA-262, "PerformPromiseThen"; HTML, "Unhandled promise rejections": a promise that is handled
 
 -- A promise gets a handler, so it leaves the list of those to be notified about and the outstanding ones.
-abbrev pub subscribe_promise : ℕ → Reaction → Notices → Noticed
-subscribe_promise n r s =
-    changed [] n (subscribe n (the_promise s n) r)
+abbrev pub subscribe_promise : Context → ℕ → Reaction → Notices → Noticed
+subscribe_promise now n r s =
+    changed now [] n (subscribe n (the_promise s n) r)
     (record s { rejected = without (λ m. m == n) s.rejected; outstanding = without (λ m. m == n) s.outstanding })
 
 -- whether a promise was notified about and stayed unhandled
@@ -112,8 +122,8 @@ abbrev pub is_outstanding : ℕ → Notices → Bool
 is_outstanding n s = has_number s.outstanding n
 
 -- HTML, "Microtask queuing": a microtask callback is queued
-abbrev pub queue_micro : ℕ → Notices → Noticed
-queue_micro r s = queue_job (Micro r) s
+abbrev pub queue_micro : Context → ℕ → Notices → Noticed
+queue_micro now r s = queue_job now (Micro r) s
 
 -- HTML, "Unhandled promise rejections" (notify about rejected promises): a promise that is still unhandled joins the outstanding ones
 abbrev pub note_outstanding : ℕ → Notices → Notices

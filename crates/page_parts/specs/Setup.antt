@@ -23,8 +23,10 @@ pub record Latency : Type 0 where
   pub closure : ℕ
   pub latency : ℕ
 
--- the setup of a run: policy, units of fuel, the moment at which the run ends at the latest, refresh rate in hertz, how late each wait is, latencies and arrivals
+-- the setup of a run: its form, 1 or 2, and that of its trace (in form 2 a microtask inherits, and a trace of form 2 tells more); policy, units of fuel, the moment at which the run ends at the latest, refresh rate in hertz, how late each wait is, latencies and arrivals
 pub record Setup : Type 0 where
+  pub form : ℕ
+  pub trace : ℕ
   pub policy : Policy
   pub fuel : ℕ
   pub until : ℕ

@@ -6,7 +6,7 @@ use Rattle.page_types.specs.declared.End.{End}
 use Rattle.page_types.specs.declared.End.TheVariants.{Done as DoneEnd, Fuel as FuelEnd, Clock as ClockEnd}
 use Rattle.page_types.specs.declared.RegKind.{RegKind}
 use Rattle.page_types.specs.declared.RegKind.TheVariants.{Timeout as TimeoutKind, Interval as IntervalKind, Frame as FrameKind, Idle as IdleKind, Post as PostKind, Yield as YieldKind, Host as HostKind, Listener as ListenerKind, Then as ThenKind, Micro as MicroKind, Signal as SignalKind}
-use Rattle.page_types.specs.Events.{Queued, MicroJob, ReactJob, AdoptJob, QueueName, FixedQueue, SignalQueue, Event, Turn, Call, Ret, Throw, Report, Log, Reg, Arm, Due, Drop, Job, Run, Settle, Period, IdleLine, Frame, Enq, Prio, Abort, Wait, Host, Unhandled, Handled, EndLine, Stamped}
+use Rattle.page_types.specs.Events.{Queued, MicroJob, ReactJob, AdoptJob, QueueName, FixedQueue, SignalQueue, Event, Turn, Call, Ret, Throw, Report, Log, Reg, Arm, Due, Drop, Job, Run, Settle, Period, IdleLine, Frame, Enq, Prio, Abort, Wait, Host, Unhandled, Handled, Send, EndLine, Stamped}
 use Rattle.page_parts.specs.Words.{decimal_of, int_decimal}
 use Rattle.page_parts.specs.Spelling.{priority_text}
 use Rattle.page_parts.specs.WrittenChoices.{Choices, Recorded}
@@ -56,6 +56,11 @@ number_field n = field (decimal_of n)
 abbrev pub int_field : ℤ → List ℕ
 int_field n = field (int_decimal n)
 
+-- the registration of the innermost open call, where the form has it
+abbrev pub by_field : Option ℕ → List ℕ
+by_field None = []
+by_field (Some r) = number_field r
+
 -- what a job was queued for
 abbrev pub queued_text : Queued → List ℕ
 queued_text (MicroJob r) = codes " micro" ++ number_field r
@@ -85,7 +90,7 @@ event_text Ret = codes "ret"
 event_text (Throw v) = codes "throw" ++ field v
 event_text (Report v) = codes "report" ++ field v
 event_text (Log v) = codes "log" ++ field v
-event_text (Reg r kind) = codes "reg" ++ number_field r ++ field (kind_text kind)
+event_text (Reg r kind by) = codes "reg" ++ number_field r ++ field (kind_text kind) ++ by_field by
 event_text (Arm r due level) = codes "arm" ++ number_field r ++ number_field due ++ number_field level
 event_text (Due r) = codes "due" ++ number_field r
 event_text (Drop r) = codes "drop" ++ number_field r
@@ -102,6 +107,7 @@ event_text (Wait t) = codes "wait" ++ number_field t
 event_text (Host k x answer) = codes "host" ++ number_field k ++ int_field x ++ answer_text answer
 event_text (Unhandled n) = codes "unhandled" ++ number_field n
 event_text (Handled n) = codes "handled" ++ number_field n
+event_text (Send n v) = codes "send" ++ number_field n ++ field v
 event_text (EndLine end) = codes "end" ++ field (end_text end)
 
 -- a line: the time, the event, LF
@@ -113,9 +119,25 @@ abbrev pub lines_text : List Stamped → List ℕ
 lines_text [] = []
 lines_text (e ∷ es) = line_text e ++ lines_text es
 
--- the text of a list of events
-abbrev pub text_of : List Stamped → List ℕ
-text_of es = codes "trace 1\n" ++ lines_text es
+-- the first line, by the form of the trace
+abbrev pub head_text : ℕ → List ℕ
+head_text form = codes "trace " ++ decimal_of form ++ 10 ∷ []
+
+-- the text of a list of events, in a form
+abbrev pub text_of : ℕ → List Stamped → List ℕ
+text_of form es = head_text form ++ lines_text es
+
+-- ---- Ours: a trace of form 2 tells of each registration which callback was running; without that it is a trace of form 1
+
+-- an event without it
+abbrev pub without_by : Event → Event
+without_by (Reg r kind by) = Reg r kind None
+without_by e = e
+
+-- events without it
+abbrev pub all_without_by : List Stamped → List Stamped
+all_without_by [] = []
+all_without_by (e ∷ es) = record e { event = without_by e.event } ∷ all_without_by es
 
 -- ---- Ours: the choices that stand in a trace
 

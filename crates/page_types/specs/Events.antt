@@ -26,7 +26,7 @@ pub data Event : Type 0 where
   Throw : List ℕ → Event
   Report : List ℕ → Event
   Log : List ℕ → Event
-  Reg : ℕ → RegKind → Event
+  Reg : ℕ → RegKind → Option ℕ → Event  -- with the registration of the innermost open call, which the first form of a trace leaves out
   Arm : ℕ → ℕ → ℕ → Event
   Due : ℕ → Event
   Drop : ℕ → Event
@@ -43,6 +43,7 @@ pub data Event : Type 0 where
   Host : ℕ → ℤ → Result ℤ ℤ → Event
   Unhandled : ℕ → Event
   Handled : ℕ → Event
+  Send : ℕ → List ℕ → Event
   EndLine : End → Event
 
 -- an event and the time at which it happens

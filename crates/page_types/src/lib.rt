@@ -63,6 +63,12 @@ pub enum Op {
     Listen,
     Unlisten,
     HostOp,
+    PostMessage,
+    AllOp,
+    RaceOp,
+    AnyOp,
+    AllSettled,
+    FinallyOp,
 }
 
 /// The sign between two terms of a sum.

@@ -4,8 +4,6 @@ pub mod Counting
 pub mod Doing
 pub mod SinkText
 mod Appending
-mod LawExamples
-mod LawBreaks
 pub mod Rows
 pub mod Behind
 pub mod ValueNumbers

@@ -8,9 +8,5 @@ pub mod Checks
 pub mod Comparing
 pub mod Summaries
 pub mod Counters
-pub mod History
-pub mod CallLaws
-pub mod TimerLaws
-pub mod SchedulerLaws
 pub mod ValueEnds
 pub mod LineReading

@@ -1,9 +1,10 @@
 -- What is a trace, and where some bytes stop being one.
-use Rattle.std.specs.Prelude.{◌≡◌, ◌≢◌, ℕ, ◌+◌, ◌<◌, ◌^◌, Bool, true, false, not, ◌&&◌, nat_le, List, [], ◌∷◌, ◌++◌, length, ℤ, Result, Ok, Err, FitsSigned, IsTrue, All, codes}
+use Rattle.std.specs.Prelude.{◌≡◌, ◌≢◌, ℕ, ◌+◌, ◌<◌, ◌^◌, Bool, true, false, not, ◌&&◌, nat_le, List, [], ◌∷◌, ◌++◌, length, ℤ, Result, Ok, Err, FitsSigned, IsTrue, All, Option, Some, None, ◌==◌}
 use Rattle.std.specs.Int.{w64}
-use Rattle.page_types.specs.Events.{Queued, MicroJob, ReactJob, AdoptJob, QueueName, FixedQueue, SignalQueue, Event, Turn, Call, Ret, Throw, Report, Log, Reg, Arm, Due, Drop, Job, Run, Settle, Period, IdleLine, Frame, Enq, Prio, Abort, Wait, Host, Unhandled, Handled, EndLine, Stamped}
-use Rattle.page_parts.specs.TraceText.{line_text, text_of}
+use Rattle.page_types.specs.Events.{Queued, MicroJob, ReactJob, AdoptJob, QueueName, FixedQueue, SignalQueue, Event, Turn, Call, Ret, Throw, Report, Log, Reg, Arm, Due, Drop, Job, Run, Settle, Period, IdleLine, Frame, Enq, Prio, Abort, Wait, Host, Unhandled, Handled, Send, EndLine, Stamped}
+use Rattle.page_parts.specs.TraceText.{head_text, line_text, text_of}
 use Rattle.page_values.specs.Spellings.{IsSpelling}
+use Rattle.std.specs.List.{list_all}
 
 -- ---- Ours: which events a line can spell
 
@@ -29,6 +30,10 @@ abbrev pub AnswerFits : Result ℤ ℤ → Type 0
 AnswerFits (Ok v) = FitsSigned w64 v
 AnswerFits (Err v) = FitsSigned w64 v
 
+abbrev pub ByFits : Option ℕ → Type 0
+ByFits None = Unit {0}
+ByFits (Some r) = IsCount r
+
 -- numbers are below 2 ^ 64, integers have 64 bits, and values are spelled as values are
 abbrev pub EventFits : Event → Type 0
 EventFits (Turn n source) = IsCount n
@@ -37,7 +42,7 @@ EventFits Ret = Unit {0}
 EventFits (Throw v) = IsPrinted v
 EventFits (Report v) = IsPrinted v
 EventFits (Log v) = IsPrinted v
-EventFits (Reg r kind) = IsCount r
+EventFits (Reg r kind by) = IsCount r × ByFits by
 EventFits (Arm r due level) = IsCount r × IsCount due × IsCount level
 EventFits (Due r) = IsCount r
 EventFits (Drop r) = IsCount r
@@ -54,7 +59,16 @@ EventFits (Wait t) = IsCount t
 EventFits (Host k x answer) = IsCount k × FitsSigned w64 x × AnswerFits answer
 EventFits (Unhandled p) = IsCount p
 EventFits (Handled p) = IsCount p
+EventFits (Send n v) = IsCount n × IsPrinted v
 EventFits (EndLine end) = Unit {0}
+
+-- ---- Ours: the two forms of a trace
+
+-- whether a registration tells which callback was running: in the second form, and not in the first
+abbrev pub is_of_form : ℕ → Event → Bool
+is_of_form form (Reg r kind None) = form == 1
+is_of_form form (Reg r kind (Some by)) = form == 2
+is_of_form form e = true
 
 abbrev pub Fits : Stamped → Type 0
 Fits e = IsCount e.time × EventFits e.event
@@ -83,22 +97,30 @@ is_whole es = are_in_order es && ends es
 
 -- ---- Ours: traces, and the first line that is refused in its place
 
--- The bytes are the trace of these events.
-pub record IsTrace (bytes : List ℕ) (es : List Stamped) : Type 0 where
-  pub spelled : bytes ≡ text_of es
+-- a form is 1 or 2
+abbrev pub IsForm : ℕ → Type 0
+IsForm form = (form ≡ 1) ⊎ (form ≡ 2)
+
+-- The bytes are the trace of these events, in this form.
+pub record IsTrace (form : ℕ) (bytes : List ℕ) (es : List Stamped) : Type 0 where
+  pub spelled : bytes ≡ text_of form es
+  pub known : IsForm form
   pub fit : All Fits es
+  pub formed : IsTrue (list_all (λ e. is_of_form form e.event) es)
   pub whole : IsTrue (is_whole es)
 
 -- The bytes are no trace, and the line of this number, counted from 1, is the first that is not spelled as one in its
 -- place. The lines before it are: the head, and those of events that may stand so. Where the `end` line is missing, it
 -- is the line behind the last.
 pub data IsBadLine (bytes : List ℕ) (number : ℕ) : Type 0 where
-  no_head : number ≡ 1 → ((rest : List ℕ) → bytes ≢ codes "trace 1\n" ++ rest) → IsBadLine bytes number
-  no_line : (good : List Stamped) (rest : List ℕ)
-      → bytes ≡ text_of good ++ rest
+  no_head : number ≡ 1 → ((form : ℕ) (rest : List ℕ) → IsForm form → bytes ≢ head_text form ++ rest) → IsBadLine bytes number
+  no_line : (form : ℕ) (good : List Stamped) (rest : List ℕ)
+      → bytes ≡ text_of form good ++ rest
+      → IsForm form
       → All Fits good
+      → IsTrue (list_all (λ e. is_of_form form e.event) good)
       → IsTrue (are_in_order good)
       → number ≡ length good + 2
-      → ((e : Stamped) (more : List ℕ) → Fits e → IsTrue (are_in_order (good ++ e ∷ [])) → rest ≢ line_text e ++ more)
+      → ((e : Stamped) (more : List ℕ) → Fits e → IsTrue (is_of_form form e.event) → IsTrue (are_in_order (good ++ e ∷ [])) → rest ≢ line_text e ++ more)
       → (rest ≡ [] → ends good ≡ false)
       → IsBadLine bytes number

@@ -21,7 +21,7 @@ fifo_serves_in_order_script =
 
 abbrev fifo_serves_in_order_setup : Setup
 fifo_serves_in_order_setup =
-    record { policy = Fifo; fuel = 1000000; until = 10000000; refresh = 60; late = []; latencies = []; arrivals = record { at = 0; source = Net; name = codes "a"; value = (IntValue (pos 1)) } ∷ record { at = 0; source = User; name = codes "a"; value = (IntValue (pos 2)) } ∷ [] }
+    record { form = 1; trace = 1; policy = Fifo; fuel = 1000000; until = 10000000; refresh = 60; late = []; latencies = []; arrivals = record { at = 0; source = Net; name = codes "a"; value = (IntValue (pos 1)) } ∷ record { at = 0; source = User; name = codes "a"; value = (IntValue (pos 2)) } ∷ [] }
 
 fifo_serves_in_order : logs_of (page_trace fifo_serves_in_order_script fifo_serves_in_order_setup four_hosts ([])) ≡ codes "0 1\n0 2\n"
 unfolding page_trace run run_by
@@ -39,7 +39,7 @@ default_rank_serves_user_before_net_script =
 
 abbrev default_rank_serves_user_before_net_setup : Setup
 default_rank_serves_user_before_net_setup =
-    record { policy = (Rank default_list); fuel = 1000000; until = 10000000; refresh = 60; late = []; latencies = []; arrivals = record { at = 0; source = Net; name = codes "a"; value = (IntValue (pos 1)) } ∷ record { at = 0; source = User; name = codes "a"; value = (IntValue (pos 2)) } ∷ [] }
+    record { form = 1; trace = 1; policy = (Rank default_list); fuel = 1000000; until = 10000000; refresh = 60; late = []; latencies = []; arrivals = record { at = 0; source = Net; name = codes "a"; value = (IntValue (pos 1)) } ∷ record { at = 0; source = User; name = codes "a"; value = (IntValue (pos 2)) } ∷ [] }
 
 default_rank_serves_user_before_net : logs_of (page_trace default_rank_serves_user_before_net_script default_rank_serves_user_before_net_setup four_hosts ([])) ≡ codes "0 2\n0 1\n"
 unfolding page_trace run run_by
@@ -59,7 +59,7 @@ search_box_saves_once_script =
 
 abbrev search_box_saves_once_setup : Setup
 search_box_saves_once_setup =
-    record { policy = (Rank default_list); fuel = 1000000; until = 10000000; refresh = 60; late = 500 ∷ []; latencies = []; arrivals = record { at = 1000; source = User; name = codes "click"; value = (IntValue (pos 1)) } ∷ record { at = 200000; source = User; name = codes "click"; value = (IntValue (pos 2)) } ∷ [] }
+    record { form = 1; trace = 1; policy = (Rank default_list); fuel = 1000000; until = 10000000; refresh = 60; late = 500 ∷ []; latencies = []; arrivals = record { at = 1000; source = User; name = codes "click"; value = (IntValue (pos 1)) } ∷ record { at = 200000; source = User; name = codes "click"; value = (IntValue (pos 2)) } ∷ [] }
 
 search_box_saves_once : page_trace search_box_saves_once_script search_box_saves_once_setup four_hosts ([]) ≡ codes "trace 1\n0 turn 1 dom\n0 call 1\n0 reg 2 listener\n0 ret\n1500 wait 1000\n1500 turn 2 user\n1500 call 2\n1500 reg 3 timeout\n1500 arm 3 301500 1\n1500 ret\n200000 wait 200000\n200000 turn 3 user\n200000 call 2\n200000 drop 3\n200000 reg 4 timeout\n200000 arm 4 500000 1\n200000 ret\n301500 wait 301500\n301500 due 3\n301500 turn 4 timer\n500000 wait 500000\n500000 due 4\n500000 turn 5 timer\n500000 call 4\n500000 log \"save\"\n500000 ret\n500000 end done\n"
 unfolding page_trace run run_by
@@ -78,7 +78,7 @@ host_closure_answers_once_script =
 
 abbrev host_closure_answers_once_setup : Setup
 host_closure_answers_once_setup =
-    record { policy = (Rank default_list); fuel = 1000000; until = 10000000; refresh = 60; late = []; latencies = record { closure = 0; latency = 3000 } ∷ []; arrivals = [] }
+    record { form = 1; trace = 1; policy = (Rank default_list); fuel = 1000000; until = 10000000; refresh = 60; late = []; latencies = record { closure = 0; latency = 3000 } ∷ []; arrivals = [] }
 
 host_closure_answers_once : page_trace host_closure_answers_once_script host_closure_answers_once_setup four_hosts (Ok (pos 49) ∷ []) ≡ codes "trace 1\n0 turn 1 dom\n0 call 1\n0 reg 2 host\n0 arm 2 3000 0\n0 reg 3 then\n0 settle 3 err NotAllowedError(\"\")\n0 reg 4 then\n0 job 1 react 3\n0 ret\n0 run 1\n0 call 4\n0 log NotAllowedError(\"\")\n0 ret\n0 settle 4 ok unit\n3000 wait 3000\n3000 due 2\n3000 turn 2 net\n3000 host 0 7 ok 49\n3000 settle 1 ok 49\n3000 job 2 react 1\n3000 run 2\n3000 call 3\n3000 log 49\n3000 ret\n3000 settle 2 ok unit\n3000 end done\n"
 unfolding page_trace run run_by
@@ -99,7 +99,7 @@ aborted_host_answer_is_dropped_script =
 
 abbrev aborted_host_answer_is_dropped_setup : Setup
 aborted_host_answer_is_dropped_setup =
-    record { policy = (Rank default_list); fuel = 1000000; until = 10000000; refresh = 60; late = []; latencies = record { closure = 0; latency = 3000 } ∷ []; arrivals = [] }
+    record { form = 1; trace = 1; policy = (Rank default_list); fuel = 1000000; until = 10000000; refresh = 60; late = []; latencies = record { closure = 0; latency = 3000 } ∷ []; arrivals = [] }
 
 aborted_host_answer_is_dropped : logs_of (page_trace aborted_host_answer_is_dropped_script aborted_host_answer_is_dropped_setup four_hosts ([])) ≡ codes "1000 AbortError(\"\")\n"
 unfolding page_trace run run_by

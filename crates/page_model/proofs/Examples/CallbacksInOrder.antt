@@ -23,7 +23,7 @@ microtasks_end_with_their_fuel_script =
 
 abbrev microtasks_end_with_their_fuel_setup : Setup
 microtasks_end_with_their_fuel_setup =
-    record { policy = (Rank default_list); fuel = 7; until = 10000000; refresh = 60; late = []; latencies = []; arrivals = [] }
+    record { form = 1; trace = 1; policy = (Rank default_list); fuel = 7; until = 10000000; refresh = 60; late = []; latencies = []; arrivals = [] }
 
 microtasks_end_with_their_fuel : page_trace microtasks_end_with_their_fuel_script microtasks_end_with_their_fuel_setup four_hosts ([]) ≡ codes "trace 1\n0 turn 1 dom\n0 call 1\n0 reg 2 micro\n0 job 1 micro 2\n0 ret\n0 run 1\n0 call 2\n0 reg 3 micro\n0 job 2 micro 3\n0 ret\n0 run 2\n0 call 3\n0 reg 4 micro\n0 job 3 micro 4\n0 ret\n0 end fuel\n"
 unfolding page_trace run run_by
@@ -42,7 +42,7 @@ script_may_not_settle_a_promise_it_did_not_make_script =
 
 abbrev script_may_not_settle_a_promise_it_did_not_make_setup : Setup
 script_may_not_settle_a_promise_it_did_not_make_setup =
-    record { policy = (Rank default_list); fuel = 1000000; until = 10000000; refresh = 60; late = []; latencies = []; arrivals = [] }
+    record { form = 1; trace = 1; policy = (Rank default_list); fuel = 1000000; until = 10000000; refresh = 60; late = []; latencies = []; arrivals = [] }
 
 script_may_not_settle_a_promise_it_did_not_make : page_trace script_may_not_settle_a_promise_it_did_not_make_script script_may_not_settle_a_promise_it_did_not_make_setup four_hosts ([]) ≡ codes "trace 1\n0 turn 1 dom\n0 call 1\n0 settle 1 err 1\n0 throw TypeError(\"\")\n0 report TypeError(\"\")\n0 turn 2 dom\n0 unhandled 1\n0 end done\n"
 unfolding page_trace run run_by
@@ -62,7 +62,7 @@ throw_of_a_timer_is_reported_after_its_checkpoint_script =
 
 abbrev throw_of_a_timer_is_reported_after_its_checkpoint_setup : Setup
 throw_of_a_timer_is_reported_after_its_checkpoint_setup =
-    record { policy = (Rank default_list); fuel = 1000000; until = 10000000; refresh = 60; late = []; latencies = []; arrivals = [] }
+    record { form = 1; trace = 1; policy = (Rank default_list); fuel = 1000000; until = 10000000; refresh = 60; late = []; latencies = []; arrivals = [] }
 
 throw_of_a_timer_is_reported_after_its_checkpoint : page_trace throw_of_a_timer_is_reported_after_its_checkpoint_script throw_of_a_timer_is_reported_after_its_checkpoint_setup four_hosts ([]) ≡ codes "trace 1\n0 turn 1 dom\n0 call 1\n0 reg 2 timeout\n0 arm 2 0 1\n0 ret\n0 due 2\n0 turn 2 timer\n0 call 2\n0 reg 3 micro\n0 job 1 micro 3\n0 throw 1\n0 run 1\n0 call 3\n0 log \"m\"\n0 ret\n0 report 1\n0 end done\n"
 unfolding page_trace run run_by
@@ -87,7 +87,7 @@ listener_removed_during_the_dispatch_script =
 
 abbrev listener_removed_during_the_dispatch_setup : Setup
 listener_removed_during_the_dispatch_setup =
-    record { policy = (Rank default_list); fuel = 1000000; until = 10000000; refresh = 60; late = []; latencies = []; arrivals = [] }
+    record { form = 1; trace = 1; policy = (Rank default_list); fuel = 1000000; until = 10000000; refresh = 60; late = []; latencies = []; arrivals = [] }
 
 listener_removed_during_the_dispatch : page_trace listener_removed_during_the_dispatch_script listener_removed_during_the_dispatch_setup four_hosts ([]) ≡ codes "trace 1\n0 turn 1 dom\n0 call 1\n0 reg 2 listener\n0 reg 3 listener\n0 abort 1\n0 call 2\n0 drop 3\n0 log \"a\"\n0 ret\n0 ret\n0 end done\n"
 unfolding page_trace run run_by
@@ -111,7 +111,7 @@ abort_inside_a_listener_of_another_abort_script =
 
 abbrev abort_inside_a_listener_of_another_abort_setup : Setup
 abort_inside_a_listener_of_another_abort_setup =
-    record { policy = (Rank default_list); fuel = 1000000; until = 10000000; refresh = 60; late = []; latencies = []; arrivals = [] }
+    record { form = 1; trace = 1; policy = (Rank default_list); fuel = 1000000; until = 10000000; refresh = 60; late = []; latencies = []; arrivals = [] }
 
 abort_inside_a_listener_of_another_abort : page_trace abort_inside_a_listener_of_another_abort_script abort_inside_a_listener_of_another_abort_setup four_hosts ([]) ≡ codes "trace 1\n0 turn 1 dom\n0 call 1\n0 reg 2 listener\n0 reg 3 listener\n0 abort 1\n0 call 2\n0 log \"p\"\n0 abort 2\n0 call 3\n0 log \"q\"\n0 ret\n0 log \"r\"\n0 ret\n0 ret\n0 end done\n"
 unfolding page_trace run run_by
@@ -133,7 +133,7 @@ missed_rendering_opportunity_is_taken_late_script =
 
 abbrev missed_rendering_opportunity_is_taken_late_setup : Setup
 missed_rendering_opportunity_is_taken_late_setup =
-    record { policy = (Rank default_list); fuel = 1000000; until = 10000000; refresh = 60; late = []; latencies = []; arrivals = [] }
+    record { form = 1; trace = 1; policy = (Rank default_list); fuel = 1000000; until = 10000000; refresh = 60; late = []; latencies = []; arrivals = [] }
 
 missed_rendering_opportunity_is_taken_late : page_trace missed_rendering_opportunity_is_taken_late_script missed_rendering_opportunity_is_taken_late_setup four_hosts ([]) ≡ codes "trace 1\n0 turn 1 dom\n0 call 1\n0 reg 2 idle\n0 reg 3 frame\n0 ret\n0 period 16666\n0 turn 2 idle\n0 idle 16666\n0 call 2\n0 log 16666\n60000 ret\n60000 turn 3 render\n60000 frame 60000\n60000 call 3\n60000 log 60000\n60000 ret\n60000 end done\n"
 unfolding page_trace run run_by
@@ -155,7 +155,7 @@ delayed_task_takes_its_order_when_it_is_enqueued_script =
 
 abbrev delayed_task_takes_its_order_when_it_is_enqueued_setup : Setup
 delayed_task_takes_its_order_when_it_is_enqueued_setup =
-    record { policy = (Rank default_list); fuel = 1000000; until = 10000000; refresh = 60; late = []; latencies = []; arrivals = [] }
+    record { form = 1; trace = 1; policy = (Rank default_list); fuel = 1000000; until = 10000000; refresh = 60; late = []; latencies = []; arrivals = [] }
 
 delayed_task_takes_its_order_when_it_is_enqueued : page_trace delayed_task_takes_its_order_when_it_is_enqueued_script delayed_task_takes_its_order_when_it_is_enqueued_setup four_hosts ([]) ≡ codes "trace 1\n0 turn 1 dom\n0 call 1\n0 reg 2 post\n0 arm 2 1000 0\n2000 reg 3 post\n2000 enq 3 user-visible task 2\n2000 ret\n2000 due 2\n2000 enq 2 user-visible task 3\n2000 turn 2 sched\n2000 call 3\n2000 log \"b\"\n2000 ret\n2000 settle 2 ok unit\n2000 turn 3 sched\n2000 call 2\n2000 log \"a\"\n2000 ret\n2000 settle 1 ok unit\n2000 end done\n"
 unfolding page_trace run run_by
@@ -175,7 +175,7 @@ nesting_level_is_lost_in_a_microtask_script =
 
 abbrev nesting_level_is_lost_in_a_microtask_setup : Setup
 nesting_level_is_lost_in_a_microtask_setup =
-    record { policy = (Rank default_list); fuel = 30; until = 10000000; refresh = 60; late = []; latencies = []; arrivals = [] }
+    record { form = 1; trace = 1; policy = (Rank default_list); fuel = 30; until = 10000000; refresh = 60; late = []; latencies = []; arrivals = [] }
 
 nesting_level_is_lost_in_a_microtask : logs_of (page_trace nesting_level_is_lost_in_a_microtask_script nesting_level_is_lost_in_a_microtask_setup four_hosts ([])) ≡ codes "0 0\n0 0\n0 0\n0 0\n0 0\n0 0\n0 0\n"
 unfolding page_trace run run_by
@@ -198,7 +198,7 @@ microtask_yields_without_a_priority_script =
 
 abbrev microtask_yields_without_a_priority_setup : Setup
 microtask_yields_without_a_priority_setup =
-    record { policy = (Rank default_list); fuel = 1000000; until = 10000000; refresh = 60; late = []; latencies = []; arrivals = [] }
+    record { form = 1; trace = 1; policy = (Rank default_list); fuel = 1000000; until = 10000000; refresh = 60; late = []; latencies = []; arrivals = [] }
 
 microtask_yields_without_a_priority : logs_of (page_trace microtask_yields_without_a_priority_script microtask_yields_without_a_priority_setup four_hosts ([])) ≡ codes "0 \"y\"\n0 \"b\"\n"
 unfolding page_trace run run_by
@@ -218,7 +218,7 @@ timeouts_clamped_line_by_line_script =
 
 abbrev timeouts_clamped_line_by_line_setup : Setup
 timeouts_clamped_line_by_line_setup =
-    record { policy = (Rank default_list); fuel = 1000000; until = 10000; refresh = 60; late = []; latencies = []; arrivals = [] }
+    record { form = 1; trace = 1; policy = (Rank default_list); fuel = 1000000; until = 10000; refresh = 60; late = []; latencies = []; arrivals = [] }
 
 timeouts_clamped_line_by_line : page_trace timeouts_clamped_line_by_line_script timeouts_clamped_line_by_line_setup four_hosts ([]) ≡ codes "trace 1\n0 turn 1 dom\n0 call 1\n0 reg 2 timeout\n0 arm 2 0 1\n0 ret\n0 due 2\n0 turn 2 timer\n0 call 2\n0 log 0\n0 reg 3 timeout\n0 arm 3 0 2\n0 ret\n0 due 3\n0 turn 3 timer\n0 call 3\n0 log 0\n0 reg 4 timeout\n0 arm 4 0 3\n0 ret\n0 due 4\n0 turn 4 timer\n0 call 4\n0 log 0\n0 reg 5 timeout\n0 arm 5 0 4\n0 ret\n0 due 5\n0 turn 5 timer\n0 call 5\n0 log 0\n0 reg 6 timeout\n0 arm 6 0 5\n0 ret\n0 due 6\n0 turn 6 timer\n0 call 6\n0 log 0\n0 reg 7 timeout\n0 arm 7 0 6\n0 ret\n0 due 7\n0 turn 7 timer\n0 call 7\n0 log 0\n0 reg 8 timeout\n0 arm 8 4000 7\n0 ret\n4000 wait 4000\n4000 due 8\n4000 turn 8 timer\n4000 call 8\n4000 log 4000\n4000 reg 9 timeout\n4000 arm 9 8000 8\n4000 ret\n8000 wait 8000\n8000 due 9\n8000 turn 9 timer\n8000 call 9\n8000 log 8000\n8000 reg 10 timeout\n8000 arm 10 12000 9\n8000 ret\n10000 end clock\n"
 unfolding page_trace run run_by
@@ -237,7 +237,7 @@ interval_clamped_line_by_line_script =
 
 abbrev interval_clamped_line_by_line_setup : Setup
 interval_clamped_line_by_line_setup =
-    record { policy = (Rank default_list); fuel = 1000000; until = 10000; refresh = 60; late = []; latencies = []; arrivals = [] }
+    record { form = 1; trace = 1; policy = (Rank default_list); fuel = 1000000; until = 10000; refresh = 60; late = []; latencies = []; arrivals = [] }
 
 interval_clamped_line_by_line : page_trace interval_clamped_line_by_line_script interval_clamped_line_by_line_setup four_hosts ([]) ≡ codes "trace 1\n0 turn 1 dom\n0 call 1\n0 reg 2 interval\n0 arm 2 0 1\n0 ret\n0 due 2\n0 turn 2 timer\n0 call 2\n0 log 0\n0 ret\n0 arm 2 0 2\n0 due 2\n0 turn 3 timer\n0 call 2\n0 log 0\n0 ret\n0 arm 2 0 3\n0 due 2\n0 turn 4 timer\n0 call 2\n0 log 0\n0 ret\n0 arm 2 0 4\n0 due 2\n0 turn 5 timer\n0 call 2\n0 log 0\n0 ret\n0 arm 2 0 5\n0 due 2\n0 turn 6 timer\n0 call 2\n0 log 0\n0 ret\n0 arm 2 0 6\n0 due 2\n0 turn 7 timer\n0 call 2\n0 log 0\n0 ret\n0 arm 2 4000 7\n4000 wait 4000\n4000 due 2\n4000 turn 8 timer\n4000 call 2\n4000 log 4000\n4000 ret\n4000 arm 2 8000 8\n8000 wait 8000\n8000 due 2\n8000 turn 9 timer\n8000 call 2\n8000 log 8000\n8000 ret\n8000 arm 2 12000 9\n10000 end clock\n"
 unfolding page_trace run run_by
@@ -257,7 +257,7 @@ throw_of_the_script_is_reported_before_its_checkpoint_script =
 
 abbrev throw_of_the_script_is_reported_before_its_checkpoint_setup : Setup
 throw_of_the_script_is_reported_before_its_checkpoint_setup =
-    record { policy = (Rank default_list); fuel = 1000000; until = 10000000; refresh = 60; late = []; latencies = []; arrivals = [] }
+    record { form = 1; trace = 1; policy = (Rank default_list); fuel = 1000000; until = 10000000; refresh = 60; late = []; latencies = []; arrivals = [] }
 
 throw_of_the_script_is_reported_before_its_checkpoint : page_trace throw_of_the_script_is_reported_before_its_checkpoint_script throw_of_the_script_is_reported_before_its_checkpoint_setup four_hosts ([]) ≡ codes "trace 1\n0 turn 1 dom\n0 call 1\n0 reg 2 micro\n0 job 1 micro 2\n0 throw \"bad\"\n0 report \"bad\"\n0 run 1\n0 call 2\n0 log \"m\"\n0 ret\n0 end done\n"
 unfolding page_trace run run_by
@@ -277,7 +277,7 @@ throw_of_a_microtask_script =
 
 abbrev throw_of_a_microtask_setup : Setup
 throw_of_a_microtask_setup =
-    record { policy = (Rank default_list); fuel = 1000000; until = 10000000; refresh = 60; late = []; latencies = []; arrivals = [] }
+    record { form = 1; trace = 1; policy = (Rank default_list); fuel = 1000000; until = 10000000; refresh = 60; late = []; latencies = []; arrivals = [] }
 
 throw_of_a_microtask : page_trace throw_of_a_microtask_script throw_of_a_microtask_setup four_hosts ([]) ≡ codes "trace 1\n0 turn 1 dom\n0 call 1\n0 reg 2 micro\n0 job 1 micro 2\n0 ret\n0 run 1\n0 call 2\n0 reg 3 micro\n0 job 2 micro 3\n0 throw 1\n0 report 1\n0 run 2\n0 call 3\n0 log \"n\"\n0 ret\n0 end done\n"
 unfolding page_trace run run_by
@@ -299,7 +299,7 @@ throw_of_a_posted_callback_script =
 
 abbrev throw_of_a_posted_callback_setup : Setup
 throw_of_a_posted_callback_setup =
-    record { policy = (Rank default_list); fuel = 1000000; until = 10000000; refresh = 60; late = []; latencies = []; arrivals = [] }
+    record { form = 1; trace = 1; policy = (Rank default_list); fuel = 1000000; until = 10000000; refresh = 60; late = []; latencies = []; arrivals = [] }
 
 throw_of_a_posted_callback : page_trace throw_of_a_posted_callback_script throw_of_a_posted_callback_setup four_hosts ([]) ≡ codes "trace 1\n0 turn 1 dom\n0 call 1\n0 reg 2 post\n0 enq 2 user-visible task 2\n0 reg 3 then\n0 ret\n0 turn 2 sched\n0 call 2\n0 reg 4 micro\n0 job 1 micro 4\n0 throw \"a\"\n0 run 1\n0 call 4\n0 log \"m\"\n0 ret\n0 settle 1 err \"a\"\n0 job 2 react 1\n0 run 2\n0 call 3\n0 log \"a\"\n0 ret\n0 settle 2 ok unit\n0 end done\n"
 unfolding page_trace run run_by
@@ -321,7 +321,7 @@ bound_arguments_of_callbacks_script =
 
 abbrev bound_arguments_of_callbacks_setup : Setup
 bound_arguments_of_callbacks_setup =
-    record { policy = Fifo; fuel = 1000000; until = 10000000; refresh = 60; late = []; latencies = []; arrivals = record { at = 0; source = User; name = codes "e"; value = (IntValue (pos 5)) } ∷ [] }
+    record { form = 1; trace = 1; policy = Fifo; fuel = 1000000; until = 10000000; refresh = 60; late = []; latencies = []; arrivals = record { at = 0; source = User; name = codes "e"; value = (IntValue (pos 5)) } ∷ [] }
 
 bound_arguments_of_callbacks : page_trace bound_arguments_of_callbacks_script bound_arguments_of_callbacks_setup four_hosts ([]) ≡ codes "trace 1\n0 turn 1 dom\n0 call 1\n0 reg 2 listener\n0 reg 3 timeout\n0 arm 3 0 1\n0 reg 4 timeout\n0 arm 4 0 1\n0 ret\n0 due 3\n0 due 4\n0 turn 2 user\n0 call 2\n0 log \"x\"\n0 log 5\n0 ret\n0 turn 3 timer\n0 call 3\n0 log 1\n0 log 2\n0 ret\n0 turn 4 timer\n0 call 4\n0 log unit\n0 log unit\n0 ret\n0 end done\n"
 unfolding page_trace run run_by

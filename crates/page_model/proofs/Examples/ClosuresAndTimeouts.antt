@@ -24,7 +24,7 @@ interval_cleared_by_its_own_callback_script =
 
 abbrev interval_cleared_by_its_own_callback_setup : Setup
 interval_cleared_by_its_own_callback_setup =
-    record { policy = (Rank default_list); fuel = 1000000; until = 10000000; refresh = 60; late = []; latencies = []; arrivals = [] }
+    record { form = 1; trace = 1; policy = (Rank default_list); fuel = 1000000; until = 10000000; refresh = 60; late = []; latencies = []; arrivals = [] }
 
 interval_cleared_by_its_own_callback : page_trace interval_cleared_by_its_own_callback_script interval_cleared_by_its_own_callback_setup four_hosts ([]) ≡ codes "trace 1\n0 turn 1 dom\n0 call 1\n0 reg 2 interval\n0 arm 2 5000 1\n0 ret\n5000 wait 5000\n5000 due 2\n5000 turn 2 timer\n5000 call 2\n5000 log 1\n5000 ret\n5000 arm 2 10000 2\n10000 wait 10000\n10000 due 2\n10000 turn 3 timer\n10000 call 2\n10000 log 2\n10000 drop 2\n10000 ret\n10000 end done\n"
 unfolding page_trace run run_by
@@ -44,7 +44,7 @@ interval_cleared_by_a_microtask_script =
 
 abbrev interval_cleared_by_a_microtask_setup : Setup
 interval_cleared_by_a_microtask_setup =
-    record { policy = (Rank default_list); fuel = 1000000; until = 10000000; refresh = 60; late = []; latencies = []; arrivals = [] }
+    record { form = 1; trace = 1; policy = (Rank default_list); fuel = 1000000; until = 10000000; refresh = 60; late = []; latencies = []; arrivals = [] }
 
 interval_cleared_by_a_microtask : page_trace interval_cleared_by_a_microtask_script interval_cleared_by_a_microtask_setup four_hosts ([]) ≡ codes "trace 1\n0 turn 1 dom\n0 call 1\n0 reg 2 interval\n0 arm 2 1000 1\n0 ret\n1000 wait 1000\n1000 due 2\n1000 turn 2 timer\n1000 call 2\n1000 reg 3 micro\n1000 job 1 micro 3\n1000 log \"f\"\n1000 ret\n1000 run 1\n1000 call 3\n1000 drop 2\n1000 log \"m\"\n1000 ret\n1000 end done\n"
 unfolding page_trace run run_by
@@ -65,7 +65,7 @@ interval_goes_on_after_a_throw_script =
 
 abbrev interval_goes_on_after_a_throw_setup : Setup
 interval_goes_on_after_a_throw_setup =
-    record { policy = (Rank default_list); fuel = 1000000; until = 10000000; refresh = 60; late = []; latencies = []; arrivals = [] }
+    record { form = 1; trace = 1; policy = (Rank default_list); fuel = 1000000; until = 10000000; refresh = 60; late = []; latencies = []; arrivals = [] }
 
 interval_goes_on_after_a_throw : page_trace interval_goes_on_after_a_throw_script interval_goes_on_after_a_throw_setup four_hosts ([]) ≡ codes "trace 1\n0 turn 1 dom\n0 call 1\n0 reg 2 interval\n0 arm 2 1000 1\n0 ret\n1000 wait 1000\n1000 due 2\n1000 turn 2 timer\n1000 call 2\n1000 reg 3 micro\n1000 job 1 micro 3\n1000 throw 1\n1000 run 1\n1000 call 3\n1000 log \"m\"\n1000 ret\n1000 report 1\n1000 arm 2 2000 2\n2000 wait 2000\n2000 due 2\n2000 turn 3 timer\n2000 call 2\n2000 reg 4 micro\n2000 job 2 micro 4\n2000 drop 2\n2000 throw 2\n2000 run 2\n2000 call 4\n2000 log \"m\"\n2000 ret\n2000 report 2\n2000 end done\n"
 unfolding page_trace run run_by
@@ -87,7 +87,7 @@ timeout_cleared_when_its_task_waits_script =
 
 abbrev timeout_cleared_when_its_task_waits_setup : Setup
 timeout_cleared_when_its_task_waits_setup =
-    record { policy = (Rank default_list); fuel = 1000000; until = 10000000; refresh = 60; late = []; latencies = []; arrivals = [] }
+    record { form = 1; trace = 1; policy = (Rank default_list); fuel = 1000000; until = 10000000; refresh = 60; late = []; latencies = []; arrivals = [] }
 
 timeout_cleared_when_its_task_waits : page_trace timeout_cleared_when_its_task_waits_script timeout_cleared_when_its_task_waits_setup four_hosts ([]) ≡ codes "trace 1\n0 turn 1 dom\n0 call 1\n0 reg 2 timeout\n0 arm 2 1000 1\n0 reg 3 timeout\n0 arm 3 1000 1\n0 ret\n1000 wait 1000\n1000 due 2\n1000 due 3\n1000 turn 2 timer\n1000 call 2\n1000 log \"a\"\n1000 drop 3\n1000 ret\n1000 turn 3 timer\n1000 end done\n"
 unfolding page_trace run run_by
@@ -109,7 +109,7 @@ timeout_clamped_inside_an_interval_script =
 
 abbrev timeout_clamped_inside_an_interval_setup : Setup
 timeout_clamped_inside_an_interval_setup =
-    record { policy = (Rank default_list); fuel = 1000000; until = 10000000; refresh = 60; late = []; latencies = []; arrivals = [] }
+    record { form = 1; trace = 1; policy = (Rank default_list); fuel = 1000000; until = 10000000; refresh = 60; late = []; latencies = []; arrivals = [] }
 
 timeout_clamped_inside_an_interval : page_trace timeout_clamped_inside_an_interval_script timeout_clamped_inside_an_interval_setup four_hosts ([]) ≡ codes "trace 1\n0 turn 1 dom\n0 call 1\n0 reg 2 interval\n0 arm 2 1000 1\n0 ret\n1000 wait 1000\n1000 due 2\n1000 turn 2 timer\n1000 call 2\n1000 ret\n1000 arm 2 2000 2\n2000 wait 2000\n2000 due 2\n2000 turn 3 timer\n2000 call 2\n2000 ret\n2000 arm 2 3000 3\n3000 wait 3000\n3000 due 2\n3000 turn 4 timer\n3000 call 2\n3000 ret\n3000 arm 2 4000 4\n4000 wait 4000\n4000 due 2\n4000 turn 5 timer\n4000 call 2\n4000 ret\n4000 arm 2 5000 5\n5000 wait 5000\n5000 due 2\n5000 turn 6 timer\n5000 call 2\n5000 ret\n5000 arm 2 6000 6\n6000 wait 6000\n6000 due 2\n6000 turn 7 timer\n6000 call 2\n6000 reg 3 timeout\n6000 arm 3 10000 7\n6000 drop 2\n6000 ret\n10000 wait 10000\n10000 due 3\n10000 turn 8 timer\n10000 call 3\n10000 log \"g\"\n10000 ret\n10000 end done\n"
 unfolding page_trace run run_by
@@ -130,7 +130,7 @@ late_readings_of_the_clock_script =
 
 abbrev late_readings_of_the_clock_setup : Setup
 late_readings_of_the_clock_setup =
-    record { policy = (Rank default_list); fuel = 1000000; until = 10000000; refresh = 60; late = 1500 ∷ 250 ∷ []; latencies = []; arrivals = [] }
+    record { form = 1; trace = 1; policy = (Rank default_list); fuel = 1000000; until = 10000000; refresh = 60; late = 1500 ∷ 250 ∷ []; latencies = []; arrivals = [] }
 
 late_readings_of_the_clock : page_trace late_readings_of_the_clock_script late_readings_of_the_clock_setup four_hosts ([]) ≡ codes "trace 1\n0 turn 1 dom\n0 call 1\n0 reg 2 timeout\n0 arm 2 1000 1\n0 reg 3 timeout\n0 arm 3 2000 1\n0 reg 4 timeout\n0 arm 4 3000 1\n0 ret\n2500 wait 1000\n2500 due 2\n2500 due 3\n2500 turn 2 timer\n2500 call 2\n2500 log 2500\n2500 ret\n2500 turn 3 timer\n2500 call 3\n2500 log 2500\n2500 ret\n3250 wait 3000\n3250 due 4\n3250 turn 4 timer\n3250 call 4\n3250 log 3250\n3250 ret\n3250 end done\n"
 unfolding page_trace run run_by
@@ -154,7 +154,7 @@ delayed_task_aborted_before_its_delay_is_over_script =
 
 abbrev delayed_task_aborted_before_its_delay_is_over_setup : Setup
 delayed_task_aborted_before_its_delay_is_over_setup =
-    record { policy = (Rank default_list); fuel = 1000000; until = 10000000; refresh = 60; late = []; latencies = []; arrivals = [] }
+    record { form = 1; trace = 1; policy = (Rank default_list); fuel = 1000000; until = 10000000; refresh = 60; late = []; latencies = []; arrivals = [] }
 
 delayed_task_aborted_before_its_delay_is_over : page_trace delayed_task_aborted_before_its_delay_is_over_script delayed_task_aborted_before_its_delay_is_over_setup four_hosts ([]) ≡ codes "trace 1\n0 turn 1 dom\n0 call 1\n0 reg 2 post\n0 arm 2 5000 0\n0 reg 3 then\n0 reg 4 timeout\n0 arm 4 1000 1\n0 ret\n1000 wait 1000\n1000 due 4\n1000 turn 2 timer\n1000 call 4\n1000 abort 1\n1000 settle 1 err \"early\"\n1000 job 1 react 1\n1000 drop 2\n1000 ret\n1000 run 1\n1000 call 3\n1000 log \"early\"\n1000 ret\n1000 settle 2 ok unit\n5000 wait 5000\n5000 due 2\n5000 end done\n"
 unfolding page_trace run run_by
@@ -175,7 +175,7 @@ timeout_signal_before_a_host_answer_script =
 
 abbrev timeout_signal_before_a_host_answer_setup : Setup
 timeout_signal_before_a_host_answer_setup =
-    record { policy = (Rank default_list); fuel = 1000000; until = 10000000; refresh = 60; late = []; latencies = record { closure = 0; latency = 1000 } ∷ []; arrivals = [] }
+    record { form = 1; trace = 1; policy = (Rank default_list); fuel = 1000000; until = 10000000; refresh = 60; late = []; latencies = record { closure = 0; latency = 1000 } ∷ []; arrivals = [] }
 
 timeout_signal_before_a_host_answer : page_trace timeout_signal_before_a_host_answer_script timeout_signal_before_a_host_answer_setup four_hosts ([]) ≡ codes "trace 1\n0 turn 1 dom\n0 call 1\n0 reg 2 signal\n0 arm 2 1000 0\n0 reg 3 host\n0 arm 3 1000 0\n0 reg 4 then\n0 ret\n1000 wait 1000\n1000 due 3\n1000 due 2\n1000 turn 2 timer\n1000 abort 1\n1000 settle 1 err TimeoutError(\"\")\n1000 job 1 react 1\n1000 drop 3\n1000 run 1\n1000 call 4\n1000 log TimeoutError(\"\")\n1000 ret\n1000 settle 2 ok unit\n1000 turn 3 net\n1000 end done\n"
 unfolding page_trace run run_by
@@ -195,7 +195,7 @@ timeout_signal_after_a_host_answer_script =
 
 abbrev timeout_signal_after_a_host_answer_setup : Setup
 timeout_signal_after_a_host_answer_setup =
-    record { policy = Fifo; fuel = 1000000; until = 10000000; refresh = 60; late = []; latencies = record { closure = 0; latency = 1000 } ∷ []; arrivals = [] }
+    record { form = 1; trace = 1; policy = Fifo; fuel = 1000000; until = 10000000; refresh = 60; late = []; latencies = record { closure = 0; latency = 1000 } ∷ []; arrivals = [] }
 
 timeout_signal_after_a_host_answer : page_trace timeout_signal_after_a_host_answer_script timeout_signal_after_a_host_answer_setup four_hosts (Ok (pos 49) ∷ []) ≡ codes "trace 1\n0 turn 1 dom\n0 call 1\n0 reg 2 signal\n0 arm 2 1000 0\n0 reg 3 host\n0 arm 3 1000 0\n0 reg 4 then\n0 ret\n1000 wait 1000\n1000 due 3\n1000 due 2\n1000 turn 2 net\n1000 host 0 7 ok 49\n1000 settle 1 ok 49\n1000 job 1 react 1\n1000 run 1\n1000 call 4\n1000 log 49\n1000 ret\n1000 settle 2 ok unit\n1000 turn 3 timer\n1000 abort 1\n1000 end done\n"
 unfolding page_trace run run_by
@@ -217,7 +217,7 @@ dropped_closure_asked_again_script =
 
 abbrev dropped_closure_asked_again_setup : Setup
 dropped_closure_asked_again_setup =
-    record { policy = (Rank default_list); fuel = 1000000; until = 10000000; refresh = 60; late = []; latencies = record { closure = 0; latency = 1000 } ∷ []; arrivals = [] }
+    record { form = 1; trace = 1; policy = (Rank default_list); fuel = 1000000; until = 10000000; refresh = 60; late = []; latencies = record { closure = 0; latency = 1000 } ∷ []; arrivals = [] }
 
 dropped_closure_asked_again : page_trace dropped_closure_asked_again_script dropped_closure_asked_again_setup four_hosts ([]) ≡ codes "trace 1\n0 turn 1 dom\n0 call 1\n0 reg 2 host\n0 arm 2 1000 0\n0 reg 3 then\n0 reg 4 timeout\n0 arm 4 1000 1\n0 ret\n1000 wait 1000\n1000 due 2\n1000 due 4\n1000 turn 2 timer\n1000 call 4\n1000 abort 1\n1000 settle 1 err \"off\"\n1000 job 1 react 1\n1000 drop 2\n1000 settle 3 err NotAllowedError(\"\")\n1000 reg 5 then\n1000 job 2 react 3\n1000 ret\n1000 run 1\n1000 call 3\n1000 log \"off\"\n1000 ret\n1000 settle 2 ok unit\n1000 run 2\n1000 call 5\n1000 log NotAllowedError(\"\")\n1000 ret\n1000 settle 4 ok unit\n1000 turn 3 net\n1000 end done\n"
 unfolding page_trace run run_by
@@ -237,7 +237,7 @@ host_answer_that_rejects_script =
 
 abbrev host_answer_that_rejects_setup : Setup
 host_answer_that_rejects_setup =
-    record { policy = (Rank default_list); fuel = 1000000; until = 10000000; refresh = 60; late = []; latencies = []; arrivals = [] }
+    record { form = 1; trace = 1; policy = (Rank default_list); fuel = 1000000; until = 10000000; refresh = 60; late = []; latencies = []; arrivals = [] }
 
 host_answer_that_rejects : page_trace host_answer_that_rejects_script host_answer_that_rejects_setup four_hosts (Err (pos 5) ∷ Ok (pos 8) ∷ []) ≡ codes "trace 1\n0 turn 1 dom\n0 call 1\n0 reg 2 host\n0 arm 2 0 0\n0 reg 3 then\n0 reg 4 host\n0 arm 4 0 0\n0 ret\n0 due 2\n0 due 4\n0 turn 2 net\n0 host 3 5 err 5\n0 settle 1 err 5\n0 job 1 react 1\n0 run 1\n0 call 3\n0 log 5\n0 ret\n0 settle 2 ok unit\n0 turn 3 net\n0 host 1 4 ok 8\n0 settle 3 ok 8\n0 end done\n"
 unfolding page_trace run run_by
@@ -259,7 +259,7 @@ timer_set_by_the_listener_of_a_timeout_signal_script =
 
 abbrev timer_set_by_the_listener_of_a_timeout_signal_setup : Setup
 timer_set_by_the_listener_of_a_timeout_signal_setup =
-    record { policy = (Rank default_list); fuel = 1000000; until = 10000000; refresh = 60; late = []; latencies = []; arrivals = [] }
+    record { form = 1; trace = 1; policy = (Rank default_list); fuel = 1000000; until = 10000000; refresh = 60; late = []; latencies = []; arrivals = [] }
 
 timer_set_by_the_listener_of_a_timeout_signal : page_trace timer_set_by_the_listener_of_a_timeout_signal_script timer_set_by_the_listener_of_a_timeout_signal_setup four_hosts ([]) ≡ codes "trace 1\n0 turn 1 dom\n0 call 1\n0 reg 2 timeout\n0 arm 2 0 1\n0 ret\n0 due 2\n0 turn 2 timer\n0 call 2\n0 reg 3 signal\n0 arm 3 0 0\n0 reg 4 listener\n0 reg 5 timeout\n0 arm 5 0 2\n0 ret\n0 due 3\n0 due 5\n0 turn 3 timer\n0 abort 1\n0 call 4\n0 reg 6 timeout\n0 arm 6 0 1\n0 ret\n0 due 6\n0 turn 4 timer\n0 call 5\n0 log 0\n0 ret\n0 turn 5 timer\n0 call 6\n0 log 0\n0 ret\n0 end done\n"
 unfolding page_trace run run_by
@@ -279,7 +279,7 @@ interval_slower_than_its_callback_script =
 
 abbrev interval_slower_than_its_callback_setup : Setup
 interval_slower_than_its_callback_setup =
-    record { policy = (Rank default_list); fuel = 1000000; until = 10000000; refresh = 60; late = []; latencies = []; arrivals = [] }
+    record { form = 1; trace = 1; policy = (Rank default_list); fuel = 1000000; until = 10000000; refresh = 60; late = []; latencies = []; arrivals = [] }
 
 interval_slower_than_its_callback : page_trace interval_slower_than_its_callback_script interval_slower_than_its_callback_setup four_hosts ([]) ≡ codes "trace 1\n0 turn 1 dom\n0 call 1\n0 reg 2 interval\n0 arm 2 1000 1\n0 ret\n1000 wait 1000\n1000 due 2\n1000 turn 2 timer\n1000 call 2\n3500 log 3500\n3500 ret\n3500 arm 2 4500 2\n4500 wait 4500\n4500 due 2\n4500 turn 3 timer\n4500 call 2\n7000 log 7000\n7000 drop 2\n7000 ret\n7000 end done\n"
 unfolding page_trace run run_by

@@ -21,7 +21,7 @@ two_hundred_and_fifty_six_open_calls_script =
 
 abbrev two_hundred_and_fifty_six_open_calls_setup : Setup
 two_hundred_and_fifty_six_open_calls_setup =
-    record { policy = (Rank default_list); fuel = 257; until = 10000000; refresh = 60; late = []; latencies = []; arrivals = [] }
+    record { form = 1; trace = 1; policy = (Rank default_list); fuel = 257; until = 10000000; refresh = 60; late = []; latencies = []; arrivals = [] }
 
 two_hundred_and_fifty_six_open_calls : logs_of (page_trace two_hundred_and_fifty_six_open_calls_script two_hundred_and_fifty_six_open_calls_setup four_hosts ([])) ≡ codes "0 255\n0 RangeError(\"\")\n"
 unfolding page_trace run run_by
@@ -40,7 +40,7 @@ open_calls_end_with_the_fuel_script =
 
 abbrev open_calls_end_with_the_fuel_setup : Setup
 open_calls_end_with_the_fuel_setup =
-    record { policy = (Rank default_list); fuel = 256; until = 10000000; refresh = 60; late = []; latencies = []; arrivals = [] }
+    record { form = 1; trace = 1; policy = (Rank default_list); fuel = 256; until = 10000000; refresh = 60; late = []; latencies = []; arrivals = [] }
 
 open_calls_end_with_the_fuel : logs_of (page_trace open_calls_end_with_the_fuel_script open_calls_end_with_the_fuel_setup four_hosts ([])) ≡ codes ""
 unfolding page_trace run run_by

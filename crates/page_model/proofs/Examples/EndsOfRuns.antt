@@ -23,7 +23,7 @@ until_reached_with_a_task_script =
 
 abbrev until_reached_with_a_task_setup : Setup
 until_reached_with_a_task_setup =
-    record { policy = (Rank default_list); fuel = 1000000; until = 1000; refresh = 60; late = []; latencies = []; arrivals = [] }
+    record { form = 1; trace = 1; policy = (Rank default_list); fuel = 1000000; until = 1000; refresh = 60; late = []; latencies = []; arrivals = [] }
 
 until_reached_with_a_task : page_trace until_reached_with_a_task_script until_reached_with_a_task_setup four_hosts ([]) ≡ codes "trace 1\n0 turn 1 dom\n0 call 1\n0 reg 2 timeout\n0 arm 2 0 1\n1000 ret\n1000 due 2\n1000 end clock\n"
 unfolding page_trace run run_by
@@ -43,7 +43,7 @@ until_reached_without_a_task_script =
 
 abbrev until_reached_without_a_task_setup : Setup
 until_reached_without_a_task_setup =
-    record { policy = (Rank default_list); fuel = 1000000; until = 1000; refresh = 60; late = []; latencies = []; arrivals = [] }
+    record { form = 1; trace = 1; policy = (Rank default_list); fuel = 1000000; until = 1000; refresh = 60; late = []; latencies = []; arrivals = [] }
 
 until_reached_without_a_task : page_trace until_reached_without_a_task_script until_reached_without_a_task_setup four_hosts ([]) ≡ codes "trace 1\n0 turn 1 dom\n0 call 1\n0 reg 2 timeout\n0 arm 2 2000 1\n1000 ret\n1000 end clock\n"
 unfolding page_trace run run_by
@@ -62,7 +62,7 @@ until_is_the_moment_that_is_waited_for_script =
 
 abbrev until_is_the_moment_that_is_waited_for_setup : Setup
 until_is_the_moment_that_is_waited_for_setup =
-    record { policy = (Rank default_list); fuel = 1000000; until = 1000; refresh = 60; late = []; latencies = []; arrivals = [] }
+    record { form = 1; trace = 1; policy = (Rank default_list); fuel = 1000000; until = 1000; refresh = 60; late = []; latencies = []; arrivals = [] }
 
 until_is_the_moment_that_is_waited_for : page_trace until_is_the_moment_that_is_waited_for_script until_is_the_moment_that_is_waited_for_setup four_hosts ([]) ≡ codes "trace 1\n0 turn 1 dom\n0 call 1\n0 reg 2 timeout\n0 arm 2 1000 1\n0 ret\n1000 end clock\n"
 unfolding page_trace run run_by
@@ -79,7 +79,7 @@ late_reading_past_until_script =
 
 abbrev late_reading_past_until_setup : Setup
 late_reading_past_until_setup =
-    record { policy = (Rank default_list); fuel = 1000000; until = 1000; refresh = 60; late = 1000 ∷ []; latencies = []; arrivals = record { at = 500; source = User; name = codes "a"; value = (IntValue (pos 1)) } ∷ [] }
+    record { form = 1; trace = 1; policy = (Rank default_list); fuel = 1000000; until = 1000; refresh = 60; late = 1000 ∷ []; latencies = []; arrivals = record { at = 500; source = User; name = codes "a"; value = (IntValue (pos 1)) } ∷ [] }
 
 late_reading_past_until : page_trace late_reading_past_until_script late_reading_past_until_setup four_hosts ([]) ≡ codes "trace 1\n0 turn 1 dom\n0 call 1\n0 ret\n1500 wait 500\n1500 end clock\n"
 unfolding page_trace run run_by
@@ -97,7 +97,7 @@ nothing_pending_at_until_script =
 
 abbrev nothing_pending_at_until_setup : Setup
 nothing_pending_at_until_setup =
-    record { policy = (Rank default_list); fuel = 1000000; until = 1000; refresh = 60; late = []; latencies = []; arrivals = [] }
+    record { form = 1; trace = 1; policy = (Rank default_list); fuel = 1000000; until = 1000; refresh = 60; late = []; latencies = []; arrivals = [] }
 
 nothing_pending_at_until : page_trace nothing_pending_at_until_script nothing_pending_at_until_setup four_hosts ([]) ≡ codes "trace 1\n0 turn 1 dom\n0 call 1\n1000 ret\n1000 end done\n"
 unfolding page_trace run run_by
@@ -117,7 +117,7 @@ idle_period_started_at_until_script =
 
 abbrev idle_period_started_at_until_setup : Setup
 idle_period_started_at_until_setup =
-    record { policy = (Rank default_list); fuel = 1000000; until = 1000; refresh = 60; late = []; latencies = []; arrivals = [] }
+    record { form = 1; trace = 1; policy = (Rank default_list); fuel = 1000000; until = 1000; refresh = 60; late = []; latencies = []; arrivals = [] }
 
 idle_period_started_at_until : page_trace idle_period_started_at_until_script idle_period_started_at_until_setup four_hosts ([]) ≡ codes "trace 1\n0 turn 1 dom\n0 call 1\n0 reg 2 idle\n1000 ret\n1000 period 51000\n1000 end clock\n"
 unfolding page_trace run run_by
@@ -137,7 +137,7 @@ clock_is_looked_at_before_fuel_script =
 
 abbrev clock_is_looked_at_before_fuel_setup : Setup
 clock_is_looked_at_before_fuel_setup =
-    record { policy = (Rank default_list); fuel = 3; until = 10; refresh = 60; late = []; latencies = []; arrivals = [] }
+    record { form = 1; trace = 1; policy = (Rank default_list); fuel = 3; until = 10; refresh = 60; late = []; latencies = []; arrivals = [] }
 
 clock_is_looked_at_before_fuel : page_trace clock_is_looked_at_before_fuel_script clock_is_looked_at_before_fuel_setup four_hosts ([]) ≡ codes "trace 1\n0 turn 1 dom\n0 call 1\n0 reg 2 timeout\n0 arm 2 0 1\n10 ret\n10 due 2\n10 end clock\n"
 unfolding page_trace run run_by
@@ -156,7 +156,7 @@ fuel_ends_before_a_turn_script =
 
 abbrev fuel_ends_before_a_turn_setup : Setup
 fuel_ends_before_a_turn_setup =
-    record { policy = (Rank default_list); fuel = 2; until = 10000000; refresh = 60; late = []; latencies = []; arrivals = [] }
+    record { form = 1; trace = 1; policy = (Rank default_list); fuel = 2; until = 10000000; refresh = 60; late = []; latencies = []; arrivals = [] }
 
 fuel_ends_before_a_turn : page_trace fuel_ends_before_a_turn_script fuel_ends_before_a_turn_setup four_hosts ([]) ≡ codes "trace 1\n0 turn 1 dom\n0 call 1\n0 reg 2 timeout\n0 arm 2 1000 1\n0 ret\n1000 wait 1000\n1000 due 2\n1000 end fuel\n"
 unfolding page_trace run run_by
@@ -175,7 +175,7 @@ fuel_ends_in_a_microtask_script =
 
 abbrev fuel_ends_in_a_microtask_setup : Setup
 fuel_ends_in_a_microtask_setup =
-    record { policy = (Rank default_list); fuel = 5; until = 10000000; refresh = 60; late = []; latencies = []; arrivals = [] }
+    record { form = 1; trace = 1; policy = (Rank default_list); fuel = 5; until = 10000000; refresh = 60; late = []; latencies = []; arrivals = [] }
 
 fuel_ends_in_a_microtask : page_trace fuel_ends_in_a_microtask_script fuel_ends_in_a_microtask_setup four_hosts ([]) ≡ codes "trace 1\n0 turn 1 dom\n0 call 1\n0 reg 2 micro\n0 job 1 micro 2\n0 ret\n0 run 1\n0 call 2\n0 log \"m\"\n0 reg 3 micro\n0 job 2 micro 3\n0 ret\n0 run 2\n0 call 3\n0 end fuel\n"
 unfolding page_trace run run_by
@@ -194,7 +194,7 @@ fuel_ends_in_a_loop_script =
 
 abbrev fuel_ends_in_a_loop_setup : Setup
 fuel_ends_in_a_loop_setup =
-    record { policy = (Rank default_list); fuel = 6; until = 10000000; refresh = 60; late = []; latencies = []; arrivals = [] }
+    record { form = 1; trace = 1; policy = (Rank default_list); fuel = 6; until = 10000000; refresh = 60; late = []; latencies = []; arrivals = [] }
 
 fuel_ends_in_a_loop : page_trace fuel_ends_in_a_loop_script fuel_ends_in_a_loop_setup four_hosts ([]) ≡ codes "trace 1\n0 turn 1 dom\n0 call 1\n0 reg 2 timeout\n0 arm 2 0 1\n0 ret\n0 due 2\n0 turn 2 timer\n0 call 2\n0 log \"w\"\n0 log \"w\"\n0 end fuel\n"
 unfolding page_trace run run_by
@@ -218,7 +218,7 @@ fuel_ends_in_a_listener_of_an_abort_script =
 
 abbrev fuel_ends_in_a_listener_of_an_abort_setup : Setup
 fuel_ends_in_a_listener_of_an_abort_setup =
-    record { policy = (Rank default_list); fuel = 4; until = 10000000; refresh = 60; late = []; latencies = []; arrivals = [] }
+    record { form = 1; trace = 1; policy = (Rank default_list); fuel = 4; until = 10000000; refresh = 60; late = []; latencies = []; arrivals = [] }
 
 fuel_ends_in_a_listener_of_an_abort : page_trace fuel_ends_in_a_listener_of_an_abort_script fuel_ends_in_a_listener_of_an_abort_setup four_hosts ([]) ≡ codes "trace 1\n0 turn 1 dom\n0 call 1\n0 reg 2 listener\n0 reg 3 listener\n0 abort 1\n0 call 2\n0 reg 4 micro\n0 job 1 micro 4\n1 end fuel\n"
 unfolding page_trace run run_by
@@ -237,7 +237,7 @@ frame_at_until_script =
 
 abbrev frame_at_until_setup : Setup
 frame_at_until_setup =
-    record { policy = (Rank default_list); fuel = 1000000; until = 16666; refresh = 60; late = []; latencies = []; arrivals = [] }
+    record { form = 1; trace = 1; policy = (Rank default_list); fuel = 1000000; until = 16666; refresh = 60; late = []; latencies = []; arrivals = [] }
 
 frame_at_until : page_trace frame_at_until_script frame_at_until_setup four_hosts ([]) ≡ codes "trace 1\n0 turn 1 dom\n0 call 1\n0 reg 2 frame\n0 ret\n16666 end clock\n"
 unfolding page_trace run run_by
@@ -257,7 +257,7 @@ idle_moment_at_until_script =
 
 abbrev idle_moment_at_until_setup : Setup
 idle_moment_at_until_setup =
-    record { policy = (Rank default_list); fuel = 1000000; until = 50000; refresh = 60; late = []; latencies = []; arrivals = [] }
+    record { form = 1; trace = 1; policy = (Rank default_list); fuel = 1000000; until = 50000; refresh = 60; late = []; latencies = []; arrivals = [] }
 
 idle_moment_at_until : page_trace idle_moment_at_until_script idle_moment_at_until_setup four_hosts ([]) ≡ codes "trace 1\n0 turn 1 dom\n0 call 1\n0 reg 2 idle\n0 ret\n0 period 50000\n0 turn 2 idle\n0 idle 50000\n0 call 2\n0 log \"i\"\n0 reg 3 idle\n0 ret\n50000 end clock\n"
 unfolding page_trace run run_by
@@ -277,7 +277,7 @@ idle_moment_read_past_until_script =
 
 abbrev idle_moment_read_past_until_setup : Setup
 idle_moment_read_past_until_setup =
-    record { policy = (Rank default_list); fuel = 1000000; until = 50005; refresh = 60; late = 10 ∷ []; latencies = []; arrivals = [] }
+    record { form = 1; trace = 1; policy = (Rank default_list); fuel = 1000000; until = 50005; refresh = 60; late = 10 ∷ []; latencies = []; arrivals = [] }
 
 idle_moment_read_past_until : page_trace idle_moment_read_past_until_script idle_moment_read_past_until_setup four_hosts ([]) ≡ codes "trace 1\n0 turn 1 dom\n0 call 1\n0 reg 2 idle\n0 ret\n0 period 50000\n0 turn 2 idle\n0 idle 50000\n0 call 2\n0 log \"i\"\n0 reg 3 idle\n0 ret\n50010 wait 50000\n50010 end clock\n"
 unfolding page_trace run run_by

@@ -20,7 +20,7 @@ sum_of_two_numbers_script =
 
 abbrev sum_of_two_numbers_setup : Setup
 sum_of_two_numbers_setup =
-    record { policy = (Rank default_list); fuel = 1000000; until = 10000000; refresh = 60; late = []; latencies = []; arrivals = [] }
+    record { form = 1; trace = 1; policy = (Rank default_list); fuel = 1000000; until = 10000000; refresh = 60; late = []; latencies = []; arrivals = [] }
 
 sum_of_two_numbers : page_trace sum_of_two_numbers_script sum_of_two_numbers_setup four_hosts ([]) ≡ codes "trace 1\n0 turn 1 dom\n0 call 1\n0 log 3\n0 ret\n0 end done\n"
 unfolding page_trace run run_by
@@ -36,7 +36,7 @@ empty_script_script =
 
 abbrev empty_script_setup : Setup
 empty_script_setup =
-    record { policy = (Rank default_list); fuel = 1000000; until = 10000000; refresh = 60; late = []; latencies = []; arrivals = [] }
+    record { form = 1; trace = 1; policy = (Rank default_list); fuel = 1000000; until = 10000000; refresh = 60; late = []; latencies = []; arrivals = [] }
 
 empty_script : page_trace empty_script_script empty_script_setup four_hosts ([]) ≡ codes "trace 1\n0 turn 1 dom\n0 call 1\n0 ret\n0 end done\n"
 unfolding page_trace run run_by
@@ -57,7 +57,7 @@ timers_due_together_in_order_of_start_script =
 
 abbrev timers_due_together_in_order_of_start_setup : Setup
 timers_due_together_in_order_of_start_setup =
-    record { policy = (Rank default_list); fuel = 1000000; until = 10000000; refresh = 60; late = []; latencies = []; arrivals = [] }
+    record { form = 1; trace = 1; policy = (Rank default_list); fuel = 1000000; until = 10000000; refresh = 60; late = []; latencies = []; arrivals = [] }
 
 timers_due_together_in_order_of_start : page_trace timers_due_together_in_order_of_start_script timers_due_together_in_order_of_start_setup four_hosts ([]) ≡ codes "trace 1\n0 turn 1 dom\n0 call 1\n0 reg 2 timeout\n0 arm 2 10000 1\n5000 reg 3 timeout\n5000 arm 3 10000 1\n5000 ret\n10000 wait 10000\n10000 due 2\n10000 due 3\n10000 turn 2 timer\n10000 call 2\n10000 log \"a\"\n10000 ret\n10000 turn 3 timer\n10000 call 3\n10000 log \"b\"\n10000 ret\n10000 end done\n"
 unfolding page_trace run run_by
@@ -74,7 +74,7 @@ loop_ends_with_its_fuel_script =
 
 abbrev loop_ends_with_its_fuel_setup : Setup
 loop_ends_with_its_fuel_setup =
-    record { policy = (Rank default_list); fuel = 5; until = 10000000; refresh = 60; late = []; latencies = []; arrivals = [] }
+    record { form = 1; trace = 1; policy = (Rank default_list); fuel = 5; until = 10000000; refresh = 60; late = []; latencies = []; arrivals = [] }
 
 loop_ends_with_its_fuel : page_trace loop_ends_with_its_fuel_script loop_ends_with_its_fuel_setup four_hosts ([]) ≡ codes "trace 1\n0 turn 1 dom\n0 call 1\n0 end fuel\n"
 unfolding page_trace run run_by
@@ -90,7 +90,7 @@ one_unit_does_not_start_the_script_script =
 
 abbrev one_unit_does_not_start_the_script_setup : Setup
 one_unit_does_not_start_the_script_setup =
-    record { policy = (Rank default_list); fuel = 1; until = 10000000; refresh = 60; late = []; latencies = []; arrivals = [] }
+    record { form = 1; trace = 1; policy = (Rank default_list); fuel = 1; until = 10000000; refresh = 60; late = []; latencies = []; arrivals = [] }
 
 one_unit_does_not_start_the_script : page_trace one_unit_does_not_start_the_script_script one_unit_does_not_start_the_script_setup four_hosts ([]) ≡ codes "trace 1\n0 turn 1 dom\n0 call 1\n0 end fuel\n"
 unfolding page_trace run run_by

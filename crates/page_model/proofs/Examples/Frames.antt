@@ -22,7 +22,7 @@ frame_callback_cancelled_in_its_frame_script =
 
 abbrev frame_callback_cancelled_in_its_frame_setup : Setup
 frame_callback_cancelled_in_its_frame_setup =
-    record { policy = (Rank default_list); fuel = 1000000; until = 10000000; refresh = 50; late = []; latencies = []; arrivals = [] }
+    record { form = 1; trace = 1; policy = (Rank default_list); fuel = 1000000; until = 10000000; refresh = 50; late = []; latencies = []; arrivals = [] }
 
 frame_callback_cancelled_in_its_frame : page_trace frame_callback_cancelled_in_its_frame_script frame_callback_cancelled_in_its_frame_setup four_hosts ([]) ≡ codes "trace 1\n0 turn 1 dom\n0 call 1\n0 reg 2 frame\n0 reg 3 frame\n0 ret\n20000 wait 20000\n20000 turn 2 render\n20000 frame 20000\n20000 call 2\n20000 log 20000\n20000 drop 3\n20000 reg 4 frame\n20000 ret\n40000 wait 40000\n40000 turn 3 render\n40000 frame 40000\n40000 call 4\n40000 log 40000\n40000 ret\n40000 end done\n"
 unfolding page_trace run run_by
@@ -42,7 +42,7 @@ idle_callback_past_its_deadline_script =
 
 abbrev idle_callback_past_its_deadline_setup : Setup
 idle_callback_past_its_deadline_setup =
-    record { policy = (Rank default_list); fuel = 1000000; until = 10000000; refresh = 60; late = []; latencies = []; arrivals = [] }
+    record { form = 1; trace = 1; policy = (Rank default_list); fuel = 1000000; until = 10000000; refresh = 60; late = []; latencies = []; arrivals = [] }
 
 idle_callback_past_its_deadline : page_trace idle_callback_past_its_deadline_script idle_callback_past_its_deadline_setup four_hosts ([]) ≡ codes "trace 1\n0 turn 1 dom\n0 call 1\n0 reg 2 idle\n0 reg 3 idle\n0 ret\n0 period 50000\n0 turn 2 idle\n0 idle 50000\n0 call 2\n0 log 50000\n60000 ret\n60000 turn 3 idle\n60000 period 110000\n60000 turn 4 idle\n60000 idle 110000\n60000 call 3\n60000 log 50000\n60000 ret\n60000 end done\n"
 unfolding page_trace run run_by
@@ -64,7 +64,7 @@ idle_deadline_lowered_to_a_timer_script =
 
 abbrev idle_deadline_lowered_to_a_timer_setup : Setup
 idle_deadline_lowered_to_a_timer_setup =
-    record { policy = (Rank default_list); fuel = 1000000; until = 10000000; refresh = 60; late = []; latencies = []; arrivals = [] }
+    record { form = 1; trace = 1; policy = (Rank default_list); fuel = 1000000; until = 10000000; refresh = 60; late = []; latencies = []; arrivals = [] }
 
 idle_deadline_lowered_to_a_timer : logs_of (page_trace idle_deadline_lowered_to_a_timer_script idle_deadline_lowered_to_a_timer_setup four_hosts ([])) ≡ codes "0 20000\n60000 50000\n"
 unfolding page_trace run run_by
@@ -85,7 +85,7 @@ idle_timeout_has_no_time_remaining_script =
 
 abbrev idle_timeout_has_no_time_remaining_setup : Setup
 idle_timeout_has_no_time_remaining_setup =
-    record { policy = (Rank default_list); fuel = 1000000; until = 10000000; refresh = 60; late = []; latencies = []; arrivals = [] }
+    record { form = 1; trace = 1; policy = (Rank default_list); fuel = 1000000; until = 10000000; refresh = 60; late = []; latencies = []; arrivals = [] }
 
 idle_timeout_has_no_time_remaining : page_trace idle_timeout_has_no_time_remaining_script idle_timeout_has_no_time_remaining_setup four_hosts ([]) ≡ codes "trace 1\n0 turn 1 dom\n0 call 1\n0 reg 2 idle\n0 arm 2 10000 0\n0 reg 3 timeout\n0 arm 3 0 1\n0 ret\n0 due 3\n0 turn 2 timer\n0 call 3\n0 reg 4 timeout\n0 arm 4 0 2\n15000 ret\n15000 due 4\n15000 due 2\n15000 turn 3 timer\n15000 call 4\n15000 log \"g\"\n15000 ret\n15000 turn 4 idle\n15000 call 2\n15000 log true\n15000 log 0\n15000 ret\n15000 end done\n"
 unfolding page_trace run run_by

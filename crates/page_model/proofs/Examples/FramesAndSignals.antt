@@ -34,7 +34,7 @@ abort_inside_a_frame_callback_script =
 
 abbrev abort_inside_a_frame_callback_setup : Setup
 abort_inside_a_frame_callback_setup =
-    record { policy = (Rank default_list); fuel = 1000000; until = 10000000; refresh = 50; late = []; latencies = []; arrivals = [] }
+    record { form = 1; trace = 1; policy = (Rank default_list); fuel = 1000000; until = 10000000; refresh = 50; late = []; latencies = []; arrivals = [] }
 
 abort_inside_a_frame_callback : page_trace abort_inside_a_frame_callback_script abort_inside_a_frame_callback_setup four_hosts ([]) ≡ codes "trace 1\n0 turn 1 dom\n0 call 1\n0 reg 2 listener\n0 reg 3 post\n0 arm 3 20000 0\n0 reg 4 frame\n0 reg 5 frame\n0 ret\n20000 wait 20000\n20000 due 3\n20000 enq 3 background task 2\n20000 turn 2 render\n20000 frame 20000\n20000 call 4\n20000 reg 6 micro\n20000 job 1 micro 6\n20000 abort 1\n20000 settle 1 err \"why\"\n20000 drop 3\n20000 call 2\n20000 log \"l\"\n20000 ret\n20000 log \"a\"\n20000 ret\n20000 run 1\n20000 call 6\n20000 log \"m\"\n20000 ret\n20000 call 5\n20000 log true\n20000 ret\n20000 turn 3 dom\n20000 unhandled 1\n20000 end done\n"
 unfolding page_trace run run_by
@@ -57,7 +57,7 @@ yield_inside_an_idle_callback_script =
 
 abbrev yield_inside_an_idle_callback_setup : Setup
 yield_inside_an_idle_callback_setup =
-    record { policy = (Rank default_list); fuel = 1000000; until = 10000000; refresh = 60; late = []; latencies = []; arrivals = [] }
+    record { form = 1; trace = 1; policy = (Rank default_list); fuel = 1000000; until = 10000000; refresh = 60; late = []; latencies = []; arrivals = [] }
 
 yield_inside_an_idle_callback : page_trace yield_inside_an_idle_callback_script yield_inside_an_idle_callback_setup four_hosts ([]) ≡ codes "trace 1\n0 turn 1 dom\n0 call 1\n0 reg 2 idle\n0 ret\n0 period 50000\n0 turn 2 idle\n0 idle 50000\n0 call 2\n0 reg 3 post\n0 enq 3 background task 3\n0 reg 4 yield\n0 enq 4 background cont 4\n0 reg 5 then\n0 reg 6 post\n0 enq 6 user-visible task 5\n0 log \"i\"\n0 ret\n0 turn 3 sched\n0 call 6\n0 log \"u\"\n0 ret\n0 settle 4 ok unit\n0 turn 4 sched\n0 call 4\n0 settle 2 ok unit\n0 job 1 react 2\n0 ret\n0 run 1\n0 call 5\n0 log \"y\"\n0 ret\n0 settle 3 ok unit\n0 turn 5 sched\n0 call 3\n0 log \"b\"\n0 ret\n0 settle 1 ok unit\n0 end done\n"
 unfolding page_trace run run_by
@@ -81,7 +81,7 @@ frame_requested_and_cancelled_inside_a_frame_script =
 
 abbrev frame_requested_and_cancelled_inside_a_frame_setup : Setup
 frame_requested_and_cancelled_inside_a_frame_setup =
-    record { policy = (Rank default_list); fuel = 1000000; until = 10000000; refresh = 50; late = []; latencies = []; arrivals = [] }
+    record { form = 1; trace = 1; policy = (Rank default_list); fuel = 1000000; until = 10000000; refresh = 50; late = []; latencies = []; arrivals = [] }
 
 frame_requested_and_cancelled_inside_a_frame : page_trace frame_requested_and_cancelled_inside_a_frame_script frame_requested_and_cancelled_inside_a_frame_setup four_hosts ([]) ≡ codes "trace 1\n0 turn 1 dom\n0 call 1\n0 reg 2 frame\n0 reg 3 frame\n0 ret\n20000 wait 20000\n20000 turn 2 render\n20000 frame 20000\n20000 call 2\n50000 reg 4 frame\n50000 reg 5 frame\n50000 ret\n50000 call 3\n50000 drop 4\n50000 log \"b\"\n50000 ret\n50000 turn 3 render\n50000 frame 50000\n50000 call 5\n50000 log 50000\n50000 ret\n50000 end done\n"
 unfolding page_trace run run_by
@@ -102,7 +102,7 @@ frame_requested_late_in_the_only_frame_callback_script =
 
 abbrev frame_requested_late_in_the_only_frame_callback_setup : Setup
 frame_requested_late_in_the_only_frame_callback_setup =
-    record { policy = (Rank default_list); fuel = 1000000; until = 10000000; refresh = 50; late = []; latencies = []; arrivals = [] }
+    record { form = 1; trace = 1; policy = (Rank default_list); fuel = 1000000; until = 10000000; refresh = 50; late = []; latencies = []; arrivals = [] }
 
 frame_requested_late_in_the_only_frame_callback : page_trace frame_requested_late_in_the_only_frame_callback_script frame_requested_late_in_the_only_frame_callback_setup four_hosts ([]) ≡ codes "trace 1\n0 turn 1 dom\n0 call 1\n0 reg 2 frame\n0 ret\n20000 wait 20000\n20000 turn 2 render\n20000 frame 20000\n20000 call 2\n50000 reg 3 frame\n50000 log 20000\n50000 ret\n60000 wait 60000\n60000 turn 3 render\n60000 frame 60000\n60000 call 3\n60000 log 60000\n60000 ret\n60000 end done\n"
 unfolding page_trace run run_by
@@ -127,7 +127,7 @@ microtasks_of_a_checkpoint_inside_a_frame_script =
 
 abbrev microtasks_of_a_checkpoint_inside_a_frame_setup : Setup
 microtasks_of_a_checkpoint_inside_a_frame_setup =
-    record { policy = (Rank default_list); fuel = 1000000; until = 10000000; refresh = 50; late = []; latencies = []; arrivals = [] }
+    record { form = 1; trace = 1; policy = (Rank default_list); fuel = 1000000; until = 10000000; refresh = 50; late = []; latencies = []; arrivals = [] }
 
 microtasks_of_a_checkpoint_inside_a_frame : page_trace microtasks_of_a_checkpoint_inside_a_frame_script microtasks_of_a_checkpoint_inside_a_frame_setup four_hosts ([]) ≡ codes "trace 1\n0 turn 1 dom\n0 call 1\n0 reg 2 frame\n0 reg 3 frame\n0 ret\n20000 wait 20000\n20000 turn 2 render\n20000 frame 20000\n20000 call 2\n20000 reg 4 micro\n20000 job 1 micro 4\n20000 log \"a\"\n20000 ret\n20000 run 1\n20000 call 4\n20000 log \"m\"\n20000 reg 5 micro\n20000 job 2 micro 5\n20000 reg 6 frame\n20000 ret\n20000 run 2\n20000 call 5\n20000 log \"n\"\n20000 reg 7 timeout\n20000 arm 7 20000 1\n20000 ret\n20000 call 3\n20000 log 20000\n20000 ret\n20000 due 7\n20000 turn 3 timer\n20000 call 7\n20000 log \"z\"\n20000 ret\n40000 wait 40000\n40000 turn 4 render\n40000 frame 40000\n40000 call 6\n40000 log 40000\n40000 ret\n40000 end done\n"
 unfolding page_trace run run_by
@@ -149,7 +149,7 @@ throw_of_a_frame_callback_script =
 
 abbrev throw_of_a_frame_callback_setup : Setup
 throw_of_a_frame_callback_setup =
-    record { policy = (Rank default_list); fuel = 1000000; until = 10000000; refresh = 50; late = []; latencies = []; arrivals = [] }
+    record { form = 1; trace = 1; policy = (Rank default_list); fuel = 1000000; until = 10000000; refresh = 50; late = []; latencies = []; arrivals = [] }
 
 throw_of_a_frame_callback : page_trace throw_of_a_frame_callback_script throw_of_a_frame_callback_setup four_hosts ([]) ≡ codes "trace 1\n0 turn 1 dom\n0 call 1\n0 reg 2 frame\n0 reg 3 frame\n0 ret\n20000 wait 20000\n20000 turn 2 render\n20000 frame 20000\n20000 call 2\n20000 reg 4 micro\n20000 job 1 micro 4\n20000 throw \"x\"\n20000 run 1\n20000 call 4\n20000 log \"m\"\n20000 ret\n20000 report \"x\"\n20000 call 3\n20000 log \"b\"\n20000 ret\n20000 end done\n"
 unfolding page_trace run run_by
@@ -170,7 +170,7 @@ late_reading_before_a_frame_script =
 
 abbrev late_reading_before_a_frame_setup : Setup
 late_reading_before_a_frame_setup =
-    record { policy = (Rank default_list); fuel = 1000000; until = 10000000; refresh = 50; late = 5000 ∷ []; latencies = []; arrivals = [] }
+    record { form = 1; trace = 1; policy = (Rank default_list); fuel = 1000000; until = 10000000; refresh = 50; late = 5000 ∷ []; latencies = []; arrivals = [] }
 
 late_reading_before_a_frame : page_trace late_reading_before_a_frame_script late_reading_before_a_frame_setup four_hosts ([]) ≡ codes "trace 1\n0 turn 1 dom\n0 call 1\n0 reg 2 frame\n0 ret\n25000 wait 20000\n25000 turn 2 render\n25000 frame 25000\n25000 call 2\n25000 log 25000\n25000 reg 3 frame\n25000 ret\n40000 wait 40000\n40000 turn 3 render\n40000 frame 40000\n40000 call 3\n40000 log 40000\n40000 ret\n40000 end done\n"
 unfolding page_trace run run_by
@@ -191,7 +191,7 @@ idle_callback_requested_inside_an_idle_callback_script =
 
 abbrev idle_callback_requested_inside_an_idle_callback_setup : Setup
 idle_callback_requested_inside_an_idle_callback_setup =
-    record { policy = (Rank default_list); fuel = 1000000; until = 10000000; refresh = 60; late = []; latencies = []; arrivals = [] }
+    record { form = 1; trace = 1; policy = (Rank default_list); fuel = 1000000; until = 10000000; refresh = 60; late = []; latencies = []; arrivals = [] }
 
 idle_callback_requested_inside_an_idle_callback : page_trace idle_callback_requested_inside_an_idle_callback_script idle_callback_requested_inside_an_idle_callback_setup four_hosts ([]) ≡ codes "trace 1\n0 turn 1 dom\n0 call 1\n0 reg 2 idle\n0 ret\n0 period 50000\n0 turn 2 idle\n0 idle 50000\n0 call 2\n0 log \"i\"\n0 reg 3 idle\n0 ret\n50000 wait 50000\n50000 turn 3 none\n50000 period 100000\n50000 turn 4 idle\n50000 idle 100000\n50000 call 3\n50000 log 50000\n50000 ret\n50000 end done\n"
 unfolding page_trace run run_by
@@ -213,7 +213,7 @@ idle_deadline_lowered_inside_its_callback_script =
 
 abbrev idle_deadline_lowered_inside_its_callback_setup : Setup
 idle_deadline_lowered_inside_its_callback_setup =
-    record { policy = (Rank default_list); fuel = 1000000; until = 10000000; refresh = 50; late = []; latencies = []; arrivals = [] }
+    record { form = 1; trace = 1; policy = (Rank default_list); fuel = 1000000; until = 10000000; refresh = 50; late = []; latencies = []; arrivals = [] }
 
 idle_deadline_lowered_inside_its_callback : page_trace idle_deadline_lowered_inside_its_callback_script idle_deadline_lowered_inside_its_callback_setup four_hosts ([]) ≡ codes "trace 1\n0 turn 1 dom\n0 call 1\n0 reg 2 idle\n0 ret\n0 period 50000\n0 turn 2 idle\n0 idle 50000\n0 call 2\n0 log 50000\n0 reg 3 frame\n0 log 20000\n0 reg 4 timeout\n0 arm 4 3000 1\n0 log 3000\n0 ret\n3000 wait 3000\n3000 due 4\n3000 turn 3 timer\n3000 call 4\n3000 log \"z\"\n3000 ret\n20000 wait 20000\n20000 turn 4 render\n20000 frame 20000\n20000 call 3\n20000 log 20000\n20000 ret\n20000 end done\n"
 unfolding page_trace run run_by
@@ -237,7 +237,7 @@ idle_timeout_cancelled_while_pending_script =
 
 abbrev idle_timeout_cancelled_while_pending_setup : Setup
 idle_timeout_cancelled_while_pending_setup =
-    record { policy = (Rank default_list); fuel = 1000000; until = 10000000; refresh = 60; late = []; latencies = []; arrivals = [] }
+    record { form = 1; trace = 1; policy = (Rank default_list); fuel = 1000000; until = 10000000; refresh = 60; late = []; latencies = []; arrivals = [] }
 
 idle_timeout_cancelled_while_pending : page_trace idle_timeout_cancelled_while_pending_script idle_timeout_cancelled_while_pending_setup four_hosts ([]) ≡ codes "trace 1\n0 turn 1 dom\n0 call 1\n0 reg 2 idle\n0 arm 2 5000 0\n0 reg 3 idle\n0 arm 3 6000 0\n0 reg 4 timeout\n0 arm 4 0 1\n0 ret\n0 due 4\n0 turn 2 timer\n0 call 4\n0 drop 2\n6000 ret\n6000 period 56000\n6000 due 2\n6000 due 3\n6000 turn 3 idle\n6000 idle 56000\n6000 call 3\n6000 log false\n6000 log 50000\n6000 ret\n6000 turn 4 idle\n6000 turn 5 idle\n6000 end done\n"
 unfolding page_trace run run_by
@@ -262,7 +262,7 @@ idle_timeout_comes_first_and_yields_script =
 
 abbrev idle_timeout_comes_first_and_yields_setup : Setup
 idle_timeout_comes_first_and_yields_setup =
-    record { policy = (Rank default_list); fuel = 1000000; until = 10000000; refresh = 60; late = []; latencies = []; arrivals = [] }
+    record { form = 1; trace = 1; policy = (Rank default_list); fuel = 1000000; until = 10000000; refresh = 60; late = []; latencies = []; arrivals = [] }
 
 idle_timeout_comes_first_and_yields : page_trace idle_timeout_comes_first_and_yields_script idle_timeout_comes_first_and_yields_setup four_hosts ([]) ≡ codes "trace 1\n0 turn 1 dom\n0 call 1\n0 reg 2 idle\n0 arm 2 1000 0\n0 reg 3 timeout\n0 arm 3 0 1\n0 ret\n0 due 3\n0 turn 2 timer\n0 call 3\n0 reg 4 timeout\n0 arm 4 0 2\n2000 ret\n2000 due 4\n2000 due 2\n2000 turn 3 timer\n2000 call 4\n2000 log \"g\"\n2000 ret\n2000 turn 4 idle\n2000 call 2\n2000 log true\n2000 log deadline@2000\n2000 reg 5 yield\n2000 enq 5 background cont 5\n2000 reg 6 then\n2000 reg 7 post\n2000 enq 7 user-visible task 6\n2000 ret\n2000 turn 5 sched\n2000 call 7\n2000 log \"u\"\n2000 ret\n2000 settle 3 ok unit\n2000 turn 6 sched\n2000 call 5\n2000 settle 1 ok unit\n2000 job 1 react 1\n2000 ret\n2000 run 1\n2000 call 6\n2000 log \"y\"\n2000 ret\n2000 settle 2 ok unit\n2000 end done\n"
 unfolding page_trace run run_by
@@ -287,7 +287,7 @@ dependents_of_a_timeout_signal_script =
 
 abbrev dependents_of_a_timeout_signal_setup : Setup
 dependents_of_a_timeout_signal_setup =
-    record { policy = (Rank default_list); fuel = 1000000; until = 10000000; refresh = 60; late = []; latencies = []; arrivals = [] }
+    record { form = 1; trace = 1; policy = (Rank default_list); fuel = 1000000; until = 10000000; refresh = 60; late = []; latencies = []; arrivals = [] }
 
 dependents_of_a_timeout_signal : page_trace dependents_of_a_timeout_signal_script dependents_of_a_timeout_signal_setup four_hosts ([]) ≡ codes "trace 1\n0 turn 1 dom\n0 call 1\n0 reg 2 signal\n0 arm 2 1000 0\n0 reg 3 listener\n0 reg 4 listener\n0 ret\n1000 wait 1000\n1000 due 2\n1000 turn 2 timer\n1000 abort 1\n1000 abort 2\n1000 abort 3\n1000 call 4\n1000 reg 5 micro\n1000 job 1 micro 5\n1000 log signal#1\n1000 ret\n1000 run 1\n1000 call 5\n1000 log \"m\"\n1000 ret\n1000 call 3\n1000 reg 6 micro\n1000 job 2 micro 6\n1000 log signal#3\n1000 ret\n1000 run 2\n1000 call 6\n1000 log \"m\"\n1000 ret\n1000 end done\n"
 unfolding page_trace run run_by
@@ -312,7 +312,7 @@ abort_of_a_second_source_inside_the_abort_of_the_first_script =
 
 abbrev abort_of_a_second_source_inside_the_abort_of_the_first_setup : Setup
 abort_of_a_second_source_inside_the_abort_of_the_first_setup =
-    record { policy = (Rank default_list); fuel = 1000000; until = 10000000; refresh = 60; late = []; latencies = []; arrivals = [] }
+    record { form = 1; trace = 1; policy = (Rank default_list); fuel = 1000000; until = 10000000; refresh = 60; late = []; latencies = []; arrivals = [] }
 
 abort_of_a_second_source_inside_the_abort_of_the_first : page_trace abort_of_a_second_source_inside_the_abort_of_the_first_script abort_of_a_second_source_inside_the_abort_of_the_first_setup four_hosts ([]) ≡ codes "trace 1\n0 turn 1 dom\n0 call 1\n0 reg 2 listener\n0 reg 3 listener\n0 abort 1\n0 abort 3\n0 call 2\n0 log signal#3\n0 abort 2\n0 call 3\n0 log signal#2\n0 log \"second\"\n0 ret\n0 log \"second\"\n0 ret\n0 log \"first\"\n0 ret\n0 end done\n"
 unfolding page_trace run run_by
@@ -335,7 +335,7 @@ listener_added_and_removed_during_its_dispatch_script =
 
 abbrev listener_added_and_removed_during_its_dispatch_setup : Setup
 listener_added_and_removed_during_its_dispatch_setup =
-    record { policy = (Rank default_list); fuel = 1000000; until = 10000000; refresh = 60; late = []; latencies = []; arrivals = record { at = 5; source = User; name = codes "e"; value = (IntValue (pos 1)) } ∷ record { at = 5; source = User; name = codes "e"; value = (IntValue (pos 2)) } ∷ [] }
+    record { form = 1; trace = 1; policy = (Rank default_list); fuel = 1000000; until = 10000000; refresh = 60; late = []; latencies = []; arrivals = record { at = 5; source = User; name = codes "e"; value = (IntValue (pos 1)) } ∷ record { at = 5; source = User; name = codes "e"; value = (IntValue (pos 2)) } ∷ [] }
 
 listener_added_and_removed_during_its_dispatch : page_trace listener_added_and_removed_during_its_dispatch_script listener_added_and_removed_during_its_dispatch_setup four_hosts ([]) ≡ codes "trace 1\n0 turn 1 dom\n0 call 1\n0 reg 2 listener\n0 reg 3 listener\n0 ret\n5 wait 5\n5 turn 2 user\n5 call 2\n5 log \"a\"\n5 drop 3\n5 reg 4 listener\n5 ret\n5 turn 3 user\n5 call 2\n5 log \"a\"\n5 reg 5 listener\n5 ret\n5 call 4\n5 log \"c\"\n5 ret\n5 end done\n"
 unfolding page_trace run run_by
@@ -361,7 +361,7 @@ listener_throws_inside_a_script_abort_script =
 
 abbrev listener_throws_inside_a_script_abort_setup : Setup
 listener_throws_inside_a_script_abort_setup =
-    record { policy = (Rank default_list); fuel = 1000000; until = 10000000; refresh = 60; late = []; latencies = []; arrivals = [] }
+    record { form = 1; trace = 1; policy = (Rank default_list); fuel = 1000000; until = 10000000; refresh = 60; late = []; latencies = []; arrivals = [] }
 
 listener_throws_inside_a_script_abort : page_trace listener_throws_inside_a_script_abort_script listener_throws_inside_a_script_abort_setup four_hosts ([]) ≡ codes "trace 1\n0 turn 1 dom\n0 call 1\n0 reg 2 listener\n0 reg 3 listener\n0 abort 1\n0 call 2\n0 reg 4 micro\n0 job 1 micro 4\n0 throw 1\n0 report 1\n0 call 3\n0 log \"b\"\n0 ret\n0 log AbortError(\"\")\n0 ret\n0 run 1\n0 call 4\n0 log \"m\"\n0 ret\n0 end done\n"
 unfolding page_trace run run_by
@@ -383,7 +383,7 @@ listener_past_the_greatest_depth_script =
 
 abbrev listener_past_the_greatest_depth_setup : Setup
 listener_past_the_greatest_depth_setup =
-    record { policy = (Rank default_list); fuel = 1000000; until = 10000000; refresh = 60; late = []; latencies = []; arrivals = [] }
+    record { form = 1; trace = 1; policy = (Rank default_list); fuel = 1000000; until = 10000000; refresh = 60; late = []; latencies = []; arrivals = [] }
 
 listener_past_the_greatest_depth : page_trace listener_past_the_greatest_depth_script listener_past_the_greatest_depth_setup four_hosts ([]) ≡ codes "trace 1\n0 turn 1 dom\n0 call 1\n0 reg 2 listener\n0 abort 1\n0 call 2\n0 throw RangeError(\"\")\n0 report RangeError(\"\")\n0 ret\n0 end done\n"
 unfolding page_trace run run_by
@@ -405,7 +405,7 @@ frame_cancelled_while_its_render_task_waits_script =
 
 abbrev frame_cancelled_while_its_render_task_waits_setup : Setup
 frame_cancelled_while_its_render_task_waits_setup =
-    record { policy = (Rank default_list); fuel = 1000000; until = 10000000; refresh = 50; late = []; latencies = []; arrivals = record { at = 20000; source = User; name = codes "e"; value = (TextValue (codes "x")) } ∷ [] }
+    record { form = 1; trace = 1; policy = (Rank default_list); fuel = 1000000; until = 10000000; refresh = 50; late = []; latencies = []; arrivals = record { at = 20000; source = User; name = codes "e"; value = (TextValue (codes "x")) } ∷ [] }
 
 frame_cancelled_while_its_render_task_waits : page_trace frame_cancelled_while_its_render_task_waits_script frame_cancelled_while_its_render_task_waits_setup four_hosts ([]) ≡ codes "trace 1\n0 turn 1 dom\n0 call 1\n0 reg 2 frame\n0 reg 3 listener\n0 ret\n20000 wait 20000\n20000 turn 2 user\n20000 call 3\n20000 drop 2\n20000 reg 4 frame\n20000 drop 4\n20000 log \"x\"\n20000 ret\n20000 turn 3 render\n20000 frame 20000\n20000 end done\n"
 unfolding page_trace run run_by
@@ -429,7 +429,7 @@ no_opportunity_while_a_render_task_waits_script =
 
 abbrev no_opportunity_while_a_render_task_waits_setup : Setup
 no_opportunity_while_a_render_task_waits_setup =
-    record { policy = (Rank (Timer ∷ Sched ∷ User ∷ Net ∷ Dom ∷ Idle ∷ Render ∷ [])); fuel = 1000000; until = 10000000; refresh = 50; late = []; latencies = []; arrivals = [] }
+    record { form = 1; trace = 1; policy = (Rank (Timer ∷ Sched ∷ User ∷ Net ∷ Dom ∷ Idle ∷ Render ∷ [])); fuel = 1000000; until = 10000000; refresh = 50; late = []; latencies = []; arrivals = [] }
 
 no_opportunity_while_a_render_task_waits : page_trace no_opportunity_while_a_render_task_waits_script no_opportunity_while_a_render_task_waits_setup four_hosts ([]) ≡ codes "trace 1\n0 turn 1 dom\n0 call 1\n0 reg 2 frame\n0 reg 3 timeout\n0 arm 3 20000 1\n0 reg 4 timeout\n0 arm 4 20000 1\n0 ret\n20000 wait 20000\n20000 due 3\n20000 due 4\n20000 turn 2 timer\n20000 call 3\n50000 reg 5 frame\n50000 ret\n50000 turn 3 timer\n50000 call 4\n80000 reg 6 frame\n80000 ret\n80000 turn 4 render\n80000 frame 20000\n80000 call 2\n80000 log 20000\n80000 log 80000\n80000 ret\n80000 call 5\n80000 log 20000\n80000 ret\n80000 call 6\n80000 log 20000\n80000 ret\n80000 end done\n"
 unfolding page_trace run run_by
@@ -451,7 +451,7 @@ idle_deadline_lowered_to_a_cleared_timer_script =
 
 abbrev idle_deadline_lowered_to_a_cleared_timer_setup : Setup
 idle_deadline_lowered_to_a_cleared_timer_setup =
-    record { policy = (Rank default_list); fuel = 1000000; until = 10000000; refresh = 60; late = []; latencies = []; arrivals = [] }
+    record { form = 1; trace = 1; policy = (Rank default_list); fuel = 1000000; until = 10000000; refresh = 60; late = []; latencies = []; arrivals = [] }
 
 idle_deadline_lowered_to_a_cleared_timer : page_trace idle_deadline_lowered_to_a_cleared_timer_script idle_deadline_lowered_to_a_cleared_timer_setup four_hosts ([]) ≡ codes "trace 1\n0 turn 1 dom\n0 call 1\n0 reg 2 timeout\n0 arm 2 7000 1\n0 drop 2\n0 reg 3 post\n0 arm 3 30000 0\n0 reg 4 idle\n0 ret\n0 period 7000\n0 turn 2 idle\n0 idle 7000\n0 call 4\n0 log 7000\n0 ret\n7000 wait 7000\n7000 due 2\n7000 turn 3 timer\n30000 wait 30000\n30000 due 3\n30000 enq 3 user-visible task 4\n30000 turn 4 sched\n30000 call 3\n30000 log \"z\"\n30000 ret\n30000 settle 1 ok unit\n30000 end done\n"
 unfolding page_trace run run_by
@@ -474,7 +474,7 @@ task_between_two_idle_callbacks_script =
 
 abbrev task_between_two_idle_callbacks_setup : Setup
 task_between_two_idle_callbacks_setup =
-    record { policy = (Rank default_list); fuel = 1000000; until = 10000000; refresh = 60; late = []; latencies = []; arrivals = [] }
+    record { form = 1; trace = 1; policy = (Rank default_list); fuel = 1000000; until = 10000000; refresh = 60; late = []; latencies = []; arrivals = [] }
 
 task_between_two_idle_callbacks : page_trace task_between_two_idle_callbacks_script task_between_two_idle_callbacks_setup four_hosts ([]) ≡ codes "trace 1\n0 turn 1 dom\n0 call 1\n0 reg 2 idle\n0 reg 3 idle\n0 ret\n0 period 50000\n0 turn 2 idle\n0 idle 50000\n0 call 2\n0 reg 4 post\n0 enq 4 background task 3\n0 log \"i\"\n0 ret\n0 turn 3 sched\n0 call 4\n0 log \"p\"\n0 ret\n0 settle 1 ok unit\n0 turn 4 idle\n0 idle 50000\n0 call 3\n0 log \"j\"\n0 ret\n0 end done\n"
 unfolding page_trace run run_by
@@ -498,7 +498,7 @@ deadline_kept_after_its_callback_script =
 
 abbrev deadline_kept_after_its_callback_setup : Setup
 deadline_kept_after_its_callback_setup =
-    record { policy = (Rank default_list); fuel = 1000000; until = 10000000; refresh = 60; late = []; latencies = []; arrivals = [] }
+    record { form = 1; trace = 1; policy = (Rank default_list); fuel = 1000000; until = 10000000; refresh = 60; late = []; latencies = []; arrivals = [] }
 
 deadline_kept_after_its_callback : page_trace deadline_kept_after_its_callback_script deadline_kept_after_its_callback_setup four_hosts ([]) ≡ codes "trace 1\n0 turn 1 dom\n0 call 1\n0 reg 2 idle\n0 reg 3 timeout\n0 arm 3 10000 1\n0 reg 4 timeout\n0 arm 4 20000 1\n0 ret\n0 period 10000\n0 turn 2 idle\n0 idle 10000\n0 call 2\n0 ret\n10000 wait 10000\n10000 due 3\n10000 turn 3 timer\n10000 call 3\n10000 log 10000\n10000 ret\n20000 wait 20000\n20000 due 4\n20000 turn 4 timer\n20000 call 4\n20000 log 40000\n20000 ret\n20000 end done\n"
 unfolding page_trace run run_by
@@ -519,7 +519,7 @@ runnable_idle_callback_cancelled_script =
 
 abbrev runnable_idle_callback_cancelled_setup : Setup
 runnable_idle_callback_cancelled_setup =
-    record { policy = (Rank default_list); fuel = 1000000; until = 10000000; refresh = 60; late = []; latencies = []; arrivals = [] }
+    record { form = 1; trace = 1; policy = (Rank default_list); fuel = 1000000; until = 10000000; refresh = 60; late = []; latencies = []; arrivals = [] }
 
 runnable_idle_callback_cancelled : page_trace runnable_idle_callback_cancelled_script runnable_idle_callback_cancelled_setup four_hosts ([]) ≡ codes "trace 1\n0 turn 1 dom\n0 call 1\n0 reg 2 idle\n0 reg 3 idle\n0 ret\n0 period 50000\n0 turn 2 idle\n0 idle 50000\n0 call 2\n0 drop 3\n0 log \"i\"\n0 ret\n0 end done\n"
 unfolding page_trace run run_by
@@ -541,7 +541,7 @@ idle_timeout_of_a_runnable_callback_script =
 
 abbrev idle_timeout_of_a_runnable_callback_setup : Setup
 idle_timeout_of_a_runnable_callback_setup =
-    record { policy = (Rank default_list); fuel = 1000000; until = 10000000; refresh = 60; late = []; latencies = []; arrivals = [] }
+    record { form = 1; trace = 1; policy = (Rank default_list); fuel = 1000000; until = 10000000; refresh = 60; late = []; latencies = []; arrivals = [] }
 
 idle_timeout_of_a_runnable_callback : page_trace idle_timeout_of_a_runnable_callback_script idle_timeout_of_a_runnable_callback_setup four_hosts ([]) ≡ codes "trace 1\n0 turn 1 dom\n0 call 1\n0 reg 2 idle\n0 reg 3 idle\n0 arm 3 10000 0\n0 ret\n0 period 50000\n0 turn 2 idle\n0 idle 50000\n0 call 2\n60000 ret\n60000 due 3\n60000 turn 3 idle\n60000 turn 4 idle\n60000 call 3\n60000 log true\n60000 log 0\n60000 ret\n60000 end done\n"
 unfolding page_trace run run_by
@@ -563,7 +563,7 @@ dependent_signal_made_inside_the_abort_script =
 
 abbrev dependent_signal_made_inside_the_abort_setup : Setup
 dependent_signal_made_inside_the_abort_setup =
-    record { policy = (Rank default_list); fuel = 1000000; until = 10000000; refresh = 60; late = []; latencies = []; arrivals = [] }
+    record { form = 1; trace = 1; policy = (Rank default_list); fuel = 1000000; until = 10000000; refresh = 60; late = []; latencies = []; arrivals = [] }
 
 dependent_signal_made_inside_the_abort : page_trace dependent_signal_made_inside_the_abort_script dependent_signal_made_inside_the_abort_setup four_hosts ([]) ≡ codes "trace 1\n0 turn 1 dom\n0 call 1\n0 reg 2 listener\n0 abort 1\n0 call 2\n0 reg 3 listener\n0 log \"r\"\n0 ret\n0 ret\n0 end done\n"
 unfolding page_trace run run_by
@@ -585,7 +585,7 @@ microtask_cancels_the_next_frame_callback_script =
 
 abbrev microtask_cancels_the_next_frame_callback_setup : Setup
 microtask_cancels_the_next_frame_callback_setup =
-    record { policy = (Rank default_list); fuel = 1000000; until = 10000000; refresh = 50; late = []; latencies = []; arrivals = [] }
+    record { form = 1; trace = 1; policy = (Rank default_list); fuel = 1000000; until = 10000000; refresh = 50; late = []; latencies = []; arrivals = [] }
 
 microtask_cancels_the_next_frame_callback : page_trace microtask_cancels_the_next_frame_callback_script microtask_cancels_the_next_frame_callback_setup four_hosts ([]) ≡ codes "trace 1\n0 turn 1 dom\n0 call 1\n0 reg 2 frame\n0 reg 3 frame\n0 ret\n20000 wait 20000\n20000 turn 2 render\n20000 frame 20000\n20000 call 2\n20000 reg 4 micro\n20000 job 1 micro 4\n20000 log \"a\"\n20000 ret\n20000 run 1\n20000 call 4\n20000 drop 3\n20000 ret\n20000 end done\n"
 unfolding page_trace run run_by
@@ -608,7 +608,7 @@ idle_period_kept_back_by_a_late_frame_script =
 
 abbrev idle_period_kept_back_by_a_late_frame_setup : Setup
 idle_period_kept_back_by_a_late_frame_setup =
-    record { policy = (Rank default_list); fuel = 1000000; until = 10000000; refresh = 50; late = []; latencies = []; arrivals = [] }
+    record { form = 1; trace = 1; policy = (Rank default_list); fuel = 1000000; until = 10000000; refresh = 50; late = []; latencies = []; arrivals = [] }
 
 idle_period_kept_back_by_a_late_frame : page_trace idle_period_kept_back_by_a_late_frame_script idle_period_kept_back_by_a_late_frame_setup four_hosts ([]) ≡ codes "trace 1\n0 turn 1 dom\n0 call 1\n50000 reg 2 frame\n50000 reg 3 idle\n50000 ret\n60000 wait 60000\n60000 turn 2 render\n60000 frame 60000\n60000 call 2\n60000 log 60000\n60000 ret\n60000 period 110000\n60000 turn 3 idle\n60000 idle 110000\n60000 call 3\n60000 log 50000\n60000 ret\n60000 end done\n"
 unfolding page_trace run run_by

@@ -22,7 +22,7 @@ recursion_of_256_calls_script =
 
 abbrev recursion_of_256_calls_setup : Setup
 recursion_of_256_calls_setup =
-    record { policy = (Rank default_list); fuel = 1000000; until = 10000000; refresh = 60; late = []; latencies = []; arrivals = [] }
+    record { form = 1; trace = 1; policy = (Rank default_list); fuel = 1000000; until = 10000000; refresh = 60; late = []; latencies = []; arrivals = [] }
 
 recursion_of_256_calls : logs_of (page_trace recursion_of_256_calls_script recursion_of_256_calls_setup four_hosts ([])) ≡ codes "0 254\n"
 unfolding page_trace run run_by
@@ -41,7 +41,7 @@ one_open_call_too_many_script =
 
 abbrev one_open_call_too_many_setup : Setup
 one_open_call_too_many_setup =
-    record { policy = (Rank default_list); fuel = 1000000; until = 10000000; refresh = 60; late = []; latencies = []; arrivals = [] }
+    record { form = 1; trace = 1; policy = (Rank default_list); fuel = 1000000; until = 10000000; refresh = 60; late = []; latencies = []; arrivals = [] }
 
 one_open_call_too_many : page_trace one_open_call_too_many_script one_open_call_too_many_setup four_hosts ([]) ≡ codes "trace 1\n0 turn 1 dom\n0 call 1\n0 throw RangeError(\"\")\n0 report RangeError(\"\")\n0 end done\n"
 unfolding page_trace run run_by
@@ -59,7 +59,7 @@ text_is_escaped_in_a_list_script =
 
 abbrev text_is_escaped_in_a_list_setup : Setup
 text_is_escaped_in_a_list_setup =
-    record { policy = (Rank default_list); fuel = 1000000; until = 10000000; refresh = 60; late = []; latencies = []; arrivals = [] }
+    record { form = 1; trace = 1; policy = (Rank default_list); fuel = 1000000; until = 10000000; refresh = 60; late = []; latencies = []; arrivals = [] }
 
 text_is_escaped_in_a_list : page_trace text_is_escaped_in_a_list_script text_is_escaped_in_a_list_setup four_hosts ([]) ≡ codes "trace 1\n0 turn 1 dom\n0 call 1\n0 log [1,\"a\\n\"]\n0 ret\n0 end done\n"
 unfolding page_trace run run_by
@@ -78,7 +78,7 @@ deep_brackets_in_deep_calls_script =
 
 abbrev deep_brackets_in_deep_calls_setup : Setup
 deep_brackets_in_deep_calls_setup =
-    record { policy = (Rank default_list); fuel = 1000000; until = 10000000; refresh = 60; late = []; latencies = []; arrivals = [] }
+    record { form = 1; trace = 1; policy = (Rank default_list); fuel = 1000000; until = 10000000; refresh = 60; late = []; latencies = []; arrivals = [] }
 
 deep_brackets_in_deep_calls : logs_of (page_trace deep_brackets_in_deep_calls_script deep_brackets_in_deep_calls_setup four_hosts ([])) ≡ codes "0 250\n"
 unfolding page_trace run run_by
@@ -96,7 +96,7 @@ sixty_four_open_brackets_script =
 
 abbrev sixty_four_open_brackets_setup : Setup
 sixty_four_open_brackets_setup =
-    record { policy = (Rank default_list); fuel = 1000000; until = 10000000; refresh = 60; late = []; latencies = []; arrivals = [] }
+    record { form = 1; trace = 1; policy = (Rank default_list); fuel = 1000000; until = 10000000; refresh = 60; late = []; latencies = []; arrivals = [] }
 
 sixty_four_open_brackets : logs_of (page_trace sixty_four_open_brackets_script sixty_four_open_brackets_setup four_hosts ([])) ≡ codes "0 1\n"
 unfolding page_trace run run_by
@@ -119,7 +119,7 @@ callee_is_read_before_its_arguments_script =
 
 abbrev callee_is_read_before_its_arguments_setup : Setup
 callee_is_read_before_its_arguments_setup =
-    record { policy = (Rank default_list); fuel = 1000000; until = 10000000; refresh = 60; late = []; latencies = []; arrivals = [] }
+    record { form = 1; trace = 1; policy = (Rank default_list); fuel = 1000000; until = 10000000; refresh = 60; late = []; latencies = []; arrivals = [] }
 
 callee_is_read_before_its_arguments : page_trace callee_is_read_before_its_arguments_script callee_is_read_before_its_arguments_setup four_hosts ([]) ≡ codes "trace 1\n0 turn 1 dom\n0 call 1\n0 log \"a\"\n0 log \"b\"\n0 ret\n0 end done\n"
 unfolding page_trace run run_by
@@ -138,7 +138,7 @@ return_ends_the_script_script =
 
 abbrev return_ends_the_script_setup : Setup
 return_ends_the_script_setup =
-    record { policy = (Rank default_list); fuel = 1000000; until = 10000000; refresh = 60; late = []; latencies = []; arrivals = [] }
+    record { form = 1; trace = 1; policy = (Rank default_list); fuel = 1000000; until = 10000000; refresh = 60; late = []; latencies = []; arrivals = [] }
 
 return_ends_the_script : page_trace return_ends_the_script_script return_ends_the_script_setup four_hosts ([]) ≡ codes "trace 1\n0 turn 1 dom\n0 call 1\n0 log 1\n0 ret\n0 end done\n"
 unfolding page_trace run run_by

@@ -25,7 +25,7 @@ written_rank_serves_the_timer_first_script =
 
 abbrev written_rank_serves_the_timer_first_setup : Setup
 written_rank_serves_the_timer_first_setup =
-    record { policy = (Rank (Timer ∷ Sched ∷ User ∷ Render ∷ Net ∷ Dom ∷ Idle ∷ [])); fuel = 1000000; until = 10000000; refresh = 60; late = []; latencies = []; arrivals = [] }
+    record { form = 1; trace = 1; policy = (Rank (Timer ∷ Sched ∷ User ∷ Render ∷ Net ∷ Dom ∷ Idle ∷ [])); fuel = 1000000; until = 10000000; refresh = 60; late = []; latencies = []; arrivals = [] }
 
 abbrev plain_setup : Setup
 plain_setup = record written_rank_serves_the_timer_first_setup { policy = Rank default_list }
@@ -41,7 +41,7 @@ ended_under_another_policy : has_ended run_again ≡ true
 unfolding run run_by
 ended_under_another_policy = refl
 
-same_text_under_another_policy : same_bytes (text_of its_events) (text_of (events_of_run run_again)) ≡ true
+same_text_under_another_policy : same_bytes (text_of 1 its_events) (text_of 1 (events_of_run run_again)) ≡ true
 unfolding run run_by
 same_text_under_another_policy = refl
 
@@ -54,6 +54,6 @@ unfolding run run_by
 stuck_at_a_pick = refl
 
 lines_before_it :
-    text_of (events_of_run run_with_a_bad_pick) ≡ codes "trace 1\n0 turn 1 dom\n0 call 1\n0 reg 2 timeout\n0 arm 2 0 1\n0 reg 3 post\n0 enq 3 user-visible task 2\n0 ret\n0 due 2\n"
+    text_of 1 (events_of_run run_with_a_bad_pick) ≡ codes "trace 1\n0 turn 1 dom\n0 call 1\n0 reg 2 timeout\n0 arm 2 0 1\n0 reg 3 post\n0 enq 3 user-visible task 2\n0 ret\n0 due 2\n"
 unfolding run run_by
 lines_before_it = refl

@@ -32,7 +32,7 @@ listener_changes_another_priority_script =
 
 abbrev listener_changes_another_priority_setup : Setup
 listener_changes_another_priority_setup =
-    record { policy = (Rank default_list); fuel = 1000000; until = 10000000; refresh = 60; late = []; latencies = []; arrivals = [] }
+    record { form = 1; trace = 1; policy = (Rank default_list); fuel = 1000000; until = 10000000; refresh = 60; late = []; latencies = []; arrivals = [] }
 
 listener_changes_another_priority : page_trace listener_changes_another_priority_script listener_changes_another_priority_setup four_hosts ([]) ≡ codes "trace 1\n0 turn 1 dom\n0 call 1\n0 prio 1 background\n0 prio 2 user-blocking\n0 reg 2 listener\n0 reg 3 listener\n0 reg 4 post\n0 enq 4 s2 task 2\n0 reg 5 post\n0 enq 5 s1 task 3\n0 prio 1 user-visible\n0 call 2\n0 log \"background\"\n0 prio 2 background\n0 call 3\n0 log \"user-blocking\"\n0 ret\n0 log \"l\"\n0 ret\n0 ret\n0 turn 2 sched\n0 call 5\n0 log \"a\"\n0 ret\n0 settle 2 ok unit\n0 turn 3 sched\n0 call 4\n0 log \"b\"\n0 ret\n0 settle 1 ok unit\n0 end done\n"
 unfolding page_trace run run_by
@@ -59,7 +59,7 @@ listener_of_a_priority_change_posts_a_task_script =
 
 abbrev listener_of_a_priority_change_posts_a_task_setup : Setup
 listener_of_a_priority_change_posts_a_task_setup =
-    record { policy = (Rank default_list); fuel = 1000000; until = 10000000; refresh = 60; late = []; latencies = []; arrivals = [] }
+    record { form = 1; trace = 1; policy = (Rank default_list); fuel = 1000000; until = 10000000; refresh = 60; late = []; latencies = []; arrivals = [] }
 
 listener_of_a_priority_change_posts_a_task : page_trace listener_of_a_priority_change_posts_a_task_script listener_of_a_priority_change_posts_a_task_setup four_hosts ([]) ≡ codes "trace 1\n0 turn 1 dom\n0 call 1\n0 prio 1 background\n0 reg 2 listener\n0 reg 3 post\n0 enq 3 s1 task 2\n0 prio 1 user-blocking\n0 call 2\n0 reg 4 post\n0 enq 4 s1 task 3\n0 reg 5 post\n0 enq 5 user-visible task 4\n0 ret\n0 ret\n0 turn 2 sched\n0 call 3\n0 log \"e\"\n0 ret\n0 settle 1 ok unit\n0 turn 3 sched\n0 call 4\n0 log \"b\"\n0 ret\n0 settle 2 ok unit\n0 turn 4 sched\n0 call 5\n0 log \"a\"\n0 ret\n0 settle 3 ok unit\n0 end done\n"
 unfolding page_trace run run_by
@@ -84,7 +84,7 @@ change_of_the_followed_signal_by_a_follower_script =
 
 abbrev change_of_the_followed_signal_by_a_follower_setup : Setup
 change_of_the_followed_signal_by_a_follower_setup =
-    record { policy = (Rank default_list); fuel = 1000000; until = 10000000; refresh = 60; late = []; latencies = []; arrivals = [] }
+    record { form = 1; trace = 1; policy = (Rank default_list); fuel = 1000000; until = 10000000; refresh = 60; late = []; latencies = []; arrivals = [] }
 
 change_of_the_followed_signal_by_a_follower : page_trace change_of_the_followed_signal_by_a_follower_script change_of_the_followed_signal_by_a_follower_setup four_hosts ([]) ≡ codes "trace 1\n0 turn 1 dom\n0 call 1\n0 prio 1 background\n0 prio 2 background\n0 reg 2 listener\n0 prio 1 user-blocking\n0 prio 2 user-blocking\n0 call 2\n0 log \"background\"\n0 log NotAllowedError(\"\")\n0 ret\n0 log \"user-blocking\"\n0 prio 1 background\n0 prio 2 background\n0 call 2\n0 log \"user-blocking\"\n0 log NotAllowedError(\"\")\n0 ret\n0 ret\n0 end done\n"
 unfolding page_trace run run_by
@@ -111,7 +111,7 @@ dependent_signal_of_fixed_priority_script =
 
 abbrev dependent_signal_of_fixed_priority_setup : Setup
 dependent_signal_of_fixed_priority_setup =
-    record { policy = (Rank default_list); fuel = 1000000; until = 10000000; refresh = 60; late = []; latencies = []; arrivals = [] }
+    record { form = 1; trace = 1; policy = (Rank default_list); fuel = 1000000; until = 10000000; refresh = 60; late = []; latencies = []; arrivals = [] }
 
 dependent_signal_of_fixed_priority : page_trace dependent_signal_of_fixed_priority_script dependent_signal_of_fixed_priority_setup four_hosts ([]) ≡ codes "trace 1\n0 turn 1 dom\n0 call 1\n0 prio 1 background\n0 prio 2 user-blocking\n0 reg 2 post\n0 enq 2 s2 task 2\n0 reg 3 then\n0 reg 4 post\n0 enq 4 user-visible task 3\n0 prio 1 user-visible\n0 log \"user-blocking\"\n0 abort 1\n0 abort 2\n0 settle 1 err \"off\"\n0 job 1 react 1\n0 drop 2\n0 ret\n0 run 1\n0 call 3\n0 log \"off\"\n0 ret\n0 settle 2 ok unit\n0 turn 2 sched\n0 call 4\n0 log \"b\"\n0 ret\n0 settle 3 ok unit\n0 end done\n"
 unfolding page_trace run run_by
@@ -136,7 +136,7 @@ continuation_whose_signal_is_aborted_script =
 
 abbrev continuation_whose_signal_is_aborted_setup : Setup
 continuation_whose_signal_is_aborted_setup =
-    record { policy = (Rank default_list); fuel = 1000000; until = 10000000; refresh = 60; late = []; latencies = []; arrivals = [] }
+    record { form = 1; trace = 1; policy = (Rank default_list); fuel = 1000000; until = 10000000; refresh = 60; late = []; latencies = []; arrivals = [] }
 
 continuation_whose_signal_is_aborted : page_trace continuation_whose_signal_is_aborted_script continuation_whose_signal_is_aborted_setup four_hosts ([]) ≡ codes "trace 1\n0 turn 1 dom\n0 call 1\n0 reg 2 post\n0 enq 2 background task 2\n0 ret\n0 turn 2 sched\n0 call 2\n0 reg 3 yield\n0 enq 3 background cont 3\n0 reg 4 then\n0 reg 5 post\n0 enq 5 user-blocking task 4\n0 ret\n0 settle 1 ok unit\n0 turn 3 sched\n0 call 5\n0 abort 1\n0 settle 2 err \"stop\"\n0 job 1 react 2\n0 drop 3\n0 ret\n0 run 1\n0 call 4\n0 log \"stop\"\n0 settle 5 err \"stop\"\n0 reg 6 then\n0 job 2 react 5\n0 ret\n0 settle 3 ok unit\n0 run 2\n0 call 6\n0 log \"again\"\n0 ret\n0 settle 6 ok unit\n0 settle 4 ok unit\n0 end done\n"
 unfolding page_trace run run_by
@@ -161,7 +161,7 @@ continuation_on_a_follower_of_a_follower_script =
 
 abbrev continuation_on_a_follower_of_a_follower_setup : Setup
 continuation_on_a_follower_of_a_follower_setup =
-    record { policy = (Rank default_list); fuel = 1000000; until = 10000000; refresh = 60; late = []; latencies = []; arrivals = [] }
+    record { form = 1; trace = 1; policy = (Rank default_list); fuel = 1000000; until = 10000000; refresh = 60; late = []; latencies = []; arrivals = [] }
 
 continuation_on_a_follower_of_a_follower : page_trace continuation_on_a_follower_of_a_follower_script continuation_on_a_follower_of_a_follower_setup four_hosts ([]) ≡ codes "trace 1\n0 turn 1 dom\n0 call 1\n0 prio 1 user-blocking\n0 prio 2 user-blocking\n0 prio 3 user-blocking\n0 reg 2 post\n0 enq 2 s3 task 2\n0 ret\n0 turn 2 sched\n0 call 2\n0 reg 3 yield\n0 enq 3 s3 cont 3\n0 reg 4 then\n0 reg 5 post\n0 enq 5 user-visible task 4\n0 prio 1 background\n0 prio 2 background\n0 prio 3 background\n0 log \"background\"\n0 ret\n0 settle 1 ok unit\n0 turn 3 sched\n0 call 5\n0 log \"b\"\n0 ret\n0 settle 4 ok unit\n0 turn 4 sched\n0 call 3\n0 settle 2 ok unit\n0 job 1 react 2\n0 ret\n0 run 1\n0 call 4\n0 log \"y\"\n0 ret\n0 settle 3 ok unit\n0 end done\n"
 unfolding page_trace run run_by
@@ -186,7 +186,7 @@ priority_change_during_a_delay_script =
 
 abbrev priority_change_during_a_delay_setup : Setup
 priority_change_during_a_delay_setup =
-    record { policy = (Rank default_list); fuel = 1000000; until = 10000000; refresh = 60; late = []; latencies = []; arrivals = [] }
+    record { form = 1; trace = 1; policy = (Rank default_list); fuel = 1000000; until = 10000000; refresh = 60; late = []; latencies = []; arrivals = [] }
 
 priority_change_during_a_delay : page_trace priority_change_during_a_delay_script priority_change_during_a_delay_setup four_hosts ([]) ≡ codes "trace 1\n0 turn 1 dom\n0 call 1\n0 prio 1 background\n0 reg 2 post\n0 arm 2 1000 0\n1000 reg 3 post\n1000 enq 3 user-visible task 2\n1000 prio 1 user-blocking\n1000 ret\n1000 due 2\n1000 enq 2 s1 task 3\n1000 turn 2 sched\n1000 call 2\n1000 log \"a\"\n1000 ret\n1000 settle 1 ok unit\n1000 turn 3 sched\n1000 call 3\n1000 log \"b\"\n1000 ret\n1000 settle 2 ok unit\n1000 end done\n"
 unfolding page_trace run run_by
@@ -209,7 +209,7 @@ abort_in_the_checkpoint_of_a_posted_callback_script =
 
 abbrev abort_in_the_checkpoint_of_a_posted_callback_setup : Setup
 abort_in_the_checkpoint_of_a_posted_callback_setup =
-    record { policy = (Rank default_list); fuel = 1000000; until = 10000000; refresh = 60; late = []; latencies = []; arrivals = [] }
+    record { form = 1; trace = 1; policy = (Rank default_list); fuel = 1000000; until = 10000000; refresh = 60; late = []; latencies = []; arrivals = [] }
 
 abort_in_the_checkpoint_of_a_posted_callback : page_trace abort_in_the_checkpoint_of_a_posted_callback_script abort_in_the_checkpoint_of_a_posted_callback_setup four_hosts ([]) ≡ codes "trace 1\n0 turn 1 dom\n0 call 1\n0 reg 2 post\n0 enq 2 user-visible task 2\n0 reg 3 then\n0 ret\n0 turn 2 sched\n0 call 2\n0 reg 4 micro\n0 job 1 micro 4\n0 ret\n0 run 1\n0 call 4\n0 abort 1\n0 settle 1 err \"late\"\n0 job 2 react 1\n0 ret\n0 run 2\n0 call 3\n0 log \"late\"\n0 ret\n0 settle 2 ok unit\n0 end done\n"
 unfolding page_trace run run_by
@@ -232,7 +232,7 @@ sched_by_rank_and_timer_by_fairness_1_script =
 
 abbrev sched_by_rank_and_timer_by_fairness_1_setup : Setup
 sched_by_rank_and_timer_by_fairness_1_setup =
-    record { policy = (Rank default_list); fuel = 1000000; until = 10000000; refresh = 60; late = []; latencies = []; arrivals = [] }
+    record { form = 1; trace = 1; policy = (Rank default_list); fuel = 1000000; until = 10000000; refresh = 60; late = []; latencies = []; arrivals = [] }
 
 sched_by_rank_and_timer_by_fairness_1 : logs_of (page_trace sched_by_rank_and_timer_by_fairness_1_script sched_by_rank_and_timer_by_fairness_1_setup four_hosts ([])) ≡ codes "0 \"a\"\n0 \"a\"\n0 \"a\"\n0 \"t\"\n"
 unfolding page_trace run run_by
@@ -255,7 +255,7 @@ sched_by_rank_and_timer_by_fairness_2_script =
 
 abbrev sched_by_rank_and_timer_by_fairness_2_setup : Setup
 sched_by_rank_and_timer_by_fairness_2_setup =
-    record { policy = (Fair 2); fuel = 1000000; until = 10000000; refresh = 60; late = []; latencies = []; arrivals = [] }
+    record { form = 1; trace = 1; policy = (Fair 2); fuel = 1000000; until = 10000000; refresh = 60; late = []; latencies = []; arrivals = [] }
 
 sched_by_rank_and_timer_by_fairness_2 : page_trace sched_by_rank_and_timer_by_fairness_2_script sched_by_rank_and_timer_by_fairness_2_setup four_hosts ([]) ≡ codes "trace 1\n0 turn 1 dom\n0 call 1\n0 reg 2 timeout\n0 arm 2 0 1\n0 reg 3 post\n0 enq 3 user-visible task 2\n0 reg 4 post\n0 enq 4 user-visible task 3\n0 reg 5 post\n0 enq 5 user-visible task 4\n0 ret\n0 due 2\n0 turn 2 sched\n0 call 3\n0 log \"a\"\n0 ret\n0 settle 1 ok unit\n0 turn 3 sched\n0 call 4\n0 log \"a\"\n0 ret\n0 settle 2 ok unit\n0 turn 4 timer\n0 call 2\n0 log \"t\"\n0 ret\n0 turn 5 sched\n0 call 5\n0 log \"a\"\n0 ret\n0 settle 3 ok unit\n0 end done\n"
 unfolding page_trace run run_by
@@ -280,7 +280,7 @@ fifo_looks_at_the_scheduler_task_that_is_next_script =
 
 abbrev fifo_looks_at_the_scheduler_task_that_is_next_setup : Setup
 fifo_looks_at_the_scheduler_task_that_is_next_setup =
-    record { policy = Fifo; fuel = 1000000; until = 10000000; refresh = 60; late = []; latencies = []; arrivals = [] }
+    record { form = 1; trace = 1; policy = Fifo; fuel = 1000000; until = 10000000; refresh = 60; late = []; latencies = []; arrivals = [] }
 
 fifo_looks_at_the_scheduler_task_that_is_next : page_trace fifo_looks_at_the_scheduler_task_that_is_next_script fifo_looks_at_the_scheduler_task_that_is_next_setup four_hosts ([]) ≡ codes "trace 1\n0 turn 1 dom\n0 call 1\n0 reg 2 post\n0 enq 2 background task 2\n0 reg 3 timeout\n0 arm 3 1000 1\n0 reg 4 post\n0 arm 4 1000 0\n1000 ret\n1000 due 3\n1000 due 4\n1000 enq 4 user-blocking task 4\n1000 turn 2 timer\n1000 call 3\n1000 log \"t\"\n1000 ret\n1000 turn 3 sched\n1000 call 4\n1000 log \"u\"\n1000 ret\n1000 settle 2 ok unit\n1000 turn 4 sched\n1000 call 2\n1000 log \"b\"\n1000 ret\n1000 settle 1 ok unit\n1000 end done\n"
 unfolding page_trace run run_by
@@ -302,7 +302,7 @@ yield_in_a_timer_callback_script =
 
 abbrev yield_in_a_timer_callback_setup : Setup
 yield_in_a_timer_callback_setup =
-    record { policy = (Rank default_list); fuel = 1000000; until = 10000000; refresh = 60; late = []; latencies = []; arrivals = [] }
+    record { form = 1; trace = 1; policy = (Rank default_list); fuel = 1000000; until = 10000000; refresh = 60; late = []; latencies = []; arrivals = [] }
 
 yield_in_a_timer_callback : page_trace yield_in_a_timer_callback_script yield_in_a_timer_callback_setup four_hosts ([]) ≡ codes "trace 1\n0 turn 1 dom\n0 call 1\n0 reg 2 timeout\n0 arm 2 0 1\n0 ret\n0 due 2\n0 turn 2 timer\n0 call 2\n0 reg 3 post\n0 enq 3 user-blocking task 3\n0 reg 4 post\n0 enq 4 user-visible task 4\n0 reg 5 yield\n0 enq 5 user-visible cont 5\n0 reg 6 then\n0 ret\n0 turn 3 sched\n0 call 3\n0 log \"b\"\n0 ret\n0 settle 1 ok unit\n0 turn 4 sched\n0 call 5\n0 settle 3 ok unit\n0 job 1 react 3\n0 ret\n0 run 1\n0 call 6\n0 log \"y\"\n0 ret\n0 settle 4 ok unit\n0 turn 5 sched\n0 call 4\n0 log \"w\"\n0 ret\n0 settle 2 ok unit\n0 end done\n"
 unfolding page_trace run run_by
@@ -328,7 +328,7 @@ fair_takes_the_greatest_count_script =
 
 abbrev fair_takes_the_greatest_count_setup : Setup
 fair_takes_the_greatest_count_setup =
-    record { policy = (Fair 1); fuel = 1000000; until = 10000000; refresh = 60; late = []; latencies = []; arrivals = record { at = 0; source = User; name = codes "e"; value = (IntValue (pos 1)) } ∷ record { at = 0; source = User; name = codes "e"; value = (IntValue (pos 2)) } ∷ [] }
+    record { form = 1; trace = 1; policy = (Fair 1); fuel = 1000000; until = 10000000; refresh = 60; late = []; latencies = []; arrivals = record { at = 0; source = User; name = codes "e"; value = (IntValue (pos 1)) } ∷ record { at = 0; source = User; name = codes "e"; value = (IntValue (pos 2)) } ∷ [] }
 
 fair_takes_the_greatest_count : logs_of (page_trace fair_takes_the_greatest_count_script fair_takes_the_greatest_count_setup four_hosts ([])) ≡ codes "0 1\n0 \"a\"\n0 \"t\"\n0 2\n0 \"a\"\n0 \"t\"\n"
 unfolding page_trace run run_by
@@ -353,7 +353,7 @@ abort_of_all_kinds_at_once_script =
 
 abbrev abort_of_all_kinds_at_once_setup : Setup
 abort_of_all_kinds_at_once_setup =
-    record { policy = (Rank default_list); fuel = 1000000; until = 10000000; refresh = 60; late = []; latencies = []; arrivals = [] }
+    record { form = 1; trace = 1; policy = (Rank default_list); fuel = 1000000; until = 10000000; refresh = 60; late = []; latencies = []; arrivals = [] }
 
 abort_of_all_kinds_at_once : page_trace abort_of_all_kinds_at_once_script abort_of_all_kinds_at_once_setup four_hosts ([]) ≡ codes "trace 1\n0 turn 1 dom\n0 call 1\n0 prio 1 user-blocking\n0 reg 2 post\n0 arm 2 5000 0\n0 reg 3 host\n0 arm 3 0 0\n0 reg 4 post\n0 enq 4 s1 task 2\n0 abort 1\n0 settle 1 err 0\n0 drop 2\n0 settle 2 err 0\n0 drop 3\n0 settle 3 err 0\n0 drop 4\n0 ret\n0 turn 2 dom\n0 unhandled 1\n0 unhandled 2\n0 unhandled 3\n5000 wait 5000\n5000 due 2\n5000 end done\n"
 unfolding page_trace run run_by
@@ -378,7 +378,7 @@ yield_in_a_listener_inside_a_posted_task_script =
 
 abbrev yield_in_a_listener_inside_a_posted_task_setup : Setup
 yield_in_a_listener_inside_a_posted_task_setup =
-    record { policy = (Rank default_list); fuel = 1000000; until = 10000000; refresh = 60; late = []; latencies = []; arrivals = [] }
+    record { form = 1; trace = 1; policy = (Rank default_list); fuel = 1000000; until = 10000000; refresh = 60; late = []; latencies = []; arrivals = [] }
 
 yield_in_a_listener_inside_a_posted_task : page_trace yield_in_a_listener_inside_a_posted_task_script yield_in_a_listener_inside_a_posted_task_setup four_hosts ([]) ≡ codes "trace 1\n0 turn 1 dom\n0 call 1\n0 reg 2 listener\n0 reg 3 post\n0 enq 3 background task 2\n0 ret\n0 turn 2 sched\n0 call 3\n0 abort 1\n0 call 2\n0 reg 4 yield\n0 enq 4 background cont 3\n0 reg 5 then\n0 ret\n0 reg 6 post\n0 enq 6 user-visible task 4\n0 ret\n0 settle 1 ok unit\n0 turn 3 sched\n0 call 6\n0 log \"w\"\n0 ret\n0 settle 4 ok unit\n0 turn 4 sched\n0 call 4\n0 settle 2 ok unit\n0 job 1 react 2\n0 ret\n0 run 1\n0 call 5\n0 log \"y\"\n0 ret\n0 settle 3 ok unit\n0 end done\n"
 unfolding page_trace run run_by

@@ -25,7 +25,7 @@ resolving_with_a_promise_takes_two_jobs_more_script =
 
 abbrev resolving_with_a_promise_takes_two_jobs_more_setup : Setup
 resolving_with_a_promise_takes_two_jobs_more_setup =
-    record { policy = (Rank default_list); fuel = 1000000; until = 10000000; refresh = 60; late = []; latencies = []; arrivals = [] }
+    record { form = 1; trace = 1; policy = (Rank default_list); fuel = 1000000; until = 10000000; refresh = 60; late = []; latencies = []; arrivals = [] }
 
 resolving_with_a_promise_takes_two_jobs_more : logs_of (page_trace resolving_with_a_promise_takes_two_jobs_more_script resolving_with_a_promise_takes_two_jobs_more_setup four_hosts ([])) ≡ codes "0 \"a\"\n0 \"b\"\n0 \"x\"\n0 \"c\"\n"
 unfolding page_trace run run_by
@@ -42,7 +42,7 @@ rejection_without_handler_is_notified_script =
 
 abbrev rejection_without_handler_is_notified_setup : Setup
 rejection_without_handler_is_notified_setup =
-    record { policy = (Rank default_list); fuel = 1000000; until = 10000000; refresh = 60; late = []; latencies = []; arrivals = [] }
+    record { form = 1; trace = 1; policy = (Rank default_list); fuel = 1000000; until = 10000000; refresh = 60; late = []; latencies = []; arrivals = [] }
 
 rejection_without_handler_is_notified : page_trace rejection_without_handler_is_notified_script rejection_without_handler_is_notified_setup four_hosts ([]) ≡ codes "trace 1\n0 turn 1 dom\n0 call 1\n0 settle 1 err \"x\"\n0 ret\n0 turn 2 dom\n0 unhandled 1\n0 end done\n"
 unfolding page_trace run run_by
@@ -62,7 +62,7 @@ rejection_handled_in_a_microtask_script =
 
 abbrev rejection_handled_in_a_microtask_setup : Setup
 rejection_handled_in_a_microtask_setup =
-    record { policy = (Rank default_list); fuel = 1000000; until = 10000000; refresh = 60; late = []; latencies = []; arrivals = [] }
+    record { form = 1; trace = 1; policy = (Rank default_list); fuel = 1000000; until = 10000000; refresh = 60; late = []; latencies = []; arrivals = [] }
 
 rejection_handled_in_a_microtask : page_trace rejection_handled_in_a_microtask_script rejection_handled_in_a_microtask_setup four_hosts ([]) ≡ codes "trace 1\n0 turn 1 dom\n0 call 1\n0 settle 1 err \"x\"\n0 reg 2 micro\n0 job 1 micro 2\n0 ret\n0 run 1\n0 call 2\n0 reg 3 then\n0 job 2 react 1\n0 ret\n0 run 2\n0 call 3\n0 ret\n0 settle 2 ok unit\n0 end done\n"
 unfolding page_trace run run_by

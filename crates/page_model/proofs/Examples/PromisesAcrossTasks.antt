@@ -30,7 +30,7 @@ promise_adopted_across_tasks_script =
 
 abbrev promise_adopted_across_tasks_setup : Setup
 promise_adopted_across_tasks_setup =
-    record { policy = (Rank default_list); fuel = 1000000; until = 10000000; refresh = 60; late = []; latencies = []; arrivals = [] }
+    record { form = 1; trace = 1; policy = (Rank default_list); fuel = 1000000; until = 10000000; refresh = 60; late = []; latencies = []; arrivals = [] }
 
 promise_adopted_across_tasks : page_trace promise_adopted_across_tasks_script promise_adopted_across_tasks_setup four_hosts ([]) ≡ codes "trace 1\n0 turn 1 dom\n0 call 1\n0 reg 2 then\n0 job 1 adopt 2\n0 reg 3 timeout\n0 arm 3 1000 1\n0 ret\n0 run 1\n1000 wait 1000\n1000 due 3\n1000 turn 2 timer\n1000 call 3\n1000 settle 1 ok 7\n1000 job 2 react 1\n1000 log \"g\"\n1000 ret\n1000 run 2\n1000 settle 2 ok 7\n1000 job 3 react 2\n1000 run 3\n1000 call 2\n1000 log 7\n1000 ret\n1000 settle 3 ok unit\n1000 end done\n"
 unfolding page_trace run run_by
@@ -53,7 +53,7 @@ promise_resolved_with_itself_script =
 
 abbrev promise_resolved_with_itself_setup : Setup
 promise_resolved_with_itself_setup =
-    record { policy = (Rank default_list); fuel = 1000000; until = 10000000; refresh = 60; late = []; latencies = []; arrivals = [] }
+    record { form = 1; trace = 1; policy = (Rank default_list); fuel = 1000000; until = 10000000; refresh = 60; late = []; latencies = []; arrivals = [] }
 
 promise_resolved_with_itself : page_trace promise_resolved_with_itself_script promise_resolved_with_itself_setup four_hosts ([]) ≡ codes "trace 1\n0 turn 1 dom\n0 call 1\n0 settle 1 err TypeError(\"\")\n0 reg 2 then\n0 job 1 react 1\n0 ret\n0 run 1\n0 call 2\n0 log TypeError(\"\")\n0 ret\n0 settle 2 ok unit\n0 end done\n"
 unfolding page_trace run run_by
@@ -79,7 +79,7 @@ rejection_handled_late_script =
 
 abbrev rejection_handled_late_setup : Setup
 rejection_handled_late_setup =
-    record { policy = (Rank default_list); fuel = 1000000; until = 10000000; refresh = 60; late = []; latencies = []; arrivals = [] }
+    record { form = 1; trace = 1; policy = (Rank default_list); fuel = 1000000; until = 10000000; refresh = 60; late = []; latencies = []; arrivals = [] }
 
 rejection_handled_late : page_trace rejection_handled_late_script rejection_handled_late_setup four_hosts ([]) ≡ codes "trace 1\n0 turn 1 dom\n0 call 1\n0 settle 1 err \"x\"\n0 reg 2 listener\n0 reg 3 listener\n0 reg 4 timeout\n0 arm 4 1000 1\n0 ret\n0 turn 2 dom\n0 unhandled 1\n0 call 2\n0 log \"u\"\n0 log true\n0 log \"x\"\n0 ret\n1000 wait 1000\n1000 due 4\n1000 turn 3 timer\n1000 call 4\n1000 reg 5 then\n1000 job 1 react 1\n1000 ret\n1000 run 1\n1000 call 5\n1000 log \"g\"\n1000 ret\n1000 settle 2 ok unit\n1000 turn 4 dom\n1000 handled 1\n1000 call 3\n1000 log \"k\"\n1000 log \"x\"\n1000 ret\n1000 end done\n"
 unfolding page_trace run run_by
@@ -104,7 +104,7 @@ rejection_handled_inside_its_listener_script =
 
 abbrev rejection_handled_inside_its_listener_setup : Setup
 rejection_handled_inside_its_listener_setup =
-    record { policy = (Rank default_list); fuel = 1000000; until = 10000000; refresh = 60; late = []; latencies = []; arrivals = [] }
+    record { form = 1; trace = 1; policy = (Rank default_list); fuel = 1000000; until = 10000000; refresh = 60; late = []; latencies = []; arrivals = [] }
 
 rejection_handled_inside_its_listener : page_trace rejection_handled_inside_its_listener_script rejection_handled_inside_its_listener_setup four_hosts ([]) ≡ codes "trace 1\n0 turn 1 dom\n0 call 1\n0 settle 1 err \"x\"\n0 settle 2 err \"y\"\n0 reg 2 listener\n0 reg 3 listener\n0 ret\n0 turn 2 dom\n0 unhandled 1\n0 call 2\n0 reg 4 then\n0 job 1 react 1\n0 reg 5 then\n0 job 2 react 2\n0 ret\n0 run 1\n0 call 4\n0 log \"x\"\n0 ret\n0 settle 3 ok unit\n0 run 2\n0 call 5\n0 log \"y\"\n0 ret\n0 settle 4 ok unit\n0 end done\n"
 unfolding page_trace run run_by
@@ -126,7 +126,7 @@ rejection_handled_in_its_own_checkpoint_script =
 
 abbrev rejection_handled_in_its_own_checkpoint_setup : Setup
 rejection_handled_in_its_own_checkpoint_setup =
-    record { policy = (Rank default_list); fuel = 1000000; until = 10000000; refresh = 60; late = []; latencies = []; arrivals = [] }
+    record { form = 1; trace = 1; policy = (Rank default_list); fuel = 1000000; until = 10000000; refresh = 60; late = []; latencies = []; arrivals = [] }
 
 rejection_handled_in_its_own_checkpoint : page_trace rejection_handled_in_its_own_checkpoint_script rejection_handled_in_its_own_checkpoint_setup four_hosts ([]) ≡ codes "trace 1\n0 turn 1 dom\n0 call 1\n0 reg 2 micro\n0 job 1 micro 2\n0 ret\n0 run 1\n0 call 2\n0 settle 1 err \"x\"\n0 reg 3 micro\n0 job 2 micro 3\n0 ret\n0 run 2\n0 call 3\n0 reg 4 then\n0 job 3 react 1\n0 ret\n0 run 3\n0 call 4\n0 log \"x\"\n0 ret\n0 settle 2 ok unit\n0 end done\n"
 unfolding page_trace run run_by
@@ -148,7 +148,7 @@ rejection_handled_before_its_notification_script =
 
 abbrev rejection_handled_before_its_notification_setup : Setup
 rejection_handled_before_its_notification_setup =
-    record { policy = (Rank default_list); fuel = 1000000; until = 10000000; refresh = 60; late = []; latencies = []; arrivals = [] }
+    record { form = 1; trace = 1; policy = (Rank default_list); fuel = 1000000; until = 10000000; refresh = 60; late = []; latencies = []; arrivals = [] }
 
 rejection_handled_before_its_notification : page_trace rejection_handled_before_its_notification_script rejection_handled_before_its_notification_setup four_hosts ([]) ≡ codes "trace 1\n0 turn 1 dom\n0 call 1\n0 settle 1 err \"x\"\n0 reg 2 timeout\n0 arm 2 0 1\n0 ret\n0 due 2\n0 turn 2 timer\n0 call 2\n0 job 1 adopt 2\n0 ret\n0 run 1\n0 job 2 react 1\n0 run 2\n0 settle 2 err \"x\"\n0 turn 3 dom\n0 turn 4 dom\n0 unhandled 2\n0 end done\n"
 unfolding page_trace run run_by
@@ -170,7 +170,7 @@ outstanding_rejection_handled_by_adoption_script =
 
 abbrev outstanding_rejection_handled_by_adoption_setup : Setup
 outstanding_rejection_handled_by_adoption_setup =
-    record { policy = (Rank default_list); fuel = 1000000; until = 10000000; refresh = 60; late = []; latencies = []; arrivals = [] }
+    record { form = 1; trace = 1; policy = (Rank default_list); fuel = 1000000; until = 10000000; refresh = 60; late = []; latencies = []; arrivals = [] }
 
 outstanding_rejection_handled_by_adoption : page_trace outstanding_rejection_handled_by_adoption_script outstanding_rejection_handled_by_adoption_setup four_hosts ([]) ≡ codes "trace 1\n0 turn 1 dom\n0 call 1\n0 settle 1 err \"x\"\n0 reg 2 timeout\n0 arm 2 1000 1\n0 ret\n0 turn 2 dom\n0 unhandled 1\n1000 wait 1000\n1000 due 2\n1000 turn 3 timer\n1000 call 2\n1000 job 1 adopt 2\n1000 ret\n1000 run 1\n1000 job 2 react 1\n1000 run 2\n1000 settle 2 err \"x\"\n1000 turn 4 dom\n1000 handled 1\n1000 turn 5 dom\n1000 unhandled 2\n1000 end done\n"
 unfolding page_trace run run_by
@@ -191,7 +191,7 @@ throw_of_a_then_handler_script =
 
 abbrev throw_of_a_then_handler_setup : Setup
 throw_of_a_then_handler_setup =
-    record { policy = (Rank default_list); fuel = 1000000; until = 10000000; refresh = 60; late = []; latencies = []; arrivals = [] }
+    record { form = 1; trace = 1; policy = (Rank default_list); fuel = 1000000; until = 10000000; refresh = 60; late = []; latencies = []; arrivals = [] }
 
 throw_of_a_then_handler : page_trace throw_of_a_then_handler_script throw_of_a_then_handler_setup four_hosts ([]) ≡ codes "trace 1\n0 turn 1 dom\n0 call 1\n0 settle 1 ok 3\n0 reg 2 then\n0 job 1 react 1\n0 reg 3 then\n0 ret\n0 run 1\n0 call 2\n0 throw 3\n0 settle 2 err 3\n0 job 2 react 2\n0 run 2\n0 settle 3 err 3\n0 turn 2 dom\n0 unhandled 3\n0 end done\n"
 unfolding page_trace run run_by
@@ -215,7 +215,7 @@ handler_answers_a_promise_script =
 
 abbrev handler_answers_a_promise_setup : Setup
 handler_answers_a_promise_setup =
-    record { policy = (Rank default_list); fuel = 1000000; until = 10000000; refresh = 60; late = []; latencies = []; arrivals = [] }
+    record { form = 1; trace = 1; policy = (Rank default_list); fuel = 1000000; until = 10000000; refresh = 60; late = []; latencies = []; arrivals = [] }
 
 handler_answers_a_promise : page_trace handler_answers_a_promise_script handler_answers_a_promise_setup four_hosts ([]) ≡ codes "trace 1\n0 turn 1 dom\n0 call 1\n0 settle 2 ok 1\n0 reg 2 then\n0 job 1 react 2\n0 reg 3 then\n0 reg 4 timeout\n0 arm 4 0 1\n0 ret\n0 run 1\n0 call 2\n0 ret\n0 job 2 adopt 3\n0 run 2\n0 due 4\n0 turn 2 timer\n0 call 4\n0 settle 1 err \"no\"\n0 job 3 react 1\n0 ret\n0 run 3\n0 settle 3 err \"no\"\n0 job 4 react 3\n0 run 4\n0 call 3\n0 log \"no\"\n0 ret\n0 settle 4 ok unit\n0 end done\n"
 unfolding page_trace run run_by
@@ -241,7 +241,7 @@ reaction_keeps_the_state_of_its_making_script =
 
 abbrev reaction_keeps_the_state_of_its_making_setup : Setup
 reaction_keeps_the_state_of_its_making_setup =
-    record { policy = (Rank default_list); fuel = 1000000; until = 10000000; refresh = 60; late = []; latencies = []; arrivals = [] }
+    record { form = 1; trace = 1; policy = (Rank default_list); fuel = 1000000; until = 10000000; refresh = 60; late = []; latencies = []; arrivals = [] }
 
 reaction_keeps_the_state_of_its_making : page_trace reaction_keeps_the_state_of_its_making_script reaction_keeps_the_state_of_its_making_setup four_hosts ([]) ≡ codes "trace 1\n0 turn 1 dom\n0 call 1\n0 reg 2 post\n0 enq 2 background task 2\n0 reg 3 timeout\n0 arm 3 1000 1\n0 ret\n0 turn 2 sched\n0 call 2\n0 reg 4 then\n0 ret\n0 settle 2 ok unit\n1000 wait 1000\n1000 due 3\n1000 turn 3 timer\n1000 call 3\n1000 reg 5 post\n1000 enq 5 user-visible task 4\n1000 settle 1 ok 1\n1000 job 1 react 1\n1000 ret\n1000 run 1\n1000 call 4\n1000 reg 6 yield\n1000 enq 6 background cont 5\n1000 reg 7 then\n1000 ret\n1000 settle 3 ok unit\n1000 turn 4 sched\n1000 call 5\n1000 log \"b\"\n1000 ret\n1000 settle 4 ok unit\n1000 turn 5 sched\n1000 call 6\n1000 settle 5 ok unit\n1000 job 2 react 5\n1000 ret\n1000 run 2\n1000 call 7\n1000 log \"y\"\n1000 ret\n1000 settle 6 ok unit\n1000 end done\n"
 unfolding page_trace run run_by
@@ -262,7 +262,7 @@ faults_as_rejected_promises_script =
 
 abbrev faults_as_rejected_promises_setup : Setup
 faults_as_rejected_promises_setup =
-    record { policy = (Rank default_list); fuel = 1000000; until = 10000000; refresh = 60; late = []; latencies = []; arrivals = [] }
+    record { form = 1; trace = 1; policy = (Rank default_list); fuel = 1000000; until = 10000000; refresh = 60; late = []; latencies = []; arrivals = [] }
 
 faults_as_rejected_promises : page_trace faults_as_rejected_promises_script faults_as_rejected_promises_setup four_hosts ([]) ≡ codes "trace 1\n0 turn 1 dom\n0 call 1\n0 settle 1 err TypeError(\"\")\n0 reg 2 then\n0 job 1 react 1\n0 settle 3 err TypeError(\"\")\n0 reg 3 then\n0 job 2 react 3\n0 log TypeError(\"\")\n0 ret\n0 run 1\n0 call 2\n0 log TypeError(\"\")\n0 ret\n0 settle 2 ok unit\n0 run 2\n0 call 3\n0 log TypeError(\"\")\n0 ret\n0 settle 4 ok unit\n0 end done\n"
 unfolding page_trace run run_by
@@ -282,7 +282,7 @@ rejection_made_by_the_listener_of_another_script =
 
 abbrev rejection_made_by_the_listener_of_another_setup : Setup
 rejection_made_by_the_listener_of_another_setup =
-    record { policy = (Rank default_list); fuel = 1000000; until = 10000000; refresh = 60; late = []; latencies = []; arrivals = [] }
+    record { form = 1; trace = 1; policy = (Rank default_list); fuel = 1000000; until = 10000000; refresh = 60; late = []; latencies = []; arrivals = [] }
 
 rejection_made_by_the_listener_of_another : page_trace rejection_made_by_the_listener_of_another_script rejection_made_by_the_listener_of_another_setup four_hosts ([]) ≡ codes "trace 1\n0 turn 1 dom\n0 call 1\n0 reg 2 listener\n0 settle 1 err 1\n0 ret\n0 turn 2 dom\n0 unhandled 1\n0 call 2\n0 log 1\n0 settle 2 err 2\n0 ret\n0 turn 3 dom\n0 unhandled 2\n0 call 2\n0 log 2\n0 ret\n0 end done\n"
 unfolding page_trace run run_by
@@ -308,7 +308,7 @@ reactions_in_order_script =
 
 abbrev reactions_in_order_setup : Setup
 reactions_in_order_setup =
-    record { policy = (Rank default_list); fuel = 1000000; until = 10000000; refresh = 60; late = []; latencies = []; arrivals = [] }
+    record { form = 1; trace = 1; policy = (Rank default_list); fuel = 1000000; until = 10000000; refresh = 60; late = []; latencies = []; arrivals = [] }
 
 reactions_in_order : page_trace reactions_in_order_script reactions_in_order_setup four_hosts ([]) ≡ codes "trace 1\n0 turn 1 dom\n0 call 1\n0 reg 2 then\n0 reg 3 then\n0 settle 1 ok 1\n0 job 1 react 1\n0 job 2 react 1\n0 reg 4 then\n0 job 3 react 1\n0 ret\n0 run 1\n0 call 2\n0 log \"a\"\n0 reg 5 then\n0 job 4 react 1\n0 ret\n0 settle 2 ok unit\n0 run 2\n0 call 3\n0 log \"b\"\n0 ret\n0 settle 3 ok unit\n0 run 3\n0 call 4\n0 log \"b\"\n0 ret\n0 settle 4 ok unit\n0 run 4\n0 call 5\n0 log \"d\"\n0 ret\n0 settle 5 ok unit\n0 end done\n"
 unfolding page_trace run run_by
@@ -329,7 +329,7 @@ promises_that_adopt_each_other_script =
 
 abbrev promises_that_adopt_each_other_setup : Setup
 promises_that_adopt_each_other_setup =
-    record { policy = (Rank default_list); fuel = 1000000; until = 10000000; refresh = 60; late = []; latencies = []; arrivals = [] }
+    record { form = 1; trace = 1; policy = (Rank default_list); fuel = 1000000; until = 10000000; refresh = 60; late = []; latencies = []; arrivals = [] }
 
 promises_that_adopt_each_other : page_trace promises_that_adopt_each_other_script promises_that_adopt_each_other_setup four_hosts ([]) ≡ codes "trace 1\n0 turn 1 dom\n0 call 1\n0 job 1 adopt 1\n0 job 2 adopt 2\n0 ret\n0 run 1\n0 run 2\n0 end done\n"
 unfolding page_trace run run_by
@@ -350,7 +350,7 @@ arrival_named_as_a_rejection_script =
 
 abbrev arrival_named_as_a_rejection_setup : Setup
 arrival_named_as_a_rejection_setup =
-    record { policy = (Rank default_list); fuel = 1000000; until = 10000000; refresh = 60; late = []; latencies = []; arrivals = record { at = 0; source = Dom; name = codes "unhandledrejection"; value = (IntValue (pos 9)) } ∷ [] }
+    record { form = 1; trace = 1; policy = (Rank default_list); fuel = 1000000; until = 10000000; refresh = 60; late = []; latencies = []; arrivals = record { at = 0; source = Dom; name = codes "unhandledrejection"; value = (IntValue (pos 9)) } ∷ [] }
 
 arrival_named_as_a_rejection : page_trace arrival_named_as_a_rejection_script arrival_named_as_a_rejection_setup four_hosts ([]) ≡ codes "trace 1\n0 turn 1 dom\n0 call 1\n0 reg 2 listener\n0 settle 1 err 4\n0 ret\n0 turn 2 dom\n0 unhandled 1\n0 call 2\n0 log promise#1\n0 log 4\n0 ret\n0 turn 3 dom\n0 call 2\n0 log 9\n0 log unit\n0 ret\n0 end done\n"
 unfolding page_trace run run_by

@@ -23,13 +23,13 @@ answered_once_script =
 
 abbrev answered_once_setup : Setup
 answered_once_setup =
-    record { policy = (Rank default_list); fuel = 1000000; until = 10000000; refresh = 60; late = []; latencies = record { closure = 0; latency = 3000 } ∷ []; arrivals = [] }
+    record { form = 1; trace = 1; policy = (Rank default_list); fuel = 1000000; until = 10000000; refresh = 60; late = []; latencies = record { closure = 0; latency = 3000 } ∷ []; arrivals = [] }
 
 abbrev under : Choices → Turned Choices
 under c = run answered_once_script answered_once_setup four_hosts c
 
 abbrev text_under : Choices → List ℕ
-text_under c = text_of (events_of_run (under c))
+text_under c = text_of 1 (events_of_run (under c))
 
 abbrev its_events : List Stamped
 its_events = events_of_run (under (written answered_once_setup (Ok (pos 49) ∷ [])))

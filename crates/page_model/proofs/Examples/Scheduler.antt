@@ -24,7 +24,7 @@ posted_tasks_run_by_priority_script =
 
 abbrev posted_tasks_run_by_priority_setup : Setup
 posted_tasks_run_by_priority_setup =
-    record { policy = (Rank default_list); fuel = 1000000; until = 10000000; refresh = 60; late = []; latencies = []; arrivals = [] }
+    record { form = 1; trace = 1; policy = (Rank default_list); fuel = 1000000; until = 10000000; refresh = 60; late = []; latencies = []; arrivals = [] }
 
 posted_tasks_run_by_priority : logs_of (page_trace posted_tasks_run_by_priority_script posted_tasks_run_by_priority_setup four_hosts ([])) ≡ codes "0 \"e\"\n0 \"b\"\n0 \"a\"\n"
 unfolding page_trace run run_by
@@ -48,7 +48,7 @@ priority_change_moves_a_posted_task_script =
 
 abbrev priority_change_moves_a_posted_task_setup : Setup
 priority_change_moves_a_posted_task_setup =
-    record { policy = (Rank default_list); fuel = 1000000; until = 10000000; refresh = 60; late = []; latencies = []; arrivals = [] }
+    record { form = 1; trace = 1; policy = (Rank default_list); fuel = 1000000; until = 10000000; refresh = 60; late = []; latencies = []; arrivals = [] }
 
 priority_change_moves_a_posted_task : logs_of (page_trace priority_change_moves_a_posted_task_script priority_change_moves_a_posted_task_setup four_hosts ([])) ≡ codes "0 \"a\"\n0 \"e\"\n0 \"b\"\n"
 unfolding page_trace run run_by
@@ -71,7 +71,7 @@ following_signal_changes_script =
 
 abbrev following_signal_changes_setup : Setup
 following_signal_changes_setup =
-    record { policy = (Rank default_list); fuel = 1000000; until = 10000000; refresh = 60; late = []; latencies = []; arrivals = [] }
+    record { form = 1; trace = 1; policy = (Rank default_list); fuel = 1000000; until = 10000000; refresh = 60; late = []; latencies = []; arrivals = [] }
 
 following_signal_changes : page_trace following_signal_changes_script following_signal_changes_setup four_hosts ([]) ≡ codes "trace 1\n0 turn 1 dom\n0 call 1\n0 prio 1 background\n0 prio 2 background\n0 reg 2 post\n0 enq 2 s2 task 2\n0 reg 3 post\n0 enq 3 user-visible task 3\n0 prio 1 user-blocking\n0 prio 2 user-blocking\n0 ret\n0 turn 2 sched\n0 call 2\n0 log \"a\"\n0 ret\n0 settle 1 ok unit\n0 turn 3 sched\n0 call 3\n0 log \"b\"\n0 ret\n0 settle 2 ok unit\n0 end done\n"
 unfolding page_trace run run_by
@@ -92,7 +92,7 @@ continuation_goes_before_other_tasks_script =
 
 abbrev continuation_goes_before_other_tasks_setup : Setup
 continuation_goes_before_other_tasks_setup =
-    record { policy = (Rank default_list); fuel = 1000000; until = 10000000; refresh = 60; late = []; latencies = []; arrivals = [] }
+    record { form = 1; trace = 1; policy = (Rank default_list); fuel = 1000000; until = 10000000; refresh = 60; late = []; latencies = []; arrivals = [] }
 
 continuation_goes_before_other_tasks : page_trace continuation_goes_before_other_tasks_script continuation_goes_before_other_tasks_setup four_hosts ([]) ≡ codes "trace 1\n0 turn 1 dom\n0 call 1\n0 reg 2 post\n0 enq 2 user-visible task 2\n0 reg 3 post\n0 enq 3 user-visible task 3\n0 ret\n0 turn 2 sched\n0 call 2\n0 log \"a\"\n0 reg 4 yield\n0 enq 4 user-visible cont 4\n0 reg 5 then\n0 ret\n0 settle 1 ok unit\n0 turn 3 sched\n0 call 4\n0 settle 3 ok unit\n0 job 1 react 3\n0 ret\n0 run 1\n0 call 5\n0 log \"y\"\n0 ret\n0 settle 4 ok unit\n0 turn 4 sched\n0 call 3\n0 log \"b\"\n0 ret\n0 settle 2 ok unit\n0 end done\n"
 unfolding page_trace run run_by
@@ -112,7 +112,7 @@ written_rank_serves_the_timer_first_script =
 
 abbrev written_rank_serves_the_timer_first_setup : Setup
 written_rank_serves_the_timer_first_setup =
-    record { policy = (Rank (Timer ∷ Sched ∷ User ∷ Render ∷ Net ∷ Dom ∷ Idle ∷ [])); fuel = 1000000; until = 10000000; refresh = 60; late = []; latencies = []; arrivals = [] }
+    record { form = 1; trace = 1; policy = (Rank (Timer ∷ Sched ∷ User ∷ Render ∷ Net ∷ Dom ∷ Idle ∷ [])); fuel = 1000000; until = 10000000; refresh = 60; late = []; latencies = []; arrivals = [] }
 
 written_rank_serves_the_timer_first : page_trace written_rank_serves_the_timer_first_script written_rank_serves_the_timer_first_setup four_hosts ([]) ≡ codes "trace 1\n0 turn 1 dom\n0 call 1\n0 reg 2 timeout\n0 arm 2 0 1\n0 reg 3 post\n0 enq 3 user-visible task 2\n0 ret\n0 due 2\n0 turn 2 timer\n0 call 2\n0 log \"t\"\n0 ret\n0 turn 3 sched\n0 call 3\n0 log \"a\"\n0 ret\n0 settle 1 ok unit\n0 end done\n"
 unfolding page_trace run run_by

@@ -24,7 +24,7 @@ checkpoint_between_listeners_run_by_a_task_script =
 
 abbrev checkpoint_between_listeners_run_by_a_task_setup : Setup
 checkpoint_between_listeners_run_by_a_task_setup =
-    record { policy = (Rank default_list); fuel = 1000000; until = 10000000; refresh = 60; late = []; latencies = []; arrivals = [] }
+    record { form = 1; trace = 1; policy = (Rank default_list); fuel = 1000000; until = 10000000; refresh = 60; late = []; latencies = []; arrivals = [] }
 
 checkpoint_between_listeners_run_by_a_task : logs_of (page_trace checkpoint_between_listeners_run_by_a_task_script checkpoint_between_listeners_run_by_a_task_setup four_hosts ([])) ≡ codes "5000 \"L1\"\n5000 \"m1\"\n5000 \"L2\"\n5000 \"m2\"\n"
 unfolding page_trace run run_by
@@ -49,7 +49,7 @@ no_checkpoint_between_listeners_in_a_script_script =
 
 abbrev no_checkpoint_between_listeners_in_a_script_setup : Setup
 no_checkpoint_between_listeners_in_a_script_setup =
-    record { policy = (Rank default_list); fuel = 1000000; until = 10000000; refresh = 60; late = []; latencies = []; arrivals = [] }
+    record { form = 1; trace = 1; policy = (Rank default_list); fuel = 1000000; until = 10000000; refresh = 60; late = []; latencies = []; arrivals = [] }
 
 no_checkpoint_between_listeners_in_a_script : logs_of (page_trace no_checkpoint_between_listeners_in_a_script_script no_checkpoint_between_listeners_in_a_script_setup four_hosts ([])) ≡ codes "0 \"L1\"\n0 \"L2\"\n0 \"m1\"\n0 \"m2\"\n"
 unfolding page_trace run run_by
@@ -68,7 +68,7 @@ abort_in_its_own_task_script =
 
 abbrev abort_in_its_own_task_setup : Setup
 abort_in_its_own_task_setup =
-    record { policy = (Rank default_list); fuel = 1000000; until = 10000000; refresh = 60; late = []; latencies = []; arrivals = [] }
+    record { form = 1; trace = 1; policy = (Rank default_list); fuel = 1000000; until = 10000000; refresh = 60; late = []; latencies = []; arrivals = [] }
 
 abort_in_its_own_task : page_trace abort_in_its_own_task_script abort_in_its_own_task_setup four_hosts ([]) ≡ codes "trace 1\n0 turn 1 dom\n0 call 1\n0 reg 2 post\n0 enq 2 user-visible task 2\n0 ret\n0 turn 2 sched\n0 call 2\n0 abort 1\n0 settle 1 err AbortError(\"\")\n0 ret\n0 turn 3 dom\n0 unhandled 1\n0 end done\n"
 unfolding page_trace run run_by
@@ -89,7 +89,7 @@ priority_change_inside_its_listener_throws_script =
 
 abbrev priority_change_inside_its_listener_throws_setup : Setup
 priority_change_inside_its_listener_throws_setup =
-    record { policy = (Rank default_list); fuel = 1000000; until = 10000000; refresh = 60; late = []; latencies = []; arrivals = [] }
+    record { form = 1; trace = 1; policy = (Rank default_list); fuel = 1000000; until = 10000000; refresh = 60; late = []; latencies = []; arrivals = [] }
 
 priority_change_inside_its_listener_throws : page_trace priority_change_inside_its_listener_throws_script priority_change_inside_its_listener_throws_setup four_hosts ([]) ≡ codes "trace 1\n0 turn 1 dom\n0 call 1\n0 prio 1 background\n0 reg 2 listener\n0 prio 1 user-visible\n0 call 2\n0 log \"background\"\n0 throw NotAllowedError(\"\")\n0 report NotAllowedError(\"\")\n0 log \"user-visible\"\n0 ret\n0 end done\n"
 unfolding page_trace run run_by
@@ -114,7 +114,7 @@ dependents_aborted_before_any_listener_script =
 
 abbrev dependents_aborted_before_any_listener_setup : Setup
 dependents_aborted_before_any_listener_setup =
-    record { policy = (Rank default_list); fuel = 1000000; until = 10000000; refresh = 60; late = []; latencies = []; arrivals = [] }
+    record { form = 1; trace = 1; policy = (Rank default_list); fuel = 1000000; until = 10000000; refresh = 60; late = []; latencies = []; arrivals = [] }
 
 dependents_aborted_before_any_listener : page_trace dependents_aborted_before_any_listener_script dependents_aborted_before_any_listener_setup four_hosts ([]) ≡ codes "trace 1\n0 turn 1 dom\n0 call 1\n0 reg 2 listener\n0 reg 3 listener\n0 abort 1\n0 abort 2\n0 call 2\n0 log true\n0 ret\n0 call 3\n0 log \"d\"\n0 ret\n0 log \"why\"\n0 ret\n0 end done\n"
 unfolding page_trace run run_by
@@ -140,7 +140,7 @@ any_signal_takes_an_aborted_reason_script =
 
 abbrev any_signal_takes_an_aborted_reason_setup : Setup
 any_signal_takes_an_aborted_reason_setup =
-    record { policy = (Rank default_list); fuel = 1000000; until = 10000000; refresh = 60; late = []; latencies = []; arrivals = [] }
+    record { form = 1; trace = 1; policy = (Rank default_list); fuel = 1000000; until = 10000000; refresh = 60; late = []; latencies = []; arrivals = [] }
 
 any_signal_takes_an_aborted_reason : logs_of (page_trace any_signal_takes_an_aborted_reason_script any_signal_takes_an_aborted_reason_setup four_hosts ([])) ≡ codes "0 \"no\"\n0 true\n0 \"d\"\n0 \"why\"\n"
 unfolding page_trace run run_by

@@ -32,7 +32,7 @@ abort_within_an_abort_script =
 
 abbrev abort_within_an_abort_setup : Setup
 abort_within_an_abort_setup =
-    record { policy = (Rank default_list); fuel = 1000; until = 10000000; refresh = 60; late = []; latencies = []; arrivals = [] }
+    record { form = 1; trace = 1; policy = (Rank default_list); fuel = 1000; until = 10000000; refresh = 60; late = []; latencies = []; arrivals = [] }
 
 -- what was logged
 abbrev and_logged : Event → List (List ℕ) → List (List ℕ)

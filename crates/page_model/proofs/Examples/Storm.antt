@@ -26,7 +26,7 @@ storm_4_script =
 
 abbrev storm_4_setup : Setup
 storm_4_setup =
-    record { policy = (Rank default_list); fuel = 10000000; until = 1000000000000; refresh = 60; late = []; latencies = []; arrivals = [] }
+    record { form = 1; trace = 1; policy = (Rank default_list); fuel = 10000000; until = 1000000000000; refresh = 60; late = []; latencies = []; arrivals = [] }
 
 storm_4 : summary_text storm_4_script storm_4_setup four_hosts ([]) ≡ codes "turns 3\ncalls 5\ndrops 1\nsettles 4\n"
 unfolding run run_by
@@ -49,7 +49,7 @@ storm_10_script =
 
 abbrev storm_10_setup : Setup
 storm_10_setup =
-    record { policy = (Rank default_list); fuel = 10000000; until = 1000000000000; refresh = 60; late = []; latencies = []; arrivals = [] }
+    record { form = 1; trace = 1; policy = (Rank default_list); fuel = 10000000; until = 1000000000000; refresh = 60; late = []; latencies = []; arrivals = [] }
 
 storm_10 : summary_text storm_10_script storm_10_setup four_hosts ([]) ≡ codes "turns 6\ncalls 11\ndrops 4\nsettles 12\n"
 unfolding run run_by

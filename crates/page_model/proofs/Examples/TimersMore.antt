@@ -21,7 +21,7 @@ timeout_clamped_above_nesting_5_script =
 
 abbrev timeout_clamped_above_nesting_5_setup : Setup
 timeout_clamped_above_nesting_5_setup =
-    record { policy = (Rank default_list); fuel = 1000000; until = 10000; refresh = 60; late = []; latencies = []; arrivals = [] }
+    record { form = 1; trace = 1; policy = (Rank default_list); fuel = 1000000; until = 10000; refresh = 60; late = []; latencies = []; arrivals = [] }
 
 timeout_clamped_above_nesting_5 : logs_of (page_trace timeout_clamped_above_nesting_5_script timeout_clamped_above_nesting_5_setup four_hosts ([])) ≡ codes "0 0\n0 0\n0 0\n0 0\n0 0\n0 0\n4000 4000\n8000 8000\n"
 unfolding page_trace run run_by
@@ -39,7 +39,7 @@ interval_clamped_above_nesting_5_script =
 
 abbrev interval_clamped_above_nesting_5_setup : Setup
 interval_clamped_above_nesting_5_setup =
-    record { policy = (Rank default_list); fuel = 1000000; until = 10000; refresh = 60; late = []; latencies = []; arrivals = [] }
+    record { form = 1; trace = 1; policy = (Rank default_list); fuel = 1000000; until = 10000; refresh = 60; late = []; latencies = []; arrivals = [] }
 
 interval_clamped_above_nesting_5 : logs_of (page_trace interval_clamped_above_nesting_5_script interval_clamped_above_nesting_5_setup four_hosts ([])) ≡ codes "0 0\n0 0\n0 0\n0 0\n0 0\n0 0\n4000 4000\n8000 8000\n"
 unfolding page_trace run run_by
@@ -57,7 +57,7 @@ timeout_of_2_to_the_31_fires_at_once_script =
 
 abbrev timeout_of_2_to_the_31_fires_at_once_setup : Setup
 timeout_of_2_to_the_31_fires_at_once_setup =
-    record { policy = (Rank default_list); fuel = 1000000; until = 10000000; refresh = 60; late = []; latencies = []; arrivals = [] }
+    record { form = 1; trace = 1; policy = (Rank default_list); fuel = 1000000; until = 10000000; refresh = 60; late = []; latencies = []; arrivals = [] }
 
 timeout_of_2_to_the_31_fires_at_once : logs_of (page_trace timeout_of_2_to_the_31_fires_at_once_script timeout_of_2_to_the_31_fires_at_once_setup four_hosts ([])) ≡ codes "0 0\n"
 unfolding page_trace run run_by
@@ -75,7 +75,7 @@ greatest_timeout_is_past_until_script =
 
 abbrev greatest_timeout_is_past_until_setup : Setup
 greatest_timeout_is_past_until_setup =
-    record { policy = (Rank default_list); fuel = 1000000; until = 10000000; refresh = 60; late = []; latencies = []; arrivals = [] }
+    record { form = 1; trace = 1; policy = (Rank default_list); fuel = 1000000; until = 10000000; refresh = 60; late = []; latencies = []; arrivals = [] }
 
 greatest_timeout_is_past_until : page_trace greatest_timeout_is_past_until_script greatest_timeout_is_past_until_setup four_hosts ([]) ≡ codes "trace 1\n0 turn 1 dom\n0 call 1\n0 reg 2 timeout\n0 arm 2 2147483647000 1\n0 ret\n10000000 end clock\n"
 unfolding page_trace run run_by
@@ -98,7 +98,7 @@ values_and_faults_script =
 
 abbrev values_and_faults_setup : Setup
 values_and_faults_setup =
-    record { policy = (Rank default_list); fuel = 1000000; until = 10000000; refresh = 60; late = []; latencies = []; arrivals = [] }
+    record { form = 1; trace = 1; policy = (Rank default_list); fuel = 1000000; until = 10000000; refresh = 60; late = []; latencies = []; arrivals = [] }
 
 values_and_faults : page_trace values_and_faults_script values_and_faults_setup four_hosts ([]) ≡ codes "trace 1\n0 turn 1 dom\n0 call 1\n0 log 5\n0 log [1,\"a\",[true]]\n0 log fn:h(\"x\")\n0 log \"xy\"\n0 throw RangeError(\"\")\n0 report RangeError(\"\")\n0 end done\n"
 unfolding page_trace run run_by

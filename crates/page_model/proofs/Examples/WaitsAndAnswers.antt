@@ -20,7 +20,7 @@ arrivals_without_listeners_by_fifo_script =
 
 abbrev arrivals_without_listeners_by_fifo_setup : Setup
 arrivals_without_listeners_by_fifo_setup =
-    record { policy = Fifo; fuel = 1000000; until = 10000000; refresh = 60; late = []; latencies = []; arrivals = record { at = 0; source = Net; name = codes "a"; value = (IntValue (pos 1)) } ∷ record { at = 0; source = User; name = codes "a"; value = (IntValue (pos 2)) } ∷ [] }
+    record { form = 1; trace = 1; policy = Fifo; fuel = 1000000; until = 10000000; refresh = 60; late = []; latencies = []; arrivals = record { at = 0; source = Net; name = codes "a"; value = (IntValue (pos 1)) } ∷ record { at = 0; source = User; name = codes "a"; value = (IntValue (pos 2)) } ∷ [] }
 
 arrivals_without_listeners_by_fifo : page_trace arrivals_without_listeners_by_fifo_script arrivals_without_listeners_by_fifo_setup four_hosts ([]) ≡ codes "trace 1\n0 turn 1 dom\n0 call 1\n0 ret\n0 turn 2 net\n0 turn 3 user\n0 end done\n"
 unfolding page_trace run run_by
@@ -37,7 +37,7 @@ arrivals_without_listeners_by_rank_script =
 
 abbrev arrivals_without_listeners_by_rank_setup : Setup
 arrivals_without_listeners_by_rank_setup =
-    record { policy = (Rank default_list); fuel = 1000000; until = 10000000; refresh = 60; late = []; latencies = []; arrivals = record { at = 0; source = Net; name = codes "a"; value = (IntValue (pos 1)) } ∷ record { at = 0; source = User; name = codes "a"; value = (IntValue (pos 2)) } ∷ [] }
+    record { form = 1; trace = 1; policy = (Rank default_list); fuel = 1000000; until = 10000000; refresh = 60; late = []; latencies = []; arrivals = record { at = 0; source = Net; name = codes "a"; value = (IntValue (pos 1)) } ∷ record { at = 0; source = User; name = codes "a"; value = (IntValue (pos 2)) } ∷ [] }
 
 arrivals_without_listeners_by_rank : page_trace arrivals_without_listeners_by_rank_script arrivals_without_listeners_by_rank_setup four_hosts ([]) ≡ codes "trace 1\n0 turn 1 dom\n0 call 1\n0 ret\n0 turn 2 user\n0 turn 3 net\n0 end done\n"
 unfolding page_trace run run_by
@@ -54,7 +54,7 @@ late_reading_of_the_clock_script =
 
 abbrev late_reading_of_the_clock_setup : Setup
 late_reading_of_the_clock_setup =
-    record { policy = (Rank default_list); fuel = 1000000; until = 10000000; refresh = 60; late = 20 ∷ []; latencies = []; arrivals = record { at = 500; source = User; name = codes "a"; value = (IntValue (pos 1)) } ∷ [] }
+    record { form = 1; trace = 1; policy = (Rank default_list); fuel = 1000000; until = 10000000; refresh = 60; late = 20 ∷ []; latencies = []; arrivals = record { at = 500; source = User; name = codes "a"; value = (IntValue (pos 1)) } ∷ [] }
 
 late_reading_of_the_clock : page_trace late_reading_of_the_clock_script late_reading_of_the_clock_setup four_hosts ([]) ≡ codes "trace 1\n0 turn 1 dom\n0 call 1\n0 ret\n520 wait 500\n520 turn 2 user\n520 end done\n"
 unfolding page_trace run run_by
@@ -72,7 +72,7 @@ run_past_until_ends_by_the_clock_script =
 
 abbrev run_past_until_ends_by_the_clock_setup : Setup
 run_past_until_ends_by_the_clock_setup =
-    record { policy = (Rank default_list); fuel = 1000000; until = 5; refresh = 60; late = []; latencies = []; arrivals = record { at = 9; source = User; name = codes "a"; value = (IntValue (pos 1)) } ∷ [] }
+    record { form = 1; trace = 1; policy = (Rank default_list); fuel = 1000000; until = 5; refresh = 60; late = []; latencies = []; arrivals = record { at = 9; source = User; name = codes "a"; value = (IntValue (pos 1)) } ∷ [] }
 
 run_past_until_ends_by_the_clock : page_trace run_past_until_ends_by_the_clock_script run_past_until_ends_by_the_clock_setup four_hosts ([]) ≡ codes "trace 1\n0 turn 1 dom\n0 call 1\n7 ret\n7 end clock\n"
 unfolding page_trace run run_by
@@ -90,7 +90,7 @@ closure_without_a_latency_script =
 
 abbrev closure_without_a_latency_setup : Setup
 closure_without_a_latency_setup =
-    record { policy = (Rank default_list); fuel = 1000000; until = 10000000; refresh = 60; late = []; latencies = []; arrivals = [] }
+    record { form = 1; trace = 1; policy = (Rank default_list); fuel = 1000000; until = 10000000; refresh = 60; late = []; latencies = []; arrivals = [] }
 
 closure_without_a_latency : page_trace closure_without_a_latency_script closure_without_a_latency_setup six_hosts (Ok (pos 2) ∷ []) ≡ codes "trace 1\n0 turn 1 dom\n0 call 1\n0 reg 2 host\n0 arm 2 0 0\n0 ret\n0 due 2\n0 turn 2 net\n0 host 5 1 ok 2\n0 settle 1 ok 2\n0 end done\n"
 unfolding page_trace run run_by
@@ -110,7 +110,7 @@ closure_or_number_out_of_range_script =
 
 abbrev closure_or_number_out_of_range_setup : Setup
 closure_or_number_out_of_range_setup =
-    record { policy = (Rank default_list); fuel = 1000000; until = 10000000; refresh = 60; late = []; latencies = []; arrivals = [] }
+    record { form = 1; trace = 1; policy = (Rank default_list); fuel = 1000000; until = 10000000; refresh = 60; late = []; latencies = []; arrivals = [] }
 
 closure_or_number_out_of_range : logs_of (page_trace closure_or_number_out_of_range_script closure_or_number_out_of_range_setup four_hosts ([])) ≡ codes "0 RangeError(\"\")\n0 RangeError(\"\")\n"
 unfolding page_trace run run_by
@@ -132,7 +132,7 @@ aborted_host_answer_leaves_no_host_line_script =
 
 abbrev aborted_host_answer_leaves_no_host_line_setup : Setup
 aborted_host_answer_leaves_no_host_line_setup =
-    record { policy = (Rank default_list); fuel = 1000000; until = 10000000; refresh = 60; late = []; latencies = record { closure = 0; latency = 3000 } ∷ []; arrivals = [] }
+    record { form = 1; trace = 1; policy = (Rank default_list); fuel = 1000000; until = 10000000; refresh = 60; late = []; latencies = record { closure = 0; latency = 3000 } ∷ []; arrivals = [] }
 
 aborted_host_answer_leaves_no_host_line : page_trace aborted_host_answer_leaves_no_host_line_script aborted_host_answer_leaves_no_host_line_setup four_hosts ([]) ≡ codes "trace 1\n0 turn 1 dom\n0 call 1\n0 reg 2 host\n0 arm 2 3000 0\n0 reg 3 then\n0 reg 4 timeout\n0 arm 4 1000 1\n0 ret\n1000 wait 1000\n1000 due 4\n1000 turn 2 timer\n1000 call 4\n1000 abort 1\n1000 settle 1 err AbortError(\"\")\n1000 job 1 react 1\n1000 drop 2\n1000 ret\n1000 run 1\n1000 call 3\n1000 log AbortError(\"\")\n1000 ret\n1000 settle 2 ok unit\n1000 end done\n"
 unfolding page_trace run run_by
@@ -154,7 +154,7 @@ aborted_host_answer_already_due_script =
 
 abbrev aborted_host_answer_already_due_setup : Setup
 aborted_host_answer_already_due_setup =
-    record { policy = (Rank default_list); fuel = 1000000; until = 10000000; refresh = 60; late = []; latencies = record { closure = 0; latency = 1000 } ∷ []; arrivals = [] }
+    record { form = 1; trace = 1; policy = (Rank default_list); fuel = 1000000; until = 10000000; refresh = 60; late = []; latencies = record { closure = 0; latency = 1000 } ∷ []; arrivals = [] }
 
 aborted_host_answer_already_due : page_trace aborted_host_answer_already_due_script aborted_host_answer_already_due_setup four_hosts ([]) ≡ codes "trace 1\n0 turn 1 dom\n0 call 1\n0 reg 2 host\n0 arm 2 1000 0\n0 reg 3 then\n0 reg 4 timeout\n0 arm 4 1000 1\n0 ret\n1000 wait 1000\n1000 due 2\n1000 due 4\n1000 turn 2 timer\n1000 call 4\n1000 abort 1\n1000 settle 1 err AbortError(\"\")\n1000 job 1 react 1\n1000 drop 2\n1000 ret\n1000 run 1\n1000 call 3\n1000 log AbortError(\"\")\n1000 ret\n1000 settle 2 ok unit\n1000 turn 3 net\n1000 end done\n"
 unfolding page_trace run run_by

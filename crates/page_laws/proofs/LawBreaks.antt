@@ -5,45 +5,45 @@ use Rattle.page_types.specs.declared.End.TheVariants as end
 use Rattle.page_types.specs.declared.RegKind.TheVariants as kind
 use Rattle.page_types.specs.declared.Priority.TheVariants.{Background, UserVisible, UserBlocking}
 use Rattle.page_types.specs.Events.{MicroJob, ReactJob, FixedQueue, SignalQueue, Turn, Call, Ret, Throw, Log, Reg, Arm, Due, Drop, Job, Run, Settle, Period, IdleLine, Frame, Enq, Prio, Host, EndLine, Stamped}
-use Rattle.trace_text.proofs.LawExamples.{at}
-use Rattle.trace_text.specs.CallLaws.{holds_once, holds_cancel, holds_settle_once, holds_jobs_in_order, holds_no_nesting}
-use Rattle.trace_text.specs.TimerLaws.{holds_timers_in_order, holds_frames_in_order, holds_idle_deadlines}
-use Rattle.trace_text.specs.SchedulerLaws.{holds_priority_order, holds_ends_truly}
+use Rattle.page_laws.proofs.LawExamples.{at}
+use Rattle.page_laws.specs.CallLaws.{holds_once, holds_cancel, holds_settle_once, holds_jobs_in_order, holds_no_nesting}
+use Rattle.page_laws.specs.TimerLaws.{holds_timers_in_order, holds_frames_in_order, holds_idle_deadlines}
+use Rattle.page_laws.specs.SchedulerLaws.{holds_priority_order, holds_ends_truly}
 
-registered_twice : holds_once (at 0 (Reg 2 kind.Timeout) ∷ at 0 (Reg 2 kind.Micro) ∷ []) ≡ false
+registered_twice : holds_once (at 0 (Reg 2 kind.Timeout None) ∷ at 0 (Reg 2 kind.Micro None) ∷ []) ≡ false
 registered_twice = refl
 
-called_before_it_is_registered : holds_once (at 0 (Call 2) ∷ at 0 (Reg 2 kind.Timeout) ∷ []) ≡ false
+called_before_it_is_registered : holds_once (at 0 (Call 2) ∷ at 0 (Reg 2 kind.Timeout None) ∷ []) ≡ false
 called_before_it_is_registered = refl
 
-timeout_called_twice : holds_once (at 0 (Reg 2 kind.Timeout) ∷ at 0 (Call 2) ∷ at 0 Ret ∷ at 0 (Call 2) ∷ []) ≡ false
+timeout_called_twice : holds_once (at 0 (Reg 2 kind.Timeout None) ∷ at 0 (Call 2) ∷ at 0 Ret ∷ at 0 (Call 2) ∷ []) ≡ false
 timeout_called_twice = refl
 
-interval_called_twice : holds_once (at 0 (Reg 2 kind.Interval) ∷ at 0 (Call 2) ∷ at 0 Ret ∷ at 0 (Call 2) ∷ []) ≡ true
+interval_called_twice : holds_once (at 0 (Reg 2 kind.Interval None) ∷ at 0 (Call 2) ∷ at 0 Ret ∷ at 0 (Call 2) ∷ []) ≡ true
 interval_called_twice = refl
 
 script_called_twice : holds_once (at 0 (Call 1) ∷ at 0 Ret ∷ at 0 (Call 1) ∷ []) ≡ false
 script_called_twice = refl
 
-host_is_called : holds_once (at 0 (Reg 2 kind.Host) ∷ at 0 (Call 2) ∷ []) ≡ false
+host_is_called : holds_once (at 0 (Reg 2 kind.Host None) ∷ at 0 (Call 2) ∷ []) ≡ false
 host_is_called = refl
 
 closure_answers_twice : holds_once (at 0 (Host 0 (pos 1) (Ok (pos 1))) ∷ at 0 (Host 0 (pos 2) (Ok (pos 4))) ∷ []) ≡ false
 closure_answers_twice = refl
 
-called_after_its_cancel : holds_cancel (at 0 (Reg 2 kind.Frame) ∷ at 0 (Drop 2) ∷ at 0 (Call 2) ∷ []) ≡ false
+called_after_its_cancel : holds_cancel (at 0 (Reg 2 kind.Frame None) ∷ at 0 (Drop 2) ∷ at 0 (Call 2) ∷ []) ≡ false
 called_after_its_cancel = refl
 
-enqueued_after_its_cancel : holds_cancel (at 0 (Reg 2 kind.Post) ∷ at 0 (Drop 2) ∷ at 0 (Enq 2 (FixedQueue UserVisible) false 2) ∷ []) ≡ false
+enqueued_after_its_cancel : holds_cancel (at 0 (Reg 2 kind.Post None) ∷ at 0 (Drop 2) ∷ at 0 (Enq 2 (FixedQueue UserVisible) false 2) ∷ []) ≡ false
 enqueued_after_its_cancel = refl
 
-dropped_host_is_due : holds_cancel (at 0 (Reg 2 kind.Host) ∷ at 0 (Drop 2) ∷ at 0 (Due 2) ∷ []) ≡ false
+dropped_host_is_due : holds_cancel (at 0 (Reg 2 kind.Host None) ∷ at 0 (Drop 2) ∷ at 0 (Due 2) ∷ []) ≡ false
 dropped_host_is_due = refl
 
-cleared_timer_is_due : holds_cancel (at 0 (Reg 2 kind.Timeout) ∷ at 0 (Drop 2) ∷ at 0 (Due 2) ∷ []) ≡ true
+cleared_timer_is_due : holds_cancel (at 0 (Reg 2 kind.Timeout None) ∷ at 0 (Drop 2) ∷ at 0 (Due 2) ∷ []) ≡ true
 cleared_timer_is_due = refl
 
-dropped_host_answers : holds_cancel (at 0 (Reg 2 kind.Host) ∷ at 0 (Due 2) ∷ at 0 (Drop 2) ∷ at 0 (Host 0 (pos 1) (Ok (pos 1))) ∷ []) ≡ false
+dropped_host_answers : holds_cancel (at 0 (Reg 2 kind.Host None) ∷ at 0 (Due 2) ∷ at 0 (Drop 2) ∷ at 0 (Host 0 (pos 1) (Ok (pos 1))) ∷ []) ≡ false
 dropped_host_answers = refl
 
 settled_twice : holds_settle_once (at 0 (Settle 1 true (codes "1")) ∷ at 0 (Settle 1 false (codes "2")) ∷ []) ≡ false
@@ -77,53 +77,53 @@ job_run_inside_an_outer_call = refl
 abbrev two_timeouts : ℕ → ℕ → List Stamped → List Stamped
 two_timeouts first second more =
     at 0 (Call 1) ∷
-    at 0 (Reg 2 kind.Timeout) ∷
+    at 0 (Reg 2 kind.Timeout None) ∷
     at 0 (Arm 2 first 1) ∷
-    at 0 (Reg 3 kind.Timeout) ∷
+    at 0 (Reg 3 kind.Timeout None) ∷
     at 0 (Arm 3 second 1) ∷
     at 0 Ret ∷
     more
 
-first_is_due_first : holds_timers_in_order (two_timeouts 1000 1000 (at 1000 (Due 2) ∷ at 1000 (Due 3) ∷ [])) ≡ true
+first_is_due_first : holds_timers_in_order 1 (two_timeouts 1000 1000 (at 1000 (Due 2) ∷ at 1000 (Due 3) ∷ [])) ≡ true
 first_is_due_first = refl
 
-second_overtakes : holds_timers_in_order (two_timeouts 1000 1000 (at 1000 (Due 3) ∷ at 1000 (Due 2) ∷ [])) ≡ false
+second_overtakes : holds_timers_in_order 1 (two_timeouts 1000 1000 (at 1000 (Due 3) ∷ at 1000 (Due 2) ∷ [])) ≡ false
 second_overtakes = refl
 
-second_is_armed_for_earlier : holds_timers_in_order (two_timeouts 2000 1000 (at 1000 (Due 3) ∷ at 2000 (Due 2) ∷ [])) ≡ true
+second_is_armed_for_earlier : holds_timers_in_order 1 (two_timeouts 2000 1000 (at 1000 (Due 3) ∷ at 2000 (Due 2) ∷ [])) ≡ true
 second_is_armed_for_earlier = refl
 
-due_before_its_time : holds_timers_in_order (two_timeouts 1000 2000 (at 999 (Due 2) ∷ [])) ≡ false
+due_before_its_time : holds_timers_in_order 1 (two_timeouts 1000 2000 (at 999 (Due 2) ∷ [])) ≡ false
 due_before_its_time = refl
 
-due_twice : holds_timers_in_order (two_timeouts 1000 2000 (at 1000 (Due 2) ∷ at 1000 (Due 2) ∷ [])) ≡ false
+due_twice : holds_timers_in_order 1 (two_timeouts 1000 2000 (at 1000 (Due 2) ∷ at 1000 (Due 2) ∷ [])) ≡ false
 due_twice = refl
 
-called_before_it_is_due : holds_timers_in_order (two_timeouts 1000 2000 (at 1000 (Call 2) ∷ [])) ≡ false
+called_before_it_is_due : holds_timers_in_order 1 (two_timeouts 1000 2000 (at 1000 (Call 2) ∷ [])) ≡ false
 called_before_it_is_due = refl
 
-no_whole_milliseconds : holds_timers_in_order (two_timeouts 1500 2000 []) ≡ false
+no_whole_milliseconds : holds_timers_in_order 1 (two_timeouts 1500 2000 []) ≡ false
 no_whole_milliseconds = refl
 
 -- a timeout in the callback of a timeout of the script
 abbrev timeout_in_timeout : ℕ → ℕ → List Stamped
 timeout_in_timeout due level =
-    two_timeouts 0 0 (at 0 (Due 2) ∷ at 0 (Call 2) ∷ at 0 (Reg 4 kind.Timeout) ∷ at 0 (Arm 4 due level) ∷ [])
+    two_timeouts 0 0 (at 0 (Due 2) ∷ at 0 (Call 2) ∷ at 0 (Reg 4 kind.Timeout None) ∷ at 0 (Arm 4 due level) ∷ [])
 
-timeout_in_timeout_gains_a_level : holds_timers_in_order (timeout_in_timeout 0 2) ≡ true
+timeout_in_timeout_gains_a_level : holds_timers_in_order 1 (timeout_in_timeout 0 2) ≡ true
 timeout_in_timeout_gains_a_level = refl
 
-timeout_in_timeout_keeps_its_level : holds_timers_in_order (timeout_in_timeout 0 1) ≡ false
+timeout_in_timeout_keeps_its_level : holds_timers_in_order 1 (timeout_in_timeout 0 1) ≡ false
 timeout_in_timeout_keeps_its_level = refl
 
-level_of_a_timeout_in_the_script : holds_timers_in_order (at 0 (Call 1) ∷ at 0 (Reg 2 kind.Timeout) ∷ at 0 (Arm 2 0 2) ∷ []) ≡ false
+level_of_a_timeout_in_the_script : holds_timers_in_order 1 (at 0 (Call 1) ∷ at 0 (Reg 2 kind.Timeout None) ∷ at 0 (Arm 2 0 2) ∷ []) ≡ false
 level_of_a_timeout_in_the_script = refl
 
 -- an interval that is armed again when no call is open
 abbrev interval_again : ℕ → ℕ → List Stamped
 interval_again due level =
     at 0 (Call 1) ∷
-    at 0 (Reg 2 kind.Interval) ∷
+    at 0 (Reg 2 kind.Interval None) ∷
     at 0 (Arm 2 0 1) ∷
     at 0 Ret ∷
     at 0 (Due 2) ∷
@@ -132,10 +132,10 @@ interval_again due level =
     at 0 (Arm 2 due level) ∷
     []
 
-interval_gains_a_level : holds_timers_in_order (interval_again 0 2) ≡ true
+interval_gains_a_level : holds_timers_in_order 1 (interval_again 0 2) ≡ true
 interval_gains_a_level = refl
 
-interval_keeps_its_level : holds_timers_in_order (interval_again 0 1) ≡ false
+interval_keeps_its_level : holds_timers_in_order 1 (interval_again 0 1) ≡ false
 interval_keeps_its_level = refl
 
 -- an interval of the script that is armed seven times, the last time for this time
@@ -145,25 +145,25 @@ again due level more = at 0 (Due 2) ∷ at 0 (Call 2) ∷ at 0 Ret ∷ at 0 (Arm
 abbrev seventh_time : ℕ → List Stamped
 seventh_time due =
     at 0 (Call 1) ∷
-    at 0 (Reg 2 kind.Interval) ∷
+    at 0 (Reg 2 kind.Interval None) ∷
     at 0 (Arm 2 0 1) ∷
     at 0 Ret ∷
     again 0 2 (again 0 3 (again 0 4 (again 0 5 (again 0 6 (again due 7 [])))))
 
-clamped_at_level_7 : holds_timers_in_order (seventh_time 4000) ≡ true
+clamped_at_level_7 : holds_timers_in_order 1 (seventh_time 4000) ≡ true
 clamped_at_level_7 = refl
 
-not_clamped_at_level_7 : holds_timers_in_order (seventh_time 3000) ≡ false
+not_clamped_at_level_7 : holds_timers_in_order 1 (seventh_time 3000) ≡ false
 not_clamped_at_level_7 = refl
 
-post_armed_with_a_level : holds_timers_in_order (at 0 (Reg 2 kind.Post) ∷ at 0 (Arm 2 1000 1) ∷ []) ≡ false
+post_armed_with_a_level : holds_timers_in_order 1 (at 0 (Reg 2 kind.Post None) ∷ at 0 (Arm 2 1000 1) ∷ []) ≡ false
 post_armed_with_a_level = refl
 
 -- frames: requested, and then these lines of a turn
 abbrev in_a_frame : List Stamped → List Stamped
 in_a_frame more =
-    at 0 (Reg 2 kind.Frame) ∷
-    at 0 (Reg 3 kind.Frame) ∷
+    at 0 (Reg 2 kind.Frame None) ∷
+    at 0 (Reg 3 kind.Frame None) ∷
     at 16666 (Turn 2 (Some Render)) ∷
     more
 
@@ -176,7 +176,7 @@ frame_backwards = refl
 frame_callback_without_frame : holds_frames_in_order (in_a_frame (at 16666 (Call 2) ∷ [])) ≡ false
 frame_callback_without_frame = refl
 
-frame_callback_requested_in_its_frame : holds_frames_in_order (in_a_frame (at 16666 (Frame 16666) ∷ at 16666 (Reg 4 kind.Frame) ∷ at 16666 (Call 4) ∷ [])) ≡ false
+frame_callback_requested_in_its_frame : holds_frames_in_order (in_a_frame (at 16666 (Frame 16666) ∷ at 16666 (Reg 4 kind.Frame None) ∷ at 16666 (Call 4) ∷ [])) ≡ false
 frame_callback_requested_in_its_frame = refl
 
 frame_callback_left_out : holds_frames_in_order (in_a_frame (at 16666 (Frame 16666) ∷ at 16666 (Call 2) ∷ at 16666 Ret ∷ at 16666 (Turn 3 (Some Timer)) ∷ [])) ≡ false
@@ -189,9 +189,9 @@ frame_callback_cancelled = refl
 abbrev in_a_period : List Stamped → List Stamped
 in_a_period more =
     at 0 (Call 1) ∷
-    at 0 (Reg 2 kind.Idle) ∷
-    at 0 (Reg 3 kind.Idle) ∷
-    at 0 (Reg 4 kind.Timeout) ∷
+    at 0 (Reg 2 kind.Idle None) ∷
+    at 0 (Reg 3 kind.Idle None) ∷
+    at 0 (Reg 4 kind.Timeout None) ∷
     at 0 (Arm 4 20000 1) ∷
     at 0 Ret ∷
     at 0 (Period 20000) ∷
@@ -206,19 +206,19 @@ idle_backwards = refl
 deadline_past_an_active_timer : holds_idle_deadlines (in_a_period (at 0 (IdleLine 20001) ∷ [])) ≡ false
 deadline_past_an_active_timer = refl
 
-deadline_past_50_milliseconds : holds_idle_deadlines (at 0 (Reg 2 kind.Idle) ∷ at 0 (Period 50000) ∷ at 0 (IdleLine 50001) ∷ []) ≡ false
+deadline_past_50_milliseconds : holds_idle_deadlines (at 0 (Reg 2 kind.Idle None) ∷ at 0 (Period 50000) ∷ at 0 (IdleLine 50001) ∷ []) ≡ false
 deadline_past_50_milliseconds = refl
 
 deadline_that_is_over : holds_idle_deadlines (in_a_period (at 20000 (IdleLine 20000) ∷ [])) ≡ false
 deadline_that_is_over = refl
 
-idle_line_without_period : holds_idle_deadlines (at 0 (Reg 2 kind.Idle) ∷ at 0 (IdleLine 50000) ∷ []) ≡ false
+idle_line_without_period : holds_idle_deadlines (at 0 (Reg 2 kind.Idle None) ∷ at 0 (IdleLine 50000) ∷ []) ≡ false
 idle_line_without_period = refl
 
 idle_line_without_call : holds_idle_deadlines (in_a_period (at 0 (IdleLine 20000) ∷ at 0 Ret ∷ [])) ≡ false
 idle_line_without_call = refl
 
-requested_in_the_period : holds_idle_deadlines (in_a_period (at 0 (Reg 5 kind.Idle) ∷ at 0 (IdleLine 20000) ∷ at 0 (Call 5) ∷ [])) ≡ false
+requested_in_the_period : holds_idle_deadlines (in_a_period (at 0 (Reg 5 kind.Idle None) ∷ at 0 (IdleLine 20000) ∷ at 0 (Call 5) ∷ [])) ≡ false
 requested_in_the_period = refl
 
 idle_callback_without_idle_line : holds_idle_deadlines (in_a_period (at 0 (Call 2) ∷ [])) ≡ false
@@ -231,11 +231,11 @@ idle_callback_by_its_timeout = refl
 abbrev three_tasks : Stamped → List Stamped → List Stamped
 three_tasks priority more =
     at 0 (Prio 1 Background) ∷
-    at 0 (Reg 2 kind.Post) ∷
+    at 0 (Reg 2 kind.Post None) ∷
     at 0 (Enq 2 (SignalQueue 1) false 2) ∷
-    at 0 (Reg 3 kind.Post) ∷
+    at 0 (Reg 3 kind.Post None) ∷
     at 0 (Enq 3 (SignalQueue 1) false 3) ∷
-    at 0 (Reg 4 kind.Post) ∷
+    at 0 (Reg 4 kind.Post None) ∷
     at 0 (Enq 4 (FixedQueue UserVisible) false 4) ∷
     priority ∷
     at 0 (Turn 2 (Some Sched)) ∷
@@ -265,22 +265,22 @@ task_called_in_another_turn = refl
 order_falls : holds_priority_order (at 0 (Enq 2 (FixedQueue UserVisible) false 3) ∷ at 0 (Enq 3 (FixedQueue UserVisible) false 2) ∷ []) ≡ false
 order_falls = refl
 
-task_before_continuation : holds_priority_order (at 0 (Reg 2 kind.Post) ∷ at 0 (Enq 2 (FixedQueue UserVisible) false 2) ∷ at 0 (Reg 3 kind.Yield) ∷ at 0 (Enq 3 (FixedQueue UserVisible) true 3) ∷ at 0 (Turn 2 (Some Sched)) ∷ at 0 (Call 2) ∷ []) ≡ false
+task_before_continuation : holds_priority_order (at 0 (Reg 2 kind.Post None) ∷ at 0 (Enq 2 (FixedQueue UserVisible) false 2) ∷ at 0 (Reg 3 kind.Yield None) ∷ at 0 (Enq 3 (FixedQueue UserVisible) true 3) ∷ at 0 (Turn 2 (Some Sched)) ∷ at 0 (Call 2) ∷ []) ≡ false
 task_before_continuation = refl
 
-done_with_an_active_timer : holds_ends_truly 10000 100 (at 0 (Reg 2 kind.Timeout) ∷ at 0 (Arm 2 0 1) ∷ at 0 (Drop 2) ∷ at 0 (EndLine end.Done) ∷ []) ≡ false
+done_with_an_active_timer : holds_ends_truly 10000 100 (at 0 (Reg 2 kind.Timeout None) ∷ at 0 (Arm 2 0 1) ∷ at 0 (Drop 2) ∷ at 0 (EndLine end.Done) ∷ []) ≡ false
 done_with_an_active_timer = refl
 
-done_with_an_idle_callback : holds_ends_truly 10000 100 (at 0 (Reg 2 kind.Idle) ∷ at 0 (EndLine end.Done) ∷ []) ≡ false
+done_with_an_idle_callback : holds_ends_truly 10000 100 (at 0 (Reg 2 kind.Idle None) ∷ at 0 (EndLine end.Done) ∷ []) ≡ false
 done_with_an_idle_callback = refl
 
-done_with_an_interval : holds_ends_truly 10000 100 (at 0 (Reg 2 kind.Interval) ∷ at 0 (Arm 2 0 1) ∷ at 0 (Due 2) ∷ at 0 (Call 2) ∷ at 0 Ret ∷ at 0 (EndLine end.Done) ∷ []) ≡ false
+done_with_an_interval : holds_ends_truly 10000 100 (at 0 (Reg 2 kind.Interval None) ∷ at 0 (Arm 2 0 1) ∷ at 0 (Due 2) ∷ at 0 (Call 2) ∷ at 0 Ret ∷ at 0 (EndLine end.Done) ∷ []) ≡ false
 done_with_an_interval = refl
 
-done_with_a_silent_host : holds_ends_truly 10000 100 (at 0 (Reg 2 kind.Host) ∷ at 0 (Arm 2 0 0) ∷ at 0 (Due 2) ∷ at 0 (EndLine end.Done) ∷ []) ≡ false
+done_with_a_silent_host : holds_ends_truly 10000 100 (at 0 (Reg 2 kind.Host None) ∷ at 0 (Arm 2 0 0) ∷ at 0 (Due 2) ∷ at 0 (EndLine end.Done) ∷ []) ≡ false
 done_with_a_silent_host = refl
 
-done_with_a_dropped_host : holds_ends_truly 10000 100 (at 0 (Reg 2 kind.Host) ∷ at 0 (Arm 2 0 0) ∷ at 0 (Drop 2) ∷ at 0 (EndLine end.Done) ∷ []) ≡ true
+done_with_a_dropped_host : holds_ends_truly 10000 100 (at 0 (Reg 2 kind.Host None) ∷ at 0 (Arm 2 0 0) ∷ at 0 (Drop 2) ∷ at 0 (EndLine end.Done) ∷ []) ≡ true
 done_with_a_dropped_host = refl
 
 clock_before_until : holds_ends_truly 10000 100 (at 9999 (EndLine end.Clock) ∷ []) ≡ false

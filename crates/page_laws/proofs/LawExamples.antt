@@ -1,13 +1,13 @@
 -- The laws, computed on the traces of worked examples, which meet them all.
-use Rattle.std.specs.Prelude.{◌≡◌, ℕ, true, false, List, [], ◌∷◌, Some, pos, Ok, codes, refl}
+use Rattle.std.specs.Prelude.{◌≡◌, ℕ, true, false, List, [], ◌∷◌, Some, None, pos, Ok, codes, refl}
 use Rattle.page_types.specs.declared.Source.TheVariants.{User, Net, Dom, Timer, Render, Sched, Idle}
 use Rattle.page_types.specs.declared.End.TheVariants as end
 use Rattle.page_types.specs.declared.RegKind.TheVariants as kind
 use Rattle.page_types.specs.declared.Priority.TheVariants.{UserVisible}
 use Rattle.page_types.specs.Events.{MicroJob, ReactJob, FixedQueue, Event, Turn, Call, Ret, Log, Reg, Arm, Due, Drop, Job, Run, Settle, Period, IdleLine, Frame, Enq, Abort, Wait, Host, Unhandled, EndLine, Stamped}
-use Rattle.trace_text.specs.CallLaws.{holds_once, holds_cancel, holds_settle_once, holds_jobs_in_order, holds_no_nesting}
-use Rattle.trace_text.specs.TimerLaws.{holds_timers_in_order, holds_frames_in_order, holds_idle_deadlines}
-use Rattle.trace_text.specs.SchedulerLaws.{holds_priority_order, holds_ends_truly}
+use Rattle.page_laws.specs.CallLaws.{holds_once, holds_cancel, holds_settle_once, holds_jobs_in_order, holds_no_nesting}
+use Rattle.page_laws.specs.TimerLaws.{holds_timers_in_order, holds_frames_in_order, holds_idle_deadlines}
+use Rattle.page_laws.specs.SchedulerLaws.{holds_priority_order, holds_ends_truly}
 
 abbrev pub at : ℕ → Event → Stamped
 at time event = record { time = time; event = event }
@@ -16,8 +16,8 @@ abbrev frames : List Stamped
 frames =
     at 0 (Turn 1 (Some Dom)) ∷
     at 0 (Call 1) ∷
-    at 0 (Reg 2 kind.Frame) ∷
-    at 0 (Reg 3 kind.Frame) ∷
+    at 0 (Reg 2 kind.Frame None) ∷
+    at 0 (Reg 3 kind.Frame None) ∷
     at 0 Ret ∷
     at 20000 (Wait 20000) ∷
     at 20000 (Turn 2 (Some Render)) ∷
@@ -25,7 +25,7 @@ frames =
     at 20000 (Call 2) ∷
     at 20000 (Log (codes "20000")) ∷
     at 20000 (Drop 3) ∷
-    at 20000 (Reg 4 kind.Frame) ∷
+    at 20000 (Reg 4 kind.Frame None) ∷
     at 20000 Ret ∷
     at 40000 (Wait 40000) ∷
     at 40000 (Turn 3 (Some Render)) ∷
@@ -51,7 +51,7 @@ frames-jobs_in_order = refl
 frames-no_nesting : holds_no_nesting frames ≡ true
 frames-no_nesting = refl
 
-frames-timers_in_order : holds_timers_in_order frames ≡ true
+frames-timers_in_order : holds_timers_in_order 1 frames ≡ true
 frames-timers_in_order = refl
 
 frames-frames_in_order : holds_frames_in_order frames ≡ true
@@ -70,11 +70,11 @@ abbrev host_answers : List Stamped
 host_answers =
     at 0 (Turn 1 (Some Dom)) ∷
     at 0 (Call 1) ∷
-    at 0 (Reg 2 kind.Host) ∷
+    at 0 (Reg 2 kind.Host None) ∷
     at 0 (Arm 2 3000 0) ∷
-    at 0 (Reg 3 kind.Then) ∷
+    at 0 (Reg 3 kind.Then None) ∷
     at 0 (Settle 3 false (codes "NotAllowedError(\"\")")) ∷
-    at 0 (Reg 4 kind.Then) ∷
+    at 0 (Reg 4 kind.Then None) ∷
     at 0 (Job 1 (ReactJob 3)) ∷
     at 0 Ret ∷
     at 0 (Run 1) ∷
@@ -111,7 +111,7 @@ host_answers-jobs_in_order = refl
 host_answers-no_nesting : holds_no_nesting host_answers ≡ true
 host_answers-no_nesting = refl
 
-host_answers-timers_in_order : holds_timers_in_order host_answers ≡ true
+host_answers-timers_in_order : holds_timers_in_order 1 host_answers ≡ true
 host_answers-timers_in_order = refl
 
 host_answers-frames_in_order : holds_frames_in_order host_answers ≡ true
@@ -130,8 +130,8 @@ abbrev idle_periods : List Stamped
 idle_periods =
     at 0 (Turn 1 (Some Dom)) ∷
     at 0 (Call 1) ∷
-    at 0 (Reg 2 kind.Idle) ∷
-    at 0 (Reg 3 kind.Idle) ∷
+    at 0 (Reg 2 kind.Idle None) ∷
+    at 0 (Reg 3 kind.Idle None) ∷
     at 0 Ret ∷
     at 0 (Period 50000) ∷
     at 0 (Turn 2 (Some Idle)) ∷
@@ -164,7 +164,7 @@ idle_periods-jobs_in_order = refl
 idle_periods-no_nesting : holds_no_nesting idle_periods ≡ true
 idle_periods-no_nesting = refl
 
-idle_periods-timers_in_order : holds_timers_in_order idle_periods ≡ true
+idle_periods-timers_in_order : holds_timers_in_order 1 idle_periods ≡ true
 idle_periods-timers_in_order = refl
 
 idle_periods-frames_in_order : holds_frames_in_order idle_periods ≡ true
@@ -183,17 +183,17 @@ abbrev yields : List Stamped
 yields =
     at 0 (Turn 1 (Some Dom)) ∷
     at 0 (Call 1) ∷
-    at 0 (Reg 2 kind.Post) ∷
+    at 0 (Reg 2 kind.Post None) ∷
     at 0 (Enq 2 (FixedQueue UserVisible) false 2) ∷
-    at 0 (Reg 3 kind.Post) ∷
+    at 0 (Reg 3 kind.Post None) ∷
     at 0 (Enq 3 (FixedQueue UserVisible) false 3) ∷
     at 0 Ret ∷
     at 0 (Turn 2 (Some Sched)) ∷
     at 0 (Call 2) ∷
     at 0 (Log (codes "\"a\"")) ∷
-    at 0 (Reg 4 kind.Yield) ∷
+    at 0 (Reg 4 kind.Yield None) ∷
     at 0 (Enq 4 (FixedQueue UserVisible) true 4) ∷
-    at 0 (Reg 5 kind.Then) ∷
+    at 0 (Reg 5 kind.Then None) ∷
     at 0 Ret ∷
     at 0 (Settle 1 true (codes "unit")) ∷
     at 0 (Turn 3 (Some Sched)) ∷
@@ -229,7 +229,7 @@ yields-jobs_in_order = refl
 yields-no_nesting : holds_no_nesting yields ≡ true
 yields-no_nesting = refl
 
-yields-timers_in_order : holds_timers_in_order yields ≡ true
+yields-timers_in_order : holds_timers_in_order 1 yields ≡ true
 yields-timers_in_order = refl
 
 yields-frames_in_order : holds_frames_in_order yields ≡ true
@@ -248,7 +248,7 @@ abbrev abort_in_task : List Stamped
 abort_in_task =
     at 0 (Turn 1 (Some Dom)) ∷
     at 0 (Call 1) ∷
-    at 0 (Reg 2 kind.Post) ∷
+    at 0 (Reg 2 kind.Post None) ∷
     at 0 (Enq 2 (FixedQueue UserVisible) false 2) ∷
     at 0 Ret ∷
     at 0 (Turn 2 (Some Sched)) ∷
@@ -276,7 +276,7 @@ abort_in_task-jobs_in_order = refl
 abort_in_task-no_nesting : holds_no_nesting abort_in_task ≡ true
 abort_in_task-no_nesting = refl
 
-abort_in_task-timers_in_order : holds_timers_in_order abort_in_task ≡ true
+abort_in_task-timers_in_order : holds_timers_in_order 1 abort_in_task ≡ true
 abort_in_task-timers_in_order = refl
 
 abort_in_task-frames_in_order : holds_frames_in_order abort_in_task ≡ true
@@ -296,12 +296,12 @@ handled_in_time =
     at 0 (Turn 1 (Some Dom)) ∷
     at 0 (Call 1) ∷
     at 0 (Settle 1 false (codes "\"x\"")) ∷
-    at 0 (Reg 2 kind.Micro) ∷
+    at 0 (Reg 2 kind.Micro None) ∷
     at 0 (Job 1 (MicroJob 2)) ∷
     at 0 Ret ∷
     at 0 (Run 1) ∷
     at 0 (Call 2) ∷
-    at 0 (Reg 3 kind.Then) ∷
+    at 0 (Reg 3 kind.Then None) ∷
     at 0 (Job 2 (ReactJob 1)) ∷
     at 0 Ret ∷
     at 0 (Run 2) ∷
@@ -326,7 +326,7 @@ handled_in_time-jobs_in_order = refl
 handled_in_time-no_nesting : holds_no_nesting handled_in_time ≡ true
 handled_in_time-no_nesting = refl
 
-handled_in_time-timers_in_order : holds_timers_in_order handled_in_time ≡ true
+handled_in_time-timers_in_order : holds_timers_in_order 1 handled_in_time ≡ true
 handled_in_time-timers_in_order = refl
 
 handled_in_time-frames_in_order : holds_frames_in_order handled_in_time ≡ true
@@ -345,19 +345,19 @@ abbrev search_box : List Stamped
 search_box =
     at 0 (Turn 1 (Some Dom)) ∷
     at 0 (Call 1) ∷
-    at 0 (Reg 2 kind.Listener) ∷
+    at 0 (Reg 2 kind.Listener None) ∷
     at 0 Ret ∷
     at 1500 (Wait 1000) ∷
     at 1500 (Turn 2 (Some User)) ∷
     at 1500 (Call 2) ∷
-    at 1500 (Reg 3 kind.Timeout) ∷
+    at 1500 (Reg 3 kind.Timeout None) ∷
     at 1500 (Arm 3 301500 1) ∷
     at 1500 Ret ∷
     at 200000 (Wait 200000) ∷
     at 200000 (Turn 3 (Some User)) ∷
     at 200000 (Call 2) ∷
     at 200000 (Drop 3) ∷
-    at 200000 (Reg 4 kind.Timeout) ∷
+    at 200000 (Reg 4 kind.Timeout None) ∷
     at 200000 (Arm 4 500000 1) ∷
     at 200000 Ret ∷
     at 301500 (Wait 301500) ∷
@@ -387,7 +387,7 @@ search_box-jobs_in_order = refl
 search_box-no_nesting : holds_no_nesting search_box ≡ true
 search_box-no_nesting = refl
 
-search_box-timers_in_order : holds_timers_in_order search_box ≡ true
+search_box-timers_in_order : holds_timers_in_order 1 search_box ≡ true
 search_box-timers_in_order = refl
 
 search_box-frames_in_order : holds_frames_in_order search_box ≡ true
@@ -406,9 +406,9 @@ abbrev timer_first : List Stamped
 timer_first =
     at 0 (Turn 1 (Some Dom)) ∷
     at 0 (Call 1) ∷
-    at 0 (Reg 2 kind.Timeout) ∷
+    at 0 (Reg 2 kind.Timeout None) ∷
     at 0 (Arm 2 0 1) ∷
-    at 0 (Reg 3 kind.Post) ∷
+    at 0 (Reg 3 kind.Post None) ∷
     at 0 (Enq 3 (FixedQueue UserVisible) false 2) ∷
     at 0 Ret ∷
     at 0 (Due 2) ∷
@@ -439,7 +439,7 @@ timer_first-jobs_in_order = refl
 timer_first-no_nesting : holds_no_nesting timer_first ≡ true
 timer_first-no_nesting = refl
 
-timer_first-timers_in_order : holds_timers_in_order timer_first ≡ true
+timer_first-timers_in_order : holds_timers_in_order 1 timer_first ≡ true
 timer_first-timers_in_order = refl
 
 timer_first-frames_in_order : holds_frames_in_order timer_first ≡ true
@@ -458,9 +458,9 @@ abbrev together : List Stamped
 together =
     at 0 (Turn 1 (Some Dom)) ∷
     at 0 (Call 1) ∷
-    at 0 (Reg 2 kind.Timeout) ∷
+    at 0 (Reg 2 kind.Timeout None) ∷
     at 0 (Arm 2 10000 1) ∷
-    at 5000 (Reg 3 kind.Timeout) ∷
+    at 5000 (Reg 3 kind.Timeout None) ∷
     at 5000 (Arm 3 10000 1) ∷
     at 5000 Ret ∷
     at 10000 (Wait 10000) ∷
@@ -492,7 +492,7 @@ together-jobs_in_order = refl
 together-no_nesting : holds_no_nesting together ≡ true
 together-no_nesting = refl
 
-together-timers_in_order : holds_timers_in_order together ≡ true
+together-timers_in_order : holds_timers_in_order 1 together ≡ true
 together-timers_in_order = refl
 
 together-frames_in_order : holds_frames_in_order together ≡ true

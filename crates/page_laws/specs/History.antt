@@ -46,7 +46,7 @@ is_call_of r (Call q) = q == r
 is_call_of r e = false
 
 abbrev pub is_reg_of : ℕ → Event → Bool
-is_reg_of r (Reg q kind) = q == r
+is_reg_of r (Reg q kind by) = q == r
 is_reg_of r e = false
 
 abbrev pub is_arm_of : ℕ → Event → Bool
@@ -89,7 +89,7 @@ is_rest e = false
 -- ---- registrations
 
 abbrev pub kind_in : ℕ → Event → Option RegKind → Option RegKind
-kind_in r (Reg q kind) earlier = cond (q == r) (Some kind) earlier
+kind_in r (Reg q kind by) earlier = cond (q == r) (Some kind) earlier
 kind_in r e earlier = earlier
 
 -- what a registration is for
@@ -138,7 +138,7 @@ is_delayed kind.Signal = true
 is_delayed k = false
 
 abbrev pub registered_in : Event → List ℕ → List ℕ
-registered_in (Reg r kind) more = r ∷ more
+registered_in (Reg r kind by) more = r ∷ more
 registered_in e more = more
 
 -- the registrations, the last one first
@@ -212,6 +212,20 @@ before_last test (e ∷ past) = cond (test e.event) (Some past) (before_last tes
 abbrev pub since_last : (Event → Bool) → History → History
 since_last test [] = []
 since_last test (e ∷ past) = cond (test e.event) [] (e ∷ since_last test past)
+
+-- the calls among these lines, the last one first
+abbrev pub called_in : Event → List ℕ → List ℕ
+called_in (Call r) more = r ∷ more
+called_in e more = more
+
+-- the same of lines in a row
+abbrev pub calls_in : History → List ℕ
+calls_in [] = []
+calls_in (e ∷ es) = called_in e.event (calls_in es)
+
+-- the lines of the turn so far
+abbrev pub this_turn : History → History
+this_turn past = since_last is_turn past
 
 -- whether the last line passes the test
 abbrev pub last_line : (Event → Bool) → History → Bool

@@ -4,7 +4,7 @@ use Rattle.std.specs.List.{list_all}
 use Rattle.page_types.specs.declared.RegKind.{RegKind}
 use Rattle.page_types.specs.declared.RegKind.TheVariants as kind
 use Rattle.page_types.specs.Events.{Event, Call, Arm, Due, Period, IdleLine, Frame, Stamped}
-use Rattle.trace_text.specs.History.{History, each_line, some_line, count_lines, is_call_of, is_reg_of, is_due_of, is_period, is_turn, is_rest, is_some_and, is_timer, is_frame, is_idle, is_delayed, has_kind, registered_for, was_called, was_due, was_dropped, armed, level_of, active, open_calls, before_last, since_last, last_line}
+use Rattle.page_laws.specs.History.{History, each_line, some_line, count_lines, is_call_of, is_reg_of, is_due_of, is_period, is_rest, is_some_and, is_timer, is_frame, is_idle, is_delayed, has_kind, registered_for, was_called, was_due, was_dropped, armed, level_of, active, open_calls, calls_in, this_turn, before_last, last_line}
 
 -- ---- HTML, "Timers"
 
@@ -16,8 +16,7 @@ has_no_level kind.Signal = true
 has_no_level kind.Host = true
 has_no_level k = false
 
--- The parent of a timer that is armed: the outermost call, if that is of a timer; where no call is open, the timer
--- itself, which is armed again.
+-- the last one, if there is one: of open calls the outermost, of the calls of a turn the first
 abbrev pub outermost : List ℕ → Option ℕ
 outermost [] = None
 outermost (r ∷ []) = Some r
@@ -31,18 +30,31 @@ abbrev pub level_under : History → ℕ → Option ℕ → Option ℕ
 level_under past r None = level_above (level_of past r)
 level_under past r (Some parent) = cond (has_kind is_timer past parent) (level_above (level_of past parent)) (Some 1)
 
+-- In the first form the parent of a timer that is armed is the outermost call, if that is of a timer; where no call is
+-- open, it is the timer itself, which is armed again.
+abbrev pub level_by_call : History → ℕ → Option ℕ
+level_by_call past r = level_under past r (outermost (open_calls past))
+
+abbrev pub level_of_turn : History → Option ℕ → Option ℕ
+level_of_turn past None = Some 1
+level_of_turn past (Some parent) = level_under past parent (Some parent)
+
+-- In the second form, in which microtasks inherit, it is the first call of the turn, if that is of a timer.
+abbrev pub level_by_turn : History → Option ℕ
+level_by_turn past = level_of_turn past (outermost (calls_in (this_turn past)))
+
 -- one more than the level last armed for the parent, and 1 where there is none
-abbrev pub level_due : History → ℕ → Option ℕ
-level_due past r = level_under past r (outermost (open_calls past))
+abbrev pub level_due : (form : ℕ) → History → ℕ → Option ℕ
+level_due form past r = cond (form == 2) (level_by_turn past) (level_by_call past r)
 
 -- a whole number of milliseconds, and 4 at least from level 7 on
 abbrev pub is_delay : ℕ → ℕ → Bool
 is_delay delay level = (delay % 1000 == 0) && (nat_lt level 7 || nat_le 4000 delay)
 
-abbrev pub arms_well : History → ℕ → ℕ → ℕ → ℕ → Bool
-arms_well past now r due level =
+abbrev pub arms_well : (form : ℕ) → History → ℕ → ℕ → ℕ → ℕ → Bool
+arms_well form past now r due level =
     cond (has_kind is_timer past r)
-    (is_some_and (λ n. n == level) (level_due past r) && nat_le now due && is_delay (due - now) level)
+    (is_some_and (λ n. n == level) (level_due form past r) && nat_le now due && is_delay (due - now) level)
     (not (has_kind has_no_level past r) || (level == 0))
 
 -- each of these that was armed before, for no later time, has been due since
@@ -69,40 +81,27 @@ goes_in_order past r = not (has_kind is_delayed past r) || passes_none r [] past
 abbrev pub may_fire : History → ℕ → Bool
 may_fire past r = not (has_kind is_timer past r) || nat_lt (count_lines (is_call_of r) past) (count_lines (is_due_of r) past)
 
-abbrev pub keeps_timers : History → ℕ → Event → Bool
-keeps_timers past now (Arm r due level) = arms_well past now r due level
-keeps_timers past now (Due r) = is_due_now past now r && goes_in_order past r
-keeps_timers past now (Call r) = may_fire past r
-keeps_timers past now e = true
+abbrev pub keeps_timers : (form : ℕ) → History → ℕ → Event → Bool
+keeps_timers form past now (Arm r due level) = arms_well form past now r due level
+keeps_timers form past now (Due r) = is_due_now past now r && goes_in_order past r
+keeps_timers form past now (Call r) = may_fire past r
+keeps_timers form past now e = true
 
-abbrev pub holds_timers_in_order : List Stamped → Bool
-holds_timers_in_order es = each_line (λ past e. keeps_timers past e.time e.event) [] es
+abbrev pub holds_timers_in_order : (form : ℕ) → List Stamped → Bool
+holds_timers_in_order form es = each_line (λ past e. keeps_timers form past e.time e.event) [] es
 
 -- What is due was armed for that time or an earlier one, and was not due since. Of two that are active at one line, the
 -- one that was armed first is due first, unless it was armed for a later time. A timer is called no more often than it
 -- is due. A timer's level is one more than that of its parent, or 1; it is armed for a whole number of milliseconds,
 -- and from level 7 on for 4 at least.
-abbrev pub TimersInOrder : List Stamped → Type 0
-TimersInOrder es = holds_timers_in_order es ≡ true
+abbrev pub TimersInOrder : (form : ℕ) → List Stamped → Type 0
+TimersInOrder form es = holds_timers_in_order form es ≡ true
 
 -- ---- HTML, "Run the animation frame callbacks"
 
 abbrev pub is_frame_line : Event → Bool
 is_frame_line (Frame t) = true
 is_frame_line e = false
-
-abbrev pub called_in : Event → List ℕ → List ℕ
-called_in (Call r) more = r ∷ more
-called_in e more = more
-
--- the calls of callbacks that pass the test among these lines
-abbrev pub calls_in : History → List ℕ
-calls_in [] = []
-calls_in (e ∷ es) = called_in e.event (calls_in es)
-
--- the lines of the turn so far
-abbrev pub this_turn : History → History
-this_turn past = since_last is_turn past
 
 abbrev pub is_reg_before : ℕ → Option History → Bool
 is_reg_before r older = is_some_and (λ past. some_line (is_reg_of r) past) older

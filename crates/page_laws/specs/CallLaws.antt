@@ -3,7 +3,7 @@ use Rattle.std.specs.Prelude.{◌≡◌, ℕ, suc, ◌+◌, Bool, true, false, c
 use Rattle.page_types.specs.declared.RegKind.{RegKind}
 use Rattle.page_types.specs.declared.RegKind.TheVariants as kind
 use Rattle.page_types.specs.Events.{Queued, MicroJob, ReactJob, AdoptJob, Event, Call, Reg, Due, Job, Run, Settle, Enq, Host, Stamped}
-use Rattle.trace_text.specs.History.{History, each_line, some_line, count_lines, is_reg_of, is_job, is_run, is_rest, is_host, has_kind, registered_for, was_called, was_due, was_dropped, open_calls}
+use Rattle.page_laws.specs.History.{History, each_line, some_line, count_lines, is_reg_of, is_job, is_run, is_rest, is_host, has_kind, registered_for, was_called, was_due, was_dropped, open_calls}
 
 -- ---- Ours: what runs once
 
@@ -35,7 +35,7 @@ is_answer_of k (Host j x answer) = j == k
 is_answer_of k e = false
 
 abbrev pub keeps_once : History → Event → Bool
-keeps_once past (Reg r kind) = not (some_line (is_reg_of r) past)
+keeps_once past (Reg r kind by) = not (some_line (is_reg_of r) past)
 keeps_once past (Call r) = may_be_called past r
 keeps_once past (Host k x answer) = not (some_line (is_answer_of k) past)
 keeps_once past e = true

@@ -8,8 +8,8 @@ use Rattle.page_types.specs.declared.RegKind.TheVariants as kind
 use Rattle.page_types.specs.declared.End.{End}
 use Rattle.page_types.specs.declared.End.TheVariants as end
 use Rattle.page_types.specs.Events.{QueueName, FixedQueue, SignalQueue, Event, Turn, Call, Arm, Run, Enq, Prio, EndLine, Stamped}
-use Rattle.trace_text.specs.History.{History, each_line, count_lines, is_turn, is_run, is_sched_turn, is_arm_of, is_due_of, is_some_and, is_host, is_scheduled, has_kind, kind_of, registered, registered_for, was_called, was_dropped, last_line}
-use Rattle.trace_text.specs.CallLaws.{is_answer}
+use Rattle.page_laws.specs.History.{History, each_line, count_lines, is_turn, is_run, is_sched_turn, is_arm_of, is_due_of, is_some_and, is_host, is_scheduled, has_kind, kind_of, registered, registered_for, was_called, was_dropped, last_line}
+use Rattle.page_laws.specs.CallLaws.{is_answer}
 
 -- ---- Prioritized Task Scheduling, "Selecting the next task of the scheduler's task queues"
 

@@ -1,0 +1,107 @@
+-- What evaluation keeps: the numbers are given, and what happens is a row of moves, behind which the same calls are open.
+use Rattle.page_model.specs.Invoke.{call_begun, call_ended}
+use Rattle.std.proofs.Common.{◌≡◌, ℕ, Bool, true, false, List, ◌∷◌, refl, cond, ◌∙◌}
+use Rattle.page_types.specs.Tree.{Program}
+use Rattle.page_types.specs.Values.{Value}
+use Rattle.page_types.specs.Events.{Event}
+use Rattle.page_parts.specs.Words.{is_there}
+use Rattle.lang_meaning.specs.Machine.{assigned, value_in, with_value_in, locals, with_local}
+use Rattle.page_model.specs.State.{Page, State, on_page, emit}
+use Rattle.page_model.specs.Numbers.{IsFor, made_by, Grows, IsKnown}
+use Rattle.page_model.proofs.NumbersGrow.{Grows-same, Grows-then, IsKnown-grows, Held, Onward, stays}
+use Rattle.page_model.proofs.NumbersEvaluation as numbers
+use Rattle.page_model.proofs.NumbersEvaluation.{Good, on_page-good, assign-good}
+use Rattle.page_laws.specs.History.{open_calls, open_after, without_first}
+use Rattle.page_laws.specs.Moves.{is_aside, is_end, Changes, nothing, with_change, told, Beginning, called_by, role_of, taken, Waited, Moves, here, calling, ending}
+use Rattle.page_laws.proofs.Going.{Keeping}
+use Rattle.page_laws.proofs.Moving.{moves-then, moves_of}
+use Rattle.page_laws.proofs.Lines.{Same, same-then, changes-same, begins-same}
+
+-- numbers that were given stay, and a row of moves goes on, behind which the same calls are open
+abbrev pub Le : State → State → Type 0
+Le m r = Grows (made_by m.host) (made_by r.host) × Moves m.host r.host × Same m.host r.host
+
+-- a row of moves goes on until fuel ends
+abbrev pub Stop : State → State → Type 0
+Stop m r = Moves m.host r.host
+
+abbrev pub Reached : State → State → Type 0
+Reached m r = Le m r × Good r
+
+pub le-same : (m : State) → Le m m
+le-same m = (Grows-same (made_by m.host), here, (refl, refl))
+
+pub le-then : (a b c : State) → Le a b → Le b c → Le a c
+le-then a b c g h = (Grows-then (made_by a.host) (made_by b.host) (made_by c.host) g.0 h.0, moves-then g.1 h.1, same-then a.host b.host c.host g.2 h.2)
+
+pub moved_assign : (m : State) (x : List ℕ) (v : Value) → Good m → IsKnown (made_by m.host) v → Reached m (assigned m x v)
+moved_assign m x v g h =
+    let a = assign-good m x v g h in
+    let b = by_place (is_there (value_in (locals m.open_calls) x)) in
+    ((a.0, b.0, b.1), a.1)
+  where
+    by_place : (b : Bool) → Moves m.host (cond b (record m { open_calls = with_local m.open_calls x v }) (record m { globals = with_value_in m.globals x v })).host × Same m.host (cond b (record m { open_calls = with_local m.open_calls x v }) (record m { globals = with_value_in m.globals x v })).host
+    by_place true = (here, (refl, refl))
+    by_place false = (here, (refl, refl))
+
+-- what evaluation keeps
+abbrev pub keeping : (program : Program) → Keeping Page program
+keeping program =
+    let k = numbers.keeping program in
+    record {
+      Le = Le;
+      Good = Good;
+      Val = λ v m. IsKnown (made_by m.host) v;
+      Stop = Stop;
+      stop = λ m n le g. le.1;
+      stop_later = λ a b c le h. moves-then le.1 h;
+      stop_closed = λ m n h. h;
+      same = le-same;
+      chain = le-then;
+      later = λ v a b le h. IsKnown-grows (made_by a.host) (made_by b.host) le.0 v h;
+      assign = moved_assign;
+      open_call = λ m xs g h. let a = k.open_call m xs g h in ((a.0, here, (refl, refl)), a.1);
+      close_call = λ m g. let a = k.close_call m g in ((a.0, here, (refl, refl)), a.1);
+      take = λ m left e g. let a = k.take m left e g in ((a.0, here, (refl, refl)), a.1);
+      unit_value = k.unit_value;
+      bool_value = k.bool_value;
+      int_value = k.int_value;
+      text_value = k.text_value;
+      fault_value = k.fault_value;
+      read = k.read;
+      named = k.named;
+      bound = k.bound;
+      sum = k.sum;
+      product = k.product;
+      compare = k.compare;
+      unary = k.unary;
+      item = k.item;
+      list = k.list;
+    }
+
+-- ---- pages
+
+-- a page that is reached by a row of changes, with its numbers given
+abbrev pub Onto : Page → Page → Type 0
+Onto p q = Onward (made_by p) q × Changes p q
+
+-- a change of the page
+pub on_page-reached : (m : State) (f : Page → Page) → Good m → Onto m.host (f m.host) → Reached m (on_page f m)
+on_page-reached m f g o = let a = on_page-good m f g o.0 in ((a.0, moves_of o.1, changes-same o.1), a.1)
+
+-- a line that opens and ends no call
+pub told-onto : (e : Event) (p : Page) → is_aside e ≡ true → Held (made_by p) p → Onto p (emit e p)
+told-onto e p x h = (stays p h, with_change nothing (told e x))
+
+-- the state in which the callback that waited there is called
+abbrev pub entered : Beginning → State → State
+entered b m = on_page (λ p. call_begun (called_by b) (taken b p)) m
+
+-- a call that has ended, behind where its callback was taken
+pub call_over : (b : Beginning) (m s : State) (e : Event) → is_end e ≡ true → ((calls : List ℕ) → open_after e calls ≡ without_first calls) → Grows (made_by m.host) (made_by (taken b m.host)) → Waited b m.host → IsFor (role_of b) (made_by m.host) (called_by b) → Le (entered b m) s → Le m (on_page (call_ended e) s)
+call_over b m s e x y g w k le =
+    let same = begins-same b m.host in
+    (Grows-then (made_by m.host) (made_by (taken b m.host)) (made_by s.host) g le.0, ending (moves-then (calling here b w k) le.1) e x, (y (open_calls s.host.events) ∙ (first_gone (open_calls s.host.events) (open_calls (taken b m.host).events) le.2.0 ∙ same.0), le.2.1 ∙ same.1))
+  where
+    first_gone : (calls before : List ℕ) → calls ≡ called_by b ∷ before → without_first calls ≡ before
+    first_gone calls before e = Prim.rw e refl

@@ -1,0 +1,130 @@
+-- Lines given one after another, and what no change does: it opens and ends no call, and leaves the flag of the checkpoint.
+use Rattle.std.proofs.Common.{◌≡◌, ℕ, Bool, true, false, List, [], ◌∷◌, ◌++◌, Option, Some, None, refl, ap, ◌∙◌, cond}
+use Rattle.std.specs.Prelude.{◌==◌}
+use Rattle.page_parts.specs.Words.{without}
+use Rattle.page_types.specs.Events.{Event, Call, Ret, Throw}
+use Rattle.page_parts.specs.Promises.{Settled, Fulfilled, Failed, PromiseJob}
+use Rattle.page_parts.specs.Promises as Promises
+use Rattle.page_parts.specs.Notices.{Notices, Noticed, the_promise, changed, queue_jobs, settle_line, subscribe_promise, queue_micro, Context}
+use Rattle.page_model.specs.State.{Page, emit, emit_each, on_notices, context}
+use Rattle.page_model.specs.Numbers.{Each}
+use Rattle.page_laws.specs.History.{History, open_after, open_calls, is_rest}
+use Rattle.page_laws.specs.Moves.{frame_asked, frame_gone, is_aside, promise_changes, Change, elsewhere, told, rested, registered, promised, settled, followed, adopted, subscribed, micro_queued, rejected_taken, noted, Changes, nothing, with_change, Beginning, TheScript, ATimer, AFrame, AnIdle, ALateIdle, AListener, APost, AContinuation, AMicro, AReaction, taken}
+
+-- ---- lines
+
+-- a history with more lines of one moment
+abbrev pub added : ℕ → List Event → History → History
+added now [] past = past
+added now (e ∷ es) past = added now es (record { time = now; event = e } ∷ past)
+
+pub added-append : (now : ℕ) (xs ys : List Event) (past : History) → added now (xs ++ ys) past ≡ added now ys (added now xs past)
+added-append now [] ys past = refl
+added-append now (x ∷ xs) ys past = added-append now xs ys (record { time = now; event = x } ∷ past)
+
+pub emit_each-events : (es : List Event) (p : Page) → (emit_each es p).events ≡ added p.now es p.events
+emit_each-events [] p = refl
+emit_each-events (e ∷ es) p = emit_each-events es (emit e p)
+
+pub emit_each-notices : (es : List Event) (p : Page) → (emit_each es p).notices ≡ p.notices
+emit_each-notices [] p = refl
+emit_each-notices (e ∷ es) p = emit_each-notices es (emit e p)
+
+pub emit_each-performing : (es : List Event) (p : Page) → (emit_each es p).performing ≡ p.performing
+emit_each-performing [] p = refl
+emit_each-performing (e ∷ es) p = emit_each-performing es (emit e p)
+
+-- ---- calls stay open
+
+-- a line that opens and ends no call
+abbrev Shut : Event → Type 0
+Shut e = (calls : List ℕ) → open_after e calls ≡ calls
+
+aside-open : (e : Event) → is_aside e ≡ true → Shut e
+aside-open (Call r) h calls = Prim.cc
+aside-open Ret h calls = Prim.cc
+aside-open (Throw bs) h calls = Prim.cc
+aside-open e h calls = refl
+
+rest-open : (e : Event) → is_rest e ≡ true → Shut e
+rest-open (Call r) h calls = Prim.cc
+rest-open Ret h calls = Prim.cc
+rest-open (Throw bs) h calls = Prim.cc
+rest-open e h calls = refl
+
+added-open : (now : ℕ) (es : List Event) (past : History) → Each Shut es → open_calls (added now es past) ≡ open_calls past
+added-open now [] past h = refl
+added-open now (e ∷ es) past h = added-open now es (record { time = now; event = e } ∷ past) h.1 ∙ h.0 (open_calls past)
+
+Each-append : (xs ys : List Event) → Each Shut xs → Each Shut ys → Each Shut (xs ++ ys)
+Each-append [] ys h k = k
+Each-append (x ∷ xs) ys h k = (h.0, Each-append xs ys h.1 k)
+
+settle_line-shut : (names : List (List ℕ)) (n : ℕ) (o : Option Settled) → Each Shut (settle_line names n o)
+settle_line-shut names n None = tt
+settle_line-shut names n (Some (Fulfilled v)) = (λ calls. refl, tt)
+settle_line-shut names n (Some (Failed v)) = (λ calls. refl, tt)
+
+if_settled-shut : (b : Bool) (lines : List Event) → Each Shut lines → Each Shut (cond b lines [])
+if_settled-shut true lines h = h
+if_settled-shut false lines h = tt
+
+queue_jobs-shut : (current : Context) (jobs : List PromiseJob) (s : Notices) → Each Shut (queue_jobs current jobs s).lines
+queue_jobs-shut current [] s = tt
+queue_jobs-shut current (j ∷ jobs) s = (λ calls. refl, queue_jobs-shut current jobs _)
+
+changed-shut : (current : Context) (names : List (List ℕ)) (n : ℕ) (c : Promises.Change) (s : Notices) → Each Shut (changed current names n c s).lines
+changed-shut current names n c s = Each-append (cond c.settled (settle_line names n c.promise.outcome) []) _ (if_settled-shut c.settled _ (settle_line-shut names n c.promise.outcome)) (queue_jobs-shut current c.jobs _)
+
+-- the same calls are open, and the flag is as it was
+abbrev pub Same : Page → Page → Type 0
+Same p q = open_calls q.events ≡ open_calls p.events × q.performing ≡ p.performing
+
+notices-same : (f : Notices → Noticed) (p : Page) → Each Shut (f p.notices).lines → Same p (on_notices f p)
+notices-same f p h =
+    let q : Page = record p { notices = (f p.notices).notices } in
+    (ap open_calls (emit_each-events (f p.notices).lines q) ∙ added-open p.now (f p.notices).lines p.events h, emit_each-performing (f p.notices).lines q)
+
+promise_changes-same : (n : ℕ) (c : Promises.Change) (p : Page) → Same p (promise_changes n c p)
+promise_changes-same n c p = notices-same (λ s. changed (context p) p.names n c s) p (changed-shut (context p) p.names n c p.notices)
+
+subscribed-same : (n : ℕ) (r : Promises.Reaction) (p : Page) → Same p (on_notices (subscribe_promise (context p) n r) p)
+subscribed-same n r p =
+    notices-same (subscribe_promise (context p) n r) p
+    (changed-shut (context p) [] n (Promises.subscribe n (the_promise p.notices n) r) (record p.notices { rejected = without (λ m. m == n) p.notices.rejected; outstanding = without (λ m. m == n) p.notices.outstanding }))
+
+pub change-same : {p q : Page} → Change p q → Same p q
+change-same (elsewhere x y z w v) = (ap open_calls z, y)
+change-same {p = p} (told e h) = (aside-open e h (open_calls p.events), refl)
+change-same {p = p} (rested e h x y) = (rest-open e h (open_calls p.events), refl)
+change-same (registered kind x e) = (refl, refl)
+change-same (frame_asked f) = (refl, refl)
+change-same (frame_gone handle) = (refl, refl)
+change-same promised = (refl, refl)
+change-same {p = p} (settled n how x y) = promise_changes-same n (Promises.settle n (the_promise p.notices n) how) p
+change-same {p = p} (followed n how x y) = promise_changes-same n (Promises.settle n (the_promise p.notices n) how) p
+change-same {p = p} (adopted n from x y) = promise_changes-same n (Promises.adopt n (the_promise p.notices n) from) p
+change-same {p = p} (subscribed n r x) = subscribed-same n r p
+change-same {p = p} (micro_queued r) = notices-same (queue_micro (context p) r) p (λ calls. refl, tt)
+change-same rejected_taken = (refl, refl)
+change-same (noted n) = (refl, refl)
+
+pub same-then : (p q r : Page) → Same p q → Same q r → Same p r
+same-then p q r a b = (b.0 ∙ a.0, b.1 ∙ a.1)
+
+pub changes-same : {p q : Page} → Changes p q → Same p q
+changes-same nothing = (refl, refl)
+changes-same {p = p} {q = r} (with_change {q = q} a b) = same-then p q r (changes-same a) (change-same b)
+
+-- where a callback is taken, the same calls are open still, and the flag is as it was
+pub begins-same : (b : Beginning) (p : Page) → Same p (taken b p)
+begins-same (TheScript source task) p = (refl, refl)
+begins-same (ATimer source task t) p = (refl, refl)
+begins-same (AFrame key c) p = (refl, refl)
+begins-same (AnIdle c others) p = (refl, refl)
+begins-same (ALateIdle handle c) p = (refl, refl)
+begins-same (AListener r) p = (refl, refl)
+begins-same (APost t) p = (refl, refl)
+begins-same (AContinuation t) p = (refl, refl)
+begins-same (AMicro job others r) p = (refl, refl)
+begins-same (AReaction job others of x r) p = (refl, refl)

@@ -1,0 +1,103 @@
+-- No job is run inside a call.
+use Rattle.std.proofs.Common.{◌≡◌, ℕ, Bool, true, false, List, [], ◌∷◌, ◌++◌, Option, Some, None, refl, sym, subst, ap, cond}
+use Rattle.page_types.specs.Events.{Event, Run}
+use Rattle.page_parts.specs.Promises.{Settled, Fulfilled, Failed, PromiseJob, Reaction}
+use Rattle.page_parts.specs.Promises as Promises
+use Rattle.page_parts.specs.Words.{without}
+use Rattle.std.specs.Prelude.{◌==◌}
+use Rattle.page_parts.specs.Notices.{Notices, Noticed, the_promise, changed, queue_jobs, settle_line, subscribe_promise, queue_micro, Context}
+use Rattle.page_model.specs.State.{Page, on_notices, context}
+use Rattle.page_model.specs.Numbers.{Each}
+use Rattle.page_laws.specs.History.{History, is_rest}
+use Rattle.page_laws.specs.CallLaws.{keeps_nesting, is_nil}
+use Rattle.page_laws.specs.Moves.{frame_asked, frame_gone, is_aside, is_end, promise_changes, Change, elsewhere, told, rested, registered, promised, settled, followed, adopted, subscribed, micro_queued, rejected_taken, noted, Beginning, TheScript, ATimer, AFrame, AnIdle, ALateIdle, AListener, APost, AContinuation, AMicro, AReaction, taken, Waited, Moves, here, changing, calling, ending, flagging, running}
+use Rattle.page_laws.proofs.Lines.{emit_each-events}
+use Rattle.page_laws.proofs.Scans.{Test, Kept, kept-added}
+
+abbrev pub nesting : Test
+nesting past e = keeps_nesting past e.event
+
+-- a line that passes whatever stands before it
+abbrev Passes : Event → Type 0
+Passes e = (older : History) → keeps_nesting older e ≡ true
+
+aside-passes : (e : Event) → is_aside e ≡ true → Passes e
+aside-passes (Run j) h older = Prim.cc
+aside-passes e h older = refl
+
+rest-passes : (e : Event) → is_rest e ≡ true → Passes e
+rest-passes (Run j) h older = Prim.cc
+rest-passes e h older = refl
+
+end-passes : (e : Event) → is_end e ≡ true → Passes e
+end-passes (Run j) h older = Prim.cc
+end-passes e h older = refl
+
+Each-append : (xs ys : List Event) → Each Passes xs → Each Passes ys → Each Passes (xs ++ ys)
+Each-append [] ys h k = k
+Each-append (x ∷ xs) ys h k = (h.0, Each-append xs ys h.1 k)
+
+settle_line-passes : (names : List (List ℕ)) (n : ℕ) (o : Option Settled) → Each Passes (settle_line names n o)
+settle_line-passes names n None = tt
+settle_line-passes names n (Some (Fulfilled v)) = (λ older. refl, tt)
+settle_line-passes names n (Some (Failed v)) = (λ older. refl, tt)
+
+if_settled-passes : (b : Bool) (lines : List Event) → Each Passes lines → Each Passes (cond b lines [])
+if_settled-passes true lines h = h
+if_settled-passes false lines h = tt
+
+queue_jobs-passes : (current : Context) (jobs : List PromiseJob) (s : Notices) → Each Passes (queue_jobs current jobs s).lines
+queue_jobs-passes current [] s = tt
+queue_jobs-passes current (j ∷ jobs) s = (λ older. refl, queue_jobs-passes current jobs _)
+
+changed-passes : (current : Context) (names : List (List ℕ)) (n : ℕ) (c : Promises.Change) (s : Notices) → Each Passes (changed current names n c s).lines
+changed-passes current names n c s = Each-append (cond c.settled (settle_line names n c.promise.outcome) []) _ (if_settled-passes c.settled _ (settle_line-passes names n c.promise.outcome)) (queue_jobs-passes current c.jobs _)
+
+notices-kept : (f : Notices → Noticed) (p : Page) → Each Passes (f p.notices).lines → Kept nesting p.events → Kept nesting (on_notices f p).events
+notices-kept f p h k =
+    subst (Kept nesting) (sym (emit_each-events (f p.notices).lines (record p { notices = (f p.notices).notices })))
+    (kept-added nesting p.now (f p.notices).lines p.events h k)
+
+changes-kept : (n : ℕ) (c : Promises.Change) (p : Page) → Kept nesting p.events → Kept nesting (promise_changes n c p).events
+changes-kept n c p k = notices-kept (λ s. changed (context p) p.names n c s) p (changed-passes (context p) p.names n c p.notices) k
+
+subscribed-kept : (n : ℕ) (r : Reaction) (p : Page) → Kept nesting p.events → Kept nesting (on_notices (subscribe_promise (context p) n r) p).events
+subscribed-kept n r p k =
+    notices-kept (subscribe_promise (context p) n r) p
+    (changed-passes (context p) [] n (Promises.subscribe n (the_promise p.notices n) r) (record p.notices { rejected = without (λ m. m == n) p.notices.rejected; outstanding = without (λ m. m == n) p.notices.outstanding })) k
+
+change-kept : {p q : Page} → Change p q → Kept nesting p.events → Kept nesting q.events
+change-kept (elsewhere x y z w v) k = subst (Kept nesting) (sym z) k
+change-kept {p = p} (told e h) k = (aside-passes e h p.events, k)
+change-kept {p = p} (rested e h x y) k = (rest-passes e h p.events, k)
+change-kept (registered kind x e) k = (refl, k)
+change-kept (frame_asked f) k = (refl, k)
+change-kept (frame_gone handle) k = k
+change-kept promised k = k
+change-kept {p = p} (settled n how x y) k = changes-kept n (Promises.settle n (the_promise p.notices n) how) p k
+change-kept {p = p} (followed n how x y) k = changes-kept n (Promises.settle n (the_promise p.notices n) how) p k
+change-kept {p = p} (adopted n from x y) k = changes-kept n (Promises.adopt n (the_promise p.notices n) from) p k
+change-kept {p = p} (subscribed n r x) k = subscribed-kept n r p k
+change-kept {p = p} (micro_queued r) k = notices-kept (queue_micro (context p) r) p (λ older. refl, tt) k
+change-kept rejected_taken k = k
+change-kept (noted n) k = k
+
+begins-kept : (b : Beginning) (p : Page) → Waited b p → Kept nesting p.events → Kept nesting (taken b p).events
+begins-kept (TheScript source task) p w k = k
+begins-kept (ATimer source task t) p w k = k
+begins-kept (AFrame key c) p w k = k
+begins-kept (AnIdle c others) p w k = (refl, k)
+begins-kept (ALateIdle handle c) p w k = k
+begins-kept (AListener r) p w k = k
+begins-kept (APost t) p w k = (refl, k)
+begins-kept (AContinuation t) p w k = (refl, k)
+begins-kept (AMicro job others r) p w k = (ap is_nil w.2, k)
+begins-kept (AReaction job others of x r) p w k = (ap is_nil w.3, k)
+
+pub moves-kept : {p q : Page} → Moves p q → Kept nesting p.events → Kept nesting q.events
+moves-kept here k = k
+moves-kept (changing a c) k = change-kept c (moves-kept a k)
+moves-kept (calling {q = q} a b w i) k = (refl, begins-kept b q w (moves-kept a k))
+moves-kept (ending {q = q} a e h) k = (end-passes e h q.events, moves-kept a k)
+moves-kept (flagging a x y z w) k = subst (Kept nesting) (sym y) (moves-kept a k)
+moves-kept (running {q = q} a j others x y) k = (ap is_nil y, moves-kept a k)

@@ -1,0 +1,189 @@
+-- What a page does, with its numbers given, is rows of changes.
+use Rattle.page_laws.proofs.Evaluating.{Onto}
+use Rattle.page_laws.proofs.Moved.{abort_registration-changes, answer_host-changes, any_made-changes, cancel_frame-changes, cancel_idle-changes, change_begun-changes, change_ended-changes, clear_id-changes, clear_timer-changes, continuation_queued-changes, follow-changes, frame_requested-changes, host_queued-changes, idle_requested-changes, init_timer-changes, listener_added-changes, listener_removed-changes, micro_registered-changes, new_promise-changes, parallel-changes, post_queued-changes, queue_task-changes, quietly, reason_set-changes, script_promise-changes, settle-changes, subscribe-changes, task_signal_made-changes, then_made-changes, timeout_signal_made-changes, timer_set-changes, unwatch-changes, with_signals-changes, with_state-changes, without_frame-changes, without_idle-changes, without_sched-changes, finally_made-changes, posted-changes}
+use Rattle.page_laws.proofs.Moving.{changes-then}
+use Rattle.page_laws.specs.Moves.{Changes, nothing}
+use Rattle.page_model.proofs.NumbersGrow.{Each-more, HasPromise-grows, Held, InSignals, IsKnown-grows, Onward, last-given, promise-grows}
+use Rattle.page_model.proofs.NumbersMaking.{any-held, any_made-held, continuation_queued-held, frame_requested-held, host_queued-held, idle_requested-held, listener_added-held, listener_removed-held, make-held, make_aborted-held, micro_registered-held, new_settled-held, post_queued-held, script_promise-held, task_signal_made-held, then_made-held, timeout_signal_made-held, timer_set-held, finally_made-held, posted-held}
+use Rattle.page_model.proofs.NumbersPages.{abort_registration-held, cancel_frame-held, cancel_idle-held, change_begun-held, change_ended-held, clear_id-held, clear_timer-held, follow-held, init_again-held, new_promise-held, queue_task-held, reason_set-held, reason_value-known, reject-held, resolve-held, run_algorithms-held, settle-held, subscribe-held, unwatch-held, with_algorithms-held, with_state-held, without_frame-held, without_idle-held, without_sched-held}
+use Rattle.page_model.proofs.NumbersParts.{the_signal-given}
+use Rattle.page_model.proofs.NumbersTasks.{answer_host-held, parallel-held}
+use Rattle.page_model.specs.Numbers.{IsFor, timer_role, AreKnown, Each, HasPromise, IfThere, IsGiven, IsKnown, PrioSourceIsGiven, ReactionIsGiven, StateIsGiven, StepsAreGiven, TargetIsGiven, made_by}
+use Rattle.page_model.specs.Operations.{any_made, continuation_queued, frame_requested, host_queued, idle_requested, listener_added, listener_removed, micro_registered, post_queued, script_promise, task_signal_made, then_made, timeout_signal_made, timer_set, with_signals, finally_made, posted}
+use Rattle.page_model.specs.PagePromises.{last_promise, new_promise, new_settled}
+use Rattle.page_model.specs.PageSignals.{abort_registration, abort_registrations, change_begun, change_ended, reason_set, reason_value, run_algorithms, unwatch}
+use Rattle.page_model.specs.PageTime.{cancel_frame, cancel_idle, clear_id, clear_timer, init_timer, with_state, without_frame, without_idle, without_sched}
+use Rattle.page_model.specs.Parallel.{parallel}
+use Rattle.page_model.specs.State.{OfKind, HostTask, Page, PrioSource, SchedulingState, Steps, queue_task}
+use Rattle.page_model.specs.Tasks.{answer_host}
+use Rattle.page_parts.specs.AbortGraph.{make_aborted, the_signal, with_algorithms}
+use Rattle.page_parts.specs.HostClosures.{HostClosure}
+use Rattle.page_parts.specs.Kinds.{Func}
+use Rattle.page_parts.specs.Listeners.{Target}
+use Rattle.page_parts.specs.Promises.{Failed, Fulfilled, Reaction, Settled, pending_promise, settled_value}
+use Rattle.page_types.specs.Values.{Value}
+use Rattle.page_types.specs.declared.Priority.{Priority}
+use Rattle.page_types.specs.declared.RegKind.{RegKind}
+use Rattle.page_types.specs.declared.Source.{Source}
+use Rattle.std.proofs.Common.{◌≡◌, Bool, List, Option, Result, Some, [], length, refl, ℕ, ℤ, ◌<◌, ◌∷◌}
+use Rattle.page_model.specs.PagePromises as promises
+use Rattle.page_parts.specs.AbortGraph as AbortGraph
+
+-- a page with a promise more
+abbrev pub Anew : Page → Page → Type 0
+Anew p q = Onward (made_by (new_promise p)) q × Changes p q
+
+-- how a promise is settled by a value, as `promises.resolve` and `promises.reject`
+abbrev pub SettleGoes : (ℕ → Value → Page → Page) → Type 0
+SettleGoes settle = (k : ℕ) (v : Value) (p : Page) → Held (made_by p) p → IsGiven (length p.notices.promises) k → IsKnown (made_by p) v → Onto p (settle k v p)
+
+pub queue_task-onto : (source : Source) (steps : Steps) (p : Page) → Held (made_by p) p → StepsAreGiven (made_by p) steps → Onto p (queue_task source steps p)
+queue_task-onto source steps p h x = (queue_task-held source steps p h x, queue_task-changes source steps p)
+
+pub settle-onto : (k : ℕ) (how : Settled) (p : Page) → Held (made_by p) p → IsGiven (length p.notices.promises) k → IsKnown (made_by p) (settled_value how) → Onto p (promises.settle k how p)
+settle-onto k how p h x v = (settle-held k how p h x v, settle-changes k how p x)
+
+pub resolve-onto : (k : ℕ) (v : Value) (p : Page) → Held (made_by p) p → IsGiven (length p.notices.promises) k → IsKnown (made_by p) v → Onto p (promises.resolve k v p)
+resolve-onto k v p h x w = (resolve-held k v p h x w, settle-changes k (Fulfilled v) p x)
+
+pub reject-onto : (k : ℕ) (v : Value) (p : Page) → Held (made_by p) p → IsGiven (length p.notices.promises) k → IsKnown (made_by p) v → Onto p (promises.reject k v p)
+reject-onto k v p h x w = (reject-held k v p h x w, settle-changes k (Failed v) p x)
+
+pub follow-onto : (k : ℕ) (how : Settled) (p : Page) → Held (made_by p) p → IsGiven (length p.notices.promises) k → IsKnown (made_by p) (settled_value how) → Onto p (promises.follow k how p)
+follow-onto k how p h x v = (follow-held k how p h x v, follow-changes k how p x)
+
+pub subscribe-onto : (k : ℕ) (r : Reaction) (p : Page) → Held (made_by p) p → IsGiven (length p.notices.promises) k → ReactionIsGiven (made_by p) r → Onto p (promises.subscribe k r p)
+subscribe-onto k r p h x y = (subscribe-held k r p h x y, subscribe-changes k r p x)
+
+pub init_again-onto : (id r : ℕ) (repeats : Bool) (timeout : ℤ) (p : Page) → Held (made_by p) p → IsGiven p.timers.ids_made id → IsFor (timer_role repeats) (made_by p) r → Onto p (init_timer (Some id) r repeats timeout p)
+init_again-onto id r repeats timeout p h i x = (init_again-held id r repeats timeout p h i x, init_timer-changes (Some id) r repeats timeout p)
+
+pub clear_id-onto : (id : ℕ) (p : Page) → Held (made_by p) p → Onto p (clear_id id p)
+clear_id-onto id p h = (clear_id-held id p h, clear_id-changes id p)
+
+pub clear_timer-onto : (id : ℕ) (p : Page) → Held (made_by p) p → Onto p (clear_timer id p)
+clear_timer-onto id p h = (clear_timer-held id p h, clear_timer-changes id p)
+
+pub without_frame-onto : (handle : ℕ) (p : Page) → Held (made_by p) p → Onto p (without_frame handle p)
+without_frame-onto handle p h = (without_frame-held handle p h, without_frame-changes handle p)
+
+pub cancel_frame-onto : (handle : ℕ) (p : Page) → Held (made_by p) p → Onto p (cancel_frame handle p)
+cancel_frame-onto handle p h = (cancel_frame-held handle p h, cancel_frame-changes handle p)
+
+pub without_idle-onto : (handle : ℕ) (p : Page) → Held (made_by p) p → Onto p (without_idle handle p)
+without_idle-onto handle p h = (without_idle-held handle p h, without_idle-changes handle p)
+
+pub cancel_idle-onto : (handle : ℕ) (p : Page) → Held (made_by p) p → Onto p (cancel_idle handle p)
+cancel_idle-onto handle p h = (cancel_idle-held handle p h, cancel_idle-changes handle p)
+
+pub without_sched-onto : (r : ℕ) (p : Page) → Held (made_by p) p → Onto p (without_sched r p)
+without_sched-onto r p h = (without_sched-held r p h, without_sched-changes r p)
+
+pub with_state-onto : (s : SchedulingState) (p : Page) → Held (made_by p) p → StateIsGiven (made_by p) s → Onto p (with_state s p)
+with_state-onto s p h x = (with_state-held s p h x, with_state-changes s p)
+
+pub unwatch-onto : (r : ℕ) (p : Page) → Held (made_by p) p → Onto p (unwatch r p)
+unwatch-onto r p h = (unwatch-held r p h, unwatch-changes r p)
+
+pub reason_set-onto : (reason : Value) (ss : List ℕ) (p : Page) → Held (made_by p) p → IsKnown (made_by p) reason → Onto p (reason_set reason ss p)
+reason_set-onto reason ss p h v = (reason_set-held reason ss p h v, reason_set-changes reason ss p)
+
+pub change_begun-onto : (s : ℕ) (priority : Priority) (p : Page) → Held (made_by p) p → Onto p (change_begun s priority p)
+change_begun-onto s priority p h = (change_begun-held s priority p h, change_begun-changes s priority p)
+
+pub change_ended-onto : (s : ℕ) (p : Page) → Held (made_by p) p → Onto p (change_ended s p)
+change_ended-onto s p h = (change_ended-held s p h, change_ended-changes s p)
+
+pub micro_registered-onto : (f : Func) (p : Page) → Held (made_by p) p → AreKnown (made_by p) f.bound → Onto p (micro_registered f p)
+micro_registered-onto f p h x = (micro_registered-held f p h x, micro_registered-changes f p)
+
+pub script_promise-onto : (p : Page) → Held (made_by p) p → Anew p (script_promise p)
+script_promise-onto p h = (script_promise-held p h, script_promise-changes p)
+
+pub timer_set-onto : (kind : RegKind) (repeats : Bool) (f : Func) (timeout : ℤ) (p : Page) → OfKind kind ≡ timer_role repeats → Held (made_by p) p → AreKnown (made_by p) f.bound → Onto p (timer_set kind repeats f timeout p)
+timer_set-onto kind repeats f timeout p role h x = (timer_set-held kind repeats f timeout p role h x, timer_set-changes kind repeats f timeout p)
+
+pub frame_requested-onto : (f : Func) (p : Page) → Held (made_by p) p → AreKnown (made_by p) f.bound → Onto p (frame_requested f p)
+frame_requested-onto f p h x = (frame_requested-held f p h x, frame_requested-changes f p)
+
+pub idle_requested-onto : (f : Func) (ms : ℕ) (p : Page) → Held (made_by p) p → AreKnown (made_by p) f.bound → Onto p (idle_requested f ms p)
+idle_requested-onto f ms p h x = (idle_requested-held f ms p h x, idle_requested-changes f ms p)
+
+pub make-onto : (p : Page) → Held (made_by p) p → Onto p (with_signals AbortGraph.make p)
+make-onto p h = (make-held p h, with_signals-changes AbortGraph.make p)
+
+pub make_aborted-onto : (reason : Value) (p : Page) → Held (made_by p) p → IsKnown (made_by p) reason → Onto p (with_signals (make_aborted reason) p)
+make_aborted-onto reason p h v = (make_aborted-held reason p h v, with_signals-changes (make_aborted reason) p)
+
+pub any-onto : (ss : List ℕ) (p : Page) → Held (made_by p) p → Each (IsGiven (length p.signals)) ss → Onto p (with_signals (AbortGraph.any ss) p)
+any-onto ss p h k = (any-held ss p h k, with_signals-changes (AbortGraph.any ss) p)
+
+pub task_signal_made-onto : (priority : Priority) (p : Page) → Held (made_by p) p → Onto p (task_signal_made priority p)
+task_signal_made-onto priority p h = (task_signal_made-held priority p h, task_signal_made-changes priority p)
+
+pub any_made-onto : (ss : List ℕ) (priority : Priority) (follows : Option ℕ) (p : Page) → Held (made_by p) p → Each (IsGiven (length p.signals)) ss → IfThere (IsGiven (length p.signals)) follows → Onto p (any_made ss priority follows p)
+any_made-onto ss priority follows p h k on = (any_made-held ss priority follows p h k on, any_made-changes ss priority follows p)
+
+pub timeout_signal_made-onto : (ms : ℕ) (p : Page) → Held (made_by p) p → Onto p (timeout_signal_made ms p)
+timeout_signal_made-onto ms p h = (timeout_signal_made-held ms p h, timeout_signal_made-changes ms p)
+
+pub listener_added-onto : (target : Target) (name : List ℕ) (f : Func) (p : Page) → Held (made_by p) p → TargetIsGiven (made_by p) target → AreKnown (made_by p) f.bound → Onto p (listener_added target name f p)
+listener_added-onto target name f p h t x = (listener_added-held target name f p h t x, listener_added-changes target name f p)
+
+pub listener_removed-onto : (r : ℕ) (p : Page) → Held (made_by p) p → Onto p (listener_removed r p)
+listener_removed-onto r p h = (listener_removed-held r p h, listener_removed-changes r p)
+
+pub post_queued-onto : (f : Func) (source : PrioSource) (signal : Option ℕ) (ms : ℕ) (p : Page) → Held (made_by p) p → AreKnown (made_by p) f.bound → PrioSourceIsGiven (made_by p) source → IfThere (IsGiven (length p.signals)) signal → Anew p (post_queued f source signal ms p)
+post_queued-onto f source signal ms p h x y s = (post_queued-held f source signal ms p h x y s, post_queued-changes f source signal ms p)
+
+pub continuation_queued-onto : (s : SchedulingState) (p : Page) → Held (made_by p) p → StateIsGiven (made_by p) s → Anew p (continuation_queued s p)
+continuation_queued-onto s p h x = (continuation_queued-held s p h x, continuation_queued-changes s p)
+
+pub host_queued-onto : (k : ℕ) (c : HostClosure) (x : ℤ) (signal : Option ℕ) (p : Page) → Held (made_by p) p → k < length p.hosts → IfThere (IsGiven (length p.signals)) signal → Anew p (host_queued k c x signal p)
+host_queued-onto k c x signal p h below s = (host_queued-held k c x signal p h below s, host_queued-changes k c x signal p)
+
+pub answer_host-onto : (t : HostTask) (answer : Result ℤ ℤ) (p : Page) → Held (made_by p) p → HasPromise (made_by p) t.registration → Onto p (answer_host t answer p)
+answer_host-onto t answer p h x = (answer_host-held t answer p h x, answer_host-changes t answer p x.promise)
+
+pub parallel-onto : (p : Page) → Held (made_by p) p → Onto p (parallel p)
+parallel-onto p h = (parallel-held p h, parallel-changes p)
+
+pub new_settled-onto : (settle : ℕ → Value → Page → Page) → SettleGoes settle → (v : Value) (p : Page) → Held (made_by p) p → IsKnown (made_by p) v → Anew p (new_settled settle v p)
+new_settled-onto settle q v p h x =
+    let new = new_promise p in
+    let here : Onward (made_by p) new = new_promise-held p h in
+    let last : IsGiven (length new.notices.promises) (last_promise new) = last-given p.notices.promises pending_promise in
+    (new_settled-held settle (λ k v p h y z. (q k v p h y z).0) v p h x, changes-then (new_promise-changes p) (q (last_promise new) v new here.1 last (IsKnown-grows (made_by p) (made_by new) here.0 v x)).1)
+
+pub then_made-onto : (k : ℕ) (f g : Value) (p : Page) → Held (made_by p) p → IsGiven (length p.notices.promises) k → IsKnown (made_by p) f → IsKnown (made_by p) g → Anew p (then_made k f g p)
+then_made-onto k f g p h x y z =
+    (then_made-held k f g p h x y z, then_made-changes k f g p (promise-grows (made_by p) (made_by (new_promise p)) (new_promise-held p h).0 k x))
+
+pub finally_made-onto : (k : ℕ) (f : Value) (p : Page) → Held (made_by p) p → IsGiven (length p.notices.promises) k → IsKnown (made_by p) f → Anew p (finally_made k f p)
+finally_made-onto k f p h x y =
+    (finally_made-held k f p h x y, finally_made-changes k f p (promise-grows (made_by p) (made_by (new_promise p)) (new_promise-held p h).0 k x))
+
+pub posted-onto : (port : ℕ) (v : Value) (p : Page) → Held (made_by p) p → IsKnown (made_by p) v → Onto p (posted port v p)
+posted-onto port v p h k = (posted-held port v p h k, posted-changes port v p)
+
+abort_registrations-changes : (reason : Value) (rs : List ℕ) (p : Page) → Held (made_by p) p → IsKnown (made_by p) reason → Each (HasPromise (made_by p)) rs → Changes p (abort_registrations reason rs p)
+abort_registrations-changes reason [] p h v x = nothing
+abort_registrations-changes reason (r ∷ rest) p h v x =
+    let q = abort_registration reason r p in
+    let next : Onward (made_by p) q = abort_registration-held reason r p h v x.0 in
+    changes-then (abort_registration-changes reason r p x.0.promise)
+    (abort_registrations-changes reason rest q next.1 (IsKnown-grows (made_by p) (made_by q) next.0 reason v) (Each-more (HasPromise (made_by p)) (HasPromise (made_by q)) (HasPromise-grows (made_by p) (made_by q) next.0) rest x.1))
+
+algorithms-given : (s : ℕ) (p : Page) → Held (made_by p) p → Each (HasPromise (made_by p)) (the_signal p.signals s).algorithms
+algorithms-given s p h = (the_signal-given (made_by p) p.signals s (h InSignals)).algorithms
+
+pub run_algorithms-onto : (s : ℕ) (p : Page) → Held (made_by p) p → Onto p (run_algorithms s p)
+run_algorithms-onto s p h =
+    let q : Page = record p { signals = with_algorithms s [] p.signals } in
+    let next : Onward (made_by p) q = with_algorithms-held s [] p h tt in (
+      run_algorithms-held s p h,
+      changes-then (quietly p q refl refl refl refl refl)
+          (abort_registrations-changes (reason_value p s) (the_signal p.signals s).algorithms q next.1
+          (IsKnown-grows (made_by p) (made_by q) next.0 (reason_value p s) (reason_value-known p s h))
+          (Each-more (HasPromise (made_by p)) (HasPromise (made_by q)) (HasPromise-grows (made_by p) (made_by q) next.0) (the_signal p.signals s).algorithms (algorithms-given s p h))),
+    )

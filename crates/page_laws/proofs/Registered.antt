@@ -1,0 +1,291 @@
+-- No registration is made twice, and what is called was registered before, for something that has a callback.
+use Rattle.std.proofs.Common.{◌≡◌, ℕ, zero, suc, pred, ◌≤◌, Bool, true, false, List, [], ◌∷◌, ◌++◌, ◌&&◌, ◌||◌, Option, Some, None, refl, sym, subst, ap, ◌∙◌, cond, length, arith, not, unwrap_or, slice_get}
+use Rattle.std.proofs.lemmas.Bool.{eqb-true, eq-eqb}
+use Rattle.std.proofs.lemmas.Option.{slice_get_past}
+use Rattle.std.specs.Prelude.{◌==◌}
+use Rattle.page_types.specs.declared.RegKind.{RegKind}
+use Rattle.page_types.specs.declared.RegKind.TheVariants as kind
+use Rattle.page_types.specs.Events.{Event, Call, Ret, Throw, Reg, Run, Turn, IdleLine}
+use Rattle.page_types.specs.declared.Source.TheVariants.{Sched}
+use Rattle.page_parts.specs.Words.{and_last, numbered, without}
+use Rattle.page_parts.specs.Promises.{Settled, Fulfilled, Failed, PromiseJob, Reaction}
+use Rattle.page_parts.specs.Promises as Promises
+use Rattle.page_parts.specs.Notices.{Notices, Noticed, the_promise, changed, queue_jobs, settle_line, subscribe_promise, queue_micro, Context}
+use Rattle.page_model.specs.State.{Role, ScriptRole, OfKind, Registration, Page, emit, emit_each, on_notices, no_registration, context, caller}
+use Rattle.page_model.specs.PageTime.{deadline}
+use Rattle.page_model.specs.Numbers.{Each, IsFor, made_by, timer_role}
+use Rattle.page_model.proofs.NumbersGrow.{numbered-last, length-last}
+use Rattle.page_laws.specs.History.{History, some_line, is_reg_of, kind_of, kind_in, has_kind, is_some_and, is_rest}
+use Rattle.page_laws.specs.CallLaws.{has_no_callback}
+use Rattle.page_laws.specs.Registering.{keeps_kinds}
+use Rattle.page_laws.specs.Moves.{frame_asked, frame_gone, is_aside, is_end, promise_changes, Change, elsewhere, told, rested, registered, promised, settled, followed, adopted, subscribed, micro_queued, rejected_taken, noted, Beginning, TheScript, ATimer, AFrame, AnIdle, ALateIdle, AListener, APost, AContinuation, AMicro, AReaction, called_by, role_of, taken, Moves, here, changing, calling, ending, flagging, running}
+use Rattle.page_laws.proofs.Lines.{added, emit_each-events}
+use Rattle.page_laws.proofs.Scans.{Test, Kept}
+
+abbrev pub kinds : Test
+kinds past e = keeps_kinds past e.event
+
+-- the kind of a role in the lines; the script has none
+abbrev kind_in_role : Role → Option RegKind
+kind_in_role ScriptRole = None
+kind_in_role (OfKind k) = Some k
+
+-- registration r of a list
+abbrev pub At : List Registration → ℕ → Registration
+At xs r = numbered xs r no_registration
+
+-- the registrations fit the lines: each has the kind by its line
+record KindsFit (xs : List Registration) (past : History) : Type 0 where
+  tie : (r : ℕ) → 1 ≤ r → kind_of past r ≡ kind_in_role (At xs r).role
+  kept : Kept kinds past
+
+-- ---- lines
+
+abbrev tells_of_kinds : Event → Bool
+tells_of_kinds (Reg r kind by) = true
+tells_of_kinds (Call r) = true
+tells_of_kinds e = false
+
+aside-silent : (e : Event) → is_aside e ≡ true → tells_of_kinds e ≡ false
+aside-silent (Reg r kind by) h = Prim.cc
+aside-silent (Call r) h = Prim.cc
+aside-silent e h = refl
+
+rest-silent : (e : Event) → is_rest e ≡ true → tells_of_kinds e ≡ false
+rest-silent (Reg r kind by) h = Prim.cc
+rest-silent (Call r) h = Prim.cc
+rest-silent e h = refl
+
+end-silent : (e : Event) → is_end e ≡ true → tells_of_kinds e ≡ false
+end-silent Ret h = refl
+end-silent (Throw bs) h = refl
+end-silent e h = Prim.cc
+
+silent-fits : (e : Event) (now : ℕ) (xs : List Registration) (past : History) → tells_of_kinds e ≡ false → KindsFit xs past → KindsFit xs (record { time = now; event = e } ∷ past)
+silent-fits (Reg r kind by) now xs past h f = Prim.cc
+silent-fits (Call r) now xs past h f = Prim.cc
+silent-fits e now xs past h f = record { tie = f.tie; kept = (refl, f.kept) }
+
+added-fits : (now : ℕ) (es : List Event) (xs : List Registration) (past : History) → Each (λ e. tells_of_kinds e ≡ false) es → KindsFit xs past → KindsFit xs (added now es past)
+added-fits now [] xs past h f = f
+added-fits now (e ∷ es) xs past h f = added-fits now es xs (record { time = now; event = e } ∷ past) h.1 (silent-fits e now xs past h.0 f)
+
+-- where no line registers r, r has no kind, and the other way round
+none-line : (past : History) (r : ℕ) → kind_of past r ≡ None → some_line (is_reg_of r) past ≡ false
+none-line [] r h = refl
+none-line (e ∷ past) r h = by_line e.event (none-line past r) h
+  where
+    by_test : (b : Bool) (k : RegKind) → (kind_of past r ≡ None → some_line (is_reg_of r) past ≡ false) → cond b (Some k) (kind_of past r) ≡ None → b || some_line (is_reg_of r) past ≡ false
+    by_test true k rest h = Prim.cc
+    by_test false k rest h = rest h
+
+    by_line : (e : Event) → (kind_of past r ≡ None → some_line (is_reg_of r) past ≡ false) → kind_in r e (kind_of past r) ≡ None → is_reg_of r e || some_line (is_reg_of r) past ≡ false
+    by_line (Reg q k by) rest h = by_test (q == r) k rest h
+    by_line e rest h = rest h
+
+some-line : (past : History) (r : ℕ) (k : RegKind) → kind_of past r ≡ Some k → some_line (is_reg_of r) past ≡ true
+some-line [] r k h = Prim.cc
+some-line (e ∷ past) r k h = by_line e.event (some-line past r k) h
+  where
+    by_test : (b : Bool) (j : RegKind) → (kind_of past r ≡ Some k → some_line (is_reg_of r) past ≡ true) → cond b (Some j) (kind_of past r) ≡ Some k → b || some_line (is_reg_of r) past ≡ true
+    by_test true j rest h = refl
+    by_test false j rest h = rest h
+
+    by_line : (e : Event) → (kind_of past r ≡ Some k → some_line (is_reg_of r) past ≡ true) → kind_in r e (kind_of past r) ≡ Some k → is_reg_of r e || some_line (is_reg_of r) past ≡ true
+    by_line (Reg q j by) rest h = by_test (q == r) j rest h
+    by_line e rest h = rest h
+
+-- ---- lists of registrations
+
+pub false_true : false ≡ true → ⊥
+false_true h = Prim.cc
+
+at_past : (xs : List Registration) (r : ℕ) → length xs ≤ pred r → At xs r ≡ no_registration
+at_past xs r h = ap {A = Option Registration} {B = Registration} (λ o. unwrap_or o no_registration) (slice_get_past xs (pred r) h)
+
+pub at_before : (xs : List Registration) (x : Registration) (i : ℕ) → (i ≡ length xs → ⊥) → unwrap_or (slice_get (and_last xs x) i) no_registration ≡ unwrap_or (slice_get xs i) no_registration
+at_before [] x zero h = absurd (h refl)
+at_before [] x (suc i) h = refl
+at_before (y ∷ xs) x zero h = refl
+at_before (y ∷ xs) x (suc i) h = at_before xs x i (λ e. h (ap suc e))
+
+-- ---- a registration is made, and something is called
+
+made-fits : (k : RegKind) (by : Option ℕ) (x : Registration) (now : ℕ) (xs : List Registration) (past : History) → x.role ≡ OfKind k → KindsFit xs past → KindsFit (and_last xs x) (record { time = now; event = Reg (suc (length xs)) k by } ∷ past)
+made-fits k by x now xs past e f =
+    record {
+      tie = λ r one. by_number r one (suc (length xs) == r) refl;
+      kept = (ap not (none-line past (suc (length xs)) (f.tie (suc (length xs)) (omega arith) ∙ ap {A = Registration} {B = Option RegKind} (λ y. kind_in_role y.role) (at_past xs (suc (length xs)) (omega arith)))), f.kept);
+    }
+  where
+    last : At (and_last xs x) (suc (length xs)) ≡ x
+    last = ap {A = ℕ} {B = Registration} (At (and_last xs x)) (sym (length-last xs x)) ∙ numbered-last xs x no_registration
+
+    by_number : (r : ℕ) → 1 ≤ r → (b : Bool) → (suc (length xs) == r) ≡ b → cond (suc (length xs) == r) (Some k) (kind_of past r) ≡ kind_in_role (At (and_last xs x) r).role
+    by_number r one true q =
+        ap {A = Bool} {B = Option RegKind} (λ b. cond b (Some k) (kind_of past r)) q
+        ∙ sym (ap {A = ℕ} {B = Option RegKind} (λ i. kind_in_role (At (and_last xs x) i).role) (sym (eqb-true (suc (length xs)) r q)) ∙ (ap {A = Registration} {B = Option RegKind} (λ y. kind_in_role y.role) last ∙ ap kind_in_role e))
+    by_number r one false q =
+        ap {A = Bool} {B = Option RegKind} (λ b. cond b (Some k) (kind_of past r)) q
+        ∙ (f.tie r one ∙ sym (ap {A = Registration} {B = Option RegKind} (λ y. kind_in_role y.role) (at_before xs x (pred r) (λ same. false_true (sym q ∙ eq-eqb (suc (length xs)) r (omega (arith, one, same)))))))
+
+-- what has a callback
+abbrev IsCallable : Role → Type 0
+IsCallable ScriptRole = Unit {0}
+IsCallable (OfKind k) = has_no_callback k ≡ false
+
+callable : (b : Beginning) → IsCallable (role_of b)
+callable (TheScript source task) = tt
+callable (ATimer source task t) = by_repeats t.repeats
+  where
+    by_repeats : (b : Bool) → IsCallable (timer_role b)
+    by_repeats true = refl
+    by_repeats false = refl
+callable (AFrame key c) = refl
+callable (AnIdle c others) = refl
+callable (ALateIdle handle c) = refl
+callable (AListener r) = refl
+callable (APost t) = refl
+callable (AContinuation t) = refl
+callable (AMicro job others r) = refl
+callable (AReaction job others of x r) = refl
+
+or-true : (b : Bool) → b || true ≡ true
+or-true true = refl
+or-true false = refl
+
+-- a call of a registration that has a callback
+called-passes : (past : History) (r : ℕ) (k : RegKind) → kind_of past r ≡ Some k → has_no_callback k ≡ false → (r == 1) || (some_line (is_reg_of r) past && not (has_kind has_no_callback past r)) ≡ true
+called-passes past r k e h =
+    ap {A = Bool} {B = Bool} (λ b. (r == 1) || (b && not (has_kind has_no_callback past r))) (some-line past r k e)
+    ∙ (ap {A = Option RegKind} {B = Bool} (λ o. (r == 1) || not (is_some_and has_no_callback o)) e ∙ (ap {A = Bool} {B = Bool} (λ b. (r == 1) || not b) h ∙ or-true (r == 1)))
+
+call-fits : (b : Beginning) (now : ℕ) (p : Page) (past : History) → IsFor (role_of b) (made_by p) (called_by b) → KindsFit p.registrations past → KindsFit p.registrations (record { time = now; event = Call (called_by b) } ∷ past)
+call-fits b now p past i f = record { tie = f.tie; kept = (by_role b i, f.kept) }
+  where
+    of_kind : (r : ℕ) (role : Role) → IsFor role (made_by p) r → IsCallable role → (role ≡ ScriptRole → r ≡ 1) → (r == 1) || (some_line (is_reg_of r) past && not (has_kind has_no_callback past r)) ≡ true
+    of_kind r ScriptRole i h s = ap {A = Bool} {B = Bool} (λ b. b || (some_line (is_reg_of r) past && not (has_kind has_no_callback past r))) (eq-eqb r 1 (s refl))
+    of_kind r (OfKind k) i h s = called-passes past r k (f.tie r i.registration.from_one ∙ ap kind_in_role i.role) h
+
+    by_role : (b : Beginning) → IsFor (role_of b) (made_by p) (called_by b) → (called_by b == 1) || (some_line (is_reg_of (called_by b)) past && not (has_kind has_no_callback past (called_by b))) ≡ true
+    by_role (TheScript source task) i = refl
+    by_role (ATimer source task t) i = of_kind t.registration (timer_role t.repeats) i (callable (ATimer source task t)) (λ e. by_repeats t.repeats e)
+      where
+        by_repeats : (b : Bool) → timer_role b ≡ ScriptRole → t.registration ≡ 1
+        by_repeats true e = Prim.cc
+        by_repeats false e = Prim.cc
+    by_role (AFrame key c) i = called-passes past c.registration kind.Frame (f.tie c.registration i.registration.from_one ∙ ap kind_in_role i.role) refl
+    by_role (AnIdle c others) i = called-passes past c.registration kind.Idle (f.tie c.registration i.registration.from_one ∙ ap kind_in_role i.role) refl
+    by_role (ALateIdle handle c) i = called-passes past c.registration kind.Idle (f.tie c.registration i.registration.from_one ∙ ap kind_in_role i.role) refl
+    by_role (AListener r) i = called-passes past r kind.Listener (f.tie r i.registration.from_one ∙ ap kind_in_role i.role) refl
+    by_role (APost t) i = called-passes past t.registration kind.Post (f.tie t.registration i.registration.from_one ∙ ap kind_in_role i.role) refl
+    by_role (AContinuation t) i = called-passes past t.registration kind.Yield (f.tie t.registration i.registration.from_one ∙ ap kind_in_role i.role) refl
+    by_role (AMicro job others r) i = called-passes past r kind.Micro (f.tie r i.registration.from_one ∙ ap kind_in_role i.role) refl
+    by_role (AReaction job others of x r) i = called-passes past r kind.Then (f.tie r i.registration.from_one ∙ ap kind_in_role i.role) refl
+
+-- ---- moves
+
+abbrev Fits : Page → Type 0
+Fits p = KindsFit p.registrations p.events
+
+abbrev Silent : Event → Type 0
+Silent e = tells_of_kinds e ≡ false
+
+Each-append : (xs ys : List Event) → Each Silent xs → Each Silent ys → Each Silent (xs ++ ys)
+Each-append [] ys h k = k
+Each-append (x ∷ xs) ys h k = (h.0, Each-append xs ys h.1 k)
+
+settle_line-silent : (names : List (List ℕ)) (n : ℕ) (o : Option Settled) → Each Silent (settle_line names n o)
+settle_line-silent names n None = tt
+settle_line-silent names n (Some (Fulfilled v)) = (refl, tt)
+settle_line-silent names n (Some (Failed v)) = (refl, tt)
+
+if_settled-silent : (b : Bool) (lines : List Event) → Each Silent lines → Each Silent (cond b lines [])
+if_settled-silent true lines h = h
+if_settled-silent false lines h = tt
+
+queue_jobs-silent : (current : Context) (jobs : List PromiseJob) (s : Notices) → Each Silent (queue_jobs current jobs s).lines
+queue_jobs-silent current [] s = tt
+queue_jobs-silent current (j ∷ jobs) s = (refl, queue_jobs-silent current jobs _)
+
+changed-silent : (current : Context) (names : List (List ℕ)) (n : ℕ) (c : Promises.Change) (s : Notices) → Each Silent (changed current names n c s).lines
+changed-silent current names n c s = Each-append (cond c.settled (settle_line names n c.promise.outcome) []) _ (if_settled-silent c.settled _ (settle_line-silent names n c.promise.outcome)) (queue_jobs-silent current c.jobs _)
+
+emit_each-registrations : (es : List Event) (p : Page) → (emit_each es p).registrations ≡ p.registrations
+emit_each-registrations [] p = refl
+emit_each-registrations (e ∷ es) p = emit_each-registrations es (emit e p)
+
+notices-fit : (f : Notices → Noticed) (p : Page) → Each Silent (f p.notices).lines → Fits p → Fits (on_notices f p)
+notices-fit f p h k =
+    let q : Page = record p { notices = (f p.notices).notices } in
+    let lines = (f p.notices).lines in
+    subst (λ (xs : List Registration). KindsFit xs (emit_each lines q).events) (sym (emit_each-registrations lines q))
+    (subst (KindsFit p.registrations) (sym (emit_each-events lines q)) (added-fits p.now lines p.registrations p.events h k))
+
+changes-fit : (n : ℕ) (c : Promises.Change) (p : Page) → Fits p → Fits (promise_changes n c p)
+changes-fit n c p f = notices-fit (λ s. changed (context p) p.names n c s) p (changed-silent (context p) p.names n c p.notices) f
+
+subscribed-fits : (n : ℕ) (r : Reaction) (p : Page) → Fits p → Fits (on_notices (subscribe_promise (context p) n r) p)
+subscribed-fits n r p f =
+    notices-fit (subscribe_promise (context p) n r) p
+    (changed-silent (context p) [] n (Promises.subscribe n (the_promise p.notices n) r) (record p.notices { rejected = without (λ m. m == n) p.notices.rejected; outstanding = without (λ m. m == n) p.notices.outstanding })) f
+
+change-fits : {p q : Page} → Change p q → Fits p → Fits q
+change-fits {p = p} {q = q} (elsewhere x y z w v) f = subst (λ (xs : List Registration). KindsFit xs q.events) (sym w) (subst (KindsFit p.registrations) (sym z) f)
+change-fits {p = p} (told e h) f = silent-fits e p.now p.registrations p.events (aside-silent e h) f
+change-fits {p = p} (rested e h x y) f = silent-fits e p.now p.registrations p.events (rest-silent e h) f
+change-fits {p = p} (registered k x e) f = made-fits k (caller p) x p.now p.registrations p.events e f
+change-fits {p = p} (frame_asked g) f = made-fits kind.Frame (caller p) (record { role = OfKind kind.Frame; callback = Some g; second_callback = None; timer_id = 0; promise = 0; signal = None; finally = false }) p.now p.registrations p.events refl f
+change-fits (frame_gone handle) f = f
+change-fits promised f = f
+change-fits {p = p} (settled n how x y) f = changes-fit n (Promises.settle n (the_promise p.notices n) how) p f
+change-fits {p = p} (followed n how x y) f = changes-fit n (Promises.settle n (the_promise p.notices n) how) p f
+change-fits {p = p} (adopted n from x y) f = changes-fit n (Promises.adopt n (the_promise p.notices n) from) p f
+change-fits {p = p} (subscribed n r x) f = subscribed-fits n r p f
+change-fits {p = p} (micro_queued r) f = notices-fit (queue_micro (context p) r) p (refl, tt) f
+change-fits rejected_taken f = f
+change-fits (noted n) f = f
+
+-- where a callback is taken, the registrations stay
+begins-fit : (b : Beginning) (p : Page) → Fits p → Fits (taken b p)
+begins-fit (TheScript source task) p f = f
+begins-fit (ATimer source task t) p f = f
+begins-fit (AFrame key c) p f = f
+begins-fit (AnIdle c others) p f = silent-fits (IdleLine (deadline p.last_idle_start p)) p.now p.registrations p.events refl f
+begins-fit (ALateIdle handle c) p f = f
+begins-fit (AListener r) p f = f
+begins-fit (APost t) p f = silent-fits (Turn p.turns (Some Sched)) p.now p.registrations p.events refl f
+begins-fit (AContinuation t) p f = silent-fits (Turn p.turns (Some Sched)) p.now p.registrations p.events refl f
+begins-fit (AMicro job others r) p f = silent-fits (Run job.number) p.now p.registrations p.events refl f
+begins-fit (AReaction job others of x r) p f = silent-fits (Run job.number) p.now p.registrations p.events refl f
+
+same-registrations : (b : Beginning) (p : Page) → (taken b p).registrations ≡ p.registrations
+same-registrations (TheScript source task) p = refl
+same-registrations (ATimer source task t) p = refl
+same-registrations (AFrame key c) p = refl
+same-registrations (AnIdle c others) p = refl
+same-registrations (ALateIdle handle c) p = refl
+same-registrations (AListener r) p = refl
+same-registrations (APost t) p = refl
+same-registrations (AContinuation t) p = refl
+same-registrations (AMicro job others r) p = refl
+same-registrations (AReaction job others of x r) p = refl
+
+moves-fit : {p q : Page} → Moves p q → Fits p → Fits q
+moves-fit here f = f
+moves-fit (changing a c) f = change-fits c (moves-fit a f)
+moves-fit (calling {q = q} a b w i) f =
+    let same = same-registrations b q in
+    subst (λ (xs : List Registration). KindsFit xs (record { time = (taken b q).now; event = Call (called_by b) } ∷ (taken b q).events)) (sym same)
+    (call-fits b (taken b q).now q (taken b q).events i (subst (λ (xs : List Registration). KindsFit xs (taken b q).events) same (begins-fit b q (moves-fit a f))))
+moves-fit (ending {q = q} a e h) f = silent-fits e q.now q.registrations q.events (end-silent e h) (moves-fit a f)
+moves-fit (flagging {q = q} {r = r} a x y z w) f = subst (λ (xs : List Registration). KindsFit xs r.events) (sym z) (subst (KindsFit q.registrations) (sym y) (moves-fit a f))
+moves-fit (running {q = q} a j others x y) f = silent-fits (Run j.number) q.now q.registrations q.events refl (moves-fit a f)
+
+-- from a page with no lines, in which nothing is registered but the script, registrations have the kinds of their lines
+pub kinds_fit : {p q : Page} → Moves p q → (x : Registration) → p.events ≡ [] → p.registrations ≡ x ∷ [] → x.role ≡ ScriptRole → Kept kinds q.events
+kinds_fit {p = p} a x y z w = (moves-fit a (subst (KindsFit p.registrations) (sym y) (subst (λ (xs : List Registration). KindsFit xs []) (sym z) (record { tie = λ r one. first (pred r); kept = tt })))).kept
+  where
+    first : (i : ℕ) → None ≡ kind_in_role (unwrap_or (slice_get (x ∷ []) i) no_registration).role
+    first zero = sym (ap kind_in_role w)
+    first (suc i) = refl

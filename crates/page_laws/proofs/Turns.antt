@@ -1,0 +1,354 @@
+-- Turns and runs are rows of moves.
+use Rattle.lang_meaning.specs.Evaluation.{call_from_outside}
+use Rattle.lang_meaning.specs.Machine.{Caller, Done, Gives, OutOfFuel, Returns, Throws, finish}
+use Rattle.page_laws.proofs.Evaluating.{Le, Onto, Reached, Stop, le-same, le-then, on_page-reached}
+use Rattle.page_laws.proofs.Moved.{idle_step-changes, quietly}
+use Rattle.page_laws.proofs.Moving.{moves-then}
+use Rattle.page_laws.proofs.Onto.{answer_host-onto, parallel-onto}
+use Rattle.page_laws.proofs.Operations.{outside-goes}
+use Rattle.page_laws.proofs.Runs.{AtTop, CallsGo, Clears, Goes, at_top-later, checkpoint-clears, finish-goes, finish_page, in_task-goes}
+use Rattle.page_laws.proofs.Tasks.{after_task-goes, sched_task-goes, task-goes, without_task-onto}
+use Rattle.page_laws.specs.Moves.{Moves, changing, elsewhere, here, nothing, rested, sched_begun, told, with_change}
+use Rattle.page_model.proofs.NumbersEvaluation.{Good}
+use Rattle.page_model.proofs.NumbersGrow.{Each-find, Grows-same, InSchedTasks, InTasks, stays}
+use Rattle.page_model.proofs.NumbersPages.{idle_step-held}
+use Rattle.page_model.proofs.NumbersTurns.{first_state-good}
+use Rattle.page_model.specs.Choosing.{Chosen, Rules, chosen_answer, chosen_reading, chosen_source}
+use Rattle.page_model.specs.Invoke.{in_task}
+use Rattle.page_model.specs.Numbers.{Each, HasPromise, HoldsNoNumbers, IfThere, Made, SchedTaskIsGiven, StepsAreGiven, TaskIsGiven, made_by}
+use Rattle.page_model.specs.Operations.{page_operations}
+use Rattle.page_model.specs.PageSignals.{host_task_of, is_aborted_source}
+use Rattle.page_model.specs.PageTime.{completion_of, deadline, enqueue, first_of, first_sched, first_sched_from, first_task, goes_before, idle_step, period_begun, without_timer}
+use Rattle.page_model.specs.Parallel.{ArrivalItem, FrameItem, HostItem, IdleItem, Item, ItemKind, TimerItem, complete, complete_at, due_item, first_item, item_count, parallel, take_due, take_item}
+use Rattle.page_model.specs.State.{AnswerHost, Completion, EnqueuePost, FireAtWindow, HostTask, IdleTimeout, InvokeIdle, NotifyHandled, NotifyRejected, Page, QueueSignal, QueueTimer, RunFrame, RunScript, RunTimer, SchedTask, State, Steps, Task, TimeOutSignal, emit, on_page, the_registration}
+use Rattle.page_model.specs.Tasks.{after_task, answer_host, perform_sched, perform_steps}
+use Rattle.page_model.specs.Turns.{Ended, GoesOn, Stuck, Turned, after_step_one, answered, at_time, choose_turned, counted_turn, ends, first_page, first_state, from_step_one, goes_on, is_pending, next_turn, not_dropped, perform, perform_first, perform_first_sched, perform_host, perform_picked, perform_task, run_by, state_of, step_five, step_four, step_one, step_three, step_two, step_two_at, step_two_by, target, task_done, turn, turn_line, turns, waited, with_turn_fuel, without_task, from_step_three}
+use Rattle.page_model.specs.View.{view}
+use Rattle.page_parts.specs.HostClosures.{HostClosure}
+use Rattle.page_parts.specs.IdleCallbacks.{waits}
+use Rattle.page_parts.specs.Notices.{Notices, WaitingJob}
+use Rattle.page_parts.specs.Setup.{Setup}
+use Rattle.page_parts.specs.Sources.{same_source}
+use Rattle.page_parts.specs.Words.{is_empty}
+use Rattle.page_parts.specs.WrittenChoices.{Runnable}
+use Rattle.page_types.specs.Events.{Due, EndLine, Event, Turn, Wait}
+use Rattle.page_types.specs.Tree.{Program}
+use Rattle.page_types.specs.declared.End.{End}
+use Rattle.page_types.specs.declared.End.TheVariants.{Clock as ClockEnd, Done as DoneEnd, Fuel as FuelEnd}
+use Rattle.page_types.specs.declared.Source.{Source}
+use Rattle.page_types.specs.declared.Source.TheVariants.{Dom, Idle, Net, Render, Sched, Timer, User}
+use Rattle.std.proofs.Common.{Bool, List, None, Option, Result, Some, [], ap, cond, false, max, nat_le, nat_lt, refl, slice_get, subst, suc, sym, true, zero, ℕ, ℤ, ◌&&◌, ◌||◌, ◌∙◌, ◌∷◌, ◌≡◌}
+use Rattle.std.specs.Prelude.{◌==◌}
+use Rattle.page_laws.specs.History.{is_rest}
+
+-- ---- queues
+
+pub host_task_of-given : (n : Made) (steps : Steps) → StepsAreGiven n steps → IfThere (λ (t : HostTask). HasPromise n t.registration) (host_task_of steps)
+host_task_of-given n (AnswerHost t) h = h.registration
+host_task_of-given n RunScript h = tt
+host_task_of-given n (RunTimer t) h = tt
+host_task_of-given n (TimeOutSignal s) h = tt
+host_task_of-given n (FireAtWindow name v) h = tt
+host_task_of-given n (RunFrame t) h = tt
+host_task_of-given n InvokeIdle h = tt
+host_task_of-given n (IdleTimeout handle) h = tt
+host_task_of-given n (NotifyRejected ks) h = tt
+host_task_of-given n (NotifyHandled k) h = tt
+
+sched_from-given : (n : Made) (p : Page) (a : SchedTask) (ts : List SchedTask) → SchedTaskIsGiven n a → Each (SchedTaskIsGiven n) ts → SchedTaskIsGiven n (first_sched_from p a ts)
+sched_from-given n p a [] x h = x
+sched_from-given n p a (b ∷ more) x h = sched_from-given n p (cond (goes_before p b a) b a) more (by_order (goes_before p b a)) h.1
+  where
+    by_order : (c : Bool) → SchedTaskIsGiven n (cond c b a)
+    by_order true = h.0
+    by_order false = x
+
+pub sched_of-given : (n : Made) (p : Page) (ts : List SchedTask) → Each (SchedTaskIsGiven n) ts → IfThere (SchedTaskIsGiven n) (first_of p ts)
+sched_of-given n p [] h = tt
+sched_of-given n p (a ∷ more) h = sched_from-given n p a more h.0 h.1
+
+-- a line changes nothing of which scheduler task is the first
+sched_from-line : (e : Event) (p : Page) (a : SchedTask) (ts : List SchedTask) → first_sched_from (emit e p) a ts ≡ first_sched_from p a ts
+sched_from-line e p a [] = refl
+sched_from-line e p a (b ∷ others) = sched_from-line e p (cond (goes_before p b a) b a) others
+
+pub sched_of-line : (e : Event) (p : Page) (ts : List SchedTask) → first_of (emit e p) ts ≡ first_of p ts
+sched_of-line e p [] = refl
+sched_of-line e p (a ∷ others) = ap Some (sched_from-line e p a others)
+
+-- ---- promises and jobs stay in parallel items and in the idle step
+
+complete-notices : (c : Completion) (p : Page) → (complete c p).notices ≡ p.notices
+complete-notices (QueueTimer t) p = refl
+complete-notices (EnqueuePost r source) p = by_abort (is_aborted_source p (the_registration p r).signal)
+  where
+    by_abort : (b : Bool) → (cond b (λ q. q) (enqueue r source false) (emit (Due r) p)).notices ≡ p.notices
+    by_abort true = refl
+    by_abort false = refl
+complete-notices (QueueSignal r s) p = refl
+
+complete_at-notices : (c : Option Completion) (p : Page) → (complete_at c p).notices ≡ p.notices
+complete_at-notices None p = refl
+complete_at-notices (Some c) p = complete-notices c p
+
+take_item-notices : (what : ItemKind) (p : Page) → (take_item what p).notices ≡ p.notices
+take_item-notices (ArrivalItem a) p = refl
+take_item-notices (HostItem a) p = refl
+take_item-notices (TimerItem t) p = complete_at-notices (completion_of p.completions t.start) (without_timer t.start p)
+take_item-notices (IdleItem t) p = refl
+take_item-notices FrameItem p = refl
+
+abbrev SameNotices : Page → Page → Type 0
+SameNotices p q = q.notices ≡ p.notices
+
+take_due-notices : (n : ℕ) (p : Page) → (take_due n p).notices ≡ p.notices
+take_due-notices zero p = refl
+take_due-notices (suc n) p = by_item (due_item p.now (first_item p)) (λ a. take_due-notices n (take_item a.what p))
+  where
+    by_item : (o : Option Item) → ((a : Item) → (take_due n (take_item a.what p)).notices ≡ (take_item a.what p).notices) → SameNotices p (elim o [ None ↦ p | Some a ↦ take_due n (take_item a.what p) ])
+    by_item None k = refl
+    by_item (Some a) k = k a ∙ take_item-notices a.what p
+
+pub idle_step-notices : (p : Page) → (idle_step p).notices ≡ p.notices
+idle_step-notices p = by_start (waits before.idle && nat_lt before.now (deadline before.last_idle_start before) && nat_le before.period_end before.now)
+  where
+    before : Page
+    before = record p { last_idle_start = p.now }
+
+    by_start : (b : Bool) → (cond b (period_begun (deadline before.last_idle_start before) before) before).notices ≡ p.notices
+    by_start true = refl
+    by_start false = refl
+
+-- ---- turns
+
+-- between turns no call is open, no checkpoint is performed and no job waits
+abbrev pub Rests : State → Type 0
+Rests m = AtTop m × m.host.notices.jobs ≡ []
+
+-- a state between turns that is reached from another one
+abbrev pub Comes : State → State → Type 0
+Comes m r = Le m r × Good r × Rests r
+
+pub comes-then : (m r s : State) → Le m r → Comes r s → Comes m s
+comes-then m r s le h = (le-then m r s le h.0, h.1, h.2)
+
+-- a change that leaves promises and jobs
+pub comes_by : (m : State) (f : Page → Page) → Good m → Rests m → Onto m.host (f m.host) → (f m.host).notices ≡ m.host.notices → Comes m (on_page f m)
+comes_by m f g x o e =
+    let a = on_page-reached m f g o in
+    (a.0, a.1, (at_top-later m (on_page f m) a.0 x.0, ap {A = Notices} {B = List WaitingJob} (λ s. s.jobs) e ∙ x.1))
+
+comes_here : (m : State) → Good m → Rests m → Comes m m
+comes_here m g x = (le-same m, g, x)
+
+-- a line between turns
+rested-onto : (e : Event) (m : State) → is_rest e ≡ true → Good m → Rests m → Onto m.host (emit e m.host)
+rested-onto e m h g x = (stays m.host g.0, with_change nothing (rested e h x.0.0 x.1))
+
+step_five-comes : (m : State) → Good m → Rests m → Comes m (step_five m)
+step_five-comes m g x = by_view (is_empty (view m.host))
+  where
+    by_view : (b : Bool) → Comes m (cond b (on_page idle_step) (λ m. m) m)
+    by_view true = comes_by m idle_step g x (idle_step-held m.host g.0, idle_step-changes m.host x.0.0 x.1) (idle_step-notices m.host)
+    by_view false = comes_here m g x
+
+pub step_one-comes : (m : State) → Good m → Rests m → Comes m (step_one m)
+step_one-comes m g x = by_turns (m.host.turns == 0)
+  where
+    by_turns : (b : Bool) → Comes m (cond b m (on_page parallel m))
+    by_turns true = comes_here m g x
+    by_turns false = comes_by m parallel g x (parallel-onto m.host g.0) (take_due-notices (item_count m.host) m.host)
+
+module _ {C : Type 0} (program : Program) where
+  -- how a turn ends: it goes on between turns, or what happened till its end is a row of moves
+  abbrev pub Lands : State → Turned C → Type 0
+  Lands m (GoesOn r c) = Comes m r
+  Lands m (Ended end r c) = Stop m r
+  Lands m (Stuck r c) = Stop m r
+
+  pub lands-then : (m r : State) (t : Turned C) → Le m r → Lands r t → Lands m t
+  lands-then m r (GoesOn s c) le h = comes-then m r s le h
+  lands-then m r (Ended end s c) le h = moves-then le.1 h
+  lands-then m r (Stuck s c) le h = moves-then le.1 h
+
+  pub ends-lands : (end : End) (c : C) (m : State) → Good m → Rests m → Lands m (ends end c m)
+  ends-lands DoneEnd c m g x = (on_page-reached m (emit (EndLine DoneEnd)) g (rested-onto (EndLine DoneEnd) m refl g x)).0.1
+  ends-lands ClockEnd c m g x = (on_page-reached m (emit (EndLine ClockEnd)) g (rested-onto (EndLine ClockEnd) m refl g x)).0.1
+  ends-lands FuelEnd c m g x = changing here (told (EndLine FuelEnd) refl)
+
+  pub choose-lands : (b : Bool) (then else : State → Turned C) (m : State) → Lands m (then m) → Lands m (else m) → Lands m (choose_turned b then else m)
+  choose-lands true then else m h k = h
+  choose-lands false then else m h k = k
+
+  -- where a turn stops
+  abbrev pub Stops : State → Turned C → Type 0
+  Stops m t = Stop m (state_of t)
+
+  module _ (rules : Rules C) (call : Caller Page) (calls_go : CallsGo program call) where
+    -- no task is current any more, and a checkpoint is performed
+    after_task-lands : (c : C) (m : State) → Good m → AtTop m → Lands m (goes_on c (after_task call m))
+    after_task-lands c m g z = by_end (after_task call m) (after_task-goes program call calls_go m g z) (checkpoint-clears call (on_page (λ p. record p { level = 0; scheduling = None }) m) z.1)
+      where
+        by_end : (d : Done Page) → Goes program m d → Clears d → Lands m (goes_on c d)
+        by_end (Gives v r) h k = (h.0, h.1, (at_top-later m r h.0 z, k))
+        by_end (Throws v r) h k = elim k [ ]
+        by_end (Returns v r) h k = elim k [ ]
+        by_end (OutOfFuel r) h k = changing h (told (EndLine FuelEnd) refl)
+
+    task_done-lands : (c : C) (m : State) (d : Done Page) → AtTop m → Goes program m d → Lands m (task_done call c d)
+    task_done-lands c m (Gives v r) z h = lands-then m r (goes_on c (after_task call r)) h.0 (after_task-lands c r h.1 (at_top-later m r h.0 z))
+    task_done-lands c m (Throws v r) z h = lands-then m r (goes_on c (after_task call r)) h.0 (after_task-lands c r h.1 (at_top-later m r h.0 z))
+    task_done-lands c m (Returns v r) z h = lands-then m r (goes_on c (after_task call r)) h.0 (after_task-lands c r h.1 (at_top-later m r h.0 z))
+    task_done-lands c m (OutOfFuel r) z h = changing h (told (EndLine FuelEnd) refl)
+
+    answered-lands : (t : HostTask) (a : Option (Chosen (Result ℤ ℤ) C)) (m : State) (c : C) → Good m → AtTop m → HasPromise (made_by m.host) t.registration → Lands m (answered call t a m c)
+    answered-lands t None m c g z x = here
+    answered-lands t (Some a) m c g z x =
+        task_done-lands a.left m (finish (on_page (answer_host t a.choice) m)) z (finish_page program m (answer_host t a.choice) g (answer_host-onto t a.choice m.host g.0 x))
+
+    perform_host-lands : (t : HostTask) (k : Option HostClosure) (m : State) (c : C) → Good m → AtTop m → HasPromise (made_by m.host) t.registration → Lands m (perform_host rules call t k m c)
+    perform_host-lands t None m c g z x = task_done-lands c m (finish m) z (finish-goes program m g)
+    perform_host-lands t (Some k) m c g z x = answered-lands t (chosen_answer rules k.kind t.number c) m c g z x
+
+    pub turn_line-comes : (source : Option Source) (m : State) → Good m → Rests m → Comes m (turn_line source m)
+    turn_line-comes source m g x = comes_by m (λ p. emit (Turn p.turns source) p) g x (rested-onto (Turn m.host.turns source) m refl g x) refl
+
+    perform_first-lands : (source : Source) (task : Option Task) (m : State) (c : C) → first_task source m.host.tasks ≡ task → Good m → AtTop m → IfThere (TaskIsGiven (made_by m.host)) task → Lands m (perform_first rules call task m c)
+    perform_first-lands source None m c e g z x = here
+    perform_first-lands source (Some task) m c e g z x = by_host (host_task_of task.steps) (host_task_of-given (made_by m.host) task.steps x.steps)
+      where
+        left : Reached m (on_page (without_task task.number) m)
+        left = on_page-reached m (without_task task.number) g (without_task-onto task.number m.host g.0)
+
+        by_host : (t : Option HostTask) → IfThere (λ (t : HostTask). HasPromise (made_by m.host) t.registration) t → Lands m (perform_task rules call task t (on_page (without_task task.number) m) c)
+        by_host None y =
+            task_done-lands c m (perform_steps (in_task call) task.steps (on_page (without_task task.number) m)) z (task-goes program (in_task call) (in_task-goes program call calls_go) source task m g z e x.steps)
+        by_host (Some t) y =
+            let n = on_page (without_task task.number) m in
+            lands-then m n (perform_host rules call t (not_dropped (slice_get m.host.hosts t.closure)) n c) left.0
+            (perform_host-lands t (not_dropped (slice_get m.host.hosts t.closure)) n c left.1 (at_top-later m n left.0 z) y)
+
+    first_task-lands : (source : Source) (m : State) (c : C) → Good m → AtTop m → Lands m (perform_first rules call (first_task source m.host.tasks) m c)
+    first_task-lands source m c g z =
+        perform_first-lands source (first_task source m.host.tasks) m c refl g z (Each-find (TaskIsGiven (made_by m.host)) (λ t. same_source t.source source) m.host.tasks (g.0 InTasks))
+
+    -- the scheduler's turn, from before its line
+    sched-lands : (t : Option SchedTask) (m : State) (c : C) → first_sched m.host ≡ t → Good m → Rests m → IfThere (SchedTaskIsGiven (made_by m.host)) t → Lands m (perform_first_sched call t (turn_line (Some Sched) m) c)
+    sched-lands None m c e g x y = (turn_line-comes (Some Sched) m g x).0.1
+    sched-lands (Some t) m c e g x y =
+        task_done-lands c m (perform_sched (in_task call) t (on_page (sched_begun t) m)) x.0
+        (sched_task-goes program (in_task call) (in_task-goes program call calls_go) t m g x.0 e x.0.0 x.1 y)
+
+    -- any other turn, from before its line
+    other-lands : (source : Source) (m : State) (c : C) → Good m → Rests m → Lands m (perform_first rules call (first_task source (turn_line (Some source) m).host.tasks) (turn_line (Some source) m) c)
+    other-lands source m c g x =
+        let a = turn_line-comes (Some source) m g x in
+        lands-then m (turn_line (Some source) m) _ a.0 (first_task-lands source (turn_line (Some source) m) c a.1 a.2.0)
+
+    perform_picked-lands : (s : Option (Chosen Source C)) (m : State) (c : C) → Good m → Rests m → Lands m (perform_picked rules call s m c)
+    perform_picked-lands None m c g x = here
+    perform_picked-lands (Some s) m c g x = by_source s.choice
+      where
+        by_source : (source : Source) → Lands m (perform rules call source (turn_line (Some source) m) s.left)
+        by_source Sched =
+            subst (λ (t : Option SchedTask). Lands m (perform_first_sched call t (turn_line (Some Sched) m) s.left)) (sym (sched_of-line (Turn m.host.turns (Some Sched)) m.host m.host.sched_tasks))
+            (sched-lands (first_sched m.host) m s.left refl g x (sched_of-given (made_by m.host) m.host m.host.sched_tasks (g.0 InSchedTasks)))
+        by_source User = other-lands User m s.left g x
+        by_source Net = other-lands Net m s.left g x
+        by_source Dom = other-lands Dom m s.left g x
+        by_source Timer = other-lands Timer m s.left g x
+        by_source Render = other-lands Render m s.left g x
+        by_source Idle = other-lands Idle m s.left g x
+
+    step_four-lands : (rs : List Runnable) (m : State) (c : C) → Good m → Rests m → Lands m (step_four rules call rs m c)
+    step_four-lands [] m c g x = turn_line-comes None m g x
+    step_four-lands (r ∷ rs) m c g x = perform_picked-lands (chosen_source rules (r ∷ rs) c) m c g x
+
+    with_turn_fuel-lands : (fuel : ℕ) (m : State) (c : C) → Good m → Rests m → Lands m (with_turn_fuel rules call fuel m c)
+    with_turn_fuel-lands zero m c g x = ends-lands FuelEnd c m g x
+    with_turn_fuel-lands (suc left) m c g x =
+        let counted = counted_turn left m in
+        lands-then m counted (step_four rules call (view m.host) counted c) (Grows-same (made_by m.host), changing here (elsewhere refl refl refl refl refl), (refl, refl)) (step_four-lands (view m.host) counted c g x)
+
+    pub step_three-lands : (until : ℕ) (c : C) (m : State) → Good m → Rests m → Lands m (step_three rules call until c m)
+    step_three-lands until c m g x =
+        choose-lands (nat_le until m.host.now) (ends ClockEnd c) (λ m. with_turn_fuel rules call m.fuel m c) m (ends-lands ClockEnd c m g x) (with_turn_fuel-lands m.fuel m c g x)
+
+    -- steps 3 and 4, and then the idle step
+    step_five-lands : (t : Turned C) (m : State) → Lands m t → Lands m (next_turn t (λ m c. GoesOn (step_five m) c))
+    step_five-lands (GoesOn r c) m h = comes-then m r (step_five r) h.0 (step_five-comes r h.1 h.2)
+    step_five-lands (Ended end r c) m h = h
+    step_five-lands (Stuck r c) m h = h
+
+    from_step_three-lands : (until : ℕ) (c : C) (m : State) → Good m → Rests m → Lands m (from_step_three rules call until c m)
+    from_step_three-lands until c m g x = step_five-lands (step_three rules call until c m) m (step_three-lands until c m g x)
+
+    -- the turn from its beginning, or a step of it
+    abbrev LandsAgain : (State → C → Turned C) → Type 0
+    LandsAgain again = (r : State) (c : C) → Good r → Rests r → Lands r (again r c)
+
+    abbrev LandsNext : (State → Turned C) → Type 0
+    LandsNext next = (r : State) → Good r → Rests r → Lands r (next r)
+
+    pub at_time-comes : (t : ℕ) (m : State) → Good m → Rests m → Comes m (on_page (λ p. at_time t p) m)
+    at_time-comes t m g x = comes_by m (λ p. at_time t p) g x (stays m.host g.0, quietly m.host (at_time t m.host) refl refl refl refl refl) refl
+
+    waited-lands : (t : ℕ) (x : Option (Chosen ℕ C)) (again : State → C → Turned C) (c : C) (m : State) → LandsAgain again → Good m → Rests m → Lands m (waited t x again c m)
+    waited-lands t None again c m k g z = here
+    waited-lands t (Some x) again c m k g z =
+        let there = on_page (λ p. at_time x.choice p) m in
+        let later = on_page (λ p. emit (Wait t) (at_time x.choice p)) m in
+        let a = at_time-comes x.choice m g z in
+        let b = comes_by there (emit (Wait t)) a.1 a.2 (rested-onto (Wait t) there refl a.1 a.2) refl in
+        lands-then m later (again later x.left) (le-then m there later a.0 b.0) (k later x.left b.1 b.2)
+
+    step_two_at-lands : (until t : ℕ) (again : State → C → Turned C) (next : State → Turned C) (c : C) (m : State) → LandsAgain again → LandsNext next → Good m → Rests m → Lands m (step_two_at rules until t again next c m)
+    step_two_at-lands until t again next c m k h g z =
+        let late = on_page (λ p. at_time (max p.now until) p) m in
+        let a = at_time-comes (max m.host.now until) m g z in
+        choose-lands (nat_le until m.host.now || nat_le until t) (λ m. ends ClockEnd c (on_page (λ p. at_time (max p.now until) p) m)) (choose_turned (nat_lt m.host.now t) (waited t (chosen_reading rules t c) again c) next) m
+        (lands-then m late (ends ClockEnd c late) a.0 (ends-lands ClockEnd c late a.1 a.2))
+        (choose-lands (nat_lt m.host.now t) (waited t (chosen_reading rules t c) again c) next m (waited-lands t (chosen_reading rules t c) again c m k g z) (h m g z))
+
+    step_two_by-lands : (until : ℕ) (t : Option ℕ) (again : State → C → Turned C) (next : State → Turned C) (c : C) (m : State) → LandsAgain again → LandsNext next → Good m → Rests m → Lands m (step_two_by rules until t again next c m)
+    step_two_by-lands until None again next c m k h g z = ends-lands DoneEnd c m g z
+    step_two_by-lands until (Some t) again next c m k h g z = step_two_at-lands until t again next c m k h g z
+
+    step_two-lands : (until : ℕ) (again : State → C → Turned C) (next : State → Turned C) (c : C) (m : State) → LandsAgain again → LandsNext next → Good m → Rests m → Lands m (step_two rules until again next c m)
+    step_two-lands until again next c m k h g z =
+        choose-lands (is_pending m.host) (step_two_by rules until (target m.host) again next c) (ends DoneEnd c) m (step_two_by-lands until (target m.host) again next c m k h g z) (ends-lands DoneEnd c m g z)
+
+    after_step_one-lands : (until : ℕ) (again : State → C → Turned C) (c : C) (m : State) → LandsAgain again → Good m → Rests m → Lands m (after_step_one rules call until again c m)
+    after_step_one-lands until again c m k g z =
+        choose-lands (is_empty (view m.host)) (step_two rules until again (from_step_three rules call until c) c) (from_step_three rules call until c) m
+        (step_two-lands until again (from_step_three rules call until c) c m k (from_step_three-lands until c) g z) (from_step_three-lands until c m g z)
+
+    from_step_one-lands : (until n : ℕ) (m : State) (c : C) → Good m → Rests m → Lands m (from_step_one rules call until n m c)
+    from_step_one-lands until zero m c g z = here
+    from_step_one-lands until (suc n) m c g z =
+        let one = step_one m in
+        let a = step_one-comes m g z in
+        lands-then m one (after_step_one rules call until (from_step_one rules call until n) c one) a.0 (after_step_one-lands until (from_step_one rules call until n) c one (from_step_one-lands until n) a.1 a.2)
+
+    pub turn-lands : (until : ℕ) (m : State) (c : C) → Good m → Rests m → Lands m (turn rules call until m c)
+    turn-lands until m c g z = from_step_one-lands until (suc (suc (item_count m.host))) m c g z
+
+    pub next_turn-stops : (m : State) (t : Turned C) (next : State → C → Turned C) → Lands m t → ((r : State) (c : C) → Good r → Rests r → Stops r (next r c)) → Stops m (next_turn t next)
+    next_turn-stops m (GoesOn r c) next h k = moves-then h.0.1 (k r c h.1 h.2)
+    next_turn-stops m (Ended end r c) next h k = h
+    next_turn-stops m (Stuck r c) next h k = h
+
+    pub turns-stop : (until n : ℕ) (m : State) (c : C) → Good m → Rests m → Stops m (turns rules call until n m c)
+    turns-stop until zero m c g z = here
+    turns-stop until (suc n) m c g z = next_turn-stops m (turn rules call until m c) (turns rules call until n) (turn-lands until m c g z) (turns-stop until n)
+
+-- Every row of turns from the first state is a row of moves, wherever it stops.
+pub turns_are_moves : {C : Type 0} (rules : Rules C) (program : Program) (setup : Setup) (hosts : List HostClosure) (c : C) (until most : ℕ) → HoldsNoNumbers setup
+    → Moves (first_page program setup hosts) (state_of (turns rules (call_from_outside program page_operations) until most (first_state program setup hosts) c)).host
+turns_are_moves rules program setup hosts c until most h =
+    turns-stop program rules (call_from_outside program page_operations) (outside-goes program) until most (first_state program setup hosts) c (first_state-good program setup hosts h) ((refl, refl), refl)
+
+-- A whole run is a row of moves.
+pub run_is_moves : {C : Type 0} (rules : Rules C) (program : Program) (setup : Setup) (hosts : List HostClosure) (c : C) → HoldsNoNumbers setup → Moves (first_page program setup hosts) (state_of (run_by rules program setup hosts c)).host
+unfolding run_by
+run_is_moves rules program setup hosts c h = turns_are_moves rules program setup hosts c setup.until (suc setup.fuel) h

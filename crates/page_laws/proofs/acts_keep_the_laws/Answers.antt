@@ -1,0 +1,21 @@
+use Rattle.page_laws.proofs.Acts.{gaps_are_moves}
+use Rattle.page_laws.proofs.RunLaws.{laws_of_gaps}
+use Rattle.page_laws.proofs.acts_keep_the_laws.Goals as goal
+
+pub returns-clause-moves : goal.returns-clause-moves
+returns-clause-moves g c = λ program setup choices list h. gaps_are_moves g.R.Choosing.rules program setup choices list h
+
+pub returns-clause-settling : goal.returns-clause-settling
+returns-clause-settling g c = λ program setup choices list h. (laws_of_gaps g.R.Choosing.rules program setup choices list h).0
+
+pub returns-clause-jobs : goal.returns-clause-jobs
+returns-clause-jobs g c = λ program setup choices list h. (laws_of_gaps g.R.Choosing.rules program setup choices list h).1
+
+pub returns-clause-nesting : goal.returns-clause-nesting
+returns-clause-nesting g c = λ program setup choices list h. (laws_of_gaps g.R.Choosing.rules program setup choices list h).2
+
+pub returns-clause-before : goal.returns-clause-before
+returns-clause-before g c = λ program setup choices list h. (laws_of_gaps g.R.Choosing.rules program setup choices list h).3
+
+pub returns-clause-once : goal.returns-clause-once
+returns-clause-once g c = λ program setup choices list h. (laws_of_gaps g.R.Choosing.rules program setup choices list h).4

@@ -1,0 +1,6 @@
+pub mod History
+pub mod CallLaws
+pub mod TimerLaws
+pub mod SchedulerLaws
+pub mod Moves
+pub mod Registering

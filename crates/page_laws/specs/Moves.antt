@@ -1,0 +1,175 @@
+-- What happens to a page, move by move: each move changes it once, with its lines.
+use Rattle.std.specs.Prelude.{◌≡◌, ℕ, Bool, true, false, List, [], ◌∷◌, length, nat_lt, Some, None}
+use Rattle.page_types.specs.declared.End.TheVariants.{Fuel}
+use Rattle.page_types.specs.Events.{Event, Ret, Throw, Report, Log, Turn, Arm, Due, Drop, IdleLine, Frame, Enq, Prio, Abort, Host, Unhandled, Handled, EndLine, Send}
+use Rattle.page_types.specs.declared.Source.{Source}
+use Rattle.page_types.specs.declared.Source.TheVariants.{Sched}
+use Rattle.page_parts.specs.Promises.{Settled, Reaction, React}
+use Rattle.page_parts.specs.Promises as Promises
+use Rattle.page_parts.specs.Notices.{Micro, OfPromise, WaitingJob, the_promise, changed, subscribe_promise, queue_micro, note_outstanding}
+use Rattle.page_model.specs.State.{Role, ScriptRole, OfKind, Registration, Page, Task, TimerTask, RunScript, RunTimer, SchedTask, emit, on_notices, context}
+use Rattle.page_model.specs.PagePromises.{new_promise}
+use Rattle.page_model.specs.PageTime.{first_task, without_frame, deadline, without_idle, idle_callback, with_state, first_sched, without_sched}
+use Rattle.page_parts.specs.Kinds.{Func}
+use Rattle.page_model.specs.Operations.{frame_requested}
+use Rattle.page_model.specs.Tasks.{background, post_state}
+use Rattle.page_model.specs.Turns.{without_task}
+use Rattle.page_parts.specs.Timers.{is_live}
+use Rattle.page_parts.specs.Frames.{Callback, callback_in}
+use Rattle.page_parts.specs.Listeners.{is_listening}
+use Rattle.page_model.specs.Numbers.{IsGiven, IsFor, made_by, timer_role}
+use Rattle.page_model.specs.Invoke.{register_as, call_begun, call_ended, job_begun}
+use Rattle.page_types.specs.declared.RegKind.{RegKind}
+use Rattle.page_types.specs.declared.RegKind.TheVariants as kind
+use Rattle.page_laws.specs.History.{open_calls, is_rest}
+
+-- ---- Ours: kinds of lines
+
+-- a line that tells nothing of calls, promises and jobs, and does not stand between turns
+abbrev pub is_aside : Event → Bool
+is_aside (Report bs) = true
+is_aside (Log bs) = true
+is_aside (Arm r due level) = true
+is_aside (Due r) = true
+is_aside (Drop r) = true
+is_aside (IdleLine d) = true
+is_aside (Frame t) = true
+is_aside (Enq r queue continuation n) = true
+is_aside (Prio s priority) = true
+is_aside (Abort s) = true
+is_aside (Host k x answer) = true
+is_aside (Unhandled n) = true
+is_aside (Handled n) = true
+is_aside (Send n bs) = true
+is_aside (EndLine Fuel) = true
+is_aside e = false
+
+-- the end of a call
+abbrev pub is_end : Event → Bool
+is_end Ret = true
+is_end (Throw bs) = true
+is_end e = false
+
+-- ---- Ours: a change, with which no call begins or ends
+
+-- promise number n is changed so, with its lines and jobs
+abbrev pub promise_changes : ℕ → Promises.Change → Page → Page
+promise_changes n c p = on_notices (λ s. changed (context p) p.names n c s) p
+
+pub data Change : Page → Page → Type 0 where
+  -- something else than promises, jobs, lines, registrations, frame callbacks and the checkpoint is changed
+  elsewhere : {p q : Page} → q.notices ≡ p.notices → q.performing ≡ p.performing → q.events ≡ p.events → q.registrations ≡ p.registrations → q.frames ≡ p.frames → Change p q
+  -- a line that tells nothing of promises and jobs
+  told : {p : Page} (e : Event) → is_aside e ≡ true → Change p (emit e p)
+  -- a line between turns, where no call is open and no job waits
+  rested : {p : Page} (e : Event) → is_rest e ≡ true → open_calls p.events ≡ [] → p.notices.jobs ≡ [] → Change p (emit e p)
+  -- a registration of this kind is made
+  registered : {p : Page} (kind : RegKind) (x : Registration) → x.role ≡ OfKind kind → Change p (register_as kind x p)
+  -- a frame callback is registered and requested, and one leaves the map
+  frame_asked : {p : Page} (f : Func) → Change p (frame_requested f p)
+  frame_gone : {p : Page} (handle : ℕ) → Change p (without_frame handle p)
+  -- a promise is made
+  promised : {p : Page} → Change p (new_promise p)
+  -- a promise that was never resolved is settled, with its jobs
+  settled : {p : Page} (n : ℕ) (how : Settled) → IsGiven (length p.notices.promises) n → (the_promise p.notices n).locked ≡ false → Change p (promise_changes n (Promises.settle n (the_promise p.notices n) how) p)
+  -- a pending promise is settled as the one that it was resolved with
+  followed : {p : Page} (n : ℕ) (how : Settled) → IsGiven (length p.notices.promises) n → (the_promise p.notices n).outcome ≡ None → Change p (promise_changes n (Promises.settle n (the_promise p.notices n) how) p)
+  -- a promise that was never resolved is to become what another one becomes
+  adopted : {p : Page} (n from : ℕ) → IsGiven (length p.notices.promises) n → (the_promise p.notices n).locked ≡ false → Change p (promise_changes n (Promises.adopt n (the_promise p.notices n) from) p)
+  -- a promise gets a reaction
+  subscribed : {p : Page} (n : ℕ) (r : Reaction) → IsGiven (length p.notices.promises) n → Change p (on_notices (subscribe_promise (context p) n r) p)
+  -- a microtask callback is queued
+  micro_queued : {p : Page} (r : ℕ) → Change p (on_notices (queue_micro (context p) r) p)
+  -- the promises about to be notified about are taken
+  rejected_taken : {p : Page} → Change p (record p { notices = record p.notices { rejected = [] } })
+  -- a promise joins the outstanding ones
+  noted : {p : Page} (n : ℕ) → Change p (record p { notices = note_outstanding n p.notices })
+
+-- changes one after another
+pub data Changes : Page → Page → Type 0 where
+  nothing : {p : Page} → Changes p p
+  with_change : {p q r : Page} → Changes p q → Change q r → Changes p r
+
+-- ---- Ours: how a call begins
+
+-- where the callback of a call waited: the script's task and that of a timer, with the source; a frame callback with its key; the first idle callback of a period, and one whose timeout is over, with its handle; a listener;
+-- a scheduler task: a posted callback or a continuation; a job: of a microtask callback, or of a reaction whose handler is called
+pub data Beginning : Type 0 where
+  TheScript : Source → Task → Beginning
+  ATimer : Source → Task → TimerTask → Beginning
+  AFrame : ℕ → Callback → Beginning
+  AnIdle : Callback → List Callback → Beginning
+  ALateIdle : ℕ → Callback → Beginning
+  AListener : ℕ → Beginning
+  APost : SchedTask → Beginning
+  AContinuation : SchedTask → Beginning
+  AMicro : WaitingJob → List WaitingJob → ℕ → Beginning
+  AReaction : WaitingJob → List WaitingJob → ℕ → Reaction → ℕ → Beginning
+
+-- the registration that is called
+abbrev pub called_by : Beginning → ℕ
+called_by (TheScript source task) = 1
+called_by (ATimer source task t) = t.registration
+called_by (AFrame key c) = c.registration
+called_by (AnIdle c others) = c.registration
+called_by (ALateIdle handle c) = c.registration
+called_by (AListener r) = r
+called_by (APost t) = t.registration
+called_by (AContinuation t) = t.registration
+called_by (AMicro job others r) = r
+called_by (AReaction job others of x r) = r
+
+-- what it is for
+abbrev pub role_of : Beginning → Role
+role_of (TheScript source task) = ScriptRole
+role_of (ATimer source task t) = timer_role t.repeats
+role_of (AFrame key c) = OfKind kind.Frame
+role_of (AnIdle c others) = OfKind kind.Idle
+role_of (ALateIdle handle c) = OfKind kind.Idle
+role_of (AListener r) = OfKind kind.Listener
+role_of (APost t) = OfKind kind.Post
+role_of (AContinuation t) = OfKind kind.Yield
+role_of (AMicro job others r) = OfKind kind.Micro
+role_of (AReaction job others of x r) = OfKind kind.Then
+
+-- the line of a turn of the scheduler, and its task leaves the queue
+abbrev pub sched_begun : SchedTask → Page → Page
+sched_begun t p = without_sched t.registration (emit (Turn p.turns (Some Sched)) p)
+
+-- the page in which it is called: the callback has left where it waited
+abbrev pub taken : Beginning → Page → Page
+taken (TheScript source task) p = without_task task.number p
+taken (ATimer source task t) p = record (without_task task.number p) { level = t.level }
+taken (AFrame key c) p = without_frame c.handle p
+taken (AnIdle c others) p = with_state background (without_idle c.handle (emit (IdleLine (deadline p.last_idle_start p)) p))
+taken (ALateIdle handle c) p = with_state background (without_idle c.handle p)
+taken (AListener r) p = p
+taken (APost t) p = post_state t (sched_begun t p)
+taken (AContinuation t) p = sched_begun t p
+taken (AMicro job others r) p = job_begun job others p
+taken (AReaction job others of x r) p = record (job_begun job others p) { scheduling = x.state }
+
+-- it waited there
+abbrev pub Waited : Beginning → Page → Type 0
+Waited (TheScript source task) p = first_task source p.tasks ≡ Some task × task.steps ≡ RunScript
+Waited (ATimer source task t) p = first_task source p.tasks ≡ Some task × task.steps ≡ RunTimer t × is_live t.id t.handle p.timers ≡ true
+Waited (AFrame key c) p = callback_in p.frames.callbacks key ≡ Some c
+Waited (AnIdle c others) p = p.idle.runnable ≡ c ∷ others × nat_lt p.now (deadline p.last_idle_start p) ≡ true
+Waited (ALateIdle handle c) p = idle_callback handle p ≡ Some c
+Waited (AListener r) p = is_listening r p.listeners ≡ true
+Waited (APost t) p = first_sched p ≡ Some t × t.continuation ≡ false × open_calls p.events ≡ [] × p.notices.jobs ≡ []
+Waited (AContinuation t) p = first_sched p ≡ Some t × t.continuation ≡ true × open_calls p.events ≡ [] × p.notices.jobs ≡ []
+Waited (AMicro job others r) p = p.notices.jobs ≡ job ∷ others × job.what ≡ Micro r × open_calls p.events ≡ []
+Waited (AReaction job others of x r) p = p.notices.jobs ≡ job ∷ others × job.what ≡ OfPromise (React of x) × x.registration ≡ Some r × open_calls p.events ≡ []
+
+-- ---- Ours: moves
+
+-- A row of moves: changes, calls and their ends, the begin and end of a checkpoint, and the jobs that run in it, where no call is open.
+pub data Moves : Page → Page → Type 0 where
+  here : {p : Page} → Moves p p
+  changing : {p q r : Page} → Moves p q → Change q r → Moves p r
+  calling : {p q : Page} → Moves p q → (b : Beginning) → Waited b q → IsFor (role_of b) (made_by q) (called_by b) → Moves p (call_begun (called_by b) (taken b q))
+  ending : {p q : Page} → Moves p q → (e : Event) → is_end e ≡ true → Moves p (call_ended e q)
+  -- the flag of the checkpoint
+  flagging : {p q r : Page} → Moves p q → r.notices ≡ q.notices → r.events ≡ q.events → r.registrations ≡ q.registrations → r.frames ≡ q.frames → Moves p r
+  running : {p q : Page} → Moves p q → (job : WaitingJob) (others : List WaitingJob) → q.notices.jobs ≡ job ∷ others → open_calls q.events ≡ [] → Moves p (job_begun job others q)

@@ -1,0 +1,55 @@
+//! The laws of every run, on the model of a page: each holds of the lines of every program, setup, host list and rules of choice, wherever
+//! the run stops: at its end, for fuel, or stuck at a choice.
+#![tactic(auto)]
+
+ghost use Rattle.std.specs.Prelude.{ℕ, List, []};
+ghost use Rattle.page_types.specs.Tree.{Program};
+ghost use Rattle.page_parts.specs.Setup.{Setup};
+ghost use Rattle.page_parts.specs.HostClosures.{HostClosure};
+ghost use Rattle.lang_meaning.specs.Evaluation.{call_from_outside};
+ghost use Rattle.page_model.specs.Operations.{page_operations};
+ghost use Rattle.page_model.specs.Turns.{turns, run_by, state_of, first_state, first_page, events_of_run};
+ghost use Rattle.page_model.specs.Numbers.{HoldsNoNumbers};
+ghost use Rattle.page_laws.specs.CallLaws.{SettleOnce, JobsInOrder, NoNesting};
+ghost use Rattle.page_laws.specs.Moves.{Moves};
+ghost use Rattle.page_model.specs.Gaps.{Act, run_gaps_by};
+ghost use Rattle.page_laws.specs.Registering.{Registering, DrawnOnce};
+
+use page_model::Choosing;
+
+/// What happens in a run is a row of moves, after any number of turns and at its end.
+pub fn runs_are_moves<R: Choosing>()
+    ensures after { (program : Program) (setup : Setup) (hosts : List HostClosure) (c : R.Held) (until most : ℕ) → HoldsNoNumbers setup → Moves (first_page program setup hosts) (state_of (turns R.rules (call_from_outside program page_operations) until most (first_state program setup hosts) c)).host }
+    ensures at_end { (program : Program) (setup : Setup) (hosts : List HostClosure) (c : R.Held) → HoldsNoNumbers setup → Moves (first_page program setup hosts) (state_of (run_by R.rules program setup hosts c)).host }
+{}
+
+/// No promise is settled twice, and a reaction's job is queued only when its promise is settled.
+pub fn promises_settle_once<R: Choosing>()
+    ensures { (program : Program) (setup : Setup) (hosts : List HostClosure) (c : R.Held) → HoldsNoNumbers setup → SettleOnce (events_of_run (run_by R.rules program setup hosts c)) }
+{}
+
+/// Jobs are numbered and run in order, and none waits between turns.
+pub fn jobs_go_in_order<R: Choosing>()
+    ensures { (program : Program) (setup : Setup) (hosts : List HostClosure) (c : R.Held) → HoldsNoNumbers setup → JobsInOrder (events_of_run (run_by R.rules program setup hosts c)) }
+{}
+
+/// No job is run inside a call.
+pub fn jobs_run_in_no_call<R: Choosing>()
+    ensures { (program : Program) (setup : Setup) (hosts : List HostClosure) (c : R.Held) → HoldsNoNumbers setup → NoNesting (events_of_run (run_by R.rules program setup hosts c)) }
+{}
+
+/// No registration is made twice, and what is called was registered before; a frame callback is called once at most.
+pub fn calls_are_registered<R: Choosing>()
+    ensures before { (program : Program) (setup : Setup) (hosts : List HostClosure) (c : R.Held) → HoldsNoNumbers setup → Registering (events_of_run (run_by R.rules program setup hosts c)) }
+    ensures once { (program : Program) (setup : Setup) (hosts : List HostClosure) (c : R.Held) → HoldsNoNumbers setup → DrawnOnce (state_of (run_by R.rules program setup hosts c)).host }
+{}
+
+/// The same of a run in pieces, in which another loop says when time passes, when a task is served and when the page rests.
+pub fn acts_keep_the_laws<R: Choosing>()
+    ensures moves { (program : Program) (setup : Setup) (c : R.Held) (list : List Act) → HoldsNoNumbers setup → Moves (first_page program setup []) (state_of (run_gaps_by R.rules program setup list c)).host }
+    ensures settling { (program : Program) (setup : Setup) (c : R.Held) (list : List Act) → HoldsNoNumbers setup → SettleOnce (events_of_run (run_gaps_by R.rules program setup list c)) }
+    ensures jobs { (program : Program) (setup : Setup) (c : R.Held) (list : List Act) → HoldsNoNumbers setup → JobsInOrder (events_of_run (run_gaps_by R.rules program setup list c)) }
+    ensures nesting { (program : Program) (setup : Setup) (c : R.Held) (list : List Act) → HoldsNoNumbers setup → NoNesting (events_of_run (run_gaps_by R.rules program setup list c)) }
+    ensures before { (program : Program) (setup : Setup) (c : R.Held) (list : List Act) → HoldsNoNumbers setup → Registering (events_of_run (run_gaps_by R.rules program setup list c)) }
+    ensures once { (program : Program) (setup : Setup) (c : R.Held) (list : List Act) → HoldsNoNumbers setup → DrawnOnce (state_of (run_gaps_by R.rules program setup list c)).host }
+{}
