@@ -15,7 +15,7 @@ use Rattle.page_base.specs.Decimals.{number_at, number_of, digits_of, is_canonic
 use Rattle.page_base.specs.Readings.{AreShort}
 use Rattle.page_values.specs.Names.{is_name}
 use Rattle.loop_policy.specs.Policies.{is_policy, lists_each}
-use Rattle.page_base.specs.Fields.{◌>>=◌, where_true, or_else, behind, is_word, cut_at}
+use Rattle.page_base.specs.Fields.{◌>>=◌, where_true, read_or, behind, is_word, cut_at}
 use Rattle.arrivals_text.specs.Fields.{all_of, words_of, number_in, source_among, sources_at, rank_at, fair_at, policy_at, late_at, latency_at, text_at, parts_at, int_at, value_at, arrival_at}
 use Rattle.arrivals_text.specs.Arrivals.{Line, PageLine, PolicyLine, FuelLine, UntilLine, RefreshLine, LateLine, RoomLine, HostLine, ArrivalLine, line_at}
 use Rattle.arrivals_text.specs.Limits.{may_arrive, is_arrival}
@@ -26,7 +26,7 @@ if_cond : {X : Type 0} (P : X → Type 0) (b : Bool) (x y : Option X) → IfSome
 if_cond P true x y h k = h
 if_cond P false x y h k = k
 
-if_else : {X : Type 0} (P : X → Type 0) (o : Option (List ℕ)) (read : List ℕ → Option X) (other : Option X) → ((rest : List ℕ) → IfSome (read rest) P) → IfSome other P → IfSome (or_else o read other) P
+if_else : {X : Type 0} (P : X → Type 0) (o : Option (List ℕ)) (read : List ℕ → Option X) (other : Option X) → ((rest : List ℕ) → IfSome (read rest) P) → IfSome other P → IfSome (read_or o read other) P
 if_else P None read other h k = k
 if_else P (Some rest) read other h k = h rest
 

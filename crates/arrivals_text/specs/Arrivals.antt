@@ -4,7 +4,7 @@ use Rattle.std.specs.List.{slice_split}
 use Rattle.page_parts.specs.Words.{is_empty}
 use Rattle.page_parts.specs.Setup.{Policy, Rank, Latency, Arrival, Setup}
 use Rattle.page_parts.specs.Sources.{default_list}
-use Rattle.page_base.specs.Fields.{behind, is_word, or_else}
+use Rattle.page_base.specs.Fields.{behind, is_word, read_or}
 use Rattle.arrivals_text.specs.Fields.{number_in, policy_at, late_at, latency_at, arrival_at}
 use Rattle.arrivals_text.specs.declared.place.Place.{Place}
 use Rattle.arrivals_text.specs.declared.place.Place.TheVariants as place
@@ -33,14 +33,14 @@ pub data Line : Type 0 where
 unfoldable pub line_at : List ℕ → Option Line
 line_at bytes =
     cond (is_word (codes "page 1") bytes) (Some PageLine)
-    (or_else (behind (codes "policy ") bytes) (λ rest. option_map PolicyLine (policy_at rest))
-    (or_else (behind (codes "fuel ") bytes) (λ rest. option_map FuelLine (number_in 1 10000000 rest))
-    (or_else (behind (codes "until ") bytes) (λ rest. option_map UntilLine (number_in 1 1000000000000 rest))
-    (or_else (behind (codes "refresh ") bytes) (λ rest. option_map RefreshLine (number_in 1 240 rest))
-    (or_else (behind (codes "late ") bytes) (λ rest. option_map LateLine (late_at rest))
-    (or_else (behind (codes "room ") bytes) (λ rest. option_map RoomLine (number_in 0 1000000 rest))
-    (or_else (behind (codes "host ") bytes) (λ rest. option_map HostLine (latency_at rest))
-    (or_else (behind (codes "at ") bytes) (λ rest. option_map ArrivalLine (arrival_at rest)) None))))))))
+    (read_or (behind (codes "policy ") bytes) (λ rest. option_map PolicyLine (policy_at rest))
+    (read_or (behind (codes "fuel ") bytes) (λ rest. option_map FuelLine (number_in 1 10000000 rest))
+    (read_or (behind (codes "until ") bytes) (λ rest. option_map UntilLine (number_in 1 1000000000000 rest))
+    (read_or (behind (codes "refresh ") bytes) (λ rest. option_map RefreshLine (number_in 1 240 rest))
+    (read_or (behind (codes "late ") bytes) (λ rest. option_map LateLine (late_at rest))
+    (read_or (behind (codes "room ") bytes) (λ rest. option_map RoomLine (number_in 0 1000000 rest))
+    (read_or (behind (codes "host ") bytes) (λ rest. option_map HostLine (latency_at rest))
+    (read_or (behind (codes "at ") bytes) (λ rest. option_map ArrivalLine (arrival_at rest)) None))))))))
 
 -- The bytes between line feeds. What stands behind the last one is a line only where it is not empty.
 abbrev pub but_empty_last : List (List ℕ) → List (List ℕ)

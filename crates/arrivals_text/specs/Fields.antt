@@ -9,7 +9,7 @@ use Rattle.page_parts.specs.Setup.{Policy, Fifo, Rank, Fair, Latency, Arrival}
 use Rattle.page_parts.specs.Sources.{default_list}
 use Rattle.page_parts.specs.TraceText.{source_text}
 use Rattle.page_base.specs.Decimals.{number_at, after_digits}
-use Rattle.page_base.specs.Fields.{behind, is_word, cut_at, ◌>>=◌, or_else, where_true}
+use Rattle.page_base.specs.Fields.{behind, is_word, cut_at, ◌>>=◌, read_or, where_true}
 use Rattle.page_values.specs.Names.{is_name}
 use Rattle.loop_policy.specs.Policies.{lists_each}
 
@@ -46,8 +46,8 @@ fair_at bytes = option_map Fair (number_in 1 1000 bytes)
 unfoldable pub policy_at : List ℕ → Option Policy
 policy_at bytes =
     cond (is_word (codes "fifo") bytes) (Some Fifo)
-    (or_else (behind (codes "fair ") bytes) fair_at
-    (or_else (behind (codes "rank ") bytes) rank_at None))
+    (read_or (behind (codes "fair ") bytes) fair_at
+    (read_or (behind (codes "rank ") bytes) rank_at None))
 
 -- one or more latenesses, each at most a second
 unfoldable pub late_at : List ℕ → Option (List ℕ)
@@ -94,7 +94,7 @@ negative (suc n) = negsuc n
 
 unfoldable pub int_at : List ℕ → Option ℤ
 int_at bytes =
-    or_else (behind (codes "-") bytes) (λ digits. option_map negative (number_in 1 9223372036854775808 digits))
+    read_or (behind (codes "-") bytes) (λ digits. option_map negative (number_in 1 9223372036854775808 digits))
     (option_map pos (number_in 0 9223372036854775807 bytes))
 
 unfoldable pub value_at : List ℕ → Option Value
@@ -102,7 +102,7 @@ value_at bytes =
     cond (is_word (codes "unit") bytes) (Some UnitValue)
     (cond (is_word (codes "true") bytes) (Some (BoolValue true))
     (cond (is_word (codes "false") bytes) (Some (BoolValue false))
-    (or_else (behind (codes "\"") bytes) (λ parts. option_map TextValue (text_at parts)) (option_map IntValue (int_at bytes)))))
+    (read_or (behind (codes "\"") bytes) (λ parts. option_map TextValue (text_at parts)) (option_map IntValue (int_at bytes)))))
 
 -- the time, the source, the name and the value of an arrival
 unfoldable pub arrival_at : List ℕ → Option Arrival

@@ -8,7 +8,8 @@ use Rattle.lang_tokens.specs.Seen.{TokenSeen}
 use Rattle.lang_tokens.specs.declared.token.TokenKind.TheVariants.{Sign}
 use Rattle.lang_tokens.specs.declared.piece.Piece.{Piece}
 use Rattle.lang_tokens.specs.declared.piece.Piece.TheVariants.{Gap, Token, Bad}
-use Rattle.lang_tokens.specs.Pieces.{piece_at, sign_at, first, is_byte, is_blank, is_letter, is_name_byte, kind_of_name, is_plain, is_escaped, is_lone_sign, is_comparing_sign, comment_at, name_at, number_at, text_at, escape_at}
+use Rattle.lang_tokens.specs.Pieces.{piece_at, sign_at, first, is_byte, is_blank, kind_of_name, is_plain, is_escaped, is_lone_sign, is_comparing_sign, comment_at, name_at, number_at, text_at, escape_at}
+use Rattle.page_values.specs.Names.{is_letter, is_name_byte}
 use Rattle.lang_tokens.specs.Tokens.{Lexed, token_at, with_front, with_piece, cut, tokens_of}
 use Rattle.lang_tokens.specs.Meaning.{NoneGoesOn}
 use Rattle.lang_tokens.proofs.PieceLemmas.{Within, piece_within, either}

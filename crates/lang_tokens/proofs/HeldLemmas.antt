@@ -9,7 +9,8 @@ use Rattle.lang_tokens.specs.declared.token.TokenKind.{TokenKind}
 use Rattle.lang_tokens.specs.declared.token.TokenKind.TheVariants.{Name, Word, Number, Text, Sign}
 use Rattle.lang_tokens.specs.declared.piece.Piece.TheVariants.{Token}
 use Rattle.lang_tokens.specs.Seen.{TokenSeen, IsHeld, AreHeld}
-use Rattle.lang_tokens.specs.Pieces.{piece_at, is_letter, is_name_byte, is_plain}
+use Rattle.lang_tokens.specs.Pieces.{piece_at, is_plain}
+use Rattle.page_values.specs.Names.{is_letter, is_name_byte}
 use Rattle.lang_tokens.specs.Tokens.{content_of}
 use Rattle.lang_tokens.specs.Meaning.{AllBytes, IsNameSpelling, is_held, IsToken}
 use Rattle.lang_tokens.proofs.MeaningLemmas.{by_test, held_plain}

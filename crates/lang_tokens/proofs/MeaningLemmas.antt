@@ -11,7 +11,8 @@ use borrow.Author.Tests.{ltb-true}
 use Rattle.lang_tokens.specs.declared.token.TokenKind.TheVariants.{Number, Text}
 use Rattle.lang_tokens.specs.declared.piece.Piece.{Piece}
 use Rattle.lang_tokens.specs.declared.piece.Piece.TheVariants.{Gap, Token, Bad}
-use Rattle.lang_tokens.specs.Pieces.{is_letter, is_name_byte, kind_of_name, is_plain, is_escaped, is_lone_sign, is_comparing_sign, comment_at, name_at, number_at, text_at, escape_at}
+use Rattle.lang_tokens.specs.Pieces.{kind_of_name, is_plain, is_escaped, is_lone_sign, is_comparing_sign, comment_at, name_at, number_at, text_at, escape_at}
+use Rattle.page_values.specs.Names.{is_letter, is_name_byte}
 use Rattle.lang_tokens.specs.Tokens.{value_of, value_of_escape}
 use Rattle.lang_tokens.specs.Meaning.{AllBytes, decimal_after, is_held, parts_of, signs, is_sign, EndsLine, is_in_line}
 use Rattle.lang_tokens.proofs.PieceLemmas.{Within, either, either_by, name_within, number_within}

@@ -9,7 +9,8 @@ use Rattle.lang_tokens.specs.declared.token.TokenKind.{TokenKind}
 use Rattle.lang_tokens.specs.declared.token.TokenKind.TheVariants.{Name, Word, Number, Text, Sign}
 use Rattle.lang_tokens.specs.declared.piece.Piece.{Piece}
 use Rattle.lang_tokens.specs.declared.piece.Piece.TheVariants.{Gap, Token, Bad}
-use Rattle.lang_tokens.specs.Pieces.{piece_at, sign_at, first, is_byte, is_blank, is_letter, is_name_byte, is_word, kind_of_name, is_lone_sign, is_comparing_sign, comment_at, name_at}
+use Rattle.lang_tokens.specs.Pieces.{piece_at, sign_at, first, is_byte, is_blank, is_word, kind_of_name, is_lone_sign, is_comparing_sign, comment_at, name_at}
+use Rattle.page_values.specs.Names.{is_letter, is_name_byte}
 use Rattle.lang_tokens.specs.Tokens.{Lexed, content_of, value_of, token_at, with_front, with_piece, cut, tokens_of}
 use Rattle.lang_tokens.specs.Meaning.{AllBytes, IsNameSpelling, decimal_after, is_held, parts_of, is_sign, IsToken, BeginsComment, IsComment, BeginsBlank, IsFirstToken, Reading, ended, blank, comment, token}
 use Rattle.lang_tokens.proofs.PieceLemmas.{Within, piece_within, either, either_by}

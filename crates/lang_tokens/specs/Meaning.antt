@@ -7,7 +7,8 @@ use Rattle.lang_tokens.specs.Seen.{TokenSeen}
 use Rattle.lang_tokens.specs.declared.token.TokenKind.{TokenKind}
 use Rattle.lang_tokens.specs.declared.token.TokenKind.TheVariants.{Name, Word, Number, Text, Sign}
 use Rattle.lang_tokens.specs.Tokens.{tokens_of}
-use Rattle.lang_tokens.specs.Pieces.{is_blank, is_letter, is_name_byte, is_word, is_plain}
+use Rattle.lang_tokens.specs.Pieces.{is_blank, is_word, is_plain}
+use Rattle.page_values.specs.Names.{is_letter, is_name_byte}
 
 -- each byte passes the test
 abbrev pub AllBytes : (ℕ → Bool) → List ℕ → Type 0

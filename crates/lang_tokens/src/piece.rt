@@ -1,7 +1,8 @@
 //! The piece that stands at the front of the bytes: a gap, a token, or a bad byte.
 
 ghost use Rattle.std.specs.Prelude.{◌≡◌, ◌<◌, ◌≤◌, ◌-◌, length};
-ghost use Rattle.lang_tokens.specs.Pieces.{is_blank, is_letter, is_name_byte, is_word, kind_of_name, is_plain, is_escaped, is_lone_sign, is_comparing_sign, comment_at, name_at, number_at, text_at, sign_at, piece_at};
+ghost use Rattle.lang_tokens.specs.Pieces.{is_blank, is_word, kind_of_name, is_plain, is_escaped, is_lone_sign, is_comparing_sign, comment_at, name_at, number_at, text_at, sign_at, piece_at};
+ghost use Rattle.page_values.specs.Names.{is_letter, is_name_byte};
 
 use crate::token::TokenKind;
 

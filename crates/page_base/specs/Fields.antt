@@ -28,9 +28,9 @@ None >>= next = None
 (Some x) >>= next = next x
 
 -- what the rest is read as, where there is one, or else the other answer
-abbrev pub or_else : {X : Type 0} → Option (List ℕ) → (List ℕ → Option X) → Option X → Option X
-or_else None read other = other
-or_else (Some rest) read other = read rest
+abbrev pub read_or : {X : Type 0} → Option (List ℕ) → (List ℕ → Option X) → Option X → Option X
+read_or None read other = other
+read_or (Some rest) read other = read rest
 
 -- the value, where the test holds
 abbrev pub where_true : {X : Type 0} → Bool → X → Option X

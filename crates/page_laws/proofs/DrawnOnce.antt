@@ -10,13 +10,14 @@ use Rattle.page_parts.specs.Words.{and_last, without}
 use Rattle.page_parts.specs.Frames.{Frames, Callback, callback_in, without_handle}
 use Rattle.page_parts.specs.Promises.{Settled, Fulfilled, Failed, PromiseJob, Reaction}
 use Rattle.page_parts.specs.Promises as Promises
-use Rattle.page_parts.specs.Notices.{Notices, Noticed, the_promise, changed, queue_jobs, settle_line, subscribe_promise, queue_micro, Context}
+use Rattle.page_parts.specs.Notices.{Notices, Noticed, changed, queue_jobs, settle_line, subscribe_promise, queue_micro, Context}
+use Rattle.page_parts.specs.Promises.{the_promise}
 use Rattle.page_model.specs.State.{Role, ScriptRole, OfKind, Registration, Page, emit, emit_each, on_notices, context, caller}
 use Rattle.page_model.specs.PageTime.{deadline}
 use Rattle.page_model.specs.Numbers.{Each, IsFor, made_by, timer_role}
 use Rattle.page_model.proofs.NumbersGrow.{length-last}
 use Rattle.page_laws.specs.History.{History, count_lines, is_call_of, is_rest}
-use Rattle.page_laws.specs.Moves.{is_aside, is_end, promise_changes, Change, elsewhere, told, rested, registered, frame_asked, frame_gone, promised, settled, followed, adopted, subscribed, micro_queued, rejected_taken, noted, Beginning, TheScript, ATimer, AFrame, AnIdle, ALateIdle, AListener, APost, AContinuation, AMicro, AReaction, called_by, role_of, taken, Waited, Moves, here, changing, calling, ending, flagging, running}
+use Rattle.page_laws.specs.Moves.{is_aside, is_end, promise_changes, PageChange, elsewhere, told, rested, registered, frame_asked, frame_gone, promised, settled, followed, adopted, subscribed, micro_queued, rejected_taken, noted, Beginning, TheScript, ATimer, AFrame, AnIdle, ALateIdle, AListener, APost, AContinuation, AMicro, AReaction, called_by, role_of, taken, Waited, Moves, here, changing, calling, ending, flagging, running}
 use Rattle.page_laws.proofs.Lines.{added, emit_each-events}
 use Rattle.page_laws.proofs.Registered.{At, at_before, false_true}
 
@@ -279,7 +280,7 @@ changes-fit n c p f = notices-fit (λ s. changed (context p) p.names n c s) p (c
 subscribed-fits : (n : ℕ) (r : Reaction) (p : Page) → Fits p → Fits (on_notices (subscribe_promise (context p) n r) p)
 subscribed-fits n r p f =
     notices-fit (subscribe_promise (context p) n r) p
-    (changed-silent (context p) [] n (Promises.subscribe n (the_promise p.notices n) r) (record p.notices { rejected = without (λ m. m == n) p.notices.rejected; outstanding = without (λ m. m == n) p.notices.outstanding })) f
+    (changed-silent (context p) [] n (Promises.subscribe n (the_promise p.notices.promises n) r) (record p.notices { rejected = without (λ m. m == n) p.notices.rejected; outstanding = without (λ m. m == n) p.notices.outstanding })) f
 
 -- a frame callback is registered and requested
 frame_asked-fits : (x : Registration) (handle now : ℕ) (p : Page) → Fits p → DrawnFit (and_last p.registrations x) (and_last p.frames.callbacks (record { handle = handle; registration = length (and_last p.registrations x) })) (record { time = now; event = Reg (suc (length p.registrations)) kind.Frame (caller p) } ∷ p.events)
@@ -289,7 +290,7 @@ frame_asked-fits x handle now p f =
     asked-fits (and_last p.registrations x) p.frames.callbacks (record { handle = handle; registration = length (and_last p.registrations x) }) (record { time = now; event = Reg (suc (length p.registrations)) kind.Frame (caller p) } ∷ p.events) refl none
     (silent-fits (Reg (suc (length p.registrations)) kind.Frame (caller p)) now (and_last p.registrations x) p.frames.callbacks p.events refl (made-fits x p.registrations p.frames.callbacks p.events f))
 
-change-fits : {p q : Page} → Change p q → Fits p → Fits q
+change-fits : {p q : Page} → PageChange p q → Fits p → Fits q
 change-fits {p = p} {q = q} (elsewhere x y z w v) f =
     subst (λ (fr : Frames). DrawnFit q.registrations fr.callbacks q.events) (sym v)
     (subst (λ (xs : List Registration). DrawnFit xs p.frames.callbacks q.events) (sym w) (subst (DrawnFit p.registrations p.frames.callbacks) (sym z) f))
@@ -299,9 +300,9 @@ change-fits {p = p} (registered k x e) f = silent-fits (Reg (suc (length p.regis
 change-fits {p = p} (frame_asked g) f = frame_asked-fits (record { role = OfKind kind.Frame; callback = Some g; second_callback = None; timer_id = 0; promise = 0; signal = None; finally = false }) (suc p.frames.made) p.now p f
 change-fits {p = p} (frame_gone handle) f = fewer-fits p.registrations p.frames.callbacks (without_handle handle p.frames.callbacks) p.events (λ r. waits-without r (λ c. c.handle == handle) p.frames.callbacks) f
 change-fits promised f = f
-change-fits {p = p} (settled n how x y) f = changes-fit n (Promises.settle n (the_promise p.notices n) how) p f
-change-fits {p = p} (followed n how x y) f = changes-fit n (Promises.settle n (the_promise p.notices n) how) p f
-change-fits {p = p} (adopted n from x y) f = changes-fit n (Promises.adopt n (the_promise p.notices n) from) p f
+change-fits {p = p} (settled n how x y) f = changes-fit n (Promises.settle n (the_promise p.notices.promises n) how) p f
+change-fits {p = p} (followed n how x y) f = changes-fit n (Promises.settle n (the_promise p.notices.promises n) how) p f
+change-fits {p = p} (adopted n from x y) f = changes-fit n (Promises.adopt n (the_promise p.notices.promises n) from) p f
 change-fits {p = p} (subscribed n r x) f = subscribed-fits n r p f
 change-fits {p = p} (micro_queued r) f = notices-fit (queue_micro (context p) r) p (refl, tt) f
 change-fits rejected_taken f = f

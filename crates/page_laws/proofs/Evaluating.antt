@@ -11,7 +11,7 @@ use Rattle.page_model.specs.Numbers.{IsFor, made_by, Grows, IsKnown}
 use Rattle.page_model.proofs.NumbersGrow.{Grows-same, Grows-then, IsKnown-grows, Held, Onward, stays}
 use Rattle.page_model.proofs.NumbersEvaluation as numbers
 use Rattle.page_model.proofs.NumbersEvaluation.{Good, on_page-good, assign-good}
-use Rattle.page_laws.specs.History.{open_calls, open_after, without_first}
+use Rattle.page_laws.specs.History.{open_registrations, open_after, without_first}
 use Rattle.page_laws.specs.Moves.{is_aside, is_end, Changes, nothing, with_change, told, Beginning, called_by, role_of, taken, Waited, Moves, here, calling, ending}
 use Rattle.page_laws.proofs.Going.{Keeping}
 use Rattle.page_laws.proofs.Moving.{moves-then, moves_of}
@@ -101,7 +101,7 @@ entered b m = on_page (λ p. call_begun (called_by b) (taken b p)) m
 pub call_over : (b : Beginning) (m s : State) (e : Event) → is_end e ≡ true → ((calls : List ℕ) → open_after e calls ≡ without_first calls) → Grows (made_by m.host) (made_by (taken b m.host)) → Waited b m.host → IsFor (role_of b) (made_by m.host) (called_by b) → Le (entered b m) s → Le m (on_page (call_ended e) s)
 call_over b m s e x y g w k le =
     let same = begins-same b m.host in
-    (Grows-then (made_by m.host) (made_by (taken b m.host)) (made_by s.host) g le.0, ending (moves-then (calling here b w k) le.1) e x, (y (open_calls s.host.events) ∙ (first_gone (open_calls s.host.events) (open_calls (taken b m.host).events) le.2.0 ∙ same.0), le.2.1 ∙ same.1))
+    (Grows-then (made_by m.host) (made_by (taken b m.host)) (made_by s.host) g le.0, ending (moves-then (calling here b w k) le.1) e x, (y (open_registrations s.host.events) ∙ (first_gone (open_registrations s.host.events) (open_registrations (taken b m.host).events) le.2.0 ∙ same.0), le.2.1 ∙ same.1))
   where
     first_gone : (calls before : List ℕ) → calls ≡ called_by b ∷ before → without_first calls ≡ before
     first_gone calls before e = Prim.rw e refl

@@ -10,11 +10,12 @@ use Rattle.page_types.specs.Events.{Reg, Event, Turn, Call, Ret, Throw, Run, Job
 use Rattle.page_parts.specs.Words.{and_last, without}
 use Rattle.page_parts.specs.Promises.{Settled, Fulfilled, Failed, PromiseJob, Reaction}
 use Rattle.page_parts.specs.Promises as Promises
-use Rattle.page_parts.specs.Notices.{Notices, Noticed, Todo, OfPromise, Micro, WaitingJob, the_promise, changed, queue_job, queue_jobs, settle_line, promise_changed, subscribe_promise, queue_micro, note_outstanding, Context}
+use Rattle.page_parts.specs.Notices.{Notices, Noticed, Todo, OfPromise, Micro, WaitingJob, changed, queue_job, queue_jobs, settle_line, promise_changed, subscribe_promise, queue_micro, note_outstanding, Context}
+use Rattle.page_parts.specs.Promises.{the_promise}
 use Rattle.page_model.specs.State.{Page, emit_each, on_notices, context, caller}
 use Rattle.page_laws.specs.History.{History, count_lines, some_line, is_job, is_run, is_rest}
 use Rattle.page_laws.specs.CallLaws.{keeps_jobs, is_job_number}
-use Rattle.page_laws.specs.Moves.{frame_asked, frame_gone, registered, is_aside, is_end, promise_changes, Change, elsewhere, told, rested, promised, settled, followed, adopted, subscribed, micro_queued, rejected_taken, noted, Beginning, TheScript, ATimer, AFrame, AnIdle, ALateIdle, AListener, APost, AContinuation, AMicro, AReaction, taken, called_by, Waited, Moves, here, changing, calling, ending, flagging, running}
+use Rattle.page_laws.specs.Moves.{frame_asked, frame_gone, registered, is_aside, is_end, promise_changes, PageChange, elsewhere, told, rested, promised, settled, followed, adopted, subscribed, micro_queued, rejected_taken, noted, Beginning, TheScript, ATimer, AFrame, AnIdle, ALateIdle, AListener, APost, AContinuation, AMicro, AReaction, taken, called_by, Waited, Moves, here, changing, calling, ending, flagging, running}
 use Rattle.page_laws.proofs.Lines.{added, added-append, emit_each-events, emit_each-notices}
 use Rattle.page_laws.proofs.Scans.{Test, Kept}
 
@@ -172,16 +173,16 @@ changes-fit n c p f = notices-fit (λ s. changed (context p) p.names n c s) p (c
 subscribed-fits : (n : ℕ) (r : Reaction) (p : Page) → Fits p → Fits (on_notices (subscribe_promise (context p) n r) p)
 subscribed-fits n r p f =
     let s : Notices = record p.notices { rejected = without (λ m. m == n) p.notices.rejected; outstanding = without (λ m. m == n) p.notices.outstanding } in
-    notices-fit (subscribe_promise (context p) n r) p (changed-fits (context p) [] n (Promises.subscribe n (the_promise p.notices n) r) p.now s p.events (again-fits p.notices s p.events refl refl f))
+    notices-fit (subscribe_promise (context p) n r) p (changed-fits (context p) [] n (Promises.subscribe n (the_promise p.notices.promises n) r) p.now s p.events (again-fits p.notices s p.events refl refl f))
 
 noted-fits : (n : ℕ) (s : Notices) (past : History) → JobsFit s past → JobsFit (note_outstanding n s) past
-noted-fits n s past f = by_handled (the_promise s n).handled
+noted-fits n s past f = by_handled (the_promise s.promises n).handled
   where
     by_handled : (b : Bool) → JobsFit (cond b s (record s { outstanding = and_last s.outstanding n })) past
     by_handled true = f
     by_handled false = again-fits s (record s { outstanding = and_last s.outstanding n }) past refl refl f
 
-change-fits : {p q : Page} → Change p q → Fits p → Fits q
+change-fits : {p q : Page} → PageChange p q → Fits p → Fits q
 change-fits {p = p} {q = q} (elsewhere x y z w v) f = subst (λ (s : Notices). JobsFit s q.events) (sym x) (subst (JobsFit p.notices) (sym z) f)
 change-fits {p = p} (told e h) f = silent-fits e p.now p.notices p.events (aside-silent e h) f
 change-fits {p = p} (rested e h x y) f = rest-fits e p.now p.notices p.events h y f
@@ -189,9 +190,9 @@ change-fits {p = p} (registered kind x e) f = silent-fits (Reg (suc (length p.re
 change-fits {p = p} (frame_asked g) f = silent-fits (Reg (suc (length p.registrations)) kind.Frame (caller p)) p.now p.notices p.events refl f
 change-fits (frame_gone handle) f = f
 change-fits {p = p} promised f = again-fits p.notices _ p.events refl refl f
-change-fits {p = p} (settled n how x y) f = changes-fit n (Promises.settle n (the_promise p.notices n) how) p f
-change-fits {p = p} (followed n how x y) f = changes-fit n (Promises.settle n (the_promise p.notices n) how) p f
-change-fits {p = p} (adopted n from x y) f = changes-fit n (Promises.adopt n (the_promise p.notices n) from) p f
+change-fits {p = p} (settled n how x y) f = changes-fit n (Promises.settle n (the_promise p.notices.promises n) how) p f
+change-fits {p = p} (followed n how x y) f = changes-fit n (Promises.settle n (the_promise p.notices.promises n) how) p f
+change-fits {p = p} (adopted n from x y) f = changes-fit n (Promises.adopt n (the_promise p.notices.promises n) from) p f
 change-fits {p = p} (subscribed n r x) f = subscribed-fits n r p f
 change-fits {p = p} (micro_queued r) f = notices-fit (queue_micro (context p) r) p (queue_job-fits (context p) (Micro r) p.now p.notices p.events f)
 change-fits {p = p} rejected_taken f = again-fits p.notices _ p.events refl refl f

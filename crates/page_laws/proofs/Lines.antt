@@ -5,11 +5,12 @@ use Rattle.page_parts.specs.Words.{without}
 use Rattle.page_types.specs.Events.{Event, Call, Ret, Throw}
 use Rattle.page_parts.specs.Promises.{Settled, Fulfilled, Failed, PromiseJob}
 use Rattle.page_parts.specs.Promises as Promises
-use Rattle.page_parts.specs.Notices.{Notices, Noticed, the_promise, changed, queue_jobs, settle_line, subscribe_promise, queue_micro, Context}
+use Rattle.page_parts.specs.Notices.{Notices, Noticed, changed, queue_jobs, settle_line, subscribe_promise, queue_micro, Context}
+use Rattle.page_parts.specs.Promises.{the_promise}
 use Rattle.page_model.specs.State.{Page, emit, emit_each, on_notices, context}
 use Rattle.page_model.specs.Numbers.{Each}
-use Rattle.page_laws.specs.History.{History, open_after, open_calls, is_rest}
-use Rattle.page_laws.specs.Moves.{frame_asked, frame_gone, is_aside, promise_changes, Change, elsewhere, told, rested, registered, promised, settled, followed, adopted, subscribed, micro_queued, rejected_taken, noted, Changes, nothing, with_change, Beginning, TheScript, ATimer, AFrame, AnIdle, ALateIdle, AListener, APost, AContinuation, AMicro, AReaction, taken}
+use Rattle.page_laws.specs.History.{History, open_after, open_registrations, is_rest}
+use Rattle.page_laws.specs.Moves.{frame_asked, frame_gone, is_aside, promise_changes, PageChange, elsewhere, told, rested, registered, promised, settled, followed, adopted, subscribed, micro_queued, rejected_taken, noted, Changes, nothing, with_change, Beginning, TheScript, ATimer, AFrame, AnIdle, ALateIdle, AListener, APost, AContinuation, AMicro, AReaction, taken}
 
 -- ---- lines
 
@@ -52,9 +53,9 @@ rest-open Ret h calls = Prim.cc
 rest-open (Throw bs) h calls = Prim.cc
 rest-open e h calls = refl
 
-added-open : (now : ℕ) (es : List Event) (past : History) → Each Shut es → open_calls (added now es past) ≡ open_calls past
+added-open : (now : ℕ) (es : List Event) (past : History) → Each Shut es → open_registrations (added now es past) ≡ open_registrations past
 added-open now [] past h = refl
-added-open now (e ∷ es) past h = added-open now es (record { time = now; event = e } ∷ past) h.1 ∙ h.0 (open_calls past)
+added-open now (e ∷ es) past h = added-open now es (record { time = now; event = e } ∷ past) h.1 ∙ h.0 (open_registrations past)
 
 Each-append : (xs ys : List Event) → Each Shut xs → Each Shut ys → Each Shut (xs ++ ys)
 Each-append [] ys h k = k
@@ -78,12 +79,12 @@ changed-shut current names n c s = Each-append (cond c.settled (settle_line name
 
 -- the same calls are open, and the flag is as it was
 abbrev pub Same : Page → Page → Type 0
-Same p q = open_calls q.events ≡ open_calls p.events × q.performing ≡ p.performing
+Same p q = open_registrations q.events ≡ open_registrations p.events × q.performing ≡ p.performing
 
 notices-same : (f : Notices → Noticed) (p : Page) → Each Shut (f p.notices).lines → Same p (on_notices f p)
 notices-same f p h =
     let q : Page = record p { notices = (f p.notices).notices } in
-    (ap open_calls (emit_each-events (f p.notices).lines q) ∙ added-open p.now (f p.notices).lines p.events h, emit_each-performing (f p.notices).lines q)
+    (ap open_registrations (emit_each-events (f p.notices).lines q) ∙ added-open p.now (f p.notices).lines p.events h, emit_each-performing (f p.notices).lines q)
 
 promise_changes-same : (n : ℕ) (c : Promises.Change) (p : Page) → Same p (promise_changes n c p)
 promise_changes-same n c p = notices-same (λ s. changed (context p) p.names n c s) p (changed-shut (context p) p.names n c p.notices)
@@ -91,19 +92,19 @@ promise_changes-same n c p = notices-same (λ s. changed (context p) p.names n c
 subscribed-same : (n : ℕ) (r : Promises.Reaction) (p : Page) → Same p (on_notices (subscribe_promise (context p) n r) p)
 subscribed-same n r p =
     notices-same (subscribe_promise (context p) n r) p
-    (changed-shut (context p) [] n (Promises.subscribe n (the_promise p.notices n) r) (record p.notices { rejected = without (λ m. m == n) p.notices.rejected; outstanding = without (λ m. m == n) p.notices.outstanding }))
+    (changed-shut (context p) [] n (Promises.subscribe n (the_promise p.notices.promises n) r) (record p.notices { rejected = without (λ m. m == n) p.notices.rejected; outstanding = without (λ m. m == n) p.notices.outstanding }))
 
-pub change-same : {p q : Page} → Change p q → Same p q
-change-same (elsewhere x y z w v) = (ap open_calls z, y)
-change-same {p = p} (told e h) = (aside-open e h (open_calls p.events), refl)
-change-same {p = p} (rested e h x y) = (rest-open e h (open_calls p.events), refl)
+pub change-same : {p q : Page} → PageChange p q → Same p q
+change-same (elsewhere x y z w v) = (ap open_registrations z, y)
+change-same {p = p} (told e h) = (aside-open e h (open_registrations p.events), refl)
+change-same {p = p} (rested e h x y) = (rest-open e h (open_registrations p.events), refl)
 change-same (registered kind x e) = (refl, refl)
 change-same (frame_asked f) = (refl, refl)
 change-same (frame_gone handle) = (refl, refl)
 change-same promised = (refl, refl)
-change-same {p = p} (settled n how x y) = promise_changes-same n (Promises.settle n (the_promise p.notices n) how) p
-change-same {p = p} (followed n how x y) = promise_changes-same n (Promises.settle n (the_promise p.notices n) how) p
-change-same {p = p} (adopted n from x y) = promise_changes-same n (Promises.adopt n (the_promise p.notices n) from) p
+change-same {p = p} (settled n how x y) = promise_changes-same n (Promises.settle n (the_promise p.notices.promises n) how) p
+change-same {p = p} (followed n how x y) = promise_changes-same n (Promises.settle n (the_promise p.notices.promises n) how) p
+change-same {p = p} (adopted n from x y) = promise_changes-same n (Promises.adopt n (the_promise p.notices.promises n) from) p
 change-same {p = p} (subscribed n r x) = subscribed-same n r p
 change-same {p = p} (micro_queued r) = notices-same (queue_micro (context p) r) p (λ calls. refl, tt)
 change-same rejected_taken = (refl, refl)

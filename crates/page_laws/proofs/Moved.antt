@@ -14,7 +14,8 @@ use Rattle.page_parts.specs.Spelling.{spelled}
 use Rattle.page_parts.specs.Kinds.{Func, func_in, promise_in, a_fault}
 use Rattle.page_parts.specs.Promises.{Settled, Fulfilled, Failed, Reaction, PromiseRecord, pending_promise, no_change}
 use Rattle.page_parts.specs.Promises as Promises
-use Rattle.page_parts.specs.Notices.{Notices, the_promise, subscribe_promise, is_outstanding}
+use Rattle.page_parts.specs.Notices.{Notices, subscribe_promise, is_outstanding}
+use Rattle.page_parts.specs.Promises.{the_promise}
 use Rattle.page_parts.specs.Timers as Timers
 use Rattle.page_parts.specs.Timers.{armed}
 use Rattle.page_parts.specs.Frames.{callback_in}
@@ -28,15 +29,16 @@ use Rattle.page_parts.specs.HostClosures.{HostClosure}
 use Rattle.page_model.specs.State.{context, OfKind, Registration, NotifyHandled, NotifyRejected, Steps, PrioSource, SchedulingState, HostTask, Completion, QueueTimer, EnqueuePost, QueueSignal, InvokeIdle, Page, emit, emit_each, on_notices, queue_task, the_registration, last_registration}
 use Rattle.page_model.specs.PagePromises as promises
 use Rattle.page_model.specs.PagePromises.{new_promise, last_promise}
-use Rattle.page_model.specs.PageTime.{run_after, init_timer, clear_id, clear_timer, registration_with_id, without_frame, cancel_frame, deadline, period_begun, idle_step, idle_timeout, request_idle, idle_callback, without_idle, cancel_idle, enqueue, without_sched, with_state, completion_of, without_timer}
+use Rattle.page_model.specs.PageTime.{run_after, init_timer, clear_id, clear_timer, registration_with_id, without_frame, cancel_frame, deadline, period_begun, idle_step, idle_timeout, request_idle, idle_callback, without_idle, cancel_idle, completion_of, without_timer}
+use Rattle.page_model.specs.SchedulerTasks.{enqueue, without_sched, with_state}
 use Rattle.page_model.specs.Invoke.{WhenReported, BeforeCheckpoint, AfterCheckpoint, Never, report_before, report_after, notify_rejected, register, register_as}
 use Rattle.page_model.specs.PageSignals.{has_not_begun, drop_registration, abort_registration, reason_set, watch, unwatch, give_priority, change_begun, change_ended, is_aborted_source}
 use Rattle.page_model.specs.Operations.{micro_registered, script_promise, then_made, timer_set, timer_registered, frame_requested, idle_requested, with_signals, task_signal_made, any_made, last_signal, timeout_signal_made, listener_added, listener_removed, promised, post_delayed, post_queued, continuation_queued, host_queued, finally_made, posted}
 use Rattle.page_model.specs.Tasks.{invoke_idle_again, outstanding_if_unhandled, fire_closure, settle_answer, answer_host}
 use Rattle.page_model.specs.Parallel.{ItemKind, ArrivalItem, HostItem, TimerItem, IdleItem, FrameItem, complete, complete_at, take_item, due_item, first_item, take_due, item_count, parallel}
 use Rattle.page_model.specs.Numbers.{IsGiven}
-use Rattle.page_laws.specs.History.{open_calls}
-use Rattle.page_laws.specs.Moves.{is_aside, promise_changes, Change, elsewhere, frame_asked, frame_gone, registered, told, rested, settled, followed, adopted, subscribed, micro_queued, rejected_taken, noted, Changes, nothing, with_change}
+use Rattle.page_laws.specs.History.{open_registrations}
+use Rattle.page_laws.specs.Moves.{is_aside, promise_changes, PageChange, elsewhere, frame_asked, frame_gone, registered, told, rested, settled, followed, adopted, subscribed, micro_queued, rejected_taken, noted, Changes, nothing, with_change}
 use Rattle.page_laws.specs.Moves as moves
 use Rattle.page_laws.proofs.Moving.{changes-then}
 
@@ -68,33 +70,33 @@ put_same (x ∷ xs) zero d = refl
 put_same (x ∷ xs) (suc i) d = ap (x ∷◌) (put_same xs i d)
 
 -- a change that changes nothing
-unchanged : (n : ℕ) (p : Page) → Changes p (promise_changes n (no_change (the_promise p.notices n)) p)
-unchanged n p = quietly p (promise_changes n (no_change (the_promise p.notices n)) p) (ap {A = List PromiseRecord} {B = Notices} (λ qs. record p.notices { promises = qs }) (put_same p.notices.promises (pred n) pending_promise)) refl refl refl refl
+unchanged : (n : ℕ) (p : Page) → Changes p (promise_changes n (no_change (the_promise p.notices.promises n)) p)
+unchanged n p = quietly p (promise_changes n (no_change (the_promise p.notices.promises n)) p) (ap {A = List PromiseRecord} {B = Notices} (λ qs. record p.notices { promises = qs }) (put_same p.notices.promises (pred n) pending_promise)) refl refl refl refl
 
-by_lock : (n : ℕ) (p : Page) (c : Promises.Change) (b : Bool) → (the_promise p.notices n).locked ≡ b → ((the_promise p.notices n).locked ≡ false → Changes p (promise_changes n c p)) → Changes p (promise_changes n (cond b (no_change (the_promise p.notices n)) c) p)
+by_lock : (n : ℕ) (p : Page) (c : Promises.Change) (b : Bool) → (the_promise p.notices.promises n).locked ≡ b → ((the_promise p.notices.promises n).locked ≡ false → Changes p (promise_changes n c p)) → Changes p (promise_changes n (cond b (no_change (the_promise p.notices.promises n)) c) p)
 by_lock n p c true e k = unchanged n p
 by_lock n p c false e k = k e
 
-first_settled : (n : ℕ) (how : Settled) (p : Page) → IsGiven (length p.notices.promises) n → (the_promise p.notices n).locked ≡ false → Changes p (promise_changes n (Promises.settle n (the_promise p.notices n) how) p)
+first_settled : (n : ℕ) (how : Settled) (p : Page) → IsGiven (length p.notices.promises) n → (the_promise p.notices.promises n).locked ≡ false → Changes p (promise_changes n (Promises.settle n (the_promise p.notices.promises n) how) p)
 first_settled n how p x e = with_change nothing (settled n how x e)
 
-unlocked-changes : (n : ℕ) (v : Value) (p : Page) (o : Option ℕ) → IsGiven (length p.notices.promises) n → (the_promise p.notices n).locked ≡ false → Changes p (promise_changes n (Promises.resolve_unlocked n (the_promise p.notices n) v o) p)
+unlocked-changes : (n : ℕ) (v : Value) (p : Page) (o : Option ℕ) → IsGiven (length p.notices.promises) n → (the_promise p.notices.promises n).locked ≡ false → Changes p (promise_changes n (Promises.resolve_unlocked n (the_promise p.notices.promises n) v o) p)
 unlocked-changes n v p None x e = first_settled n (Fulfilled v) p x e
 unlocked-changes n v p (Some other) x e = by_itself (other == n)
   where
-    by_itself : (b : Bool) → Changes p (promise_changes n (cond b (Promises.settle n (the_promise p.notices n) (Failed (a_fault TypeError))) (Promises.adopt n (the_promise p.notices n) other)) p)
+    by_itself : (b : Bool) → Changes p (promise_changes n (cond b (Promises.settle n (the_promise p.notices.promises n) (Failed (a_fault TypeError))) (Promises.adopt n (the_promise p.notices.promises n) other)) p)
     by_itself true = first_settled n (Failed (a_fault TypeError)) p x e
     by_itself false = with_change nothing (adopted n other x e)
 
 pub settle-changes : (n : ℕ) (how : Settled) (p : Page) → IsGiven (length p.notices.promises) n → Changes p (promises.settle n how p)
 settle-changes n (Fulfilled v) p x =
-    by_lock n p (Promises.resolve_unlocked n (the_promise p.notices n) v (promise_in v)) (the_promise p.notices n).locked refl (unlocked-changes n v p (promise_in v) x)
-settle-changes n (Failed v) p x = by_lock n p (Promises.settle n (the_promise p.notices n) (Failed v)) (the_promise p.notices n).locked refl (first_settled n (Failed v) p x)
+    by_lock n p (Promises.resolve_unlocked n (the_promise p.notices.promises n) v (promise_in v)) (the_promise p.notices.promises n).locked refl (unlocked-changes n v p (promise_in v) x)
+settle-changes n (Failed v) p x = by_lock n p (Promises.settle n (the_promise p.notices.promises n) (Failed v)) (the_promise p.notices.promises n).locked refl (first_settled n (Failed v) p x)
 
 pub follow-changes : (n : ℕ) (how : Settled) (p : Page) → IsGiven (length p.notices.promises) n → Changes p (promises.follow n how p)
-follow-changes n how p x = by_outcome (the_promise p.notices n).outcome refl
+follow-changes n how p x = by_outcome (the_promise p.notices.promises n).outcome refl
   where
-    by_outcome : (o : Option Settled) → (the_promise p.notices n).outcome ≡ o → Changes p (promise_changes n (elim o [ None ↦ Promises.settle n (the_promise p.notices n) how | Some before ↦ no_change (the_promise p.notices n) ]) p)
+    by_outcome : (o : Option Settled) → (the_promise p.notices.promises n).outcome ≡ o → Changes p (promise_changes n (elim o [ None ↦ Promises.settle n (the_promise p.notices.promises n) how | Some before ↦ no_change (the_promise p.notices.promises n) ]) p)
     by_outcome None e = with_change nothing (followed n how x e)
     by_outcome (Some before) e = unchanged n p
 
@@ -154,13 +156,13 @@ without_frame-changes handle p = with_change nothing (frame_gone handle)
 pub cancel_frame-changes : (handle : ℕ) (p : Page) → Changes p (cancel_frame handle p)
 cancel_frame-changes handle p = elim-changes (callback_in p.frames.callbacks handle) p p _ nothing (λ c. with_change {q = without_frame handle p} (with_change nothing (frame_gone handle)) (told (Drop c.registration) refl))
 
-pub idle_step-changes : (p : Page) → open_calls p.events ≡ [] → p.notices.jobs ≡ [] → Changes p (idle_step p)
+pub idle_step-changes : (p : Page) → open_registrations p.events ≡ [] → p.notices.jobs ≡ [] → Changes p (idle_step p)
 idle_step-changes p x y =
     let here : Page = record p { last_idle_start = p.now } in
     let end = deadline here.last_idle_start here in
     let told_one : Page = emit (Period end) p in
     let begun : Changes p told_one = with_change nothing (rested (Period end) refl x y) in
-    cond-changes (waits here.idle && nat_lt here.now (deadline here.last_idle_start here) && nat_le here.period_end here.now) p (period_begun end here) here
+    cond-changes (waits here.idle && nat_lt here.now (deadline here.last_idle_start here) && nat_le here.idle_period_end here.now) p (period_begun end here) here
     (changes-then begun (quietly told_one (period_begun end here) refl refl refl refl refl)) (quietly p here refl refl refl refl refl)
 
 pub idle_timeout-changes : (ms r : ℕ) (p : Page) → Changes p (idle_timeout ms r p)

@@ -5,12 +5,13 @@ use Rattle.page_parts.specs.Promises.{Settled, Fulfilled, Failed, PromiseJob, Re
 use Rattle.page_parts.specs.Promises as Promises
 use Rattle.page_parts.specs.Words.{without}
 use Rattle.std.specs.Prelude.{◌==◌}
-use Rattle.page_parts.specs.Notices.{Notices, Noticed, the_promise, changed, queue_jobs, settle_line, subscribe_promise, queue_micro, Context}
+use Rattle.page_parts.specs.Notices.{Notices, Noticed, changed, queue_jobs, settle_line, subscribe_promise, queue_micro, Context}
+use Rattle.page_parts.specs.Promises.{the_promise}
 use Rattle.page_model.specs.State.{Page, on_notices, context}
 use Rattle.page_model.specs.Numbers.{Each}
 use Rattle.page_laws.specs.History.{History, is_rest}
 use Rattle.page_laws.specs.CallLaws.{keeps_nesting, is_nil}
-use Rattle.page_laws.specs.Moves.{frame_asked, frame_gone, is_aside, is_end, promise_changes, Change, elsewhere, told, rested, registered, promised, settled, followed, adopted, subscribed, micro_queued, rejected_taken, noted, Beginning, TheScript, ATimer, AFrame, AnIdle, ALateIdle, AListener, APost, AContinuation, AMicro, AReaction, taken, Waited, Moves, here, changing, calling, ending, flagging, running}
+use Rattle.page_laws.specs.Moves.{frame_asked, frame_gone, is_aside, is_end, promise_changes, PageChange, elsewhere, told, rested, registered, promised, settled, followed, adopted, subscribed, micro_queued, rejected_taken, noted, Beginning, TheScript, ATimer, AFrame, AnIdle, ALateIdle, AListener, APost, AContinuation, AMicro, AReaction, taken, Waited, Moves, here, changing, calling, ending, flagging, running}
 use Rattle.page_laws.proofs.Lines.{emit_each-events}
 use Rattle.page_laws.proofs.Scans.{Test, Kept, kept-added}
 
@@ -64,9 +65,9 @@ changes-kept n c p k = notices-kept (λ s. changed (context p) p.names n c s) p 
 subscribed-kept : (n : ℕ) (r : Reaction) (p : Page) → Kept nesting p.events → Kept nesting (on_notices (subscribe_promise (context p) n r) p).events
 subscribed-kept n r p k =
     notices-kept (subscribe_promise (context p) n r) p
-    (changed-passes (context p) [] n (Promises.subscribe n (the_promise p.notices n) r) (record p.notices { rejected = without (λ m. m == n) p.notices.rejected; outstanding = without (λ m. m == n) p.notices.outstanding })) k
+    (changed-passes (context p) [] n (Promises.subscribe n (the_promise p.notices.promises n) r) (record p.notices { rejected = without (λ m. m == n) p.notices.rejected; outstanding = without (λ m. m == n) p.notices.outstanding })) k
 
-change-kept : {p q : Page} → Change p q → Kept nesting p.events → Kept nesting q.events
+change-kept : {p q : Page} → PageChange p q → Kept nesting p.events → Kept nesting q.events
 change-kept (elsewhere x y z w v) k = subst (Kept nesting) (sym z) k
 change-kept {p = p} (told e h) k = (aside-passes e h p.events, k)
 change-kept {p = p} (rested e h x y) k = (rest-passes e h p.events, k)
@@ -74,9 +75,9 @@ change-kept (registered kind x e) k = (refl, k)
 change-kept (frame_asked f) k = (refl, k)
 change-kept (frame_gone handle) k = k
 change-kept promised k = k
-change-kept {p = p} (settled n how x y) k = changes-kept n (Promises.settle n (the_promise p.notices n) how) p k
-change-kept {p = p} (followed n how x y) k = changes-kept n (Promises.settle n (the_promise p.notices n) how) p k
-change-kept {p = p} (adopted n from x y) k = changes-kept n (Promises.adopt n (the_promise p.notices n) from) p k
+change-kept {p = p} (settled n how x y) k = changes-kept n (Promises.settle n (the_promise p.notices.promises n) how) p k
+change-kept {p = p} (followed n how x y) k = changes-kept n (Promises.settle n (the_promise p.notices.promises n) how) p k
+change-kept {p = p} (adopted n from x y) k = changes-kept n (Promises.adopt n (the_promise p.notices.promises n) from) p k
 change-kept {p = p} (subscribed n r x) k = subscribed-kept n r p k
 change-kept {p = p} (micro_queued r) k = notices-kept (queue_micro (context p) r) p (λ older. refl, tt) k
 change-kept rejected_taken k = k

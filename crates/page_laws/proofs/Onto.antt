@@ -12,7 +12,8 @@ use Rattle.page_model.specs.Numbers.{IsFor, timer_role, AreKnown, Each, HasPromi
 use Rattle.page_model.specs.Operations.{any_made, continuation_queued, frame_requested, host_queued, idle_requested, listener_added, listener_removed, micro_registered, post_queued, script_promise, task_signal_made, then_made, timeout_signal_made, timer_set, with_signals, finally_made, posted}
 use Rattle.page_model.specs.PagePromises.{last_promise, new_promise, new_settled}
 use Rattle.page_model.specs.PageSignals.{abort_registration, abort_registrations, change_begun, change_ended, reason_set, reason_value, run_algorithms, unwatch}
-use Rattle.page_model.specs.PageTime.{cancel_frame, cancel_idle, clear_id, clear_timer, init_timer, with_state, without_frame, without_idle, without_sched}
+use Rattle.page_model.specs.PageTime.{cancel_frame, cancel_idle, clear_id, clear_timer, init_timer, without_frame, without_idle}
+use Rattle.page_model.specs.SchedulerTasks.{with_state, without_sched}
 use Rattle.page_model.specs.Parallel.{parallel}
 use Rattle.page_model.specs.State.{OfKind, HostTask, Page, PrioSource, SchedulingState, Steps, queue_task}
 use Rattle.page_model.specs.Tasks.{answer_host}

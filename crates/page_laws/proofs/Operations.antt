@@ -20,7 +20,8 @@ use Rattle.page_model.specs.Invoke.{Ways, in_script}
 use Rattle.page_model.specs.Numbers.{AreKnown, Each, IfThere, IsGiven, IsKnown, Made, PrioSourceIsGiven, StateIsGiven, TargetIsGiven, made_by, timer_role, KindIsGiven}
 use Rattle.page_model.specs.Operations.{abort_by, aborted_signal, all_signals, answers, any_following, any_made, any_with_priority, busy, busy_for, change_by, closure_at, continuation_queued, controller_value, delay_in, does, fitting, followed_through, frame_requested, given_or_rejected, host, host_accepted, host_asked, host_queued, idle_requested, int_within, is_fresh, is_left, last_promise_value, listen, listener_added, listener_removed, make_any, make_controller, make_task_any, make_task_controller, make_timeout_signal, may_operate, micro_registered, of_signal, operation, page_operations, post_accepted, post_queued, post_task, prio_source_of, priority_in, priority_or_unit, promise_left, queue_microtask, reason_given, registration_left, rejected_with, remaining, request_animation_frame, request_idle_callback, resolved_value, script_promise, set_priority_by, set_timer, settle_own, settled_promise, signal_left, signal_or_unit, signal_source, signal_value, signals_in, source_reason, target_in, task_signal_made, then_made, then_value, timeout_signal_made, timer_set, where_left, with_handle, with_signals, yield_in, combined, raced, promises_for_all, finally_value, finally_made, answers_first, port_in, sendable_in, posted, post_message}
 use Rattle.page_model.specs.PageSignals.{change, is_aborted, is_aborted_source, priority_value, reason_value}
-use Rattle.page_model.specs.PageTime.{cancel_frame, cancel_idle, clear_timer, current_state, no_state, time_remaining}
+use Rattle.page_model.specs.PageTime.{cancel_frame, cancel_idle, clear_timer, time_remaining}
+use Rattle.page_model.specs.SchedulerTasks.{current_state, no_state}
 use Rattle.page_model.specs.State.{OfKind, OfSignal, Page, SchedulingState, State, emit, last_registration}
 use Rattle.page_parts.specs.HostClosures.{HostClosure}
 use Rattle.page_parts.specs.Kinds.{Func, a_fault, controller_in, deadline_in, fault_in, func_in, int_in, is_unit, list_in, promise_in, signal_in, text_in, is_sendable, within_limits}

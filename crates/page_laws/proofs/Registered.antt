@@ -10,7 +10,8 @@ use Rattle.page_types.specs.declared.Source.TheVariants.{Sched}
 use Rattle.page_parts.specs.Words.{and_last, numbered, without}
 use Rattle.page_parts.specs.Promises.{Settled, Fulfilled, Failed, PromiseJob, Reaction}
 use Rattle.page_parts.specs.Promises as Promises
-use Rattle.page_parts.specs.Notices.{Notices, Noticed, the_promise, changed, queue_jobs, settle_line, subscribe_promise, queue_micro, Context}
+use Rattle.page_parts.specs.Notices.{Notices, Noticed, changed, queue_jobs, settle_line, subscribe_promise, queue_micro, Context}
+use Rattle.page_parts.specs.Promises.{the_promise}
 use Rattle.page_model.specs.State.{Role, ScriptRole, OfKind, Registration, Page, emit, emit_each, on_notices, no_registration, context, caller}
 use Rattle.page_model.specs.PageTime.{deadline}
 use Rattle.page_model.specs.Numbers.{Each, IsFor, made_by, timer_role}
@@ -18,7 +19,7 @@ use Rattle.page_model.proofs.NumbersGrow.{numbered-last, length-last}
 use Rattle.page_laws.specs.History.{History, some_line, is_reg_of, kind_of, kind_in, has_kind, is_some_and, is_rest}
 use Rattle.page_laws.specs.CallLaws.{has_no_callback}
 use Rattle.page_laws.specs.Registering.{keeps_kinds}
-use Rattle.page_laws.specs.Moves.{frame_asked, frame_gone, is_aside, is_end, promise_changes, Change, elsewhere, told, rested, registered, promised, settled, followed, adopted, subscribed, micro_queued, rejected_taken, noted, Beginning, TheScript, ATimer, AFrame, AnIdle, ALateIdle, AListener, APost, AContinuation, AMicro, AReaction, called_by, role_of, taken, Moves, here, changing, calling, ending, flagging, running}
+use Rattle.page_laws.specs.Moves.{frame_asked, frame_gone, is_aside, is_end, promise_changes, PageChange, elsewhere, told, rested, registered, promised, settled, followed, adopted, subscribed, micro_queued, rejected_taken, noted, Beginning, TheScript, ATimer, AFrame, AnIdle, ALateIdle, AListener, APost, AContinuation, AMicro, AReaction, called_by, role_of, taken, Moves, here, changing, calling, ending, flagging, running}
 use Rattle.page_laws.proofs.Lines.{added, emit_each-events}
 use Rattle.page_laws.proofs.Scans.{Test, Kept}
 
@@ -228,9 +229,9 @@ changes-fit n c p f = notices-fit (λ s. changed (context p) p.names n c s) p (c
 subscribed-fits : (n : ℕ) (r : Reaction) (p : Page) → Fits p → Fits (on_notices (subscribe_promise (context p) n r) p)
 subscribed-fits n r p f =
     notices-fit (subscribe_promise (context p) n r) p
-    (changed-silent (context p) [] n (Promises.subscribe n (the_promise p.notices n) r) (record p.notices { rejected = without (λ m. m == n) p.notices.rejected; outstanding = without (λ m. m == n) p.notices.outstanding })) f
+    (changed-silent (context p) [] n (Promises.subscribe n (the_promise p.notices.promises n) r) (record p.notices { rejected = without (λ m. m == n) p.notices.rejected; outstanding = without (λ m. m == n) p.notices.outstanding })) f
 
-change-fits : {p q : Page} → Change p q → Fits p → Fits q
+change-fits : {p q : Page} → PageChange p q → Fits p → Fits q
 change-fits {p = p} {q = q} (elsewhere x y z w v) f = subst (λ (xs : List Registration). KindsFit xs q.events) (sym w) (subst (KindsFit p.registrations) (sym z) f)
 change-fits {p = p} (told e h) f = silent-fits e p.now p.registrations p.events (aside-silent e h) f
 change-fits {p = p} (rested e h x y) f = silent-fits e p.now p.registrations p.events (rest-silent e h) f
@@ -238,9 +239,9 @@ change-fits {p = p} (registered k x e) f = made-fits k (caller p) x p.now p.regi
 change-fits {p = p} (frame_asked g) f = made-fits kind.Frame (caller p) (record { role = OfKind kind.Frame; callback = Some g; second_callback = None; timer_id = 0; promise = 0; signal = None; finally = false }) p.now p.registrations p.events refl f
 change-fits (frame_gone handle) f = f
 change-fits promised f = f
-change-fits {p = p} (settled n how x y) f = changes-fit n (Promises.settle n (the_promise p.notices n) how) p f
-change-fits {p = p} (followed n how x y) f = changes-fit n (Promises.settle n (the_promise p.notices n) how) p f
-change-fits {p = p} (adopted n from x y) f = changes-fit n (Promises.adopt n (the_promise p.notices n) from) p f
+change-fits {p = p} (settled n how x y) f = changes-fit n (Promises.settle n (the_promise p.notices.promises n) how) p f
+change-fits {p = p} (followed n how x y) f = changes-fit n (Promises.settle n (the_promise p.notices.promises n) how) p f
+change-fits {p = p} (adopted n from x y) f = changes-fit n (Promises.adopt n (the_promise p.notices.promises n) from) p f
 change-fits {p = p} (subscribed n r x) f = subscribed-fits n r p f
 change-fits {p = p} (micro_queued r) f = notices-fit (queue_micro (context p) r) p (refl, tt) f
 change-fits rejected_taken f = f

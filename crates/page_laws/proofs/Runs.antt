@@ -36,7 +36,7 @@ use Rattle.page_types.specs.declared.Priority.{Priority}
 use Rattle.page_types.specs.declared.Source.TheVariants.{Dom}
 use Rattle.std.proofs.Common.{Bool, List, None, Option, Some, [], cond, false, length, refl, subst, suc, sym, true, zero, ℕ, ◌++◌, ◌||◌, ◌∙◌, ◌∷◌, ◌≡◌}
 use Rattle.std.specs.Prelude.{codes}
-use Rattle.page_laws.specs.History.{open_calls}
+use Rattle.page_laws.specs.History.{open_registrations}
 use Rattle.page_model.specs.PagePromises as promises
 use Rattle.page_parts.specs.TaskSignals as TaskSignals
 
@@ -82,7 +82,7 @@ priority_value-known n (Some priority) = tt
 
 -- no call is open
 abbrev pub NoneOpen : State → Type 0
-NoneOpen m = open_calls m.host.events ≡ []
+NoneOpen m = open_registrations m.host.events ≡ []
 
 -- no call is open, and no checkpoint is being performed
 abbrev pub AtTop : State → Type 0

@@ -12,13 +12,14 @@ use Rattle.page_parts.specs.Spelling.{spelled}
 use Rattle.page_parts.specs.Words.{and_last, without, numbered, with_numbered, is_there}
 use Rattle.page_parts.specs.Promises.{Settled, Fulfilled, Failed, PromiseRecord, PromiseJob, React, Adopt, Reaction, pending_promise}
 use Rattle.page_parts.specs.Promises as Promises
-use Rattle.page_parts.specs.Notices.{Notices, Noticed, Todo, OfPromise, Micro, the_promise, changed, queue_job, queue_jobs, queued_as, settle_line, promise_changed, subscribe_promise, queue_micro, note_outstanding, Context}
+use Rattle.page_parts.specs.Notices.{Notices, Noticed, Todo, OfPromise, Micro, changed, queue_job, queue_jobs, queued_as, settle_line, promise_changed, subscribe_promise, queue_micro, note_outstanding, Context}
+use Rattle.page_parts.specs.Promises.{the_promise}
 use Rattle.page_model.specs.State.{Page, emit_each, on_notices, context, caller}
 use Rattle.page_model.specs.PagePromises.{new_promise}
 use Rattle.page_model.specs.Numbers.{IsGiven, Each}
 use Rattle.page_laws.specs.History.{History, some_line, is_rest}
 use Rattle.page_laws.specs.CallLaws.{keeps_settled, is_settle_of, may_be_queued}
-use Rattle.page_laws.specs.Moves.{frame_asked, frame_gone, registered, is_aside, is_end, promise_changes, Change, elsewhere, told, rested, promised, settled, followed, adopted, subscribed, micro_queued, rejected_taken, noted, Beginning, TheScript, ATimer, AFrame, AnIdle, ALateIdle, AListener, APost, AContinuation, AMicro, AReaction, taken, called_by, Moves, here, changing, calling, ending, flagging, running}
+use Rattle.page_laws.specs.Moves.{frame_asked, frame_gone, registered, is_aside, is_end, promise_changes, PageChange, elsewhere, told, rested, promised, settled, followed, adopted, subscribed, micro_queued, rejected_taken, noted, Beginning, TheScript, ATimer, AFrame, AnIdle, ALateIdle, AListener, APost, AContinuation, AMicro, AReaction, taken, called_by, Moves, here, changing, calling, ending, flagging, running}
 use Rattle.page_laws.proofs.Lines.{added, added-append, emit_each-events, emit_each-notices}
 use Rattle.page_laws.proofs.Scans.{Test, Kept}
 
@@ -203,31 +204,31 @@ changed-fits current names n c now s past f h =
     (subst (λ (qs : List PromiseRecord). SettlesFit qs (added now (queue_jobs current c.jobs d.notices).lines (added now d.lines past))) (sym (queue_jobs-promises current c.jobs d.notices))
     (queue_jobs-fit current c.jobs now d.notices d.notices.promises (added now d.lines past) h f))
 
-settled-fits : (n : ℕ) (how : Settled) (p : Page) → IsGiven (length p.notices.promises) n → (the_promise p.notices n).outcome ≡ None → Fits p → Fits (promise_changes n (Promises.settle n (the_promise p.notices n) how) p)
+settled-fits : (n : ℕ) (how : Settled) (p : Page) → IsGiven (length p.notices.promises) n → (the_promise p.notices.promises n).outcome ≡ None → Fits p → Fits (promise_changes n (Promises.settle n (the_promise p.notices.promises n) how) p)
 settled-fits n how p g e f =
-    let q = the_promise p.notices n in
+    let q = the_promise p.notices.promises n in
     let c = Promises.settle n q how in
     let line = settle-fits p.names n c.promise how p.now p.notices.promises p.events g e refl refl f in
     notices-fit (λ s. changed (context p) p.names n c s) p
     (changed-fits (context p) p.names n c p.now p.notices p.events line.0 (reactions-may n q.reactions (added p.now (settle_line p.names n (Some how)) p.events) line.1))
 
-adopted-fits : (n from : ℕ) (p : Page) → IsGiven (length p.notices.promises) n → Fits p → Fits (promise_changes n (Promises.adopt n (the_promise p.notices n) from) p)
+adopted-fits : (n from : ℕ) (p : Page) → IsGiven (length p.notices.promises) n → Fits p → Fits (promise_changes n (Promises.adopt n (the_promise p.notices.promises n) from) p)
 adopted-fits n from p g f =
-    let c = Promises.adopt n (the_promise p.notices n) from in
+    let c = Promises.adopt n (the_promise p.notices.promises n) from in
     notices-fit (λ s. changed (context p) p.names n c s) p (changed-fits (context p) p.names n c p.now p.notices p.events (stay-fits n c.promise p.notices.promises p.events g refl (λ h. absurd (false_true (sym h))) f) (refl, tt))
 
 subscribed-fits : (n : ℕ) (r : Reaction) (p : Page) → IsGiven (length p.notices.promises) n → Fits p → Fits (on_notices (subscribe_promise (context p) n r) p)
-subscribed-fits n r p g f = notices-fit (subscribe_promise (context p) n r) p (by_outcome (the_promise p.notices n).outcome refl)
+subscribed-fits n r p g f = notices-fit (subscribe_promise (context p) n r) p (by_outcome (the_promise p.notices.promises n).outcome refl)
   where
     s : Notices
     s = record p.notices { rejected = without (λ m. m == n) p.notices.rejected; outstanding = without (λ m. m == n) p.notices.outstanding }
 
-    by_outcome : (o : Option Settled) → (the_promise p.notices n).outcome ≡ o → SettlesFit (changed (context p) [] n (Promises.subscribe_by n (the_promise p.notices n) r o) s).notices.promises (added p.now (changed (context p) [] n (Promises.subscribe_by n (the_promise p.notices n) r o) s).lines p.events)
+    by_outcome : (o : Option Settled) → (the_promise p.notices.promises n).outcome ≡ o → SettlesFit (changed (context p) [] n (Promises.subscribe_by n (the_promise p.notices.promises n) r o) s).notices.promises (added p.now (changed (context p) [] n (Promises.subscribe_by n (the_promise p.notices.promises n) r o) s).lines p.events)
     by_outcome None e =
-        let c = Promises.subscribe_by n (the_promise p.notices n) r None in
+        let c = Promises.subscribe_by n (the_promise p.notices.promises n) r None in
         changed-fits (context p) [] n c p.now s p.events (stay-fits n c.promise p.notices.promises p.events g refl (λ h. h) f) tt
     by_outcome (Some how) e =
-        let c = Promises.subscribe_by n (the_promise p.notices n) r (Some how) in
+        let c = Promises.subscribe_by n (the_promise p.notices.promises n) r (Some how) in
         changed-fits (context p) [] n c p.now s p.events (stay-fits n c.promise p.notices.promises p.events g refl (λ h. h) f) (f.told_of n g.from_one ∙ ap is_there e, tt)
 
 promised-fits : (p : Page) → Fits p → Fits (new_promise p)
@@ -239,13 +240,13 @@ promised-fits p f =
     }
 
 noted-fits : (n : ℕ) (s : Notices) (past : History) → SettlesFit s.promises past → SettlesFit (note_outstanding n s).promises past
-noted-fits n s past f = by_handled (the_promise s n).handled
+noted-fits n s past f = by_handled (the_promise s.promises n).handled
   where
     by_handled : (b : Bool) → SettlesFit (cond b s (record s { outstanding = and_last s.outstanding n })).promises past
     by_handled true = f
     by_handled false = f
 
-change-fits : {p q : Page} → Change p q → Fits p → Fits q
+change-fits : {p q : Page} → PageChange p q → Fits p → Fits q
 change-fits {p = p} {q = q} (elsewhere x y z w v) f = subst (λ (s : Notices). SettlesFit s.promises q.events) (sym x) (subst (SettlesFit p.notices.promises) (sym z) f)
 change-fits {p = p} (told e h) f = silent-fits e p.now p.notices.promises p.events (aside-silent e h) f
 change-fits {p = p} (rested e h x y) f = silent-fits e p.now p.notices.promises p.events (rest-silent e h) f

@@ -15,7 +15,8 @@ use Rattle.page_model.specs.Invoke.{Ways, checkpoint, invoke, settle_derived, ca
 use Rattle.page_model.specs.Numbers.{CallbackIsGiven, Each, HasPromise, IdleIsGiven, IfThere, IsFor, IsGiven, IsKnown, Made, NoticesAreGiven, SchedTaskIsGiven, StepsAreGiven, TaskIsGiven, TimerTaskIsGiven, made_by, sched_role}
 use Rattle.page_model.specs.PagePromises.{promise_at}
 use Rattle.page_model.specs.PageSignals.{dispatch, unwatch}
-use Rattle.page_model.specs.PageTime.{clear_id, deadline, first_sched, first_task, idle_callback, init_timer, with_state, without_idle}
+use Rattle.page_model.specs.PageTime.{clear_id, deadline, first_task, idle_callback, init_timer, without_idle}
+use Rattle.page_model.specs.SchedulerTasks.{first_sched, with_state}
 use Rattle.page_model.specs.State.{AnswerHost, FireAtWindow, IdleTimeout, InvokeIdle, NotifyHandled, NotifyRejected, OfKind, Page, RunFrame, RunScript, RunTimer, SchedTask, State, Steps, Task, TimeOutSignal, TimerTask, emit, on_page, queue_task, the_registration}
 use Rattle.page_model.specs.Tasks.{after_task, background, call_idle, continued, frame_callback, idle_called, initialised_again, invoke_idle, invoke_idle_again, notify_one, outstanding_if_unhandled, perform_sched, perform_steps, post_state, promise_reason, run_frame, run_post, run_timer, timed_out, timer_goes_on, where_live}
 use Rattle.page_model.specs.Turns.{without_task}
@@ -34,7 +35,7 @@ use Rattle.page_types.specs.declared.Source.{Source}
 use Rattle.page_types.specs.declared.Source.TheVariants.{Idle, Sched}
 use Rattle.std.proofs.Common.{Bool, List, None, Option, Some, [], cond, false, length, nat_lt, pos, refl, subst, true, ℕ, ◌++◌, ◌∷◌, ◌≡◌}
 use Rattle.std.specs.Prelude.{codes, ◌==◌}
-use Rattle.page_laws.specs.History.{open_calls}
+use Rattle.page_laws.specs.History.{open_registrations}
 use Rattle.page_model.specs.PagePromises as promises
 
 -- ---- the page in tasks
@@ -241,7 +242,7 @@ module _ (program : Program) where
           (λ b. dispatch-goes program w a Window (codes "rejectionhandled") args told b.1 (a.later n told b.0 there) (x, (promise_reason-known n.host k left.1.0, tt))))
 
   -- the scheduler's first task, from before the line of its turn
-  pub sched_task-goes : (w : Ways) (a : WaysGo program w) → (t : SchedTask) (m : State) → Good m → a.Here m → first_sched m.host ≡ Some t → open_calls m.host.events ≡ [] → m.host.notices.jobs ≡ [] → SchedTaskIsGiven (made_by m.host) t → Goes program m (perform_sched w t (on_page (sched_begun t) m))
+  pub sched_task-goes : (w : Ways) (a : WaysGo program w) → (t : SchedTask) (m : State) → Good m → a.Here m → first_sched m.host ≡ Some t → open_registrations m.host.events ≡ [] → m.host.notices.jobs ≡ [] → SchedTaskIsGiven (made_by m.host) t → Goes program m (perform_sched w t (on_page (sched_begun t) m))
   sched_task-goes w a t m g z e o j x = by_kind t.continuation refl
     where
       by_kind : (b : Bool) → t.continuation ≡ b → Goes program m (branch b (on_page (sched_begun t) m) (λ m. finish (on_page (continued t.registration) m)) (run_post w t))

@@ -18,11 +18,12 @@ use Rattle.page_model.specs.Invoke.{in_task}
 use Rattle.page_model.specs.Numbers.{Each, HasPromise, HoldsNoNumbers, IfThere, Made, SchedTaskIsGiven, StepsAreGiven, TaskIsGiven, made_by}
 use Rattle.page_model.specs.Operations.{page_operations}
 use Rattle.page_model.specs.PageSignals.{host_task_of, is_aborted_source}
-use Rattle.page_model.specs.PageTime.{completion_of, deadline, enqueue, first_of, first_sched, first_sched_from, first_task, goes_before, idle_step, period_begun, without_timer}
+use Rattle.page_model.specs.PageTime.{completion_of, deadline, first_task, idle_step, period_begun, without_timer}
+use Rattle.page_model.specs.SchedulerTasks.{enqueue, first_of, first_sched, first_sched_from, goes_before}
 use Rattle.page_model.specs.Parallel.{ArrivalItem, FrameItem, HostItem, IdleItem, Item, ItemKind, TimerItem, complete, complete_at, due_item, first_item, item_count, parallel, take_due, take_item}
 use Rattle.page_model.specs.State.{AnswerHost, Completion, EnqueuePost, FireAtWindow, HostTask, IdleTimeout, InvokeIdle, NotifyHandled, NotifyRejected, Page, QueueSignal, QueueTimer, RunFrame, RunScript, RunTimer, SchedTask, State, Steps, Task, TimeOutSignal, emit, on_page, the_registration}
 use Rattle.page_model.specs.Tasks.{after_task, answer_host, perform_sched, perform_steps}
-use Rattle.page_model.specs.Turns.{Ended, GoesOn, Stuck, Turned, after_step_one, answered, at_time, choose_turned, counted_turn, ends, first_page, first_state, from_step_one, goes_on, is_pending, next_turn, not_dropped, perform, perform_first, perform_first_sched, perform_host, perform_picked, perform_task, run_by, state_of, step_five, step_four, step_one, step_three, step_two, step_two_at, step_two_by, target, task_done, turn, turn_line, turns, waited, with_turn_fuel, without_task, from_step_three}
+use Rattle.page_model.specs.Turns.{Ended, GoesOn, Stuck, Turned, after_step_one, host_answered, at_time, choose_turned, counted_turn, ends, first_page, first_state, from_step_one, goes_on, is_pending, next_turn, not_dropped, perform, perform_first, perform_first_sched, perform_host, perform_picked, perform_task, run_by, state_of, step_five, step_four, step_one, step_three, step_two, step_two_at, step_two_by, target, task_done, turn, turn_line, turns, waited, with_turn_fuel, without_task, from_step_three}
 use Rattle.page_model.specs.View.{view}
 use Rattle.page_parts.specs.HostClosures.{HostClosure}
 use Rattle.page_parts.specs.IdleCallbacks.{waits}
@@ -110,7 +111,7 @@ take_due-notices (suc n) p = by_item (due_item p.now (first_item p)) (λ a. take
     by_item (Some a) k = k a ∙ take_item-notices a.what p
 
 pub idle_step-notices : (p : Page) → (idle_step p).notices ≡ p.notices
-idle_step-notices p = by_start (waits before.idle && nat_lt before.now (deadline before.last_idle_start before) && nat_le before.period_end before.now)
+idle_step-notices p = by_start (waits before.idle && nat_lt before.now (deadline before.last_idle_start before) && nat_le before.idle_period_end before.now)
   where
     before : Page
     before = record p { last_idle_start = p.now }
@@ -201,14 +202,14 @@ module _ {C : Type 0} (program : Program) where
     task_done-lands c m (Returns v r) z h = lands-then m r (goes_on c (after_task call r)) h.0 (after_task-lands c r h.1 (at_top-later m r h.0 z))
     task_done-lands c m (OutOfFuel r) z h = changing h (told (EndLine FuelEnd) refl)
 
-    answered-lands : (t : HostTask) (a : Option (Chosen (Result ℤ ℤ) C)) (m : State) (c : C) → Good m → AtTop m → HasPromise (made_by m.host) t.registration → Lands m (answered call t a m c)
-    answered-lands t None m c g z x = here
-    answered-lands t (Some a) m c g z x =
+    host_answered-lands : (t : HostTask) (a : Option (Chosen (Result ℤ ℤ) C)) (m : State) (c : C) → Good m → AtTop m → HasPromise (made_by m.host) t.registration → Lands m (host_answered call t a m c)
+    host_answered-lands t None m c g z x = here
+    host_answered-lands t (Some a) m c g z x =
         task_done-lands a.left m (finish (on_page (answer_host t a.choice) m)) z (finish_page program m (answer_host t a.choice) g (answer_host-onto t a.choice m.host g.0 x))
 
     perform_host-lands : (t : HostTask) (k : Option HostClosure) (m : State) (c : C) → Good m → AtTop m → HasPromise (made_by m.host) t.registration → Lands m (perform_host rules call t k m c)
     perform_host-lands t None m c g z x = task_done-lands c m (finish m) z (finish-goes program m g)
-    perform_host-lands t (Some k) m c g z x = answered-lands t (chosen_answer rules k.kind t.number c) m c g z x
+    perform_host-lands t (Some k) m c g z x = host_answered-lands t (chosen_answer rules k.kind t.number c) m c g z x
 
     pub turn_line-comes : (source : Option Source) (m : State) → Good m → Rests m → Comes m (turn_line source m)
     turn_line-comes source m g x = comes_by m (λ p. emit (Turn p.turns source) p) g x (rested-onto (Turn m.host.turns source) m refl g x) refl

@@ -3,7 +3,7 @@ use Rattle.std.specs.Prelude.{◌≡◌, ℕ, suc, ◌+◌, Bool, true, false, c
 use Rattle.page_types.specs.declared.RegKind.{RegKind}
 use Rattle.page_types.specs.declared.RegKind.TheVariants as kind
 use Rattle.page_types.specs.Events.{Queued, MicroJob, ReactJob, AdoptJob, Event, Call, Reg, Due, Job, Run, Settle, Enq, Host, Stamped}
-use Rattle.page_laws.specs.History.{History, each_line, some_line, count_lines, is_reg_of, is_job, is_run, is_rest, is_host, has_kind, registered_for, was_called, was_due, was_dropped, open_calls}
+use Rattle.page_laws.specs.History.{History, each_line, some_line, count_lines, is_reg_of, is_job, is_run, is_rest, is_host, has_kind, registered_for, was_called, was_due, was_dropped, open_registrations}
 
 -- ---- Ours: what runs once
 
@@ -131,7 +131,7 @@ is_nil [] = true
 is_nil (r ∷ rs) = false
 
 abbrev pub keeps_nesting : History → Event → Bool
-keeps_nesting past (Run j) = is_nil (open_calls past)
+keeps_nesting past (Run j) = is_nil (open_registrations past)
 keeps_nesting past e = true
 
 abbrev pub holds_no_nesting : List Stamped → Bool

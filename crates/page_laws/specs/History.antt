@@ -167,9 +167,9 @@ armed_in r (Due q) earlier = cond (q == r) None earlier
 armed_in r e earlier = earlier
 
 -- the time for which a registration is armed, where it is armed and has not been due since
-abbrev pub armed : History → ℕ → Option ℕ
-armed [] r = None
-armed (e ∷ past) r = armed_in r e.event (armed past r)
+abbrev pub armed_for : History → ℕ → Option ℕ
+armed_for [] r = None
+armed_for (e ∷ past) r = armed_in r e.event (armed_for past r)
 
 abbrev pub level_in : ℕ → Event → Option ℕ → Option ℕ
 level_in r (Arm q due level) earlier = cond (q == r) (Some level) earlier
@@ -182,7 +182,7 @@ level_of (e ∷ past) r = level_in r e.event (level_of past r)
 
 -- the registrations that are active: armed and not due since, dropped or not
 abbrev pub active : History → List ℕ
-active past = filter (λ r. is_some (armed past r)) (registered_for is_delayed past)
+active past = filter (λ r. is_some (armed_for past r)) (registered_for is_delayed past)
 
 -- ---- calls
 
@@ -197,9 +197,9 @@ open_after (Throw v) calls = without_first calls
 open_after e calls = calls
 
 -- the registrations whose calls are open, the innermost first; a return or a throw ends the innermost
-abbrev pub open_calls : History → List ℕ
-open_calls [] = []
-open_calls (e ∷ past) = open_after e.event (open_calls past)
+abbrev pub open_registrations : History → List ℕ
+open_registrations [] = []
+open_registrations (e ∷ past) = open_after e.event (open_registrations past)
 
 -- ---- parts of the history
 

@@ -6,10 +6,12 @@ use Rattle.page_types.specs.declared.Source.{Source}
 use Rattle.page_types.specs.declared.Source.TheVariants.{Sched}
 use Rattle.page_parts.specs.Promises.{Settled, Reaction, React}
 use Rattle.page_parts.specs.Promises as Promises
-use Rattle.page_parts.specs.Notices.{Micro, OfPromise, WaitingJob, the_promise, changed, subscribe_promise, queue_micro, note_outstanding}
+use Rattle.page_parts.specs.Notices.{Micro, OfPromise, WaitingJob, changed, subscribe_promise, queue_micro, note_outstanding}
+use Rattle.page_parts.specs.Promises.{the_promise}
 use Rattle.page_model.specs.State.{Role, ScriptRole, OfKind, Registration, Page, Task, TimerTask, RunScript, RunTimer, SchedTask, emit, on_notices, context}
 use Rattle.page_model.specs.PagePromises.{new_promise}
-use Rattle.page_model.specs.PageTime.{first_task, without_frame, deadline, without_idle, idle_callback, with_state, first_sched, without_sched}
+use Rattle.page_model.specs.PageTime.{first_task, without_frame, deadline, without_idle, idle_callback}
+use Rattle.page_model.specs.SchedulerTasks.{with_state, first_sched, without_sched}
 use Rattle.page_parts.specs.Kinds.{Func}
 use Rattle.page_model.specs.Operations.{frame_requested}
 use Rattle.page_model.specs.Tasks.{background, post_state}
@@ -21,7 +23,7 @@ use Rattle.page_model.specs.Numbers.{IsGiven, IsFor, made_by, timer_role}
 use Rattle.page_model.specs.Invoke.{register_as, call_begun, call_ended, job_begun}
 use Rattle.page_types.specs.declared.RegKind.{RegKind}
 use Rattle.page_types.specs.declared.RegKind.TheVariants as kind
-use Rattle.page_laws.specs.History.{open_calls, is_rest}
+use Rattle.page_laws.specs.History.{open_registrations, is_rest}
 
 -- ---- Ours: kinds of lines
 
@@ -56,39 +58,39 @@ is_end e = false
 abbrev pub promise_changes : ℕ → Promises.Change → Page → Page
 promise_changes n c p = on_notices (λ s. changed (context p) p.names n c s) p
 
-pub data Change : Page → Page → Type 0 where
+pub data PageChange : Page → Page → Type 0 where
   -- something else than promises, jobs, lines, registrations, frame callbacks and the checkpoint is changed
-  elsewhere : {p q : Page} → q.notices ≡ p.notices → q.performing ≡ p.performing → q.events ≡ p.events → q.registrations ≡ p.registrations → q.frames ≡ p.frames → Change p q
+  elsewhere : {p q : Page} → q.notices ≡ p.notices → q.performing ≡ p.performing → q.events ≡ p.events → q.registrations ≡ p.registrations → q.frames ≡ p.frames → PageChange p q
   -- a line that tells nothing of promises and jobs
-  told : {p : Page} (e : Event) → is_aside e ≡ true → Change p (emit e p)
+  told : {p : Page} (e : Event) → is_aside e ≡ true → PageChange p (emit e p)
   -- a line between turns, where no call is open and no job waits
-  rested : {p : Page} (e : Event) → is_rest e ≡ true → open_calls p.events ≡ [] → p.notices.jobs ≡ [] → Change p (emit e p)
+  rested : {p : Page} (e : Event) → is_rest e ≡ true → open_registrations p.events ≡ [] → p.notices.jobs ≡ [] → PageChange p (emit e p)
   -- a registration of this kind is made
-  registered : {p : Page} (kind : RegKind) (x : Registration) → x.role ≡ OfKind kind → Change p (register_as kind x p)
+  registered : {p : Page} (kind : RegKind) (x : Registration) → x.role ≡ OfKind kind → PageChange p (register_as kind x p)
   -- a frame callback is registered and requested, and one leaves the map
-  frame_asked : {p : Page} (f : Func) → Change p (frame_requested f p)
-  frame_gone : {p : Page} (handle : ℕ) → Change p (without_frame handle p)
+  frame_asked : {p : Page} (f : Func) → PageChange p (frame_requested f p)
+  frame_gone : {p : Page} (handle : ℕ) → PageChange p (without_frame handle p)
   -- a promise is made
-  promised : {p : Page} → Change p (new_promise p)
+  promised : {p : Page} → PageChange p (new_promise p)
   -- a promise that was never resolved is settled, with its jobs
-  settled : {p : Page} (n : ℕ) (how : Settled) → IsGiven (length p.notices.promises) n → (the_promise p.notices n).locked ≡ false → Change p (promise_changes n (Promises.settle n (the_promise p.notices n) how) p)
+  settled : {p : Page} (n : ℕ) (how : Settled) → IsGiven (length p.notices.promises) n → (the_promise p.notices.promises n).locked ≡ false → PageChange p (promise_changes n (Promises.settle n (the_promise p.notices.promises n) how) p)
   -- a pending promise is settled as the one that it was resolved with
-  followed : {p : Page} (n : ℕ) (how : Settled) → IsGiven (length p.notices.promises) n → (the_promise p.notices n).outcome ≡ None → Change p (promise_changes n (Promises.settle n (the_promise p.notices n) how) p)
+  followed : {p : Page} (n : ℕ) (how : Settled) → IsGiven (length p.notices.promises) n → (the_promise p.notices.promises n).outcome ≡ None → PageChange p (promise_changes n (Promises.settle n (the_promise p.notices.promises n) how) p)
   -- a promise that was never resolved is to become what another one becomes
-  adopted : {p : Page} (n from : ℕ) → IsGiven (length p.notices.promises) n → (the_promise p.notices n).locked ≡ false → Change p (promise_changes n (Promises.adopt n (the_promise p.notices n) from) p)
+  adopted : {p : Page} (n from : ℕ) → IsGiven (length p.notices.promises) n → (the_promise p.notices.promises n).locked ≡ false → PageChange p (promise_changes n (Promises.adopt n (the_promise p.notices.promises n) from) p)
   -- a promise gets a reaction
-  subscribed : {p : Page} (n : ℕ) (r : Reaction) → IsGiven (length p.notices.promises) n → Change p (on_notices (subscribe_promise (context p) n r) p)
+  subscribed : {p : Page} (n : ℕ) (r : Reaction) → IsGiven (length p.notices.promises) n → PageChange p (on_notices (subscribe_promise (context p) n r) p)
   -- a microtask callback is queued
-  micro_queued : {p : Page} (r : ℕ) → Change p (on_notices (queue_micro (context p) r) p)
+  micro_queued : {p : Page} (r : ℕ) → PageChange p (on_notices (queue_micro (context p) r) p)
   -- the promises about to be notified about are taken
-  rejected_taken : {p : Page} → Change p (record p { notices = record p.notices { rejected = [] } })
+  rejected_taken : {p : Page} → PageChange p (record p { notices = record p.notices { rejected = [] } })
   -- a promise joins the outstanding ones
-  noted : {p : Page} (n : ℕ) → Change p (record p { notices = note_outstanding n p.notices })
+  noted : {p : Page} (n : ℕ) → PageChange p (record p { notices = note_outstanding n p.notices })
 
 -- changes one after another
 pub data Changes : Page → Page → Type 0 where
   nothing : {p : Page} → Changes p p
-  with_change : {p q r : Page} → Changes p q → Change q r → Changes p r
+  with_change : {p q r : Page} → Changes p q → PageChange q r → Changes p r
 
 -- ---- Ours: how a call begins
 
@@ -157,19 +159,19 @@ Waited (AFrame key c) p = callback_in p.frames.callbacks key ≡ Some c
 Waited (AnIdle c others) p = p.idle.runnable ≡ c ∷ others × nat_lt p.now (deadline p.last_idle_start p) ≡ true
 Waited (ALateIdle handle c) p = idle_callback handle p ≡ Some c
 Waited (AListener r) p = is_listening r p.listeners ≡ true
-Waited (APost t) p = first_sched p ≡ Some t × t.continuation ≡ false × open_calls p.events ≡ [] × p.notices.jobs ≡ []
-Waited (AContinuation t) p = first_sched p ≡ Some t × t.continuation ≡ true × open_calls p.events ≡ [] × p.notices.jobs ≡ []
-Waited (AMicro job others r) p = p.notices.jobs ≡ job ∷ others × job.what ≡ Micro r × open_calls p.events ≡ []
-Waited (AReaction job others of x r) p = p.notices.jobs ≡ job ∷ others × job.what ≡ OfPromise (React of x) × x.registration ≡ Some r × open_calls p.events ≡ []
+Waited (APost t) p = first_sched p ≡ Some t × t.continuation ≡ false × open_registrations p.events ≡ [] × p.notices.jobs ≡ []
+Waited (AContinuation t) p = first_sched p ≡ Some t × t.continuation ≡ true × open_registrations p.events ≡ [] × p.notices.jobs ≡ []
+Waited (AMicro job others r) p = p.notices.jobs ≡ job ∷ others × job.what ≡ Micro r × open_registrations p.events ≡ []
+Waited (AReaction job others of x r) p = p.notices.jobs ≡ job ∷ others × job.what ≡ OfPromise (React of x) × x.registration ≡ Some r × open_registrations p.events ≡ []
 
 -- ---- Ours: moves
 
 -- A row of moves: changes, calls and their ends, the begin and end of a checkpoint, and the jobs that run in it, where no call is open.
 pub data Moves : Page → Page → Type 0 where
   here : {p : Page} → Moves p p
-  changing : {p q r : Page} → Moves p q → Change q r → Moves p r
+  changing : {p q r : Page} → Moves p q → PageChange q r → Moves p r
   calling : {p q : Page} → Moves p q → (b : Beginning) → Waited b q → IsFor (role_of b) (made_by q) (called_by b) → Moves p (call_begun (called_by b) (taken b q))
   ending : {p q : Page} → Moves p q → (e : Event) → is_end e ≡ true → Moves p (call_ended e q)
   -- the flag of the checkpoint
   flagging : {p q r : Page} → Moves p q → r.notices ≡ q.notices → r.events ≡ q.events → r.registrations ≡ q.registrations → r.frames ≡ q.frames → Moves p r
-  running : {p q : Page} → Moves p q → (job : WaitingJob) (others : List WaitingJob) → q.notices.jobs ≡ job ∷ others → open_calls q.events ≡ [] → Moves p (job_begun job others q)
+  running : {p q : Page} → Moves p q → (job : WaitingJob) (others : List WaitingJob) → q.notices.jobs ≡ job ∷ others → open_registrations q.events ≡ [] → Moves p (job_begun job others q)

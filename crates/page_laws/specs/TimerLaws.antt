@@ -4,7 +4,7 @@ use Rattle.std.specs.List.{list_all}
 use Rattle.page_types.specs.declared.RegKind.{RegKind}
 use Rattle.page_types.specs.declared.RegKind.TheVariants as kind
 use Rattle.page_types.specs.Events.{Event, Call, Arm, Due, Period, IdleLine, Frame, Stamped}
-use Rattle.page_laws.specs.History.{History, each_line, some_line, count_lines, is_call_of, is_reg_of, is_due_of, is_period, is_rest, is_some_and, is_timer, is_frame, is_idle, is_delayed, has_kind, registered_for, was_called, was_due, was_dropped, armed, level_of, active, open_calls, calls_in, this_turn, before_last, last_line}
+use Rattle.page_laws.specs.History.{History, each_line, some_line, count_lines, is_call_of, is_reg_of, is_due_of, is_period, is_rest, is_some_and, is_timer, is_frame, is_idle, is_delayed, has_kind, registered_for, was_called, was_due, was_dropped, armed_for, level_of, active, open_registrations, calls_in, this_turn, before_last, last_line}
 
 -- ---- HTML, "Timers"
 
@@ -33,7 +33,7 @@ level_under past r (Some parent) = cond (has_kind is_timer past parent) (level_a
 -- In the first form the parent of a timer that is armed is the outermost call, if that is of a timer; where no call is
 -- open, it is the timer itself, which is armed again.
 abbrev pub level_by_call : History → ℕ → Option ℕ
-level_by_call past r = level_under past r (outermost (open_calls past))
+level_by_call past r = level_under past r (outermost (open_registrations past))
 
 abbrev pub level_of_turn : History → Option ℕ → Option ℕ
 level_of_turn past None = Some 1
@@ -59,7 +59,7 @@ arms_well form past now r due level =
 
 -- each of these that was armed before, for no later time, has been due since
 abbrev pub all_due : History → ℕ → ℕ → History → Bool
-all_due older r due newer = list_all (λ a. (a == r) || not (is_some_and (λ t. nat_le t due) (armed older a)) || was_due newer a) (active older)
+all_due older r due newer = list_all (λ a. (a == r) || not (is_some_and (λ t. nat_le t due) (armed_for older a)) || was_due newer a) (active older)
 
 abbrev pub armed_passes : ℕ → Event → History → History → Bool
 armed_passes r (Arm q due level) older newer = not (q == r) || all_due older r due newer
@@ -72,7 +72,7 @@ passes_none r newer [] = true
 passes_none r newer (e ∷ past) = cond (is_due_of r e.event) true (armed_passes r e.event past newer && passes_none r (e ∷ newer) past)
 
 abbrev pub is_due_now : History → ℕ → ℕ → Bool
-is_due_now past now r = is_some_and (λ due. nat_le due now) (armed past r)
+is_due_now past now r = is_some_and (λ due. nat_le due now) (armed_for past r)
 
 abbrev pub goes_in_order : History → ℕ → Bool
 goes_in_order past r = not (has_kind is_delayed past r) || passes_none r [] past
@@ -154,7 +154,7 @@ period_start (e ∷ past) = period_in e e.event (period_start past)
 
 -- no active registration is armed for an earlier time than the deadline
 abbrev pub none_earlier : History → ℕ → Bool
-none_earlier past d = list_all (λ r. not (is_some_and (λ due. nat_lt due d) (armed past r))) (active past)
+none_earlier past d = list_all (λ r. not (is_some_and (λ due. nat_lt due d) (armed_for past r))) (active past)
 
 abbrev pub is_deadline : History → ℕ → ℕ → Bool
 is_deadline past now d = is_some_and (λ start. nat_le d (start + 50000)) (period_start past) && nat_lt now d && none_earlier past d

@@ -75,7 +75,7 @@ module _ (es : List Stamped) where
   cancel_frame-adds handle p = elim-adds (callback_in p.frames.callbacks handle) _ _ _ _ refl (λ c. refl)
 
   pub start_period-adds : Adds es start_period
-  start_period-adds p = cond-adds (waits p.idle && nat_lt p.now (deadline p.last_idle_start p) && nat_le p.period_end p.now) _ _ _ _ refl refl
+  start_period-adds p = cond-adds (waits p.idle && nat_lt p.now (deadline p.last_idle_start p) && nat_le p.idle_period_end p.now) _ _ _ _ refl refl
 
   pub idle_step-adds : Adds es idle_step
   idle_step-adds p = start_period-adds (record p { last_idle_start = p.now })

@@ -22,7 +22,8 @@ use Rattle.page_model.specs.PagePromises.{new_promise, last_promise, new_settled
 use Rattle.page_parts.specs.Combinators.{CombinatorKind, All, AnyOf, AllSettled as AllSettledKind}
 use Rattle.page_model.specs.PageCombinators.{all_made, race_made, are_promises_left}
 use Rattle.page_model.proofs.AddingCombinators.{all_made-adds, race_made-adds}
-use Rattle.page_model.specs.PageTime.{clear_timer, cancel_frame, idle_timeout, cancel_idle, time_remaining, enqueue, current_state}
+use Rattle.page_model.specs.PageTime.{clear_timer, cancel_frame, idle_timeout, cancel_idle, time_remaining}
+use Rattle.page_model.specs.SchedulerTasks.{enqueue, current_state}
 use Rattle.page_parts.specs.Listeners.{is_listening}
 use Rattle.page_parts.specs.TaskSignals.{priority_of, is_changing}
 use Rattle.page_model.specs.Invoke.{Ways, register, register_as, in_script}

@@ -16,7 +16,8 @@ use Rattle.page_model.specs.State.{Page, State, TimerTask, HostTask, Steps, RunS
 use Rattle.page_parts.specs.HostClosures.{HostClosure}
 use Rattle.page_model.specs.PagePromises as promises
 use Rattle.page_model.specs.PagePromises.{promise_at}
-use Rattle.page_model.specs.PageTime.{without_frame, without_timer, deadline, idle_callback, completion_of, enqueue, first_sched, first_task, without_sched, idle_step}
+use Rattle.page_model.specs.PageTime.{without_frame, without_timer, deadline, idle_callback, completion_of, first_task, idle_step}
+use Rattle.page_model.specs.SchedulerTasks.{enqueue, first_sched, without_sched}
 use Rattle.page_model.specs.Invoke.{Ways, in_task, call_begun, call_ended, settle_derived}
 use Rattle.page_model.specs.PageSignals.{unwatch, is_aborted_source, host_task_of}
 use Rattle.page_model.specs.Tasks.{timer_goes_on, run_timer, frame_callback, run_frame, call_idle, invoke_idle_again, idle_called, invoke_idle, timed_out, promise_reason, notify_one, perform_steps, continued, post_state, run_post, perform_sched, fire_closure, settle_answer, answer_host, after_task}
@@ -24,7 +25,7 @@ use Rattle.page_model.specs.Parallel.{ItemKind, ArrivalItem, HostItem, TimerItem
 use Rattle.page_parts.specs.WrittenChoices.{Runnable}
 use Rattle.page_model.specs.Choosing.{Rules, Chosen, chosen_source, chosen_reading, chosen_answer}
 use Rattle.page_model.specs.View.{view}
-use Rattle.page_model.specs.Turns.{Turned, GoesOn, Ended, Stuck, goes_on, choose_turned, step_five, task_done, without_task, not_dropped, answered, perform_host, perform_task, perform_first, perform_first_sched, perform, turn_line, perform_picked, step_four, counted_turn, with_turn_fuel, step_three, from_step_three, is_pending, target, at_time, waited, step_two_at, step_two_by, step_two, step_one, after_step_one, from_step_one, turn, next_turn, turns}
+use Rattle.page_model.specs.Turns.{Turned, GoesOn, Ended, Stuck, goes_on, choose_turned, step_five, task_done, without_task, not_dropped, host_answered, perform_host, perform_task, perform_first, perform_first_sched, perform, turn_line, perform_picked, step_four, counted_turn, with_turn_fuel, step_three, from_step_three, is_pending, target, at_time, waited, step_two_at, step_two_by, step_two, step_one, after_step_one, from_step_one, turn, next_turn, turns}
 use Rattle.lang_meaning.proofs.Following.{afterwards-follows, branch-follows}
 use Rattle.lang_meaning.specs.Following.{CallsFollow}
 use Rattle.page_model.proofs.Adding.{cond-adds, cond_of-adds, elim-adds, finish-adds, resolve-adds, reject-adds, unwatch-adds, idle_step-adds}
@@ -181,13 +182,13 @@ module _ (es : List Stamped) where
     task_done-adds c d d' e =
         ap (goes_on c) (afterwards-follows (after es) d d' (after_task call) (after_task call) e (after_task-adds call calls_add)) ∙ goes_on-adds c (afterwards d (after_task call))
 
-    pub answered-adds : (t : HostTask) (a : Option (Chosen (Result ℤ ℤ) C)) (c : C) → TurnAdds es (λ m. answered call t a m c)
-    answered-adds t None c m = refl
-    answered-adds t (Some a) c m = task_done-adds a.left (finish (on_page (answer_host t a.choice) m)) _ (finish-adds es (answer_host t a.choice) (answer_host-adds t a.choice) m)
+    pub host_answered-adds : (t : HostTask) (a : Option (Chosen (Result ℤ ℤ) C)) (c : C) → TurnAdds es (λ m. host_answered call t a m c)
+    host_answered-adds t None c m = refl
+    host_answered-adds t (Some a) c m = task_done-adds a.left (finish (on_page (answer_host t a.choice) m)) _ (finish-adds es (answer_host t a.choice) (answer_host-adds t a.choice) m)
 
     perform_host-adds : (t : HostTask) (k : Option HostClosure) (c : C) → TurnAdds es (λ m. perform_host rules call t k m c)
     perform_host-adds t None c m = task_done-adds c (finish m) _ refl
-    perform_host-adds t (Some k) c m = answered-adds t (chosen_answer rules k.kind t.number c) c m
+    perform_host-adds t (Some k) c m = host_answered-adds t (chosen_answer rules k.kind t.number c) c m
 
     perform_task-adds : (task : Task) (t : Option HostTask) (c : C) → TurnAdds es (λ m. perform_task rules call task t m c)
     perform_task-adds task None c m = task_done-adds c _ _ (perform_steps-adds (in_task call) (in_task-adds es call calls_add) task.steps m)

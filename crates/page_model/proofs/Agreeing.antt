@@ -18,7 +18,8 @@ use Rattle.page_parts.specs.Listeners.{Target, AtSignal, Window, snapshot, is_li
 use Rattle.page_model.specs.State.{Page, State, TimerTask, HostTask, SchedTask, Steps, RunScript, RunTimer, TimeOutSignal, FireAtWindow, AnswerHost, RunFrame, InvokeIdle, IdleTimeout, NotifyRejected, NotifyHandled, on_page, emit, the_registration, queue_task, Registration}
 use Rattle.page_model.specs.PagePromises as promises
 use Rattle.page_model.specs.PagePromises.{promise_at, inner_subscription}
-use Rattle.page_model.specs.PageTime.{without_frame, without_idle, with_state, deadline, idle_callback}
+use Rattle.page_model.specs.PageTime.{without_frame, without_idle, deadline, idle_callback}
+use Rattle.page_model.specs.SchedulerTasks.{with_state}
 use Rattle.page_model.specs.Invoke.{Ways, WhenReported, BeforeCheckpoint, AfterCheckpoint, Never, when_reported, end_of_callback, call_back, callback_of, invoke, in_checkpoint, in_task, settle_derived, react_then, react_by, react, run_job, run_oldest, begin_job, run_jobs, checkpoint_begun, checkpoint_ended, perform_checkpoint, checkpoint, report_before, report_after, thrown, with_scheduling, call_begun, call_ended, settle_by, resolve_derived, handler_arguments}
 use Rattle.page_model.specs.PageSignals.{each_in_turn, call_listener, dispatch, abort_steps, abort, reason_set, run_algorithms, unwatch}
 use Rattle.page_model.specs.Tasks.{run_timer, frame_callback, run_frame, call_idle, background, invoke_idle_again, idle_called, invoke_idle, timed_out, promise_reason, notify_one, perform_steps, continued, post_state, run_post, perform_sched, fire_closure, settle_answer, answer_host, after_task}

@@ -20,7 +20,8 @@ use Rattle.page_types.specs.Events.{Drop}
 use Rattle.page_model.specs.State.{Page, emit, Registration, OfKind, NotifyHandled, PrioSource, SchedulingState, queue_task, on_notices, last_registration, context}
 use Rattle.page_model.specs.PagePromises as promises
 use Rattle.page_model.specs.PagePromises.{new_promise, last_promise}
-use Rattle.page_model.specs.PageTime.{idle_timeout, enqueue}
+use Rattle.page_model.specs.PageTime.{idle_timeout}
+use Rattle.page_model.specs.SchedulerTasks.{enqueue}
 use Rattle.page_model.specs.PageSignals.{watch}
 use Rattle.page_model.specs.Invoke.{register, register_as}
 use Rattle.page_model.specs.Operations.{is_left, micro_registered, then_made, idle_requested, promised, post_queued, post_delayed, continuation_queued, host_queued, listener_added, listener_removed, timeout_signal_made, with_signals, task_signal_made, any_made, last_signal, finally_made}

@@ -10,7 +10,8 @@ use Rattle.page_parts.specs.Sources.{same_source}
 use Rattle.lang_meaning.specs.Evaluation.{without_first}
 use Rattle.page_model.specs.State.{Page, Steps, RunTimer, TimeOutSignal, FireAtWindow, AnswerHost, IdleTimeout, Completion, QueueTimer, EnqueuePost, QueueSignal, emit, queue_task, the_registration}
 use Rattle.page_model.specs.PageSignals.{is_aborted_source}
-use Rattle.page_model.specs.PageTime.{first_task, next_frame, without_timer, completion_of, enqueue}
+use Rattle.page_model.specs.PageTime.{first_task, next_frame, without_timer, completion_of}
+use Rattle.page_model.specs.SchedulerTasks.{enqueue}
 use Rattle.page_model.specs.Parallel.{ItemKind, ArrivalItem, HostItem, TimerItem, IdleItem, FrameItem, Item, frame_items, items_in_order, first_item_from, first_item_of, first_item, complete, complete_at, take_item, due_item, take_due, item_count}
 use Rattle.page_model.specs.Bounds.{take_due_or}
 use Rattle.page_model.proofs.Holding.{Every, IfThere, Every-append}

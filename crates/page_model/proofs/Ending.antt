@@ -12,7 +12,8 @@ use Rattle.page_parts.specs.WrittenChoices.{Runnable, is_runnable}
 use Rattle.lang_meaning.specs.Machine.{Done, Gives, Throws, Returns, OutOfFuel, finish, afterwards, Caller}
 use Rattle.lang_meaning.specs.Evaluation.{call_from_outside}
 use Rattle.page_model.specs.State.{Page, State, HostTask, Task, SchedTask, on_page}
-use Rattle.page_model.specs.PageTime.{first_task, first_sched, without_sched}
+use Rattle.page_model.specs.PageTime.{first_task}
+use Rattle.page_model.specs.SchedulerTasks.{first_sched, without_sched}
 use Rattle.page_model.specs.Invoke.{in_task}
 use Rattle.page_model.specs.PageSignals.{host_task_of}
 use Rattle.page_model.specs.Tasks.{perform_steps, perform_sched, answer_host, after_task}
@@ -20,7 +21,7 @@ use Rattle.page_model.specs.Operations.{page_operations}
 use Rattle.page_model.specs.Parallel.{item_count}
 use Rattle.page_model.specs.Choosing.{Rules, Chosen, chosen_source, chosen_reading, chosen_answer}
 use Rattle.page_model.specs.View.{first_number, runnable_at, view}
-use Rattle.page_model.specs.Turns.{Turned, GoesOn, Ended, Stuck, goes_on, choose_turned, step_five, task_done, without_task, not_dropped, answered, perform_host, perform_task, perform_first, perform_first_sched, perform, turn_line, perform_picked, step_four, counted_turn, with_turn_fuel, step_three, from_step_three, is_pending, target, waited, step_two_by, step_one, after_step_one, turn, next_turn, turns}
+use Rattle.page_model.specs.Turns.{Turned, GoesOn, Ended, Stuck, goes_on, choose_turned, step_five, task_done, without_task, not_dropped, host_answered, perform_host, perform_task, perform_first, perform_first_sched, perform, turn_line, perform_picked, step_four, counted_turn, with_turn_fuel, step_three, from_step_three, is_pending, target, waited, step_two_by, step_one, after_step_one, turn, next_turn, turns}
 use Rattle.page_model.specs.Bounds.{turns_or, from_step_one_or, BeginsWell, Refused, EndsOrIsRefused}
 use Rattle.page_model.proofs.HoldingOperations.{outside-go}
 use Rattle.page_model.proofs.HoldingTurns.{legal_choice, TurnKept, turn-kept}
@@ -88,13 +89,13 @@ module _ {C : Type 0} (rules : Rules C) (call : Caller Page) (until : ℕ) where
   task_done-fine : (c : C) (d : Done Page) → Fine (task_done call c d)
   task_done-fine c d = goes_on-fine c (afterwards d (after_task call))
 
-  answered-fine : (t : HostTask) (k : HostClosure) (a : Option (Chosen (Result ℤ ℤ) C)) (m : State) (c : C) → not_dropped (slice_get m.host.hosts t.closure) ≡ Some k → chosen_answer rules k.kind t.number c ≡ a → Fine (answered call t a m c)
-  answered-fine t k None m c h e = inr (inr (t, k, h, e))
-  answered-fine t k (Some a) m c h e = task_done-fine a.left (finish (on_page (answer_host t a.choice) m))
+  host_answered-fine : (t : HostTask) (k : HostClosure) (a : Option (Chosen (Result ℤ ℤ) C)) (m : State) (c : C) → not_dropped (slice_get m.host.hosts t.closure) ≡ Some k → chosen_answer rules k.kind t.number c ≡ a → Fine (host_answered call t a m c)
+  host_answered-fine t k None m c h e = inr (inr (t, k, h, e))
+  host_answered-fine t k (Some a) m c h e = task_done-fine a.left (finish (on_page (answer_host t a.choice) m))
 
   perform_host-fine : (t : HostTask) (k : Option HostClosure) (m : State) (c : C) → not_dropped (slice_get m.host.hosts t.closure) ≡ k → Fine (perform_host rules call t k m c)
   perform_host-fine t None m c h = task_done-fine c (finish m)
-  perform_host-fine t (Some k) m c h = answered-fine t k (chosen_answer rules k.kind t.number c) m c h refl
+  perform_host-fine t (Some k) m c h = host_answered-fine t k (chosen_answer rules k.kind t.number c) m c h refl
 
   perform_task-fine : (task : Task) (t : Option HostTask) (m : State) (c : C) → Fine (perform_task rules call task t m c)
   perform_task-fine task None m c = task_done-fine c (perform_steps (in_task call) task.steps m)

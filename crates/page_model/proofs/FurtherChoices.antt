@@ -21,14 +21,15 @@ use Rattle.page_model.specs.ChoicesAreData.{with_further, Continues}
 use Rattle.page_model.specs.Invoke.{in_task}
 use Rattle.page_model.specs.Operations.{page_operations}
 use Rattle.page_model.specs.PageSignals.{host_task_of}
-use Rattle.page_model.specs.PageTime.{first_sched, first_task, without_sched}
+use Rattle.page_model.specs.PageTime.{first_task}
+use Rattle.page_model.specs.SchedulerTasks.{first_sched, without_sched}
 use Rattle.page_model.specs.Parallel.{item_count}
 use Rattle.page_model.specs.State.{Page, State, HostTask, Task, SchedTask, on_page, emit}
 use Rattle.page_model.specs.Tasks.{perform_steps, perform_sched, answer_host, after_task}
-use Rattle.page_model.specs.Turns.{Turned, GoesOn, Ended, Stuck, ends, goes_on, choose_turned, step_five, task_done, without_task, not_dropped, answered, perform_host, perform_task, perform_first, perform_first_sched, perform, turn_line, perform_picked, step_four, counted_turn, with_turn_fuel, step_three, from_step_three, is_pending, target, at_time, waited, step_two_at, step_two_by, step_two, step_one, after_step_one, from_step_one, turn, next_turn, turns, first_state, run, run_by, state_of}
+use Rattle.page_model.specs.Turns.{Turned, GoesOn, Ended, Stuck, ends, goes_on, choose_turned, step_five, task_done, without_task, not_dropped, host_answered, perform_host, perform_task, perform_first, perform_first_sched, perform, turn_line, perform_picked, step_four, counted_turn, with_turn_fuel, step_three, from_step_three, is_pending, target, at_time, waited, step_two_at, step_two_by, step_two, step_one, after_step_one, from_step_one, turn, next_turn, turns, first_state, run, run_by, state_of}
 use Rattle.page_model.specs.View.{view}
 use Rattle.page_model.proofs.AddingOperations.{outside-adds}
-use Rattle.page_model.proofs.AddingTurns.{step_five-adds, answered-adds, perform_picked-adds, waited-adds, from_step_one-adds, turns-adds}
+use Rattle.page_model.proofs.AddingTurns.{step_five-adds, host_answered-adds, perform_picked-adds, waited-adds, from_step_one-adds, turns-adds}
 
 -- ---- lines that came before
 
@@ -145,16 +146,16 @@ module _ (more_sources : List Source) (more_readings : List ℕ) (more_answers :
     task_done-further : (c : Choices) (d : Done Page) → Further (task_done call c d) (task_done call (longer c) d)
     task_done-further c d = goes_on-further c (afterwards d (after_task call))
 
-    answered-further : (t : HostTask) (o o' : Option (Chosen (Result ℤ ℤ) Choices)) → SameChoice o o' → (m : State) (c : Choices) → Further (answered call t o m c) (answered call t o' m (longer c))
-    answered-further t None o' h m c = grown (λ m. answered call t o' m (longer c)) (λ es. answered-adds es choice_rules call (adds es) t o' (longer c)) m
-    answered-further t (Some a) o' h m c =
+    host_answered-further : (t : HostTask) (o o' : Option (Chosen (Result ℤ ℤ) Choices)) → SameChoice o o' → (m : State) (c : Choices) → Further (host_answered call t o m c) (host_answered call t o' m (longer c))
+    host_answered-further t None o' h m c = grown (λ m. host_answered call t o' m (longer c)) (λ es. host_answered-adds es choice_rules call (adds es) t o' (longer c)) m
+    host_answered-further t (Some a) o' h m c =
         let done : Done Page = finish (on_page (answer_host t a.choice) m) in
-        subst (λ (o : Option (Chosen (Result ℤ ℤ) Choices)). Further (task_done call a.left done) (answered call t o m (longer c))) (sym h) (task_done-further a.left done)
+        subst (λ (o : Option (Chosen (Result ℤ ℤ) Choices)). Further (task_done call a.left done) (host_answered call t o m (longer c))) (sym h) (task_done-further a.left done)
 
     perform_host-further : (t : HostTask) (k : Option HostClosure) (m : State) (c : Choices) → Further (perform_host choice_rules call t k m c) (perform_host choice_rules call t k m (longer c))
     perform_host-further t None m c = task_done-further c (finish m)
     perform_host-further t (Some k) m c =
-        answered-further t (chosen_answer choice_rules k.kind t.number c) (chosen_answer choice_rules k.kind t.number (longer c)) (answer-longer k.kind t.number c) m c
+        host_answered-further t (chosen_answer choice_rules k.kind t.number c) (chosen_answer choice_rules k.kind t.number (longer c)) (answer-longer k.kind t.number c) m c
 
     perform_task-further : (task : Task) (t : Option HostTask) (m : State) (c : Choices) → Further (perform_task choice_rules call task t m c) (perform_task choice_rules call task t m (longer c))
     perform_task-further task None m c = task_done-further c (perform_steps (in_task call) task.steps m)

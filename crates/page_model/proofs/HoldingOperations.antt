@@ -25,7 +25,8 @@ use Rattle.page_parts.specs.TaskSignals as TaskSignals
 use Rattle.page_parts.specs.TaskSignals.{priority_of, is_changing}
 use Rattle.page_model.specs.State.{Page, State, SchedulingState, on_page, emit, last_registration}
 use Rattle.page_model.specs.PagePromises as promises
-use Rattle.page_model.specs.PageTime.{clear_timer, cancel_frame, cancel_idle, time_remaining, current_state}
+use Rattle.page_model.specs.PageTime.{clear_timer, cancel_frame, cancel_idle, time_remaining}
+use Rattle.page_model.specs.SchedulerTasks.{current_state}
 use Rattle.page_model.specs.Invoke.{Ways, in_script}
 use Rattle.page_model.specs.PageSignals.{change, is_aborted, is_aborted_source, reason_value, priority_value}
 use Rattle.page_model.specs.PagePromises.{new_settled, last_promise}

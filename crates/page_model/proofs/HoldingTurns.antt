@@ -19,14 +19,15 @@ use Rattle.page_parts.specs.HostClosures.{HostClosure}
 use Rattle.page_parts.specs.WrittenChoices.{Runnable}
 use Rattle.page_model.specs.State.{Page, State, TimerTask, HostTask, Steps, RunScript, RunTimer, TimeOutSignal, FireAtWindow, AnswerHost, RunFrame, InvokeIdle, IdleTimeout, NotifyRejected, NotifyHandled, Task, SchedTask, on_page, emit, the_registration}
 use Rattle.page_model.specs.PagePromises.{promise_at}
-use Rattle.page_model.specs.PageTime.{init_timer, clear_id, without_frame, deadline, idle_callback, without_idle, with_state, first_sched, first_task, without_sched, idle_step}
+use Rattle.page_model.specs.PageTime.{init_timer, clear_id, without_frame, deadline, idle_callback, without_idle, first_task, idle_step}
+use Rattle.page_model.specs.SchedulerTasks.{with_state, first_sched, without_sched}
 use Rattle.page_model.specs.Invoke.{Ways, in_task, invoke}
 use Rattle.page_model.specs.PageSignals.{unwatch, host_task_of, dispatch, each_in_turn}
 use Rattle.page_model.specs.Tasks.{where_live, timer_goes_on, run_timer, frame_callback, run_frame, background, call_idle, invoke_idle_again, idle_called, invoke_idle, timed_out, promise_reason, outstanding_if_unhandled, notify_one, perform_steps, continued, post_state, run_post, perform_sched, answer_host, after_task}
 use Rattle.page_model.specs.Parallel.{item_count, parallel}
 use Rattle.page_model.specs.Choosing.{Rules, Chosen, legal, is_reading, chosen_source, chosen_reading, chosen_answer}
 use Rattle.page_model.specs.View.{view}
-use Rattle.page_model.specs.Turns.{Turned, GoesOn, Ended, Stuck, ends, goes_on, choose_turned, step_five, task_done, without_task, not_dropped, answered, perform_host, perform_task, perform_first, perform_first_sched, perform, turn_line, perform_picked, step_four, counted_turn, with_turn_fuel, step_three, from_step_three, is_pending, target, at_time, waited, step_two_at, step_two_by, step_two, step_one, after_step_one, from_step_one, turn, next_turn, turns, state_of}
+use Rattle.page_model.specs.Turns.{Turned, GoesOn, Ended, Stuck, ends, goes_on, choose_turned, step_five, task_done, without_task, not_dropped, host_answered, perform_host, perform_task, perform_first, perform_first_sched, perform, turn_line, perform_picked, step_four, counted_turn, with_turn_fuel, step_three, from_step_three, is_pending, target, at_time, waited, step_two_at, step_two_by, step_two, step_one, after_step_one, from_step_one, turn, next_turn, turns, state_of}
 use Rattle.page_model.proofs.Holding.{Holds, afterwards-holds, branch-holds, finish-holds}
 use Rattle.page_model.proofs.Leaving.{PageKeeping, with_page, unwatch-leaves, idle_step-leaves, invoke_idle_again-leaves, continued-leaves, answer_host-leaves, parallel-leaves}
 use Rattle.page_model.proofs.HoldingRuns.{K, Kept, Goes, CallsGo, WaysGo, kept-then, finish-leaves, then-leaves, invoke-goes, in_task-goes, checkpoint-goes, settle_derived-goes, each_in_turn-goes, dispatch-goes, abort-goes}
@@ -187,13 +188,13 @@ module _ (program : Program) (k : PageKeeping) where
       task_done-kept : (c : C) (m : State) (d : Done Page) → Holds (K program k) m d → PartKept m (task_done call c d)
       task_done-kept c m d h = goes_on-kept c m (afterwards d (after_task call)) (afterwards-holds (K program k) m d (after_task call) h (λ n le gn. after_task-goes call calls n gn))
 
-      answered-kept : (t : HostTask) (a : Option (Chosen (Result ℤ ℤ) C)) (m : State) (c : C) → k.states.Good m → PartKept m (answered call t a m c)
-      answered-kept t None m c g = (k.states.same m, g)
-      answered-kept t (Some a) m c g = task_done-kept a.left m (finish (on_page (answer_host t a.choice) m)) (finish-leaves program k (answer_host t a.choice) (answer_host-leaves t a.choice) m g)
+      host_answered-kept : (t : HostTask) (a : Option (Chosen (Result ℤ ℤ) C)) (m : State) (c : C) → k.states.Good m → PartKept m (host_answered call t a m c)
+      host_answered-kept t None m c g = (k.states.same m, g)
+      host_answered-kept t (Some a) m c g = task_done-kept a.left m (finish (on_page (answer_host t a.choice) m)) (finish-leaves program k (answer_host t a.choice) (answer_host-leaves t a.choice) m g)
 
       perform_host-kept : (t : HostTask) (closure : Option HostClosure) (m : State) (c : C) → k.states.Good m → PartKept m (perform_host rules call t closure m c)
       perform_host-kept t None m c g = task_done-kept c m (finish m) (finish-holds (K program k) m g)
-      perform_host-kept t (Some closure) m c g = answered-kept t (chosen_answer rules closure.kind t.number c) m c g
+      perform_host-kept t (Some closure) m c g = host_answered-kept t (chosen_answer rules closure.kind t.number c) m c g
 
       perform_task-kept : (task : Task) (t : Option HostTask) (m : State) (c : C) → k.states.Good m → PartKept m (perform_task rules call task t m c)
       perform_task-kept task None m c g = task_done-kept c m (perform_steps (in_task call) task.steps m) (perform_steps-goes (in_task call) (in_task-goes program k call calls) task.steps m g)

@@ -18,7 +18,8 @@ use Rattle.lang_meaning.specs.HostSteps.{with_host, host_operations, asked, is_b
 use Rattle.lang_meaning.specs.PureOperations.{argument, text_answer, kind_answer, length_answer, push_answer, bind_answer, fault_answer, fault_name_answer, fault_text_answer, did_timeout_answer}
 use Rattle.page_model.specs.State.{Page, State, emit}
 use Rattle.page_model.specs.PagePromises as promises
-use Rattle.page_model.specs.PageTime.{clear_timer, cancel_frame, cancel_idle, time_remaining, current_state}
+use Rattle.page_model.specs.PageTime.{clear_timer, cancel_frame, cancel_idle, time_remaining}
+use Rattle.page_model.specs.SchedulerTasks.{current_state}
 use Rattle.page_model.specs.PageSignals.{is_aborted, reason_value, priority_value}
 use Rattle.page_model.specs.Operations.{busy_for, promise_left, last_promise_value, script_promise, priority_in, controller_value, signal_value, with_signals, task_signal_made, reason_given, signals_in, listener_removed, page_operations, may_operate, operation}
 use Rattle.page_model.specs.Folds.{Fold}

@@ -24,7 +24,8 @@ use Rattle.page_parts.specs.Listeners.{is_listening}
 use Rattle.page_model.specs.State.{Page, State, Registration, OfKind, HostTask, PrioSource, SchedulingState, Completion, QueueTimer, EnqueuePost, QueueSignal, NotifyHandled, emit, emit_each, on_notices, queue_task, the_registration, last_registration, context}
 use Rattle.page_model.specs.PagePromises as promises
 use Rattle.page_model.specs.PagePromises.{new_promise, last_promise}
-use Rattle.page_model.specs.PageTime.{clear_timer, cancel_frame, start_period, idle_step, cancel_idle, idle_callback, idle_timeout, deadline, enqueue, without_timer, completion_of}
+use Rattle.page_model.specs.PageTime.{clear_timer, cancel_frame, start_period, idle_step, cancel_idle, idle_callback, idle_timeout, deadline, without_timer, completion_of}
+use Rattle.page_model.specs.SchedulerTasks.{enqueue}
 use Rattle.page_model.specs.PageSignals.{has_not_begun, drop_registration, abort_registration, abort_registrations, run_algorithms, reason_value, reason_set, watch, unwatch, is_aborted_source}
 use Rattle.page_model.specs.Invoke.{WhenReported, BeforeCheckpoint, AfterCheckpoint, Never, report_before, report_after, notify_rejected, checkpoint_ended, register, register_as, call_begun, call_ended}
 use Rattle.page_model.specs.Operations.{micro_registered, then_made, idle_requested, listener_removed, promised, post_queued, post_delayed, continuation_queued, host_queued, followed_through, finally_made}
@@ -137,7 +138,7 @@ pub cancel_frame-leaves : (handle : ℕ) → Leaves (cancel_frame handle)
 cancel_frame-leaves handle p = elim-leaves (callback_in p.frames.callbacks handle) p p _ refl (λ c. refl)
 
 pub start_period-leaves : Leaves start_period
-start_period-leaves p = cond-leaves (waits p.idle && nat_lt p.now (deadline p.last_idle_start p) && nat_le p.period_end p.now) p _ p refl refl
+start_period-leaves p = cond-leaves (waits p.idle && nat_lt p.now (deadline p.last_idle_start p) && nat_le p.idle_period_end p.now) p _ p refl refl
 
 pub idle_step-leaves : Leaves idle_step
 idle_step-leaves p = start_period-leaves (record p { last_idle_start = p.now })

@@ -411,9 +411,9 @@ relevant p =
       tasks_made = 0;
       frames_since = 0;
       last_opportunity = 0;
-      period = 0;
+      refresh_period = 0;
       last_idle_start = 0;
-      period_end = 0;
+      idle_period_end = 0;
       hosts = [];
       latencies = [];
     }

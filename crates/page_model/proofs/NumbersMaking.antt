@@ -18,7 +18,7 @@ use Rattle.page_parts.specs.Listeners.{Target, Listener, add, off, is_listening}
 use Rattle.page_parts.specs.HostClosures.{HostClosure}
 use Rattle.page_model.specs.State.{Registration, OfKind, no_registration, EnqueuePost, QueueSignal, PrioSource, SchedulingState, HostAnswer, Page, last_registration, emit, context, Role}
 use Rattle.page_model.specs.PagePromises.{new_promise, last_promise, new_settled}
-use Rattle.page_model.specs.PageTime.{enqueue}
+use Rattle.page_model.specs.SchedulerTasks.{enqueue}
 use Rattle.page_model.specs.Invoke.{register, register_as}
 use Rattle.page_model.specs.PageSignals.{watch, give_priority}
 use Rattle.page_model.specs.Operations.{queued_mark, micro_registered, script_promise, then_made, timer_set, frame_requested, idle_requested, with_signals, last_signal, task_signal_made, any_made, timeout_signal_made, listener_added, listener_removed, promised, post_delayed, post_queued, continuation_queued, host_queued, latency_of, finally_made, posted}

@@ -23,7 +23,8 @@ use Rattle.lang_meaning.specs.PureOperations.{argument, text_answer, kind_answer
 use Rattle.page_model.specs.State.{OfKind, OfSignal, SchedulingState, Page, State, emit, last_registration}
 use Rattle.page_model.specs.PagePromises as promises
 use Rattle.page_model.specs.PagePromises.{new_promise, last_promise, new_settled}
-use Rattle.page_model.specs.PageTime.{clear_timer, cancel_frame, cancel_idle, time_remaining, current_state, no_state}
+use Rattle.page_model.specs.PageTime.{clear_timer, cancel_frame, cancel_idle, time_remaining}
+use Rattle.page_model.specs.SchedulerTasks.{current_state, no_state}
 use Rattle.page_model.specs.Invoke.{Ways, in_script}
 use Rattle.page_model.specs.PageSignals.{change, is_aborted, is_aborted_source, reason_value, priority_value}
 use Rattle.page_model.specs.Operations.{does, answers, where_left, registration_left, promise_left, signal_left, is_left, priority_in, int_within, delay_in, signal_or_unit, busy_for, busy, micro_registered, queue_microtask, last_promise_value, script_promise, settle_own, settled_promise, resolved_value, then_made, then_value, timer_set, set_timer, with_handle, frame_requested, request_animation_frame, idle_requested, request_idle_callback, remaining, with_signals, controller_value, signal_value, make_controller, task_signal_made, make_task_controller, reason_given, abort_by, change_by, set_priority_by, aborted_signal, all_signals, signals_in, make_any, any_made, any_with_priority, followed_through, any_following, make_task_any, timeout_signal_made, make_timeout_signal, of_signal, target_in, listener_added, listen, listener_removed, rejected_with, given_or_rejected, priority_or_unit, source_reason, signal_source, prio_source_of, post_queued, post_accepted, post_task, continuation_queued, yield_in, closure_at, is_fresh, fitting, host_queued, host_accepted, host_asked, host, operation, page_operations, may_operate, combined, raced, promises_for_all, finally_value, finally_made, answers_first, port_in, sendable_in, posted, post_message}

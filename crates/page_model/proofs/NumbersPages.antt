@@ -25,7 +25,8 @@ use Rattle.page_model.specs.State.{Registration, no_registration, Steps, InvokeI
 use Rattle.page_types.specs.declared.RegKind.TheVariants.{Frame as FrameKind, Idle as IdleKind}
 use Rattle.page_model.specs.PagePromises as promises
 use Rattle.page_model.specs.PagePromises.{new_promise}
-use Rattle.page_model.specs.PageTime.{run_after, timer_armed, init_timer, clear_id, clear_timer, without_timer, request_frame, without_frame, cancel_frame, deadline, period_begun, start_period, idle_step, idle_timeout, request_idle, idle_callback, without_idle, cancel_idle, enqueue, without_sched, with_state}
+use Rattle.page_model.specs.PageTime.{run_after, timer_armed, init_timer, clear_id, clear_timer, without_timer, request_frame, without_frame, cancel_frame, deadline, period_begun, start_period, idle_step, idle_timeout, request_idle, idle_callback, without_idle, cancel_idle}
+use Rattle.page_model.specs.SchedulerTasks.{enqueue, without_sched, with_state}
 use Rattle.page_model.specs.Invoke.{register_as, register, call_begun, call_ended}
 use Rattle.page_parts.specs.Kinds.{Func}
 use Rattle.page_parts.specs.Promises as Promises
@@ -271,7 +272,7 @@ start_period-held p h =
     let q : Page = record p { idle = IdleCallbacks.started p.idle } in
     let started : Held (made_by p) q = put_idle (made_by p) p (IdleCallbacks.started p.idle) (started_put (made_by p) p.idle (h InIdle)) h in
     let queued : Onward (made_by p) (queue_task Idle InvokeIdle q) = queue_task-held Idle InvokeIdle q started tt in
-    cond-onward (made_by p) (waits p.idle && nat_lt p.now (deadline p.last_idle_start p) && nat_le p.period_end p.now) (period_begun (deadline p.last_idle_start p) p) p queued (stays p h)
+    cond-onward (made_by p) (waits p.idle && nat_lt p.now (deadline p.last_idle_start p) && nat_le p.idle_period_end p.now) (period_begun (deadline p.last_idle_start p) p) p queued (stays p h)
 
 pub idle_step-held : (p : Page) → Held (made_by p) p → Onward (made_by p) (idle_step p)
 idle_step-held p h = start_period-held (record p { last_idle_start = p.now }) h

@@ -8,7 +8,8 @@ use Rattle.page_parts.specs.Kinds.{promise_in, signal_in, controller_in, list_in
 use Rattle.page_parts.specs.Promises as Promises
 use Rattle.page_parts.specs.Promises.{Settled, Fulfilled, Failed, settled_value, Reaction, PromiseRecord, PromiseJob, React, Change, pending_promise, no_change}
 use Rattle.page_parts.specs.Notices as Notices
-use Rattle.page_parts.specs.Notices.{Context, Todo, OfPromise, Notices, the_promise, queue_job, queue_jobs, promise_changed, changed, settle_promise, follow_promise, subscribe_promise, note_outstanding}
+use Rattle.page_parts.specs.Notices.{Context, Todo, OfPromise, Notices, queue_job, queue_jobs, promise_changed, changed, settle_promise, follow_promise, subscribe_promise, note_outstanding}
+use Rattle.page_parts.specs.Promises.{the_promise}
 use Rattle.page_parts.specs.AbortGraph as AbortGraph
 use Rattle.page_parts.specs.AbortGraph.{SignalRecord, Signals, fresh_signal, the_signal, reason_of, make_aborted, first_reason, sources_through, and_new, all_sources, with_dependent, depend_on, marked, with_reason, with_algorithms, is_aborted}
 use Rattle.page_parts.specs.TaskSignals.{PrioRecord, Prios, changed_at, record_of, followed, followers}
@@ -35,15 +36,15 @@ changed-more : (now : Context) (names : List (List ℕ)) (k : ℕ) (c : Change) 
 changed-more now names k c s = queue_jobs-more now c.jobs (promise_changed names k c s).notices
 
 pub settle_promise-more : (now : Context) (names : List (List ℕ)) (k : ℕ) (how : Settled) (s : Notices) → s.jobs_made ≤ (settle_promise now names k how s).notices.jobs_made
-settle_promise-more now names k (Fulfilled v) s = changed-more now names k (Promises.resolve k (the_promise s k) v) s
-settle_promise-more now names k (Failed v) s = changed-more now names k (Promises.reject k (the_promise s k) v) s
+settle_promise-more now names k (Fulfilled v) s = changed-more now names k (Promises.resolve k (the_promise s.promises k) v) s
+settle_promise-more now names k (Failed v) s = changed-more now names k (Promises.reject k (the_promise s.promises k) v) s
 
 pub follow_promise-more : (now : Context) (names : List (List ℕ)) (k : ℕ) (how : Settled) (s : Notices) → s.jobs_made ≤ (follow_promise now names k how s).notices.jobs_made
-follow_promise-more now names k how s = changed-more now names k (Promises.follow k (the_promise s k) how) s
+follow_promise-more now names k how s = changed-more now names k (Promises.follow k (the_promise s.promises k) how) s
 
 pub subscribe_promise-more : (now : Context) (k : ℕ) (r : Reaction) (s : Notices) → s.jobs_made ≤ (subscribe_promise now k r s).notices.jobs_made
 subscribe_promise-more now k r s =
-    changed-more now [] k (Promises.subscribe k (the_promise s k) r) (record s { rejected = without (λ m. m == k) s.rejected; outstanding = without (λ m. m == k) s.outstanding })
+    changed-more now [] k (Promises.subscribe k (the_promise s.promises k) r) (record s { rejected = without (λ m. m == k) s.rejected; outstanding = without (λ m. m == k) s.outstanding })
 
 -- ---- values
 
@@ -125,7 +126,7 @@ module _ (n : Made) where
 
   -- ---- notices
 
-  pub the_promise-given : (s : Notices) (k : ℕ) → NoticesAreGiven n s → PromiseIsGiven n (the_promise s k)
+  pub the_promise-given : (s : Notices) (k : ℕ) → NoticesAreGiven n s → PromiseIsGiven n (the_promise s.promises k)
   the_promise-given s k h = Each-numbered (PromiseIsGiven n) s.promises k pending_promise h.promises pending-given
 
   pub queue_job-given : (now : Context) → IfThere (IsGiven n.states) now.state → (what : Todo) (s : Notices) → suc s.jobs_made ≤ n.jobs → TodoIsGiven n what → NoticesAreGiven n s → NoticesAreGiven n (queue_job now what s).notices
@@ -154,16 +155,16 @@ module _ (n : Made) where
       })
 
   pub settle_promise-given : (now : Context) → IfThere (IsGiven n.states) now.state → (names : List (List ℕ)) (k : ℕ) (how : Settled) (s : Notices) → (settle_promise now names k how s).notices.jobs_made ≤ n.jobs → IsGiven n.promises k → IsKnown n (settled_value how) → NoticesAreGiven n s → NoticesAreGiven n (settle_promise now names k how s).notices
-  settle_promise-given now y names k (Fulfilled v) s le g x h = changed-given now y names k (Promises.resolve k (the_promise s k) v) s le g (resolved-given k (the_promise s k) v g (the_promise-given s k h) x) h
-  settle_promise-given now y names k (Failed v) s le g x h = changed-given now y names k (Promises.reject k (the_promise s k) v) s le g (rejected-given k (the_promise s k) v g (the_promise-given s k h) x) h
+  settle_promise-given now y names k (Fulfilled v) s le g x h = changed-given now y names k (Promises.resolve k (the_promise s.promises k) v) s le g (resolved-given k (the_promise s.promises k) v g (the_promise-given s k h) x) h
+  settle_promise-given now y names k (Failed v) s le g x h = changed-given now y names k (Promises.reject k (the_promise s.promises k) v) s le g (rejected-given k (the_promise s.promises k) v g (the_promise-given s k h) x) h
 
   pub follow_promise-given : (now : Context) → IfThere (IsGiven n.states) now.state → (names : List (List ℕ)) (k : ℕ) (how : Settled) (s : Notices) → (follow_promise now names k how s).notices.jobs_made ≤ n.jobs → IsGiven n.promises k → IsKnown n (settled_value how) → NoticesAreGiven n s → NoticesAreGiven n (follow_promise now names k how s).notices
-  follow_promise-given now y names k how s le g x h = changed-given now y names k (Promises.follow k (the_promise s k) how) s le g (followed-given k (the_promise s k) how g (the_promise-given s k h) x) h
+  follow_promise-given now y names k how s le g x h = changed-given now y names k (Promises.follow k (the_promise s.promises k) how) s le g (followed-given k (the_promise s.promises k) how g (the_promise-given s k h) x) h
 
   pub subscribe_promise-given : (now : Context) → IfThere (IsGiven n.states) now.state → (k : ℕ) (r : Reaction) (s : Notices) → (subscribe_promise now k r s).notices.jobs_made ≤ n.jobs → IsGiven n.promises k → ReactionIsGiven n r → NoticesAreGiven n s → NoticesAreGiven n (subscribe_promise now k r s).notices
   subscribe_promise-given now y k r s le g x h =
-      changed-given now y [] k (Promises.subscribe k (the_promise s k) r) (record s { rejected = without (λ m. m == k) s.rejected; outstanding = without (λ m. m == k) s.outstanding }) le g
-      (subscribed_by-given k (the_promise s k) r (the_promise s k).outcome g (the_promise-given s k h) x)
+      changed-given now y [] k (Promises.subscribe k (the_promise s.promises k) r) (record s { rejected = without (λ m. m == k) s.rejected; outstanding = without (λ m. m == k) s.outstanding }) le g
+      (subscribed_by-given k (the_promise s.promises k) r (the_promise s.promises k).outcome g (the_promise-given s k h) x)
       (record {
         promises = h.promises;
         jobs = h.jobs;
@@ -175,7 +176,7 @@ module _ (n : Made) where
   make-given s h = record { promises = Each-last (PromiseIsGiven n) s.promises pending_promise h.promises pending-given; jobs = h.jobs; rejected = h.rejected; outstanding = h.outstanding }
 
   pub note_outstanding-given : (k : ℕ) (s : Notices) → IsGiven n.promises k → NoticesAreGiven n s → NoticesAreGiven n (note_outstanding k s)
-  note_outstanding-given k s g h = by_handled (the_promise s k).handled
+  note_outstanding-given k s g h = by_handled (the_promise s.promises k).handled
     where
       by_handled : (b : Bool) → NoticesAreGiven n (cond b s (record s { outstanding = and_last s.outstanding k }))
       by_handled true = h
@@ -293,14 +294,14 @@ changed-count : (now : Context) (names : List (List ℕ)) (k : ℕ) (c : Change)
 changed-count now names k c s = queue_jobs-count now c.jobs (promise_changed names k c s).notices ∙ length-put s.promises (pred k) c.promise
 
 pub settle_promise-count : (now : Context) (names : List (List ℕ)) (k : ℕ) (how : Settled) (s : Notices) → length (settle_promise now names k how s).notices.promises ≡ length s.promises
-settle_promise-count now names k (Fulfilled v) s = changed-count now names k (Promises.resolve k (the_promise s k) v) s
-settle_promise-count now names k (Failed v) s = changed-count now names k (Promises.reject k (the_promise s k) v) s
+settle_promise-count now names k (Fulfilled v) s = changed-count now names k (Promises.resolve k (the_promise s.promises k) v) s
+settle_promise-count now names k (Failed v) s = changed-count now names k (Promises.reject k (the_promise s.promises k) v) s
 
 pub follow_promise-count : (now : Context) (names : List (List ℕ)) (k : ℕ) (how : Settled) (s : Notices) → length (follow_promise now names k how s).notices.promises ≡ length s.promises
-follow_promise-count now names k how s = changed-count now names k (Promises.follow k (the_promise s k) how) s
+follow_promise-count now names k how s = changed-count now names k (Promises.follow k (the_promise s.promises k) how) s
 
 pub subscribe_promise-count : (now : Context) (k : ℕ) (r : Reaction) (s : Notices) → length (subscribe_promise now k r s).notices.promises ≡ length s.promises
-subscribe_promise-count now k r s = changed-count now [] k (Promises.subscribe k (the_promise s k) r) _
+subscribe_promise-count now k r s = changed-count now [] k (Promises.subscribe k (the_promise s.promises k) r) _
 
 with_dependent-count : (d : ℕ) (sources : List ℕ) (ss : Signals Value) → length (with_dependent d sources ss) ≡ length ss
 with_dependent-count d [] ss = refl

@@ -20,7 +20,8 @@ use Rattle.lang_meaning.specs.Evaluation.{without_first}
 use Rattle.page_model.specs.State.{Page, State, TimerTask, HostTask, HostAnswer, IdleTimer, Steps, RunScript, RunTimer, TimeOutSignal, FireAtWindow, AnswerHost, RunFrame, InvokeIdle, IdleTimeout, NotifyRejected, NotifyHandled, SchedTask, Completion, Completing, QueueTimer, EnqueuePost, QueueSignal, on_page, emit, queue_task, the_registration}
 use Rattle.page_model.specs.PagePromises as promises
 use Rattle.page_model.specs.PagePromises.{promise_at}
-use Rattle.page_model.specs.PageTime.{init_timer, clear_id, without_frame, without_idle, without_timer, with_state, deadline, idle_callback, completion_of, next_frame, enqueue}
+use Rattle.page_model.specs.PageTime.{init_timer, clear_id, without_frame, without_idle, without_timer, deadline, idle_callback, completion_of, next_frame}
+use Rattle.page_model.specs.SchedulerTasks.{with_state, enqueue}
 use Rattle.page_model.specs.Invoke.{Ways, invoke, settle_derived, checkpoint, call_begun, call_ended}
 use Rattle.page_model.specs.PageSignals.{dispatch, unwatch, is_aborted_source}
 use Rattle.page_model.specs.Tasks.{initialised_again, timer_goes_on, where_live, run_timer, frame_callback, run_frame, background, call_idle, invoke_idle_again, idle_called, invoke_idle, timed_out, promise_reason, outstanding_if_unhandled, notify_one, perform_steps, continued, post_state, run_post, perform_sched, fire_closure, settle_answer, answer_host, after_task}

@@ -17,14 +17,15 @@ use Rattle.page_model.specs.Operations.{page_operations}
 use Rattle.page_model.proofs.NumbersOperations.{outside-goes}
 use Rattle.lang_meaning.specs.Evaluation.{call_from_outside, unit_variables, names_in, own_body}
 use Rattle.page_model.specs.State.{Page, State, Task, SchedTask, HostTask, Steps, RunScript, RunTimer, TimeOutSignal, FireAtWindow, AnswerHost, RunFrame, InvokeIdle, IdleTimeout, NotifyRejected, NotifyHandled, on_page, emit}
-use Rattle.page_model.specs.PageTime.{first_task, first_sched_from, first_of, first_sched, goes_before, without_sched, idle_step}
+use Rattle.page_model.specs.PageTime.{first_task, idle_step}
+use Rattle.page_model.specs.SchedulerTasks.{first_sched_from, first_of, first_sched, goes_before, without_sched}
 use Rattle.page_model.specs.PageSignals.{host_task_of}
 use Rattle.page_model.specs.Invoke.{in_task}
 use Rattle.page_model.specs.Tasks.{perform_steps, perform_sched, answer_host, after_task}
 use Rattle.page_model.specs.Parallel.{item_count, parallel}
 use Rattle.page_model.specs.View.{view}
 use Rattle.page_model.specs.Choosing.{Rules, Chosen, chosen_source, chosen_reading, chosen_answer}
-use Rattle.page_model.specs.Turns.{Turned, GoesOn, Ended, Stuck, state_of, ends, goes_on, choose_turned, step_five, task_done, without_task, not_dropped, answered, perform_host, perform_task, perform_first, perform_first_sched, perform, turn_line, perform_picked, step_four, counted_turn, with_turn_fuel, step_three, from_step_three, is_pending, target, at_time, waited, step_two_at, step_two_by, step_two, step_one, after_step_one, from_step_one, turn, next_turn, turns, first_page, first_state}
+use Rattle.page_model.specs.Turns.{Turned, GoesOn, Ended, Stuck, state_of, ends, goes_on, choose_turned, step_five, task_done, without_task, not_dropped, host_answered, perform_host, perform_task, perform_first, perform_first_sched, perform, turn_line, perform_picked, step_four, counted_turn, with_turn_fuel, step_three, from_step_three, is_pending, target, at_time, waited, step_two_at, step_two_by, step_two, step_one, after_step_one, from_step_one, turn, next_turn, turns, first_page, first_state}
 use Rattle.page_model.specs.Numbers.{TaskIsGiven, Each, IfThere, Made, made_by, Grows, HasPromise, IsKnown, StepsAreGiven, SchedTaskIsGiven, VariablesAreKnown, AllAreGiven, nothing_made, HoldsNoNumbers, IsAfter}
 use Rattle.page_model.proofs.NumbersGrow.{Each-more, Each-without, Each-find, Grows-same, Grows-then, IsKnown-grows, InRegistrations, InNotices, InTasks, InSchedTasks, InTimers, InIdle, InArrivals, Held, Onward, stays}
 use Rattle.page_model.proofs.NumbersPages.{without_sched-held, idle_step-held}
@@ -118,14 +119,14 @@ module _ {C : Type 0} (program : Program) where
     task_done-lands : (c : C) (m : State) (d : Done Page) → Goes program m d → Lands m (task_done call c d)
     task_done-lands c m d h = goes_on-lands c m (afterwards d (after_task call)) (afterwards-goes program m d (after_task call) h (λ r le gr. after_task-goes program call calls_go r gr))
 
-    answered-lands : (t : HostTask) (a : Option (Chosen (Result ℤ ℤ) C)) (m : State) (c : C) → Good m → HasPromise (made_by m.host) t.registration → Lands m (answered call t a m c)
-    answered-lands t None m c g x = here_reached m g
-    answered-lands t (Some a) m c g x =
+    host_answered-lands : (t : HostTask) (a : Option (Chosen (Result ℤ ℤ) C)) (m : State) (c : C) → Good m → HasPromise (made_by m.host) t.registration → Lands m (host_answered call t a m c)
+    host_answered-lands t None m c g x = here_reached m g
+    host_answered-lands t (Some a) m c g x =
         task_done-lands a.left m (finish (on_page (answer_host t a.choice) m)) (finish_page program m (answer_host t a.choice) g (answer_host-held t a.choice m.host g.0 x))
 
     perform_host-lands : (t : HostTask) (k : Option HostClosure) (m : State) (c : C) → Good m → HasPromise (made_by m.host) t.registration → Lands m (perform_host rules call t k m c)
     perform_host-lands t None m c g x = task_done-lands c m (finish m) (finish-goes program m g)
-    perform_host-lands t (Some k) m c g x = answered-lands t (chosen_answer rules k.kind t.number c) m c g x
+    perform_host-lands t (Some k) m c g x = host_answered-lands t (chosen_answer rules k.kind t.number c) m c g x
 
     perform_task-lands : (task : Task) (t : Option HostTask) (m : State) (c : C) → Good m → TaskIsGiven (made_by m.host) task → IfThere (λ (t : HostTask). HasPromise (made_by m.host) t.registration) t → Lands m (perform_task rules call task t m c)
     perform_task-lands task None m c g x y = task_done-lands c m (perform_steps (in_task call) task.steps m) (perform_steps-goes program (in_task call) (in_task-goes program call calls_go) task.steps m g x.steps)

@@ -14,7 +14,7 @@ use Rattle.page_parts.specs.Listeners.{Listener, Target, Window, AtSignal, same_
 use Rattle.page_model.specs.State.{Page, the_registration}
 use Rattle.page_model.specs.Invoke.{WhenReported, when_reported, call_begun, call_ended}
 use Rattle.page_model.specs.PageSignals.{run_algorithms, reason_set, change_begun, change_ended, has_priority, priority_value}
-use Rattle.page_model.specs.Folds.{Change, ChangeOf, EndChange, Rest, AbortsLeft, ChangesLeft, Fold, Reached, Finished, Calls, begin_listener, next_listener, fire, aborts_from, changes_of, each_change, change_from, changes_from, rest_from, go_on, begin_abort, begin_change}
+use Rattle.page_model.specs.Folds.{ChangePiece, ChangeOf, EndChange, Rest, AbortsLeft, ChangesLeft, Fold, Reached, Finished, Calls, begin_listener, next_listener, fire, aborts_from, changes_of, each_change, change_from, changes_from, rest_from, go_on, begin_abort, begin_change}
 use Rattle.page_model.specs.FoldBounds.{others, heard, all_heard, times, rest_left, fold_left, Counted, counted, AreBounded, IsBounded, HasRecord, AllHaveRecords, CanChange, RestIsBounded, FoldIsBounded, FoldsAreBounded}
 use Rattle.page_model.proofs.Counting.{Stays, bounded-near, stays-near, stays-then, snapshot-length, run_algorithms-near, reason_set-near}
 
@@ -128,12 +128,12 @@ pub all_have-stays : (ps qs : Prios) → Stays ps qs → (ss : List ℕ) → All
 all_have-stays ps qs k [] h = tt
 all_have-stays ps qs k (s ∷ ss) h = (k s h.0, all_have-stays ps qs k ss h.1)
 
-can_change-stays : (ps qs : Prios) → Stays ps qs → (more : List Change) → CanChange ps more → CanChange qs more
+can_change-stays : (ps qs : Prios) → Stays ps qs → (more : List ChangePiece) → CanChange ps more → CanChange qs more
 can_change-stays ps qs k [] h = tt
 can_change-stays ps qs k (ChangeOf n s ∷ more) h = (k s h.0, can_change-stays ps qs k more h.1)
 can_change-stays ps qs k (EndChange s ∷ more) h = can_change-stays ps qs k more h
 
-can_change-of : (ps : Prios) (n : ℕ) (ss : List ℕ) (more : List Change) → AllHaveRecords ps ss → CanChange ps more → CanChange ps (changes_of n ss more)
+can_change-of : (ps : Prios) (n : ℕ) (ss : List ℕ) (more : List ChangePiece) → AllHaveRecords ps ss → CanChange ps more → CanChange ps (changes_of n ss more)
 can_change-of ps n [] more h k = k
 can_change-of ps n (s ∷ ss) more h k = (h.0, can_change-of ps n ss more h.1 k)
 
@@ -282,18 +282,18 @@ aborts-reach (s ∷ ss) p b few =
 -- ---- priority change
 
 module _ (priority : Priority) where
-  abbrev PiecesReach : List Change → (Page → Reached) → Type 0
+  abbrev PiecesReach : List ChangePiece → (Page → Reached) → Type 0
   PiecesReach more next = RestReaches (ChangesLeft priority more) next
 
-  abbrev OneReaches : (ℕ → List Change → (Page → Reached) → Page → Reached) → Type 0
-  OneReaches one = (s : ℕ) (more : List Change) (next : Page → Reached) → PiecesReach more next → (p : Page) → IsBounded p → HasRecord p.prios s → CanChange p.prios more
+  abbrev OneReaches : (ℕ → List ChangePiece → (Page → Reached) → Page → Reached) → Type 0
+  OneReaches one = (s : ℕ) (more : List ChangePiece) (next : Page → Reached) → PiecesReach more next → (p : Page) → IsBounded p → HasRecord p.prios s → CanChange p.prios more
       → ReachesFewer p.prios (others priority p.prios * (2 ^ 32)) (one s more next p)
 
-  each-reaches : (n : ℕ) (one : ℕ → List Change → (Page → Reached) → Page → Reached) → OneReaches one → (ss : List ℕ) (more : List Change) (next : Page → Reached) → PiecesReach more next → PiecesReach (changes_of n ss more) (each_change one n ss more next)
+  each-reaches : (n : ℕ) (one : ℕ → List ChangePiece → (Page → Reached) → Page → Reached) → OneReaches one → (ss : List ℕ) (more : List ChangePiece) (next : Page → Reached) → PiecesReach more next → PiecesReach (changes_of n ss more) (each_change one n ss more next)
   each-reaches n one c [] more next k p b h = k p b h
   each-reaches n one c (s ∷ ss) more next k p b h = c s (changes_of n ss more) (each_change one n ss more next) (each-reaches n one c ss more next k) p b h.0 h.1
 
-  end-reaches : (s : ℕ) (more : List Change) (next : Page → Reached) → PiecesReach more next → PiecesReach (EndChange s ∷ more) (λ q. next (change_ended s q))
+  end-reaches : (s : ℕ) (more : List ChangePiece) (next : Page → Reached) → PiecesReach more next → PiecesReach (EndChange s ∷ more) (λ q. next (change_ended s q))
   end-reaches s more next k p b h =
       let same = others-ended priority s p.prios in
       let stays = changed-stays s (λ r. record r { changing = false }) (λ r. refl) p.prios in
@@ -322,7 +322,7 @@ module _ (priority : Priority) where
           (can_change-of (begun s priority p.prios) n (followers p.prios s) (EndChange s ∷ more) (all_have-stays p.prios (begun s priority p.prios) stays (followers p.prios s) (b.followers s)) (can_change-stays p.prios (begun s priority p.prios) stays more h))
           (omega (arith, less)))
 
-  changes-reach : (more : List Change) → PiecesReach more (changes_from priority more)
+  changes-reach : (more : List ChangePiece) → PiecesReach more (changes_from priority more)
   changes-reach [] p b h = (b, λ s h. h)
   changes-reach (ChangeOf n s ∷ more) p b h = change-reaches n s more (changes_from priority more) (changes-reach more) p b h.0 h.1
   changes-reach (EndChange s ∷ more) p b h = end-reaches s more (changes_from priority more) (changes-reach more) p b h

@@ -21,11 +21,12 @@ use Rattle.page_model.specs.ChoicesAreData.{with_left, no_choices}
 use Rattle.page_model.specs.Invoke.{in_task}
 use Rattle.page_model.specs.Operations.{page_operations}
 use Rattle.page_model.specs.PageSignals.{host_task_of}
-use Rattle.page_model.specs.PageTime.{first_sched, first_task, without_sched}
+use Rattle.page_model.specs.PageTime.{first_task}
+use Rattle.page_model.specs.SchedulerTasks.{first_sched, without_sched}
 use Rattle.page_model.specs.Parallel.{item_count}
 use Rattle.page_model.specs.State.{Page, State, HostTask, Task, SchedTask, on_page, emit}
 use Rattle.page_model.specs.Tasks.{perform_steps, perform_sched, answer_host, after_task}
-use Rattle.page_model.specs.Turns.{Turned, GoesOn, Ended, Stuck, ends, goes_on, choose_turned, step_five, task_done, without_task, not_dropped, answered, perform_host, perform_task, perform_first, perform_first_sched, perform, turn_line, perform_picked, step_four, counted_turn, with_turn_fuel, step_three, from_step_three, is_pending, target, at_time, waited, step_two_at, step_two_by, step_two, step_one, after_step_one, from_step_one, turn, next_turn, turns, first_state, run, run_by, state_of, events_of_run}
+use Rattle.page_model.specs.Turns.{Turned, GoesOn, Ended, Stuck, ends, goes_on, choose_turned, step_five, task_done, without_task, not_dropped, host_answered, perform_host, perform_task, perform_first, perform_first_sched, perform, turn_line, perform_picked, step_four, counted_turn, with_turn_fuel, step_three, from_step_three, is_pending, target, at_time, waited, step_two_at, step_two_by, step_two, step_one, after_step_one, from_step_one, turn, next_turn, turns, first_state, run, run_by, state_of, events_of_run}
 use Rattle.page_model.specs.View.{view}
 use Rattle.page_model.proofs.Silent.{Has, DoneHas, CallsKeep, afterwards-keeps}
 use Rattle.page_model.proofs.SilentRuns.{in_task-keeps}
@@ -223,20 +224,20 @@ module _ {C : Type 0} where
         (λ x h. goes_on-has x c checked (afterwards-keeps x d (after_task call) (k x h) (after_task-keeps x call (silent x))))
         (λ x. goes_on-same x c checked)
 
-    answered-replays : (t : HostTask) (kind : HostKind) (a : Option (Chosen (Result ℤ ℤ) C)) → IsLegalChoice (meets kind t.number) a → (m : State) (c : C) → Replays m (answered call t a m c) (λ x. answered call t (chosen_answer choice_rules kind t.number x) m x)
-    answered-replays t kind None l m c = refused-replays m c _ refl
-    answered-replays t kind (Some a) l m c =
+    host_answered-replays : (t : HostTask) (kind : HostKind) (a : Option (Chosen (Result ℤ ℤ) C)) → IsLegalChoice (meets kind t.number) a → (m : State) (c : C) → Replays m (host_answered call t a m c) (λ x. host_answered call t (chosen_answer choice_rules kind t.number x) m x)
+    host_answered-replays t kind None l m c = refused-replays m c _ refl
+    host_answered-replays t kind (Some a) l m c =
         let told : State = on_page (emit (Host t.closure t.number a.choice)) m in
         let done : Done Page = finish (on_page (answer_host t a.choice) m) in
-        picked-replays (Answered a.choice) m told (task_done call a.left done) (λ x. task_done call x done) (λ x. answered call t (chosen_answer choice_rules kind t.number x) m x)
+        picked-replays (Answered a.choice) m told (task_done call a.left done) (λ x. task_done call x done) (λ x. host_answered call t (chosen_answer choice_rules kind t.number x) m x)
         (λ l h. ap (with_line (Answered a.choice)) h)
-        (λ rest. ap (λ (o : Option (Chosen (Result ℤ ℤ) Choices)). answered call t o m (recorded (with_pick (Answered a.choice) rest))) (answer-again kind t.number a.choice rest l))
+        (λ rest. ap (λ (o : Option (Chosen (Result ℤ ℤ) Choices)). host_answered call t o m (recorded (with_pick (Answered a.choice) rest))) (answer-again kind t.number a.choice rest l))
         (task_done-replays a.left told done (λ x h. answer_host-has x t a.choice m.host h))
 
     perform_host-replays : (t : HostTask) (k : Option HostClosure) (m : State) (c : C) → Replays m (perform_host rules call t k m c) (λ x. perform_host choice_rules call t k m x)
     perform_host-replays t None m c = task_done-replays c m (finish m) (λ x h. h)
     perform_host-replays t (Some k) m c =
-        answered-replays t k.kind (chosen_answer rules k.kind t.number c) (legal-is_legal (meets k.kind t.number) (rules.answer k.kind t.number c)) m c
+        host_answered-replays t k.kind (chosen_answer rules k.kind t.number c) (legal-is_legal (meets k.kind t.number) (rules.answer k.kind t.number c)) m c
 
     perform_task-replays : (task : Task) (t : Option HostTask) (m : State) (c : C) → Replays m (perform_task rules call task t m c) (λ x. perform_task choice_rules call task t m x)
     perform_task-replays task None m c =

@@ -16,11 +16,12 @@ use Rattle.page_model.specs.Invoke.{in_task}
 use Rattle.page_model.specs.Likeness.{SameChoice, ChooseAlike, EndAlike}
 use Rattle.page_model.specs.Operations.{page_operations}
 use Rattle.page_model.specs.PageSignals.{host_task_of}
-use Rattle.page_model.specs.PageTime.{first_sched, first_task, without_sched}
+use Rattle.page_model.specs.PageTime.{first_task}
+use Rattle.page_model.specs.SchedulerTasks.{first_sched, without_sched}
 use Rattle.page_model.specs.Parallel.{item_count}
 use Rattle.page_model.specs.State.{Page, State, HostTask, Task, SchedTask, on_page, emit}
 use Rattle.page_model.specs.Tasks.{perform_steps, perform_sched, answer_host, after_task}
-use Rattle.page_model.specs.Turns.{Turned, GoesOn, Ended, Stuck, ends, goes_on, choose_turned, step_five, task_done, without_task, not_dropped, answered, perform_host, perform_task, perform_first, perform_first_sched, perform, turn_line, perform_picked, step_four, counted_turn, with_turn_fuel, step_three, from_step_three, is_pending, target, at_time, waited, step_two_at, step_two_by, step_two, step_one, after_step_one, from_step_one, turn, next_turn, turns, first_state, run_by, events_of_run}
+use Rattle.page_model.specs.Turns.{Turned, GoesOn, Ended, Stuck, ends, goes_on, choose_turned, step_five, task_done, without_task, not_dropped, host_answered, perform_host, perform_task, perform_first, perform_first_sched, perform, turn_line, perform_picked, step_four, counted_turn, with_turn_fuel, step_three, from_step_three, is_pending, target, at_time, waited, step_two_at, step_two_by, step_two, step_one, after_step_one, from_step_one, turn, next_turn, turns, first_state, run_by, events_of_run}
 use Rattle.page_model.specs.View.{view}
 
 module _ {C D : Type 0} (Together : C → D → Type 0) where
@@ -53,16 +54,16 @@ module _ {C D : Type 0} (Together : C → D → Type 0) where
     task_done-alike : (c : C) (d : D) → Together c d → (x : Done Page) → EndAlike Together (task_done call c x) (task_done call d x)
     task_done-alike c d h x = goes_on-alike c d h (afterwards x (after_task call))
 
-    answered-alike : (t : HostTask) (o : Option (Chosen (Result ℤ ℤ) C)) (o' : Option (Chosen (Result ℤ ℤ) D)) → SameChoice Together o o' → (m : State) (c : C) (d : D) → Together c d → EndAlike Together (answered call t o m c) (answered call t o' m d)
-    answered-alike t None o' s m c d h = (d, ap (λ (o : Option (Chosen (Result ℤ ℤ) D)). answered call t o m d) s, h)
-    answered-alike t (Some a) o' s m c d h =
+    host_answered-alike : (t : HostTask) (o : Option (Chosen (Result ℤ ℤ) C)) (o' : Option (Chosen (Result ℤ ℤ) D)) → SameChoice Together o o' → (m : State) (c : C) (d : D) → Together c d → EndAlike Together (host_answered call t o m c) (host_answered call t o' m d)
+    host_answered-alike t None o' s m c d h = (d, ap (λ (o : Option (Chosen (Result ℤ ℤ) D)). host_answered call t o m d) s, h)
+    host_answered-alike t (Some a) o' s m c d h =
         let done : Done Page = finish (on_page (answer_host t a.choice) m) in
-        subst (λ (o : Option (Chosen (Result ℤ ℤ) D)). EndAlike Together (task_done call a.left done) (answered call t o m d)) (sym s.1) (task_done-alike a.left s.0 s.2 done)
+        subst (λ (o : Option (Chosen (Result ℤ ℤ) D)). EndAlike Together (task_done call a.left done) (host_answered call t o m d)) (sym s.1) (task_done-alike a.left s.0 s.2 done)
 
     perform_host-alike : (t : HostTask) (k : Option HostClosure) (m : State) (c : C) (d : D) → Together c d → EndAlike Together (perform_host rules call t k m c) (perform_host others call t k m d)
     perform_host-alike t None m c d h = task_done-alike c d h (finish m)
     perform_host-alike t (Some k) m c d h =
-        answered-alike t (chosen_answer rules k.kind t.number c) (chosen_answer others k.kind t.number d) (alike.answer k.kind t.number c d h) m c d h
+        host_answered-alike t (chosen_answer rules k.kind t.number c) (chosen_answer others k.kind t.number d) (alike.answer k.kind t.number c d h) m c d h
 
     perform_task-alike : (task : Task) (t : Option HostTask) (m : State) (c : C) (d : D) → Together c d → EndAlike Together (perform_task rules call task t m c) (perform_task others call task t m d)
     perform_task-alike task None m c d h = task_done-alike c d h (perform_steps (in_task call) task.steps m)

@@ -12,7 +12,8 @@ use Rattle.page_parts.specs.WrittenChoices.{Runnable}
 use Rattle.lang_meaning.specs.Machine.{done_hosted, Done, Gives, Throws, Returns, OutOfFuel, afterwards, finish, Caller}
 use Rattle.lang_meaning.specs.Evaluation.{call_from_outside}
 use Rattle.page_model.specs.State.{Page, State, HostTask, Task, SchedTask, Completion, QueueTimer, EnqueuePost, QueueSignal, on_page, emit, the_registration}
-use Rattle.page_model.specs.PageTime.{deadline, start_period, idle_step, period_begun, completion_of, without_timer, enqueue, first_sched, first_task, without_sched}
+use Rattle.page_model.specs.PageTime.{deadline, start_period, idle_step, period_begun, completion_of, without_timer, first_task}
+use Rattle.page_model.specs.SchedulerTasks.{enqueue, first_sched, without_sched}
 use Rattle.page_model.specs.PageSignals.{is_aborted_source, host_task_of}
 use Rattle.page_model.specs.Invoke.{in_task}
 use Rattle.page_model.specs.Operations.{page_operations}
@@ -20,7 +21,7 @@ use Rattle.page_model.specs.Tasks.{answer_host, after_task}
 use Rattle.page_model.specs.Parallel.{ItemKind, ArrivalItem, HostItem, TimerItem, IdleItem, FrameItem, complete, complete_at, take_item, due_item, first_item, take_due, item_count, parallel}
 use Rattle.page_model.specs.Choosing.{Rules, Chosen, chosen_source, chosen_reading, chosen_answer}
 use Rattle.page_model.specs.View.{view}
-use Rattle.page_model.specs.Turns.{Turned, GoesOn, Ended, Stuck, goes_on, choose_turned, step_five, task_done, without_task, not_dropped, answered, perform_host, perform_task, perform_first, perform_first_sched, perform, turn_line, perform_picked, step_four, counted_turn, with_turn_fuel, step_three, from_step_three, is_pending, target, at_time, waited, step_two_at, step_two_by, step_one, after_step_one, from_step_one, turn, next_turn, turns}
+use Rattle.page_model.specs.Turns.{Turned, GoesOn, Ended, Stuck, goes_on, choose_turned, step_five, task_done, without_task, not_dropped, host_answered, perform_host, perform_task, perform_first, perform_first_sched, perform, turn_line, perform_picked, step_four, counted_turn, with_turn_fuel, step_three, from_step_three, is_pending, target, at_time, waited, step_two_at, step_two_by, step_one, after_step_one, from_step_one, turn, next_turn, turns}
 use Rattle.page_model.specs.PageHost.{Hosting}
 use Rattle.page_model.specs.FoldBounds.{counted, IsBounded}
 use Rattle.page_model.specs.Hosted.{EndsSame, call_by_steps, TurnEndsBounded}
@@ -37,7 +38,7 @@ cond-leaves true p q r h k = h
 cond-leaves false p q r h k = k
 
 start_period-leaves : Leaves start_period
-start_period-leaves p = cond-leaves (waits p.idle && nat_lt p.now (deadline p.last_idle_start p) && nat_le p.period_end p.now) p (period_begun (deadline p.last_idle_start p) p) p refl refl
+start_period-leaves p = cond-leaves (waits p.idle && nat_lt p.now (deadline p.last_idle_start p) && nat_le p.idle_period_end p.now) p (period_begun (deadline p.last_idle_start p) p) p refl refl
 
 idle_step-leaves : Leaves idle_step
 idle_step-leaves p = start_period-leaves (record p { last_idle_start = p.now })
@@ -115,13 +116,13 @@ module _ {C : Type 0} (rules : Rules C) (call call' : Caller Page) (agree : Call
   task_done-agrees : (c : C) (m : State) (d e : Done Page) → At m d e → AtTurn (task_done call c d) (task_done call' c e)
   task_done-agrees c m d e h = goes_on-agrees c m (afterwards d (after_task call)) (afterwards e (after_task call')) (afterwards-agrees m d e (after_task call) (after_task call') h (after_task-agrees call call' agree))
 
-  answered-agrees : (t : HostTask) (a : Option (Chosen (Result ℤ ℤ) C)) (c : C) → TurnsAgree (λ m. answered call t a m c) (λ m. answered call' t a m c)
-  answered-agrees t None c m b = (refl, b)
-  answered-agrees t (Some a) c m b = task_done-agrees a.left m _ _ (finish-agrees (answer_host t a.choice) (answer_host-keeps t a.choice) m b)
+  host_answered-agrees : (t : HostTask) (a : Option (Chosen (Result ℤ ℤ) C)) (c : C) → TurnsAgree (λ m. host_answered call t a m c) (λ m. host_answered call' t a m c)
+  host_answered-agrees t None c m b = (refl, b)
+  host_answered-agrees t (Some a) c m b = task_done-agrees a.left m _ _ (finish-agrees (answer_host t a.choice) (answer_host-keeps t a.choice) m b)
 
   perform_host-agrees : (t : HostTask) (k : Option HostClosure) (c : C) → TurnsAgree (λ m. perform_host rules call t k m c) (λ m. perform_host rules call' t k m c)
   perform_host-agrees t None c m b = task_done-agrees c m (finish m) (finish m) (refl, after-same m b)
-  perform_host-agrees t (Some k) c m b = answered-agrees t (chosen_answer rules k.kind t.number c) c m b
+  perform_host-agrees t (Some k) c m b = host_answered-agrees t (chosen_answer rules k.kind t.number c) c m b
 
   perform_task-agrees : (task : Task) (t : Option HostTask) (c : C) → TurnsAgree (λ m. perform_task rules call task t m c) (λ m. perform_task rules call' task t m c)
   perform_task-agrees task None c m b = task_done-agrees c m _ _ (perform_steps-agrees (in_task call) (in_task call') (in_task-agrees call call' agree) task.steps m b)

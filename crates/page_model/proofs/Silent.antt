@@ -8,7 +8,8 @@ use Rattle.lang_meaning.specs.Machine.{Done, Gives, Throws, Returns, OutOfFuel, 
 use Rattle.lang_meaning.specs.Evaluation.{Answer, answered}
 use Rattle.page_parts.specs.Words.{is_empty}
 use Rattle.page_parts.specs.Promises.{Settled, Fulfilled, Failed, Reaction, PromiseJob, Change, resolve, reject, follow, subscribe}
-use Rattle.page_parts.specs.Notices.{Context, Notices, Noticed, Todo, OfPromise, queue_job, queue_jobs, settle_line, promise_changed, changed, settle_promise, follow_promise, subscribe_promise, is_outstanding, the_promise}
+use Rattle.page_parts.specs.Notices.{Context, Notices, Noticed, Todo, OfPromise, queue_job, queue_jobs, settle_line, promise_changed, changed, settle_promise, follow_promise, subscribe_promise, is_outstanding}
+use Rattle.page_parts.specs.Promises.{the_promise}
 use Rattle.page_parts.specs.TraceText.{choices_in}
 use Rattle.page_parts.specs.WrittenChoices.{Choices}
 use Rattle.page_model.specs.State.{Page, State, NotifyHandled, on_page, context, emit, emit_each, on_notices, queue_task, the_registration}
@@ -60,8 +61,8 @@ changed-silent now names n c s =
     (queue_jobs-silent now c.jobs (promise_changed names n c s).notices)
 
 settle_promise-silent : (now : Context) (names : List (List ℕ)) (n : ℕ) (how : Settled) (s : Notices) → AllSilent (settle_promise now names n how s).lines
-settle_promise-silent now names n (Fulfilled v) s = changed-silent now names n (resolve n (the_promise s n) v) s
-settle_promise-silent now names n (Failed v) s = changed-silent now names n (reject n (the_promise s n) v) s
+settle_promise-silent now names n (Fulfilled v) s = changed-silent now names n (resolve n (the_promise s.promises n) v) s
+settle_promise-silent now names n (Failed v) s = changed-silent now names n (reject n (the_promise s.promises n) v) s
 
 -- ---- steps after which these choices stand in the lines
 
@@ -155,12 +156,12 @@ module _ (c : Choices) where
   reject-keeps n v p h = settle-keeps n (Failed v) p h
 
   pub follow-keeps : (n : ℕ) (how : Settled) → Keeps (promises.follow n how)
-  follow-keeps n how p h = on_notices-keeps (follow_promise (context p) p.names n how) (λ s. changed-silent (context p) p.names n (follow n (the_promise s n) how) s) p h
+  follow-keeps n how p h = on_notices-keeps (follow_promise (context p) p.names n how) (λ s. changed-silent (context p) p.names n (follow n (the_promise s.promises n) how) s) p h
 
   pub subscribe-keeps : (n : ℕ) (r : Reaction) → Keeps (promises.subscribe n r)
   subscribe-keeps n r p h =
       cond_of-keeps (is_outstanding n p.notices) (queue_task Dom (NotifyHandled n)) (λ q. q) (λ q k. k) (λ q k. k) (on_notices (subscribe_promise (context p) n r) p)
-      (on_notices-keeps (subscribe_promise (context p) n r) (λ s. changed-silent (context p) [] n (subscribe n (the_promise s n) r) _) p h)
+      (on_notices-keeps (subscribe_promise (context p) n r) (λ s. changed-silent (context p) [] n (subscribe n (the_promise s.promises n) r) _) p h)
 
   -- ---- combinators
 
@@ -186,7 +187,7 @@ module _ (c : Choices) where
   cancel_frame-keeps handle p h = elim-keeps (callback_in p.frames.callbacks handle) _ _ h (λ x. h)
 
   start_period-keeps : Keeps start_period
-  start_period-keeps p h = cond-keeps (waits p.idle && nat_lt p.now (deadline p.last_idle_start p) && nat_le p.period_end p.now) _ _ h h
+  start_period-keeps p h = cond-keeps (waits p.idle && nat_lt p.now (deadline p.last_idle_start p) && nat_le p.idle_period_end p.now) _ _ h h
 
   pub idle_step-keeps : Keeps idle_step
   idle_step-keeps p h = start_period-keeps (record p { last_idle_start = p.now }) h

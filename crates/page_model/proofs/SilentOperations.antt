@@ -18,7 +18,8 @@ use Rattle.page_model.specs.State.{Page, State, PrioSource, SchedulingState, las
 use Rattle.page_parts.specs.HostClosures.{HostClosure}
 use Rattle.page_model.specs.PagePromises as promises
 use Rattle.page_model.specs.PagePromises.{new_promise, last_promise, new_settled}
-use Rattle.page_model.specs.PageTime.{clear_timer, cancel_frame, idle_timeout, cancel_idle, time_remaining, enqueue, current_state}
+use Rattle.page_model.specs.PageTime.{clear_timer, cancel_frame, idle_timeout, cancel_idle, time_remaining}
+use Rattle.page_model.specs.SchedulerTasks.{enqueue, current_state}
 use Rattle.page_parts.specs.Listeners.{is_listening}
 use Rattle.page_parts.specs.TaskSignals.{priority_of, is_changing}
 use Rattle.page_model.specs.Invoke.{Ways, register, in_script, register_as}

@@ -15,7 +15,8 @@ use Rattle.page_parts.specs.WrittenChoices.{Choices}
 use Rattle.page_model.specs.State.{Page, State, TimerTask, HostTask, Steps, RunScript, RunTimer, TimeOutSignal, FireAtWindow, AnswerHost, RunFrame, InvokeIdle, IdleTimeout, NotifyRejected, NotifyHandled, SchedTask, Completion, QueueTimer, EnqueuePost, QueueSignal, on_page, emit, the_registration}
 use Rattle.page_model.specs.PagePromises as promises
 use Rattle.page_model.specs.PagePromises.{promise_at}
-use Rattle.page_model.specs.PageTime.{without_frame, without_timer, without_idle, with_state, deadline, idle_callback, completion_of, enqueue, idle_step}
+use Rattle.page_model.specs.PageTime.{without_frame, without_timer, without_idle, deadline, idle_callback, completion_of, idle_step}
+use Rattle.page_model.specs.SchedulerTasks.{with_state, enqueue}
 use Rattle.page_model.specs.Invoke.{Ways, invoke, settle_derived, call_begun, call_ended}
 use Rattle.page_model.specs.PageSignals.{unwatch, is_aborted_source, dispatch}
 use Rattle.page_model.specs.Tasks.{background, timer_goes_on, where_live, run_timer, frame_callback, run_frame, call_idle, invoke_idle_again, idle_called, invoke_idle, timed_out, promise_reason, notify_one, perform_steps, continued, post_state, run_post, perform_sched, fire_closure, settle_answer, answer_host, after_task}

@@ -12,7 +12,7 @@ use Rattle.page_parts.specs.Listeners.{Target, AtSignal, snapshot, is_listening}
 use Rattle.page_model.specs.State.{Page, State, on_page, the_registration}
 use Rattle.page_model.specs.Invoke.{WhenReported, when_reported, end_of_callback, call_back, invoke, in_script, call_begun, call_ended}
 use Rattle.page_model.specs.PageSignals.{each_in_turn, call_listener, dispatch, abort_steps, abort, reason_set, run_algorithms, change, change_through, change_begun, change_ended, has_priority, priority_value}
-use Rattle.page_model.specs.Folds.{Change, ChangeOf, EndChange, Rest, AbortsLeft, ChangesLeft, Fold, Reached, Finished, Calls, begin_listener, next_listener, fire, aborts_from, changes_of, each_change, change_from, changes_from, rest_from, go_on, begin_dispatch, begin_abort, begin_change}
+use Rattle.page_model.specs.Folds.{ChangePiece, ChangeOf, EndChange, Rest, AbortsLeft, ChangesLeft, Fold, Reached, Finished, Calls, begin_listener, next_listener, fire, aborts_from, changes_of, each_change, change_from, changes_from, rest_from, go_on, begin_dispatch, begin_abort, begin_change}
 use Rattle.page_model.specs.NestedFolds.{nested_changes, nested_rest, nested_fold, nested_reached}
 
 -- ---- what comes afterwards
@@ -77,30 +77,30 @@ module _ (call : Caller Page) where
   -- ---- priority change
 
   module _ (priority : Priority) where
-    abbrev Changes : (ℕ → State → Done Page) → (ℕ → List Change → (Page → Reached) → Page → Reached) → Type 0
-    Changes change one = (s : ℕ) (more : List Change) (next : Page → Reached) → Unrolls (nested_changes call priority more) next
+    abbrev Changes : (ℕ → State → Done Page) → (ℕ → List ChangePiece → (Page → Reached) → Page → Reached) → Type 0
+    Changes change one = (s : ℕ) (more : List ChangePiece) (next : Page → Reached) → Unrolls (nested_changes call priority more) next
         → Unrolls (λ m. afterwards (change s m) (nested_changes call priority more)) (one s more next)
 
-    each-unrolls : (n : ℕ) (one : ℕ → List Change → (Page → Reached) → Page → Reached) → Changes (change (in_script call) priority n) one
-        → (ss : List ℕ) (more : List Change) (next : Page → Reached) → Unrolls (nested_changes call priority more) next
+    each-unrolls : (n : ℕ) (one : ℕ → List ChangePiece → (Page → Reached) → Page → Reached) → Changes (change (in_script call) priority n) one
+        → (ss : List ℕ) (more : List ChangePiece) (next : Page → Reached) → Unrolls (nested_changes call priority more) next
         → Unrolls (nested_changes call priority (changes_of n ss more)) (each_change one n ss more next)
     each-unrolls n one c [] more next k m = k m
     each-unrolls n one c (s ∷ ss) more next k m =
         c s (changes_of n ss more) (each_change one n ss more next) (each-unrolls n one c ss more next k) m
 
     -- the changes of several signals, one after another
-    each-nests : (n : ℕ) (ss : List ℕ) (more : List Change) (m : State)
+    each-nests : (n : ℕ) (ss : List ℕ) (more : List ChangePiece) (m : State)
         → afterwards (each_in_turn ss (change (in_script call) priority n) m) (nested_changes call priority more) ≡ nested_changes call priority (changes_of n ss more) m
     each-nests n [] more m = refl
     each-nests n (s ∷ ss) more m =
         afterwards-twice (change (in_script call) priority n s m) (each_in_turn ss (change (in_script call) priority n)) (nested_changes call priority more)
         ∙ afterwards-same (change (in_script call) priority n s m) _ _ (each-nests n ss more)
 
-    module _ (n : ℕ) (c : Changes (change (in_script call) priority n) (change_from priority n)) (s : ℕ) (more : List Change) (next : Page → Reached) (k : Unrolls (nested_changes call priority more) next) (m : State) where
+    module _ (n : ℕ) (c : Changes (change (in_script call) priority n) (change_from priority n)) (s : ℕ) (more : List ChangePiece) (next : Page → Reached) (k : Unrolls (nested_changes call priority more) next) (m : State) where
       abbrev begun : State
       begun = on_page (change_begun s priority) m
 
-      abbrev pieces : List Change
+      abbrev pieces : List ChangePiece
       pieces = changes_of n (followers m.host.prios s) (EndChange s ∷ more)
 
       abbrev then_pieces : Page → Reached
@@ -135,7 +135,7 @@ module _ (call : Caller Page) where
     change-unrolls (suc n) s more next k m =
         by_passing n (change-unrolls n) s more next k m (is_changing m.host.prios s || has_priority m.host.prios s priority)
 
-    changes-unroll : (pieces : List Change) → Unrolls (nested_changes call priority pieces) (changes_from priority pieces)
+    changes-unroll : (pieces : List ChangePiece) → Unrolls (nested_changes call priority pieces) (changes_from priority pieces)
     changes-unroll [] m = refl
     changes-unroll (ChangeOf n s ∷ more) m = change-unrolls n s more (changes_from priority more) (changes-unroll more) m
     changes-unroll (EndChange s ∷ more) m =

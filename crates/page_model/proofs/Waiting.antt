@@ -7,7 +7,8 @@ use Rattle.page_parts.specs.IdleCallbacks.{waits}
 use Rattle.lang_meaning.specs.Machine.{Caller}
 use Rattle.page_model.specs.State.{Page, State, Completion, QueueTimer, EnqueuePost, QueueSignal, on_page, emit, the_registration}
 use Rattle.page_model.specs.PageSignals.{is_aborted_source}
-use Rattle.page_model.specs.PageTime.{deadline, idle_moment, completion_of, without_timer, enqueue}
+use Rattle.page_model.specs.PageTime.{deadline, idle_moment, completion_of, without_timer}
+use Rattle.page_model.specs.SchedulerTasks.{enqueue}
 use Rattle.page_model.specs.Parallel.{ItemKind, ArrivalItem, HostItem, TimerItem, IdleItem, FrameItem, Item, first_item, due_item, complete, complete_at, take_item, take_due, item_count, parallel}
 use Rattle.page_model.specs.Choosing.{Rules, Chosen, is_reading, chosen_reading}
 use Rattle.page_model.specs.View.{view}
@@ -22,31 +23,31 @@ use Rattle.page_model.proofs.BoundsOfItems.{items_waiting, items-within, Known, 
 -- ---- what taking items leaves
 
 -- the end of the last idle period
-complete-period : (c : Completion) (p : Page) → (complete c p).period_end ≡ p.period_end
+complete-period : (c : Completion) (p : Page) → (complete c p).idle_period_end ≡ p.idle_period_end
 complete-period (QueueTimer t) p = refl
 complete-period (EnqueuePost r source) p = by_signal (is_aborted_source p (the_registration p r).signal)
   where
-    by_signal : (b : Bool) → (cond b (λ q. q) (enqueue r source false) (emit (Due r) p)).period_end ≡ p.period_end
+    by_signal : (b : Bool) → (cond b (λ q. q) (enqueue r source false) (emit (Due r) p)).idle_period_end ≡ p.idle_period_end
     by_signal true = refl
     by_signal false = refl
 complete-period (QueueSignal r s) p = refl
 
-complete_at-period : (c : Option Completion) (p : Page) → (complete_at c p).period_end ≡ p.period_end
+complete_at-period : (c : Option Completion) (p : Page) → (complete_at c p).idle_period_end ≡ p.idle_period_end
 complete_at-period None p = refl
 complete_at-period (Some c) p = complete-period c p
 
-take_item-period : (what : ItemKind) (p : Page) → (take_item what p).period_end ≡ p.period_end
+take_item-period : (what : ItemKind) (p : Page) → (take_item what p).idle_period_end ≡ p.idle_period_end
 take_item-period (ArrivalItem a) p = refl
 take_item-period (HostItem a) p = refl
 take_item-period (TimerItem t) p = complete_at-period (completion_of p.completions t.start) (without_timer t.start p)
 take_item-period (IdleItem t) p = refl
 take_item-period FrameItem p = refl
 
-take_due-period : (n : ℕ) (p : Page) → (take_due n p).period_end ≡ p.period_end
+take_due-period : (n : ℕ) (p : Page) → (take_due n p).idle_period_end ≡ p.idle_period_end
 take_due-period zero p = refl
 take_due-period (suc n) p = by_item (due_item p.now (first_item p)) (λ a. take_due-period n (take_item a.what p) ∙ take_item-period a.what p)
   where
-    by_item : (o : Option Item) → ((a : Item) → (take_due n (take_item a.what p)).period_end ≡ p.period_end) → (elim o as (λ x. Page) [ None ↦ p | Some a ↦ take_due n (take_item a.what p) ]).period_end ≡ p.period_end
+    by_item : (o : Option Item) → ((a : Item) → (take_due n (take_item a.what p)).idle_period_end ≡ p.idle_period_end) → (elim o as (λ x. Page) [ None ↦ p | Some a ↦ take_due n (take_item a.what p) ]).idle_period_end ≡ p.idle_period_end
     by_item None h = refl
     by_item (Some a) h = h a
 
@@ -66,7 +67,7 @@ abbrev ahead_of : ℕ → ℕ → ℕ
 ahead_of now end = cond (nat_lt now end) 1 0
 
 abbrev idle_ahead : Page → ℕ
-idle_ahead p = ahead_of p.now p.period_end
+idle_ahead p = ahead_of p.now p.idle_period_end
 
 -- at most so many waits
 abbrev pub waits_left : Page → ℕ
@@ -77,10 +78,10 @@ few true = le_refl 1
 few false = omega arith
 
 pub waits-within : (p : Page) → waits_left (parallel p) ≤ suc (item_count p)
-waits-within p = omega (arith, take_due-items (item_count p) p, items-within p, few (nat_lt (parallel p).now (parallel p).period_end))
+waits-within p = omega (arith, take_due-items (item_count p) p, items-within p, few (nat_lt (parallel p).now (parallel p).idle_period_end))
 
 pub waits-now : (p : Page) → waits_left p ≤ suc (item_count p)
-waits-now p = omega (arith, items-within p, few (nat_lt p.now p.period_end))
+waits-now p = omega (arith, items-within p, few (nat_lt p.now p.idle_period_end))
 
 -- later it is no more ahead than before
 ahead-later : (now later end : ℕ) → now ≤ later → cond (nat_lt later end) 1 0 ≤ cond (nat_lt now end) 1 0
@@ -132,8 +133,8 @@ wait-less p t r e less le = ⊎_elim by_item by_idle (target-is (first_item p) (
 
     ahead : idle_ahead (parallel (waited_page t r p)) ≤ idle_ahead p
     ahead =
-        subst (λ now. ahead_of now (parallel (waited_page t r p)).period_end ≤ idle_ahead p) (sym (parallel-now (waited_page t r p)))
-        (subst (λ end. ahead_of r end ≤ idle_ahead p) (sym (take_due-period (item_count (waited_page t r p)) (waited_page t r p))) (ahead-later p.now r p.period_end (omega arith)))
+        subst (λ now. ahead_of now (parallel (waited_page t r p)).idle_period_end ≤ idle_ahead p) (sym (parallel-now (waited_page t r p)))
+        (subst (λ end. ahead_of r end ≤ idle_ahead p) (sym (take_due-period (item_count (waited_page t r p)) (waited_page t r p))) (ahead-later p.now r p.idle_period_end (omega arith)))
 
     by_item : ((a : Item) × (first_item p ≡ Some a) × (a.due ≡ t)) → suc (waits_left (parallel (waited_page t r p))) ≤ waits_left p
     by_item h =
@@ -143,11 +144,11 @@ wait-less p t r e less le = ⊎_elim by_item by_idle (target-is (first_item p) (
 
     by_idle : idle_moment p ≡ Some t → suc (waits_left (parallel (waited_page t r p))) ≤ waits_left p
     by_idle e =
-        let at = moment-is (waits p.idle && nat_lt (max p.now p.period_end) (deadline (max p.now p.period_end) p)) (max p.now p.period_end) t e in
-        let before : idle_ahead p ≡ 1 = ap {B = ℕ} (λ b. cond b 1 0) (lt-ltb p.now p.period_end (omega arith)) in
+        let at = moment-is (waits p.idle && nat_lt (max p.now p.idle_period_end) (deadline (max p.now p.idle_period_end) p)) (max p.now p.idle_period_end) t e in
+        let before : idle_ahead p ≡ 1 = ap {B = ℕ} (λ b. cond b 1 0) (lt-ltb p.now p.idle_period_end (omega arith)) in
         let after : idle_ahead (parallel (waited_page t r p)) ≡ 0 =
-        subst (λ now. ahead_of now (parallel (waited_page t r p)).period_end ≡ 0) (sym (parallel-now (waited_page t r p)))
-        (subst (λ end. ahead_of r end ≡ 0) (sym (take_due-period (item_count (waited_page t r p)) (waited_page t r p))) (ap {B = ℕ} (λ b. cond b 1 0) (le-ltb r p.period_end (omega arith)))) in
+        subst (λ now. ahead_of now (parallel (waited_page t r p)).idle_period_end ≡ 0) (sym (parallel-now (waited_page t r p)))
+        (subst (λ end. ahead_of r end ≡ 0) (sym (take_due-period (item_count (waited_page t r p)) (waited_page t r p))) (ap {B = ℕ} (λ b. cond b 1 0) (le-ltb r p.idle_period_end (omega arith)))) in
         let items = take_due-items (item_count (waited_page t r p)) (waited_page t r p) in
         omega (arith, before, after, items)
 

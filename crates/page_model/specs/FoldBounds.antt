@@ -8,7 +8,7 @@ use Rattle.page_parts.specs.TaskSignals.{Prios, same_priority, record_of, follow
 use Rattle.page_parts.specs.Listeners.{Listener, AtSignal, snapshot}
 use Rattle.lang_meaning.specs.HostSteps.{HostStep, StepValue, StepThrow, StepInvoke}
 use Rattle.page_model.specs.State.{Page}
-use Rattle.page_model.specs.Folds.{Change, ChangeOf, EndChange, Rest, AbortsLeft, ChangesLeft, Fold}
+use Rattle.page_model.specs.Folds.{ChangePiece, ChangeOf, EndChange, Rest, AbortsLeft, ChangesLeft, Fold}
 use Rattle.page_model.specs.PageHost.{Hosting}
 
 -- ---- Ours: how many callbacks are left
@@ -90,7 +90,7 @@ abbrev pub IsBounded : Page → Type 0
 IsBounded p = AreBounded (counted p)
 
 -- each signal that is still to change has a priority
-abbrev pub CanChange : Prios → List Change → Type 0
+abbrev pub CanChange : Prios → List ChangePiece → Type 0
 CanChange ps [] = ⊤
 CanChange ps (ChangeOf n s ∷ more) = HasRecord ps s × CanChange ps more
 CanChange ps (EndChange s ∷ more) = CanChange ps more

@@ -13,14 +13,14 @@ use Rattle.page_model.specs.PageSignals.{run_algorithms, reason_set, change_begu
 use Rattle.lang_meaning.specs.HostSteps.{CallbackEnd, CallbackValue, CallbackThrow}
 
 -- ---- Ours: the pieces of a priority change: the change of a signal, where no chain of followers is longer than `chain`, and the end of one
-pub data Change : Type 0 where
-  ChangeOf : (chain signal : ℕ) → Change
-  EndChange : (signal : ℕ) → Change
+pub data ChangePiece : Type 0 where
+  ChangeOf : (chain signal : ℕ) → ChangePiece
+  EndChange : (signal : ℕ) → ChangePiece
 
 -- what comes after the listeners: the abort steps of signals, or further pieces of a change to a priority
 pub data Rest : Type 0 where
   AbortsLeft : List ℕ → Rest
-  ChangesLeft : Priority → List Change → Rest
+  ChangesLeft : Priority → List ChangePiece → Rest
 
 -- An open fold, while a callback of it runs: when a throw of that callback is reported; the arguments of the listeners, and those registrations that are left; and what comes then
 pub record Fold : Type 0 where
@@ -57,16 +57,16 @@ aborts_from [] p = Finished p
 aborts_from (s ∷ ss) p = fire s (codes "abort") (SignalValue s ∷ []) (AbortsLeft ss) (aborts_from ss) (run_algorithms s p)
 
 -- the changes of these signals, in order, before other pieces
-abbrev pub changes_of : ℕ → List ℕ → List Change → List Change
+abbrev pub changes_of : ℕ → List ℕ → List ChangePiece → List ChangePiece
 changes_of chain ss more = map (ChangeOf chain) ss ++ more
 
 -- Prioritized Task Scheduling, "TaskSignal": each of these signals is changed by `one`, and then comes the rest
-abbrev pub each_change : (ℕ → List Change → (Page → Reached) → Page → Reached) → ℕ → List ℕ → List Change → (Page → Reached) → Page → Reached
+abbrev pub each_change : (ℕ → List ChangePiece → (Page → Reached) → Page → Reached) → ℕ → List ℕ → List ChangePiece → (Page → Reached) → Page → Reached
 each_change one chain [] more next p = next p
 each_change one chain (s ∷ ss) more next p = one s (changes_of chain ss more) (each_change one chain ss more next) p
 
 -- the change of one signal, before other pieces: it is passed over, or its priority is set, `prioritychange` is fired, and then come its followers and the change's end
-abbrev pub change_from : Priority → ℕ → ℕ → List Change → (Page → Reached) → Page → Reached
+abbrev pub change_from : Priority → ℕ → ℕ → List ChangePiece → (Page → Reached) → Page → Reached
 change_from priority zero s more next p = next p
 change_from priority (suc n) s more next p =
     let ss = followers p.prios s in
@@ -77,7 +77,7 @@ change_from priority (suc n) s more next p =
     (change_begun s priority p))
 
 -- the pieces of a change
-abbrev pub changes_from : Priority → List Change → Page → Reached
+abbrev pub changes_from : Priority → List ChangePiece → Page → Reached
 changes_from priority [] p = Finished p
 changes_from priority (ChangeOf n s ∷ more) p = change_from priority n s more (changes_from priority more) p
 changes_from priority (EndChange s ∷ more) p = changes_from priority more (change_ended s p)
@@ -109,7 +109,7 @@ abbrev pub begin_change : Priority → ℕ → ℕ → Page → Reached
 begin_change priority chain s p = changes_from priority (ChangeOf chain s ∷ []) p
 
 -- the fold of a change that begins at a page: its listeners, and then its followers, its end and other pieces
-abbrev pub change_fold : WhenReported → Priority → ℕ → ℕ → List Change → Page → Fold
+abbrev pub change_fold : WhenReported → Priority → ℕ → ℕ → List ChangePiece → Page → Fold
 change_fold when priority chain s more p =
     record {
       when = when;

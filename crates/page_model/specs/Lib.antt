@@ -2,6 +2,7 @@ pub mod State
 pub mod PagePromises
 pub mod PageCombinators
 pub mod PageTime
+pub mod SchedulerTasks
 pub mod Invoke
 pub mod PageSignals
 pub mod Operations

@@ -7,12 +7,12 @@ use Rattle.lang_meaning.specs.HostSteps.{with_host}
 use Rattle.page_model.specs.State.{Page, State, on_page}
 use Rattle.page_model.specs.Invoke.{end_of_callback, in_script}
 use Rattle.page_model.specs.PageSignals.{each_in_turn, call_listener, abort_steps, change, change_ended}
-use Rattle.page_model.specs.Folds.{Change, ChangeOf, EndChange, Rest, AbortsLeft, ChangesLeft, Fold, Reached, Finished, Calls}
+use Rattle.page_model.specs.Folds.{ChangePiece, ChangeOf, EndChange, Rest, AbortsLeft, ChangesLeft, Fold, Reached, Finished, Calls}
 
 -- ---- Ours: the nested meaning of what is still to visit
 
 -- the pieces of a change
-abbrev pub nested_changes : Caller Page → Priority → List Change → State → Done Page
+abbrev pub nested_changes : Caller Page → Priority → List ChangePiece → State → Done Page
 nested_changes call priority [] m = finish m
 nested_changes call priority (ChangeOf n s ∷ more) m = afterwards (change (in_script call) priority n s m) (nested_changes call priority more)
 nested_changes call priority (EndChange s ∷ more) m = nested_changes call priority more (on_page (change_ended s) m)

@@ -31,7 +31,8 @@ use Rattle.page_model.specs.PagePromises as promises
 use Rattle.page_model.specs.PagePromises.{new_promise, last_promise, new_settled}
 use Rattle.page_model.specs.PageCombinators.{all_made, race_made, promises_for, are_promises_left}
 use Rattle.page_parts.specs.Combinators.{CombinatorKind, All, AnyOf, AllSettled as AllSettledKind}
-use Rattle.page_model.specs.PageTime.{init_timer, run_after, clear_timer, request_frame, cancel_frame, request_idle, cancel_idle, time_remaining, enqueue, current_state}
+use Rattle.page_model.specs.PageTime.{init_timer, run_after, clear_timer, request_frame, cancel_frame, request_idle, cancel_idle, time_remaining}
+use Rattle.page_model.specs.SchedulerTasks.{enqueue, current_state}
 use Rattle.page_model.specs.Invoke.{Ways, register, register_as, in_script}
 use Rattle.page_model.specs.PageSignals.{abort, change, is_aborted, is_aborted_source, reason_value, watch, give_priority, priority_value}
 

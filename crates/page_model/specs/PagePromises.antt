@@ -3,7 +3,8 @@ use Rattle.std.specs.Prelude.{ℕ, cond, length, None}
 use Rattle.page_types.specs.Values.{Value}
 use Rattle.page_types.specs.declared.Source.TheVariants.{Dom}
 use Rattle.page_parts.specs.Promises.{Settled, Fulfilled, Failed, Reaction, PromiseRecord}
-use Rattle.page_parts.specs.Notices.{the_promise, make, settle_promise, follow_promise, subscribe_promise, is_outstanding}
+use Rattle.page_parts.specs.Notices.{make, settle_promise, follow_promise, subscribe_promise, is_outstanding}
+use Rattle.page_parts.specs.Promises.{the_promise}
 use Rattle.page_model.specs.State.{NotifyHandled, Page, context, on_notices, queue_task}
 
 -- ---- ECMA-262, "Promise Objects": on the page, with the lines
@@ -38,7 +39,7 @@ last_promise p = length p.notices.promises
 
 -- promise number n
 abbrev pub promise_at : Page → ℕ → PromiseRecord
-promise_at p n = the_promise p.notices n
+promise_at p n = the_promise p.notices.promises n
 
 -- the reaction by which a promise follows another one
 abbrev pub inner_subscription : ℕ → Reaction

@@ -15,7 +15,7 @@ use Rattle.page_model.specs.State.{Steps, RunScript, RunTimer, TimeOutSignal, Fi
 use Rattle.page_parts.specs.HostClosures.{HostClosure}
 use Rattle.page_types.specs.declared.HostMark.TheVariants.{Dropped}
 use Rattle.page_model.specs.PagePromises as promises
-use Rattle.page_model.specs.PageTime.{without_sched}
+use Rattle.page_model.specs.SchedulerTasks.{without_sched}
 use Rattle.page_model.specs.Invoke.{Ways, invoke}
 
 -- one step for each number in turn, until fuel ends

@@ -1,20 +1,17 @@
--- Timers, frames, idle periods and scheduler tasks of a page.
+-- Timers, frames and idle periods of a page.
 use Rattle.std.specs.Prelude.{ℕ, suc, ◌+◌, ◌-◌, ◌*◌, max, Bool, cond, ◌&&◌, ◌||◌, List, [], ◌∷◌, length, Option, Some, None, ℤ, nat_lt, nat_le, ◌==◌, find, unwrap_or, option_map}
 use Rattle.page_types.specs.declared.Source.{Source}
 use Rattle.page_types.specs.declared.Source.TheVariants.{Render, Idle}
-use Rattle.page_types.specs.declared.Priority.{Priority}
-use Rattle.page_types.specs.declared.Priority.TheVariants.{UserVisible}
-use Rattle.page_types.specs.Events.{QueueName, FixedQueue, SignalQueue, Arm, Drop, Period, Enq}
-use Rattle.page_parts.specs.Words.{and_last, without, is_empty, is_there, numbered}
+use Rattle.page_types.specs.Events.{Arm, Drop, Period}
+use Rattle.page_parts.specs.Words.{and_last, without, is_empty, is_there}
 use Rattle.page_parts.specs.Timers as Timers
 use Rattle.page_parts.specs.Timers.{Armed, armed, with_armed, next_due}
 use Rattle.page_parts.specs.Frames as Frames
 use Rattle.page_parts.specs.Frames.{Callback, callback_in, next_multiple}
 use Rattle.page_parts.specs.IdleCallbacks as IdleCallbacks
 use Rattle.page_parts.specs.IdleCallbacks.{waits}
-use Rattle.page_parts.specs.TaskSignals.{rank, priority_of}
 use Rattle.page_parts.specs.Sources.{same_source}
-use Rattle.page_model.specs.State.{Registration, Completion, QueueTimer, Completing, Task, InvokeIdle, PrioSource, Fixed, OfSignal, SchedTask, SchedulingState, Page, emit, queue_task}
+use Rattle.page_model.specs.State.{Registration, Completion, QueueTimer, Completing, Task, InvokeIdle, Page, emit, queue_task}
 
 -- ---- HTML, "Timers": run steps after a timeout, timer initialisation steps, clearTimeout() and clearInterval()
 
@@ -73,7 +70,7 @@ first_task source tasks = find (λ t. same_source t.source source) tasks
 abbrev pub next_frame : Page → Option ℕ
 next_frame p =
     cond (is_empty p.frames.callbacks || is_there (first_task Render p.tasks)) None
-    (Some (next_multiple p.period (max p.frames_since p.last_opportunity)))
+    (Some (next_multiple p.refresh_period (max p.frames_since p.last_opportunity)))
 
 -- a frame callback is requested; where the map was empty, it is non-empty from now on
 abbrev pub request_frame : ℕ → Page → Page
@@ -92,22 +89,22 @@ cancel_frame handle p = elim (callback_in p.frames.callbacks handle) [ None ↦ 
 -- the deadline of an idle period with this start: where a frame callback waits, the last opportunity plus the period counts too
 abbrev pub deadline : ℕ → Page → ℕ
 deadline start p =
-    IdleCallbacks.deadline start (next_due p.timers) (cond (is_empty p.frames.callbacks) None (Some (p.last_opportunity + p.period)))
+    IdleCallbacks.deadline start (next_due p.timers) (cond (is_empty p.frames.callbacks) None (Some (p.last_opportunity + p.refresh_period)))
 
 -- the moment at which the next idle period could start; it counts only where an idle callback waits and the period would have some length
 abbrev pub idle_moment : Page → Option ℕ
 idle_moment p =
-    let t = max p.now p.period_end in
+    let t = max p.now p.idle_period_end in
     cond (waits p.idle && nat_lt t (deadline t p)) (Some t) None
 
 -- an idle period starts: its line, the pending callbacks become runnable, and a task is queued that invokes them
 abbrev pub period_begun : ℕ → Page → Page
-period_begun end p = queue_task Idle InvokeIdle (emit (Period end) (record p { idle = IdleCallbacks.started p.idle; period_end = end }))
+period_begun end p = queue_task Idle InvokeIdle (emit (Period end) (record p { idle = IdleCallbacks.started p.idle; idle_period_end = end }))
 
 -- an idle period starts, unless its start is delayed: no idle callback waits, the deadline is not after now, or the period before has not ended
 abbrev pub start_period : Page → Page
 start_period p =
-    cond (waits p.idle && nat_lt p.now (deadline p.last_idle_start p) && nat_le p.period_end p.now) (period_begun (deadline p.last_idle_start p) p) p
+    cond (waits p.idle && nat_lt p.now (deadline p.last_idle_start p) && nat_le p.idle_period_end p.now) (period_begun (deadline p.last_idle_start p) p) p
 
 -- the idle step of a turn: the last idle period start is now, also where the start is then delayed
 abbrev pub idle_step : Page → Page
@@ -141,64 +138,3 @@ cancel_idle handle p = elim (idle_callback handle p) [ None ↦ p | Some c ↦ e
 abbrev pub time_remaining : Option ℕ → Page → ℕ
 time_remaining None p = deadline p.last_idle_start p - p.now
 time_remaining (Some t) p = t - p.now
-
--- ---- Prioritized Task Scheduling, "Selecting the task queue": effective priority
-
--- the priority of a source now
-abbrev pub priority_now : Page → PrioSource → Priority
-priority_now p (Fixed priority) = priority
-priority_now p (OfSignal s) = unwrap_or (priority_of p.prios s) UserVisible
-
--- the effective priority of a scheduler task now: twice the rank of its priority, and one more for a continuation
-abbrev pub effective : Page → SchedTask → ℕ
-effective p t = 2 * rank (priority_now p t.source) + cond t.continuation 1 0
-
--- whether a goes before b
-abbrev pub goes_before : Page → SchedTask → SchedTask → Bool
-goes_before p a b = nat_lt (effective p b) (effective p a) || ((effective p a == effective p b) && nat_lt a.order b.order)
-
--- the first of these and the best so far
-abbrev pub first_sched_from : Page → SchedTask → List SchedTask → SchedTask
-first_sched_from p a [] = a
-first_sched_from p a (b ∷ more) = first_sched_from p (cond (goes_before p b a) b a) more
-
--- among the tasks of greatest effective priority now, the one of least order
-abbrev pub first_of : Page → List SchedTask → Option SchedTask
-first_of p [] = None
-first_of p (a ∷ more) = Some (first_sched_from p a more)
-
--- the scheduler task that is next
-abbrev pub first_sched : Page → Option SchedTask
-first_sched p = first_of p p.sched_tasks
-
--- ---- Prioritized Task Scheduling, "Scheduling tasks and continuations"
-
--- the queue of a priority source, in its line
-abbrev pub queue_name : PrioSource → QueueName
-queue_name (Fixed priority) = FixedQueue priority
-queue_name (OfSignal s) = SignalQueue s
-
--- a scheduler task is enqueued; its order is its task number
-abbrev pub enqueue : ℕ → PrioSource → Bool → Page → Page
-enqueue r source continuation p =
-    emit (Enq r (queue_name source) continuation (suc p.tasks_made))
-    (record p {
-      tasks_made = suc p.tasks_made;
-      sched_tasks = and_last p.sched_tasks (record { registration = r; source = source; continuation = continuation; order = suc p.tasks_made });
-    })
-
--- a registration's scheduler task leaves its queue
-abbrev pub without_sched : ℕ → Page → Page
-without_sched r p = record p { sched_tasks = without (λ t. t.registration == r) p.sched_tasks }
-
--- with no current scheduling state there is no abort source, and the priority is fixed user-visible
-abbrev pub no_state : SchedulingState
-no_state = record { abort_source = None; prio_source = Fixed UserVisible }
-
--- the current scheduling state; with none, no abort source and fixed user-visible
-abbrev pub current_state : Page → SchedulingState
-current_state p = elim p.scheduling [ None ↦ no_state | Some n ↦ numbered p.scheduling_states n no_state ]
-
--- a new scheduling state is made and is the current one
-abbrev pub with_state : SchedulingState → Page → Page
-with_state s p = record p { scheduling_states = and_last p.scheduling_states s; scheduling = Some (suc (length p.scheduling_states)) }

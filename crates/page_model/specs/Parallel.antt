@@ -8,7 +8,8 @@ use Rattle.page_parts.specs.Timers.{ActiveTimer}
 use Rattle.page_model.specs.State.{RunTimer, TimeOutSignal, FireAtWindow, AnswerHost, RunFrame, IdleTimeout, Completion, QueueTimer, EnqueuePost, QueueSignal, IdleTimer, HostAnswer, Page, the_registration, emit, queue_task}
 use Rattle.page_parts.specs.Setup.{Arrival}
 use Rattle.page_model.specs.PageSignals.{is_aborted_source}
-use Rattle.page_model.specs.PageTime.{without_timer, completion_of, next_frame, enqueue}
+use Rattle.page_model.specs.PageTime.{without_timer, completion_of, next_frame}
+use Rattle.page_model.specs.SchedulerTasks.{enqueue}
 
 -- ---- HTML, "Event loops: processing model": what goes on in parallel. Ours: its order, and that it is done only at the top of a turn
 

@@ -165,10 +165,10 @@ pub record Page : Type 0 where
   pub frames : Frames
   pub frames_since : ℕ  -- the moment at which the frame map last became non-empty
   pub last_opportunity : ℕ
-  pub period : ℕ
+  pub refresh_period : ℕ
   pub idle : Idle
   pub last_idle_start : ℕ
-  pub period_end : ℕ
+  pub idle_period_end : ℕ
   -- signals
   pub signals : Signals Value
   pub prios : Prios

@@ -17,7 +17,8 @@ use Rattle.page_model.specs.State.{TimerTask, HostTask, Steps, RunScript, RunTim
 use Rattle.page_parts.specs.HostClosures.{HostClosure, fired}
 use Rattle.page_model.specs.PagePromises as promises
 use Rattle.page_model.specs.PagePromises.{promise_at}
-use Rattle.page_model.specs.PageTime.{init_timer, clear_id, without_frame, deadline, idle_callback, without_idle, with_state}
+use Rattle.page_model.specs.PageTime.{init_timer, clear_id, without_frame, deadline, idle_callback, without_idle}
+use Rattle.page_model.specs.SchedulerTasks.{with_state}
 use Rattle.page_model.specs.Invoke.{Ways, invoke, call_begun, call_ended, settle_derived, checkpoint}
 use Rattle.page_model.specs.PageSignals.{each_in_turn, dispatch, abort, unwatch}
 

@@ -18,7 +18,8 @@ use Rattle.page_parts.specs.Notices.{no_notices}
 use Rattle.page_parts.specs.Timers.{no_timers}
 use Rattle.page_parts.specs.Frames.{no_frames}
 use Rattle.page_parts.specs.IdleCallbacks.{no_idle, waits}
-use Rattle.page_model.specs.PageTime.{first_task, first_sched, without_sched, idle_moment, idle_step}
+use Rattle.page_model.specs.PageTime.{first_task, idle_moment, idle_step}
+use Rattle.page_model.specs.SchedulerTasks.{first_sched, without_sched}
 use Rattle.page_model.specs.Invoke.{in_task}
 use Rattle.page_model.specs.PageSignals.{host_task_of}
 use Rattle.page_model.specs.Operations.{page_operations}
@@ -79,14 +80,14 @@ not_dropped None = None
 not_dropped (Some c) = elim c.mark [ Live ↦ Some c | QueuedMark ↦ Some c | Fired ↦ Some c | Dropped ↦ None ]
 
 -- a net task with the answer that was chosen; without a legal one the run is stuck
-abbrev pub answered : {C : Type 0} → Caller Page → HostTask → Option (Chosen (Result ℤ ℤ) C) → State → C → Turned C
-answered call t None m c = Stuck m c
-answered call t (Some a) m c = task_done call a.left (finish (on_page (answer_host t a.choice) m))
+abbrev pub host_answered : {C : Type 0} → Caller Page → HostTask → Option (Chosen (Result ℤ ℤ) C) → State → C → Turned C
+host_answered call t None m c = Stuck m c
+host_answered call t (Some a) m c = task_done call a.left (finish (on_page (answer_host t a.choice) m))
 
 -- a net task of a host: a task whose signal was aborted before does nothing
 abbrev pub perform_host : {C : Type 0} → Rules C → Caller Page → HostTask → Option HostClosure → State → C → Turned C
 perform_host rules call t None m c = task_done call c (finish m)
-perform_host rules call t (Some k) m c = answered call t (chosen_answer rules k.kind t.number c) m c
+perform_host rules call t (Some k) m c = host_answered call t (chosen_answer rules k.kind t.number c) m c
 
 -- a task is performed; that of a host answer takes a choice
 abbrev pub perform_task : {C : Type 0} → Rules C → Caller Page → Task → Option HostTask → State → C → Turned C
@@ -237,10 +238,10 @@ first_page program setup hosts =
       frames = no_frames;
       frames_since = 0;
       last_opportunity = 0;
-      period = 1000000 / setup.refresh;
+      refresh_period = 1000000 / setup.refresh;
       idle = no_idle;
       last_idle_start = 0;
-      period_end = 0;
+      idle_period_end = 0;
       signals = [];
       prios = [];
       listeners = [];

@@ -5,7 +5,8 @@ use Rattle.page_types.specs.declared.Source.TheVariants.{Sched}
 use Rattle.page_parts.specs.Sources.{default_list}
 use Rattle.page_parts.specs.WrittenChoices.{Runnable}
 use Rattle.page_model.specs.State.{Page}
-use Rattle.page_model.specs.PageTime.{first_task, first_sched}
+use Rattle.page_model.specs.PageTime.{first_task}
+use Rattle.page_model.specs.SchedulerTasks.{first_sched}
 
 -- ---- HTML, "Event loops: processing model": the runnable tasks
 

@@ -16,7 +16,7 @@ ghost use Rattle.page_parts.specs.TaskSignals.{is_changing};
 ghost use Rattle.page_parts.specs.Setup.{Setup};
 ghost use Rattle.page_parts.specs.HostClosures.{HostClosure};
 ghost use Rattle.page_model.specs.Turns.{first_page, first_state, turns, run_by};
-ghost use Rattle.page_model.specs.Folds.{Change, ChangeOf, Fold, go_on, begin_dispatch, begin_abort, begin_change, change_fold, changes_from};
+ghost use Rattle.page_model.specs.Folds.{ChangePiece, ChangeOf, Fold, go_on, begin_dispatch, begin_abort, begin_change, change_fold, changes_from};
 ghost use Rattle.page_model.specs.FoldBounds.{IsBounded, HostIsBounded, FewerLeft, to_visit};
 ghost use Rattle.page_model.specs.Hosted.{EndsSame, EndsBounded, call_by_steps, TurnEndsBounded};
 ghost use Rattle.page_model.specs.Operations.{page_operations};
@@ -72,7 +72,7 @@ pub fn callbacks_left_fall()
 
 /// The next piece of a priority change: it is passed over, or it opens the fold of its own listeners, its followers and its end.
 pub fn priority_changes_go_piece_by_piece()
-    ensures { (when : WhenReported) (priority : Priority) (chain s : ℕ) (more : List Change) (p : Page) → changes_from priority (ChangeOf (suc chain) s ∷ more) p ≡ cond (is_changing p.prios s || has_priority p.prios s priority) (changes_from priority more p) (go_on (change_fold when priority chain s more p) (change_begun s priority p)) }
+    ensures { (when : WhenReported) (priority : Priority) (chain s : ℕ) (more : List ChangePiece) (p : Page) → changes_from priority (ChangeOf (suc chain) s ∷ more) p ≡ cond (is_changing p.prios s || has_priority p.prios s priority) (changes_from priority more p) (go_on (change_fold when priority chain s more p) (change_begun s priority p)) }
 {}
 
 /// The page before the first turn is within bounds.

@@ -3,7 +3,7 @@ use Rattle.std.specs.Prelude.{ℕ, suc, Bool, true, false, cond, List, [], ◌�
 use Rattle.page_types.specs.Events.{Queued, MicroJob, ReactJob, AdoptJob, Event, Job, Settle}
 use Rattle.page_parts.specs.Words.{and_last, without, has_number, numbered, with_numbered}
 use Rattle.page_parts.specs.Spelling.{spelled}
-use Rattle.page_parts.specs.Promises.{Settled, Fulfilled, Failed, Reaction, PromiseRecord, PromiseJob, React, Adopt, Change, pending_promise, resolve, reject, follow, subscribe}
+use Rattle.page_parts.specs.Promises.{Settled, Fulfilled, Failed, Reaction, PromiseRecord, PromiseJob, React, Adopt, Change, pending_promise, the_promise, resolve, reject, follow, subscribe}
 
 -- ---- ECMA-262, "Jobs"; HTML, "Microtask checkpoint": the queue of microtasks
 
@@ -46,10 +46,6 @@ pub record Noticed : Type 0 where
   pub lines : List Event
 
 -- ---- ECMA-262, "Promise Objects"
-
--- promise number n
-abbrev pub the_promise : Notices → ℕ → PromiseRecord
-the_promise s n = numbered s.promises n pending_promise
 
 -- a new pending promise; its number is the length of the list afterwards
 abbrev pub make : Notices → Notices
@@ -102,19 +98,19 @@ changed now names n c s = followed_by (promise_changed names n c s) (queue_jobs 
 
 -- a promise is resolved with a value or rejected with a reason
 abbrev pub settle_promise : Context → List (List ℕ) → ℕ → Settled → Notices → Noticed
-settle_promise now names n (Fulfilled v) s = changed now names n (resolve n (the_promise s n) v) s
-settle_promise now names n (Failed v) s = changed now names n (reject n (the_promise s n) v) s
+settle_promise now names n (Fulfilled v) s = changed now names n (resolve n (the_promise s.promises n) v) s
+settle_promise now names n (Failed v) s = changed now names n (reject n (the_promise s.promises n) v) s
 
 -- a promise follows the outcome of the one that it was resolved with
 abbrev pub follow_promise : Context → List (List ℕ) → ℕ → Settled → Notices → Noticed
-follow_promise now names n how s = changed now names n (follow n (the_promise s n) how) s
+follow_promise now names n how s = changed now names n (follow n (the_promise s.promises n) how) s
 
 -- ---- ECMA-262, "PerformPromiseThen"; HTML, "Unhandled promise rejections": a promise that is handled
 
 -- A promise gets a handler, so it leaves the list of those to be notified about and the outstanding ones.
 abbrev pub subscribe_promise : Context → ℕ → Reaction → Notices → Noticed
 subscribe_promise now n r s =
-    changed now [] n (subscribe n (the_promise s n) r)
+    changed now [] n (subscribe n (the_promise s.promises n) r)
     (record s { rejected = without (λ m. m == n) s.rejected; outstanding = without (λ m. m == n) s.outstanding })
 
 -- whether a promise was notified about and stayed unhandled
@@ -127,4 +123,4 @@ queue_micro now r s = queue_job now (Micro r) s
 
 -- HTML, "Unhandled promise rejections" (notify about rejected promises): a promise that is still unhandled joins the outstanding ones
 abbrev pub note_outstanding : ℕ → Notices → Notices
-note_outstanding n s = cond (the_promise s n).handled s (record s { outstanding = and_last s.outstanding n })
+note_outstanding n s = cond (the_promise s.promises n).handled s (record s { outstanding = and_last s.outstanding n })

@@ -2,7 +2,7 @@
 use Rattle.std.specs.Prelude.{ℕ, Bool, true, false, cond, not, ◌&&◌, List, [], ◌∷◌, map, Option, Some, None, ◌==◌}
 use Rattle.page_types.specs.Values.{Value}
 use Rattle.page_types.specs.declared.FaultName.TheVariants.{TypeError}
-use Rattle.page_parts.specs.Words.{and_last}
+use Rattle.page_parts.specs.Words.{and_last, numbered}
 use Rattle.page_parts.specs.Kinds.{promise_in, a_fault}
 
 -- ---- ECMA-262, "Promise Objects"
@@ -34,6 +34,10 @@ pub data PromiseJob : Type 0 where
 -- a new promise
 abbrev pub pending_promise : PromiseRecord
 pending_promise = record { outcome = None; locked = false; handled = false; reactions = [] }
+
+-- promise number n
+abbrev pub the_promise : List PromiseRecord → ℕ → PromiseRecord
+the_promise promises n = numbered promises n pending_promise
 
 -- the new record of a promise, whether it was settled, the new jobs, and whether it is newly rejected with no handler
 pub record Change : Type 0 where

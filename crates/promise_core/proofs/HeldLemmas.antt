@@ -8,7 +8,8 @@ use Rattle.page_parts.specs.Words.{and_last, without, numbered, with_numbered}
 use Rattle.page_types.specs.Values.{Value}
 use Rattle.page_parts.specs.Kinds.{promise_in}
 use Rattle.page_parts.specs.Promises.{PromiseRecord, Settled, Failed, Reaction, reject, resolve, resolve_unlocked, subscribe, subscribe_by, Change, pending_promise, settle, follow, no_change, has_failed}
-use Rattle.promise_core.specs.Held.{Held, the_promise, changed, made, no_longer_rejected, unhandled, all_within}
+use Rattle.promise_core.specs.Held.{Held, changed, made, no_longer_rejected, unhandled, all_within}
+use Rattle.page_parts.specs.Promises.{the_promise}
 
 -- ---- Truth values
 
@@ -181,7 +182,7 @@ abbrev pub held_of : List PromiseRecord → List ℕ → Held
 held_of ps ns = record { promises = ps; rejected = unhandled ps ns }
 
 -- nothing happened to a promise
-pub changed-not : (n : ℕ) (s : Held) → changed n (no_change (the_promise s n)) s ≡ s
+pub changed-not : (n : ℕ) (s : Held) → changed n (no_change (the_promise s.promises n)) s ≡ s
 changed-not n s = ap (λ ps. record s { promises = ps }) (with_numbered-same s.promises n pending_promise)
 
 -- a change that leaves the handled mark and rejects nothing

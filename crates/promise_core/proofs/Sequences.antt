@@ -8,7 +8,8 @@ use Rattle.page_parts.specs.Kinds.{promise_in, a_fault}
 use Rattle.page_types.specs.declared.FaultName.TheVariants.{TypeError}
 use Rattle.page_parts.specs.Words.{numbered, with_numbered}
 use Rattle.page_parts.specs.Promises.{PromiseRecord, Settled, Fulfilled, Failed, Reaction, React, Change, pending_promise, no_change, settle, adopt, resolve, resolve_unlocked, reject, follow, subscribe, subscribe_by}
-use Rattle.promise_core.specs.Held.{Held, IsMade, the_promise, nothing_held}
+use Rattle.promise_core.specs.Held.{Held, IsMade, nothing_held}
+use Rattle.page_parts.specs.Promises.{the_promise}
 use Rattle.promise_core.specs.Calls.{Act, Resolve, Reject, Follow, Subscribe, Call, Make, TakeRejected, Of, step, before_step, after, after_all, IsOfMade, AreOfMade, settled_by, times_settled, reactions_of, reacted_by, reacted, given, subscribed}
 use Rattle.promise_core.proofs.HeldLemmas.{numbered-with, numbered-with_other, numbered-made, apart}
 
@@ -154,20 +155,20 @@ others-step (Subscribe r) n m q h = by_outcome q.outcome
 
 -- what one call keeps of promise n
 pub record CallKeeps (n : ℕ) (c : Call) (s : Held) : Type 0 where
-  pub sound : IsSound (the_promise (after c s) n)
-  pub settles : settled_by n c s + left (the_promise (after c s) n) ≡ left (the_promise s n)
-  pub reacts : (more : List Reaction) → reacted_by n c s ++ ((the_promise (after c s) n).reactions ++ more) ≡ (the_promise s n).reactions ++ (subscribed n (c ∷ []) ++ more)
-  pub pending : is_some (the_promise (after c s) n).outcome ≡ false → (is_some (the_promise s n).outcome ≡ false) × (reacted_by n c s ≡ [])
+  pub sound : IsSound (the_promise (after c s).promises n)
+  pub settles : settled_by n c s + left (the_promise (after c s).promises n) ≡ left (the_promise s.promises n)
+  pub reacts : (more : List Reaction) → reacted_by n c s ++ ((the_promise (after c s).promises n).reactions ++ more) ≡ (the_promise s.promises n).reactions ++ (subscribed n (c ∷ []) ++ more)
+  pub pending : is_some (the_promise (after c s).promises n).outcome ≡ false → (is_some (the_promise s.promises n).outcome ≡ false) × (reacted_by n c s ≡ [])
 
 -- a call that does not name the promise
-same-keeps : (n : ℕ) (c : Call) (s : Held) → the_promise (after c s) n ≡ the_promise s n → settled_by n c s ≡ 0 → reacted_by n c s ≡ [] → subscribed n (c ∷ []) ≡ []
-    → IsSound (the_promise s n) → CallKeeps n c s
+same-keeps : (n : ℕ) (c : Call) (s : Held) → the_promise (after c s).promises n ≡ the_promise s.promises n → settled_by n c s ≡ 0 → reacted_by n c s ≡ [] → subscribed n (c ∷ []) ≡ []
+    → IsSound (the_promise s.promises n) → CallKeeps n c s
 same-keeps n c s e none no_jobs not_given sound =
     record {
       sound = subst IsSound (sym e) sound;
       settles = omega (arith, none, ap left e);
-      reacts = λ more. ap (λ xs. xs ++ ((the_promise (after c s) n).reactions ++ more)) no_jobs
-          ∙ (ap (λ q. q.reactions ++ more) e ∙ sym (ap (λ xs. (the_promise s n).reactions ++ (xs ++ more)) not_given));
+      reacts = λ more. ap (λ xs. xs ++ ((the_promise (after c s).promises n).reactions ++ more)) no_jobs
+          ∙ (ap (λ q. q.reactions ++ more) e ∙ sym (ap (λ xs. (the_promise s.promises n).reactions ++ (xs ++ more)) not_given));
       pending = λ h. (sym (ap (λ q. is_some q.outcome) e) ∙ h, no_jobs);
     }
 
@@ -177,50 +178,50 @@ before-promises (Reject v) n s = refl
 before-promises (Follow how) n s = refl
 before-promises (Subscribe r) n s = refl
 
-after-own : (a : Act) (n : ℕ) (s : Held) → IsMade s n → the_promise (after (Of n a) s) n ≡ (step a n (the_promise s n)).promise
+after-own : (a : Act) (n : ℕ) (s : Held) → IsMade s n → the_promise (after (Of n a) s).promises n ≡ (step a n (the_promise s.promises n)).promise
 after-own a n s is =
-    ap (λ ps. numbered (with_numbered ps n (step a n (the_promise s n)).promise) n pending_promise) (before-promises a n s)
-    ∙ numbered-with s.promises n (step a n (the_promise s n)).promise pending_promise is.counted is.within
+    ap (λ ps. numbered (with_numbered ps n (step a n (the_promise s.promises n)).promise) n pending_promise) (before-promises a n s)
+    ∙ numbered-with s.promises n (step a n (the_promise s.promises n)).promise pending_promise is.counted is.within
 
-after-other : (a : Act) (m n : ℕ) (s : Held) → IsMade s m → 0 < n → m ≢ n → the_promise (after (Of m a) s) n ≡ the_promise s n
+after-other : (a : Act) (m n : ℕ) (s : Held) → IsMade s m → 0 < n → m ≢ n → the_promise (after (Of m a) s) n ≡ the_promise s.promises n
 after-other a m n s is h ne =
-    ap (λ ps. numbered (with_numbered ps m (step a m (the_promise s m)).promise) n pending_promise) (before-promises a m s)
-    ∙ numbered-with_other s.promises m n (step a m (the_promise s m)).promise pending_promise (apart n m h is.counted (λ e. ne (sym e)))
+    ap (λ ps. numbered (with_numbered ps m (step a m (the_promise s.promises m)).promise) n pending_promise) (before-promises a m s)
+    ∙ numbered-with_other s.promises m n (step a m (the_promise s.promises m)).promise pending_promise (apart n m h is.counted (λ e. ne (sym e)))
 
 -- a call that names it
-own-keeps : (a : Act) (n : ℕ) (s : Held) → IsMade s n → IsSound (the_promise s n) → CallKeeps n (Of n a) s
+own-keeps : (a : Act) (n : ℕ) (s : Held) → IsMade s n → IsSound (the_promise s.promises n) → CallKeeps n (Of n a) s
 own-keeps a n s is sound =
-    let q = the_promise s n in
+    let q = the_promise s.promises n in
     let keeps = keeps-step a n q sound in
-    let e : the_promise (after (Of n a) s) n ≡ (step a n q).promise = after-own a n s is in
+    let e : the_promise (after (Of n a) s).promises n ≡ (step a n q).promise = after-own a n s is in
     let once : settled_by n (Of n a) s ≡ cond (step a n q).settled 1 0 = ap (λ b. cond b (cond (step a n q).settled 1 0) 0) (eqb_same n) in
     let gets : subscribed n (Of n a ∷ []) ≡ given a = append-nil (cond (n == n) (given a) []) ∙ ap (λ b. cond b (given a) []) (eqb_same n) in
     record {
       sound = subst IsSound (sym e) keeps.sound;
-      settles = ap (λ t. t + left (the_promise (after (Of n a) s) n)) once ∙ (ap (λ r. cond (step a n q).settled 1 0 + left r) e ∙ keeps.settles);
+      settles = ap (λ t. t + left (the_promise (after (Of n a) s).promises n)) once ∙ (ap (λ r. cond (step a n q).settled 1 0 + left r) e ∙ keeps.settles);
       reacts = λ more. ap (λ r. reactions_of n (step a n q).jobs ++ (r.reactions ++ more)) e
           ∙ (sym (append_assoc (reactions_of n (step a n q).jobs) (step a n q).promise.reactions more)
           ∙ (ap (λ xs. xs ++ more) keeps.reacts ∙ (append_assoc q.reactions (given a) more ∙ sym (ap (λ xs. q.reactions ++ (xs ++ more)) gets))));
       pending = λ h. keeps.pending (sym (ap (λ r. is_some r.outcome) e) ∙ h);
     }
 
-call-keeps : (n : ℕ) → 0 < n → (c : Call) (s : Held) → IsOfMade c s → IsSound (the_promise s n) → CallKeeps n c s
+call-keeps : (n : ℕ) → 0 < n → (c : Call) (s : Held) → IsOfMade c s → IsSound (the_promise s.promises n) → CallKeeps n c s
 call-keeps n h Make s is sound = same-keeps n Make s (numbered-made s.promises n) refl refl refl sound
 call-keeps n h TakeRejected s is sound = same-keeps n TakeRejected s refl refl refl refl sound
 call-keeps n h (Of m a) s is sound =
     elim (eqb_tells m n) [
       | inl e ↦ subst (λ k. CallKeeps n (Of k a) s) (sym e.1) (own-keeps a n s (subst (IsMade s) e.1 is) sound)
-      | inr e ↦ same-keeps n (Of m a) s (after-other a m n s is h e.1) (ap (λ b. cond b (cond (step a m (the_promise s m)).settled 1 0) 0) e.0)
-          (others-step a n m (the_promise s m) e.0) (ap (λ b. cond b (given a) [] ++ []) e.0) sound
+      | inr e ↦ same-keeps n (Of m a) s (after-other a m n s is h e.1) (ap (λ b. cond b (cond (step a m (the_promise s.promises m)).settled 1 0) 0) e.0)
+          (others-step a n m (the_promise s.promises m) e.0) (ap (λ b. cond b (given a) [] ++ []) e.0) sound
     ]
 
 -- ---- Of all calls
 
-all-sound : (n : ℕ) → 0 < n → (cs : List Call) (s : Held) → AreOfMade cs s → IsSound (the_promise s n) → IsSound (the_promise (after_all cs s) n)
+all-sound : (n : ℕ) → 0 < n → (cs : List Call) (s : Held) → AreOfMade cs s → IsSound (the_promise s.promises n) → IsSound (the_promise (after_all cs s).promises n)
 all-sound n h [] s are sound = sound
 all-sound n h (c ∷ cs) s are sound = all-sound n h cs (after c s) are.1 (call-keeps n h c s are.0 sound).sound
 
-all-settles : (n : ℕ) → 0 < n → (cs : List Call) (s : Held) → AreOfMade cs s → IsSound (the_promise s n) → times_settled n cs s + left (the_promise (after_all cs s) n) ≡ left (the_promise s n)
+all-settles : (n : ℕ) → 0 < n → (cs : List Call) (s : Held) → AreOfMade cs s → IsSound (the_promise s.promises n) → times_settled n cs s + left (the_promise (after_all cs s).promises n) ≡ left (the_promise s.promises n)
 all-settles n h [] s are sound = omega arith
 all-settles n h (c ∷ cs) s are sound =
     let keeps = call-keeps n h c s are.0 sound in
@@ -231,17 +232,17 @@ subscribed-first n Make cs = refl
 subscribed-first n TakeRejected cs = refl
 subscribed-first n (Of m a) cs = ap (λ xs. xs ++ subscribed n cs) (append-nil (cond (m == n) (given a) []))
 
-all-reacts : (n : ℕ) → 0 < n → (cs : List Call) (s : Held) → AreOfMade cs s → IsSound (the_promise s n)
-    → reacted n cs s ++ (the_promise (after_all cs s) n).reactions ≡ (the_promise s n).reactions ++ subscribed n cs
-all-reacts n h [] s are sound = sym (append-nil (the_promise s n).reactions)
+all-reacts : (n : ℕ) → 0 < n → (cs : List Call) (s : Held) → AreOfMade cs s → IsSound (the_promise s.promises n)
+    → reacted n cs s ++ (the_promise (after_all cs s).promises n).reactions ≡ (the_promise s.promises n).reactions ++ subscribed n cs
+all-reacts n h [] s are sound = sym (append-nil (the_promise s.promises n).reactions)
 all-reacts n h (c ∷ cs) s are sound =
     let keeps = call-keeps n h c s are.0 sound in
-    append_assoc (reacted_by n c s) (reacted n cs (after c s)) (the_promise (after_all cs (after c s)) n).reactions
+    append_assoc (reacted_by n c s) (reacted n cs (after c s)) (the_promise (after_all cs (after c s)).promises n).reactions
     ∙ (ap (λ xs. reacted_by n c s ++ xs) (all-reacts n h cs (after c s) are.1 keeps.sound)
-    ∙ (keeps.reacts (subscribed n cs) ∙ ap (λ xs. (the_promise s n).reactions ++ xs) (subscribed-first n c cs)))
+    ∙ (keeps.reacts (subscribed n cs) ∙ ap (λ xs. (the_promise s.promises n).reactions ++ xs) (subscribed-first n c cs)))
 
-all-pending : (n : ℕ) → 0 < n → (cs : List Call) (s : Held) → AreOfMade cs s → IsSound (the_promise s n) → is_some (the_promise (after_all cs s) n).outcome ≡ false
-    → (is_some (the_promise s n).outcome ≡ false) × (reacted n cs s ≡ [])
+all-pending : (n : ℕ) → 0 < n → (cs : List Call) (s : Held) → AreOfMade cs s → IsSound (the_promise s.promises n) → is_some (the_promise (after_all cs s).promises n).outcome ≡ false
+    → (is_some (the_promise s.promises n).outcome ≡ false) × (reacted n cs s ≡ [])
 all-pending n h [] s are sound p = (p, refl)
 all-pending n h (c ∷ cs) s are sound p =
     let keeps = call-keeps n h c s are.0 sound in
@@ -257,15 +258,15 @@ one_or_none t true h = omega (arith, h)
 one_or_none t false h = omega (arith, h)
 
 -- a promise settles once, or not
-pub settles-once : (cs : List Call) (n : ℕ) → AreOfMade cs nothing_held → 0 < n → times_settled n cs nothing_held ≡ cond (is_some (the_promise (after_all cs nothing_held) n).outcome) 1 0
-settles-once cs n are h = one_or_none (times_settled n cs nothing_held) (is_some (the_promise (after_all cs nothing_held) n).outcome) (all-settles n h cs nothing_held are sound-at-first)
+pub settles-once : (cs : List Call) (n : ℕ) → AreOfMade cs nothing_held → 0 < n → times_settled n cs nothing_held ≡ cond (is_some (the_promise (after_all cs nothing_held).promises n).outcome) 1 0
+settles-once cs n are h = one_or_none (times_settled n cs nothing_held) (is_some (the_promise (after_all cs nothing_held).promises n).outcome) (all-settles n h cs nothing_held are sound-at-first)
 
 -- one job for each reaction of a settled promise
-pub reacts-once : (cs : List Call) (n : ℕ) → AreOfMade cs nothing_held → 0 < n → is_some (the_promise (after_all cs nothing_held) n).outcome ≡ true → reacted n cs nothing_held ≡ subscribed n cs
+pub reacts-once : (cs : List Call) (n : ℕ) → AreOfMade cs nothing_held → 0 < n → is_some (the_promise (after_all cs nothing_held).promises n).outcome ≡ true → reacted n cs nothing_held ≡ subscribed n cs
 reacts-once cs n are h settled =
     let sound = all-sound n h cs nothing_held are sound-at-first in
     sym (append-nil (reacted n cs nothing_held)) ∙ (ap (λ xs. reacted n cs nothing_held ++ xs) (sym (sound.none_waits settled)) ∙ all-reacts n h cs nothing_held are sound-at-first)
 
 -- no job yet for a pending one
-pub reacts-not_yet : (cs : List Call) (n : ℕ) → AreOfMade cs nothing_held → 0 < n → is_some (the_promise (after_all cs nothing_held) n).outcome ≡ false → reacted n cs nothing_held ≡ []
+pub reacts-not_yet : (cs : List Call) (n : ℕ) → AreOfMade cs nothing_held → 0 < n → is_some (the_promise (after_all cs nothing_held).promises n).outcome ≡ false → reacted n cs nothing_held ≡ []
 reacts-not_yet cs n are h pending = (all-pending n h cs nothing_held are sound-at-first pending).1

@@ -5,7 +5,8 @@ use Rattle.page_parts.specs.Promises.{no_change}
 use Rattle.promise_core.specs.declared.record.Change.{Change}
 use Rattle.promise_core.specs.declared.record.Job.{Job}
 use Rattle.promise_core.specs.Seen.{jobs_seen}
-use Rattle.promise_core.specs.Held.{Held, the_promise, changed}
+use Rattle.promise_core.specs.Held.{Held, changed}
+use Rattle.page_parts.specs.Promises.{the_promise}
 use Rattle.promise_core.specs.Changes.{Tells, Brings}
 use Rattle.promise_core.proofs.HeldLemmas.{changed-not}
 
@@ -21,7 +22,7 @@ tells-jobs told js change is a b jobs =
 
 -- where nothing happens to a promise, nothing is told
 pub brings-nothing : (told : Change) (js : Vec Job Global) (n : ℕ) (s : Held) (change : Parts.Change) → told ≡ record { settled = false; jobs = js; newly_rejected = false }
-    → js.items ≡ [] → change ≡ no_change (the_promise s n) → Brings told n change s s
+    → js.items ≡ [] → change ≡ no_change (the_promise s.promises n) → Brings told n change s s
 brings-nothing told js n s change is none same =
     record {
       state = sym (ap (λ c. changed n c s) same ∙ changed-not n s);

@@ -3,7 +3,8 @@ use Rattle.std.specs.Prelude.{ℕ, ◌+◌, cond, List, [], ◌∷◌, ◌++◌,
 use Rattle.page_types.specs.Values.{Value}
 use Rattle.page_parts.specs.Promises as Parts
 use Rattle.page_parts.specs.Promises.{PromiseRecord, Settled, Reaction, PromiseJob, React, Adopt, Change}
-use Rattle.promise_core.specs.Held.{Held, IsMade, the_promise, made, changed, no_longer_rejected}
+use Rattle.promise_core.specs.Held.{Held, IsMade, made, changed, no_longer_rejected}
+use Rattle.page_parts.specs.Promises.{the_promise}
 
 -- what a call does to one promise
 pub data Act : Type 0 where
@@ -34,7 +35,7 @@ before_step a n s = s
 abbrev pub after : Call → Held → Held
 after Make s = made s
 after TakeRejected s = record s { rejected = [] }
-after (Of n a) s = changed n (step a n (the_promise s n)) (before_step a n s)
+after (Of n a) s = changed n (step a n (the_promise s.promises n)) (before_step a n s)
 
 -- and after all of these calls
 abbrev pub after_all : List Call → Held → Held
@@ -56,7 +57,7 @@ AreOfMade (c ∷ cs) s = IsOfMade c s × AreOfMade cs (after c s)
 abbrev pub settled_by : ℕ → Call → Held → ℕ
 settled_by n Make s = 0
 settled_by n TakeRejected s = 0
-settled_by n (Of m a) s = cond (m == n) (cond (step a m (the_promise s m)).settled 1 0) 0
+settled_by n (Of m a) s = cond (m == n) (cond (step a m (the_promise s.promises m)).settled 1 0) 0
 
 -- how often calls settle promise n
 abbrev pub times_settled : ℕ → List Call → Held → ℕ
@@ -73,7 +74,7 @@ reactions_of n (Adopt into from ∷ js) = reactions_of n js
 abbrev pub reacted_by : ℕ → Call → Held → List Reaction
 reacted_by n Make s = []
 reacted_by n TakeRejected s = []
-reacted_by n (Of m a) s = reactions_of n (step a m (the_promise s m)).jobs
+reacted_by n (Of m a) s = reactions_of n (step a m (the_promise s.promises m)).jobs
 
 -- those for which calls brought jobs, in the order of the jobs
 abbrev pub reacted : ℕ → List Call → Held → List Reaction

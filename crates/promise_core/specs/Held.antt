@@ -16,10 +16,6 @@ pub record Held : Type 0 where
 abbrev pub nothing_held : Held
 nothing_held = record { promises = []; rejected = [] }
 
--- promise number n
-abbrev pub the_promise : Held → ℕ → PromiseRecord
-the_promise s n = numbered s.promises n pending_promise
-
 -- promise number n was made
 pub record IsMade (s : Held) (n : ℕ) : Type 0 where
   pub counted : 0 < n

@@ -4,7 +4,8 @@ ghost use Rattle.std.specs.Prelude.{◌≡◌, ◌+◌, ◌^◌, ◌<◌, ◌≤
 ghost use Rattle.page_parts.specs.Words.{and_last, numbered, with_numbered};
 ghost use Rattle.page_parts.specs.Promises as parts;
 ghost use Rattle.page_values.specs.Seen.{seen};
-ghost use Rattle.promise_core.specs.Held.{Held, IsMade, the_promise, made, no_longer_rejected, unhandled, all_within};
+ghost use Rattle.promise_core.specs.Held.{Held, IsMade, made, no_longer_rejected, unhandled, all_within};
+ghost use Rattle.page_parts.specs.Promises.{the_promise};
 ghost use Rattle.promise_core.specs.Seen.{settled_seen, reaction_seen, jobs_seen, records_seen, record_seen};
 ghost use Rattle.promise_core.specs.Changes.{Brings};
 
@@ -77,7 +78,7 @@ impl Promises {
     /// Functions"). For want of memory nothing changes.
     pub fn resolve(&mut self, p: u32, v: Value) -> Result<Change, MemoryFault>
         requires { IsMade self.old p }
-        ensures ok { IfOk result (λ told. Brings told p (parts.resolve p (the_promise self.old p) (seen v)) self.old self.new) }
+        ensures ok { IfOk result (λ told. Brings told p (parts.resolve p (the_promise self.old.promises p) (seen v)) self.old self.new) }
         ensures err { OnErr result (self.new ≡ self.old) }
     {
         let record = record_of(&self.records, p);
@@ -98,7 +99,7 @@ impl Promises {
     /// memory nothing changes.
     pub fn reject(&mut self, p: u32, v: Value) -> Result<Change, MemoryFault>
         requires { IsMade self.old p }
-        ensures ok { IfOk result (λ told. Brings told p (parts.reject p (the_promise self.old p) (seen v)) self.old self.new) }
+        ensures ok { IfOk result (λ told. Brings told p (parts.reject p (the_promise self.old.promises p) (seen v)) self.old self.new) }
         ensures err { OnErr result (self.new ≡ self.old) }
     {
         if record_of(&self.records, p).locked {
@@ -111,7 +112,7 @@ impl Promises {
     /// want of memory nothing changes.
     pub fn follow(&mut self, p: u32, o: Settled) -> Result<Change, MemoryFault>
         requires { IsMade self.old p }
-        ensures ok { IfOk result (λ told. Brings told p (parts.follow p (the_promise self.old p) (settled_seen o)) self.old self.new) }
+        ensures ok { IfOk result (λ told. Brings told p (parts.follow p (the_promise self.old.promises p) (settled_seen o)) self.old self.new) }
         ensures err { OnErr result (self.new ≡ self.old) }
     {
         if record_of(&self.records, p).outcome.is_some() {
@@ -125,7 +126,7 @@ impl Promises {
     /// changes.
     pub fn subscribe(&mut self, p: u32, r: Reaction) -> Result<Change, MemoryFault>
         requires { IsMade self.old p }
-        ensures ok { IfOk result (λ told. Brings told p (parts.subscribe p (the_promise self.old p) (reaction_seen r)) (no_longer_rejected p self.old) self.new) }
+        ensures ok { IfOk result (λ told. Brings told p (parts.subscribe p (the_promise self.old.promises p) (reaction_seen r)) (no_longer_rejected p self.old) self.new) }
         ensures err { OnErr result (self.new ≡ self.old) }
     {
         let jobs = subscribe_at(&mut self.records, p, self.alloc, r)?;
@@ -135,7 +136,7 @@ impl Promises {
     /// Whether the promise has or had a handler. Takes no memory.
     pub fn handled(&self, p: u32) -> bool
         requires { IsMade self.now p }
-        ensures { result ≡ (the_promise self.now p).handled }
+        ensures { result ≡ (the_promise self.now.promises p).handled }
     {
         record_of(&self.records, p).handled
     }
@@ -143,7 +144,7 @@ impl Promises {
     /// How the promise was settled, and None exactly while it is pending. Takes no memory.
     pub fn outcome(&self, p: u32) -> Option<&Settled>
         requires { IsMade self.now p }
-        ensures { MatchOption result ((the_promise self.now p).outcome ≡ None) (λ how. (the_promise self.now p).outcome ≡ Some (settled_seen how.now)) }
+        ensures { MatchOption result ((the_promise self.now.promises p).outcome ≡ None) (λ how. (the_promise self.now.promises p).outcome ≡ Some (settled_seen how.now)) }
     {
         record_of(&self.records, p).outcome.as_ref()
     }
@@ -162,7 +163,7 @@ impl Promises {
     // Settles a promise, pending or not.
     fn settle(&mut self, p: u32, how: Settled) -> Result<Change, MemoryFault>
         requires { IsMade self.old p }
-        ensures ok { IfOk result (λ told. Brings told p (parts.settle p (the_promise self.old p) (settled_seen how)) self.old self.new) }
+        ensures ok { IfOk result (λ told. Brings told p (parts.settle p (the_promise self.old.promises p) (settled_seen how)) self.old self.new) }
         ensures err { OnErr result (self.new ≡ self.old) }
     {
         let record = record_of(&self.records, p);
@@ -180,7 +181,7 @@ impl Promises {
     // Locks a promise, and queues the job by which it subscribes to another.
     fn adopt(&mut self, p: u32, from: u32) -> Result<Change, MemoryFault>
         requires { IsMade self.old p }
-        ensures ok { IfOk result (λ told. Brings told p (parts.adopt p (the_promise self.old p) from) self.old self.new) }
+        ensures ok { IfOk result (λ told. Brings told p (parts.adopt p (the_promise self.old.promises p) from) self.old self.new) }
         ensures err { OnErr result (self.new ≡ self.old) }
     {
         let jobs = vec![in self.alloc; Job::Adopt { into: p, from }]?;

@@ -2,7 +2,7 @@
 use Rattle.std.proofs.Common.{◌≡◌, ℕ, Bool, true, false, List, Option, Some, None, refl}
 use Rattle.std.specs.Prelude.{◌&&◌, IsTrue}
 use Rattle.std.proofs.lemmas.Bool.{false≢true}
-use Rattle.page_base.specs.Fields.{◌>>=◌, or_else}
+use Rattle.page_base.specs.Fields.{◌>>=◌, read_or}
 
 pub left : (a b : Bool) → IsTrue (a && b) → IsTrue a
 left true b p = refl
@@ -26,6 +26,6 @@ leads None next x is = absurd cc
 leads (Some a) next x is = record { between = a; first = refl; second = is }
 
 -- from an answer by the first reading or by another
-pub or_found : {X G : Type 0} (o : Option (List ℕ)) (read : List ℕ → Option X) (other : Option X) (x : X) → ((rest : List ℕ) → o ≡ Some rest → read rest ≡ Some x → G) → (other ≡ Some x → G) → or_else o read other ≡ Some x → G
+pub or_found : {X G : Type 0} (o : Option (List ℕ)) (read : List ℕ → Option X) (other : Option X) (x : X) → ((rest : List ℕ) → o ≡ Some rest → read rest ≡ Some x → G) → (other ≡ Some x → G) → read_or o read other ≡ Some x → G
 or_found None read other x first second is = second is
 or_found (Some rest) read other x first second is = first rest refl is

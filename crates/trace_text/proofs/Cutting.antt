@@ -4,7 +4,7 @@ use Rattle.std.specs.List.{list_all}
 use Rattle.std.specs.Option.{option_map}
 use Rattle.std.proofs.lemmas.Bool.{eqb-true, eq-eqb}
 use Rattle.page_parts.specs.Words.{same_bytes}
-use Rattle.page_base.specs.Fields.{behind_start, behind, is_word, cut_at, ◌>>=◌, or_else}
+use Rattle.page_base.specs.Fields.{behind_start, behind, is_word, cut_at, ◌>>=◌, read_or}
 
 -- ---- the parts of a cut, and the bytes that are cut so
 
@@ -96,12 +96,12 @@ pub map_then : {A X : Type 0} (P : Type 0) (o : Option A) (f : A → X) (x : X) 
 map_then P None f x is found = absurd cc
 map_then P (Some a) f x is found = found a refl cc
 
-or_by_answer : {X : Type 0} (P : List ℕ → Type 0) (start w : List ℕ) (read : List ℕ → Option X) (other : Option X) (x : X) (o : Option (List ℕ)) → behind start w ≡ o → or_else o read other ≡ Some x
+or_by_answer : {X : Type 0} (P : List ℕ → Type 0) (start w : List ℕ) (read : List ℕ → Option X) (other : Option X) (x : X) (o : Option (List ℕ)) → behind start w ≡ o → read_or o read other ≡ Some x
     → ((rest : List ℕ) → read rest ≡ Some x → P (start ++ rest)) → (other ≡ Some x → P w) → P w
 or_by_answer P start w read other x None at is found other_way = other_way is
 or_by_answer P start w read other x (Some rest) at is found other_way = subst P (sym (behind_whole start w rest at)) (found rest is)
 
-pub or_then : {X : Type 0} (P : List ℕ → Type 0) (start w : List ℕ) (read : List ℕ → Option X) (other : Option X) (x : X) → or_else (behind start w) read other ≡ Some x
+pub or_then : {X : Type 0} (P : List ℕ → Type 0) (start w : List ℕ) (read : List ℕ → Option X) (other : Option X) (x : X) → read_or (behind start w) read other ≡ Some x
     → ((rest : List ℕ) → read rest ≡ Some x → P (start ++ rest)) → (other ≡ Some x → P w) → P w
 or_then P start w read other x is found other_way = or_by_answer P start w read other x (behind start w) refl is found other_way
 

@@ -15,7 +15,7 @@ use Rattle.page_base.specs.Decimals.{is_digit, digits_of, after_digits, number_o
 use Rattle.page_base.proofs.Numbers.{list_all-take_while, list_all_first}
 use Rattle.page_base.proofs.Printed.{numerals, after_digits-append, number_at-decimal}
 use Rattle.page_values.proofs.Digits.{digits-small}
-use Rattle.page_base.specs.Fields.{◌>>=◌, or_else, behind}
+use Rattle.page_base.specs.Fields.{◌>>=◌, read_or, behind}
 use Rattle.trace_text.specs.ValueEnds.{after_number, after_negative, after_int, begins_number, may_follow}
 use Rattle.trace_text.proofs.Cutting.{behind_whole}
 
@@ -148,7 +148,7 @@ negative_found : (bytes digits after : List ℕ) → bytes ≡ 45 ∷ digits →
 unfolding after_negative
 negative_found bytes digits after sign is = negative_by bytes digits after (number_at 9223372036854775808 digits) sign refl is
 
-int_by : (bytes rest : List ℕ) (o : Option (List ℕ)) → behind (codes "-") bytes ≡ o → or_else o after_negative (after_number 9223372036854775807 bytes) ≡ Some rest → IntAt bytes rest
+int_by : (bytes rest : List ℕ) (o : Option (List ℕ)) → behind (codes "-") bytes ≡ o → read_or o after_negative (after_number 9223372036854775807 bytes) ≡ Some rest → IntAt bytes rest
 int_by bytes rest None e is =
     let at = number_found 9223372036854775807 bytes rest (omega arith) is in
     let small = at.small in
@@ -174,11 +174,11 @@ pub int_read : (z : ℤ) (rest : List ℕ) → FitsSigned w64 z → IsTrue (may_
 unfolding after_int
 int_read (pos n) rest fits follows =
     let below : n ≤ 9223372036854775807 = omega (arith, fits) in
-    ap (λ o. or_else o after_negative (after_number 9223372036854775807 (decimal_of n ++ rest))) (no_sign_at (decimal_of n) rest (decimal_first n (omega arith)))
+    ap (λ o. read_or o after_negative (after_number 9223372036854775807 (decimal_of n ++ rest))) (no_sign_at (decimal_of n) rest (decimal_first n (omega arith)))
     ∙ number_read 9223372036854775807 n rest (omega arith) below follows
 int_read (negsuc n) rest fits follows =
     let below : suc n ≤ 9223372036854775808 = omega (arith, fits) in
-    ap (λ o. or_else o after_negative (after_number 9223372036854775807 (45 ∷ decimal_of (suc n) ++ rest))) (sign_read (decimal_of (suc n) ++ rest))
+    ap (λ o. read_or o after_negative (after_number 9223372036854775807 (45 ∷ decimal_of (suc n) ++ rest))) (sign_read (decimal_of (suc n) ++ rest))
     ∙ negative_read n rest (omega arith) below follows
 
 digit_begins : (d : ℕ) (ds : List ℕ) → 48 ≤ d → d ≤ 57 → begins_number (d ∷ ds) ≡ true

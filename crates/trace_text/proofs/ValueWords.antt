@@ -9,7 +9,7 @@ use Rattle.page_types.specs.declared.FaultName.TheVariants.{Error, TypeError, Ra
 use Rattle.page_parts.specs.Words.{decimal_of, int_decimal}
 use Rattle.page_parts.specs.Spelling.{fault_text}
 use Rattle.page_values.specs.Spellings.{is_plain, are_parts, is_escape_first, IsNumber, IsSimple, is_unit, is_true, is_false, is_int, is_text, is_promise, is_signal, is_controller, is_period, is_deadline, is_fault}
-use Rattle.page_base.specs.Fields.{◌>>=◌, or_else, behind}
+use Rattle.page_base.specs.Fields.{◌>>=◌, read_or, behind}
 use Rattle.trace_text.specs.ValueEnds.{after_number, after_int, after_parts, after_escape, after_cause, after_fault, after_deadline, after_numbered, after_word, after_simple, begins_number, may_follow, ValueAt, LeavesValue}
 use Rattle.trace_text.proofs.Behind.{left, right, both, leads, or_found}
 use Rattle.trace_text.proofs.Cutting.{behind_whole}
@@ -245,7 +245,7 @@ controller_read text rest e = e
 
 period_read : (rest : List ℕ) → IsTrue (may_follow rest) → after_simple (codes "deadline" ++ rest) ≡ Some rest
 unfolding after_simple after_word after_numbered after_deadline behind
-period_read rest follows = ap (λ o. or_else o (after_number 18446744073709551615) (Some rest)) (no_time rest follows)
+period_read rest follows = ap (λ o. read_or o (after_number 18446744073709551615) (Some rest)) (no_time rest follows)
 
 deadline_read : (text rest : List ℕ) → after_number 18446744073709551615 text ≡ Some rest → after_simple (codes "deadline@" ++ text) ≡ Some rest
 unfolding after_simple after_word after_numbered after_deadline behind

@@ -13,7 +13,7 @@ use Rattle.page_parts.specs.Words.{is_empty, decimal_of}
 use Rattle.page_parts.specs.Spelling.{priority_text}
 use Rattle.page_parts.specs.TraceText.{source_text, end_text, kind_text, event_text}
 use Rattle.page_base.specs.Decimals.{number_at, after_digits}
-use Rattle.page_base.specs.Fields.{behind, is_word, cut_at, ◌>>=◌, or_else, where_true}
+use Rattle.page_base.specs.Fields.{behind, is_word, cut_at, ◌>>=◌, read_or, where_true}
 use Rattle.trace_text.specs.Trace.{IsPrinted, EventFits, Fits}
 
 -- ---- Ours: fields
@@ -34,7 +34,7 @@ negative (suc n) = Some (negsuc n)
 -- an integer of 64 bits; `-` stands only before a number that is not 0
 unfoldable pub int_at : List ℕ → Option ℤ
 int_at bytes =
-    or_else (behind (codes "-") bytes) (λ digits. number_in 9223372036854775808 digits >>= negative)
+    read_or (behind (codes "-") bytes) (λ digits. number_in 9223372036854775808 digits >>= negative)
     (option_map pos (number_in 9223372036854775807 bytes))
 
 -- all words of a kind
@@ -73,14 +73,14 @@ form_at word = cond (is_word (codes "cont") word) (Some true) (cond (is_word (co
 
 -- a priority, or `s` and the number of a signal
 unfoldable pub queue_at : List ℕ → Option QueueName
-queue_at word = or_else (behind (codes "s") word) (λ digits. option_map SignalQueue (count_at digits)) (option_map FixedQueue (priority_at word))
+queue_at word = read_or (behind (codes "s") word) (λ digits. option_map SignalQueue (count_at digits)) (option_map FixedQueue (priority_at word))
 
 -- `micro`, `react` or `adopt`, and a number
 unfoldable pub queued_at : List ℕ → Option Queued
 queued_at bytes =
-    or_else (behind (codes "micro ") bytes) (λ digits. option_map MicroJob (count_at digits))
-    (or_else (behind (codes "react ") bytes) (λ digits. option_map ReactJob (count_at digits))
-    (or_else (behind (codes "adopt ") bytes) (λ digits. option_map AdoptJob (count_at digits)) None))
+    read_or (behind (codes "micro ") bytes) (λ digits. option_map MicroJob (count_at digits))
+    (read_or (behind (codes "react ") bytes) (λ digits. option_map ReactJob (count_at digits))
+    (read_or (behind (codes "adopt ") bytes) (λ digits. option_map AdoptJob (count_at digits)) None))
 
 -- ---- Ours: the fields of events
 
@@ -166,38 +166,38 @@ settle_at bytes = do
 -- the events with one number
 unfoldable pub numbered_at : List ℕ → Option Event
 numbered_at bytes =
-    or_else (behind (codes "call ") bytes) (one Call)
-    (or_else (behind (codes "due ") bytes) (one Due)
-    (or_else (behind (codes "drop ") bytes) (one Drop)
-    (or_else (behind (codes "run ") bytes) (one Run)
-    (or_else (behind (codes "period ") bytes) (one Period)
-    (or_else (behind (codes "idle ") bytes) (one IdleLine)
-    (or_else (behind (codes "frame ") bytes) (one Frame)
-    (or_else (behind (codes "abort ") bytes) (one Abort)
-    (or_else (behind (codes "wait ") bytes) (one Wait)
-    (or_else (behind (codes "unhandled ") bytes) (one Unhandled)
-    (or_else (behind (codes "handled ") bytes) (one Handled) None))))))))))
+    read_or (behind (codes "call ") bytes) (one Call)
+    (read_or (behind (codes "due ") bytes) (one Due)
+    (read_or (behind (codes "drop ") bytes) (one Drop)
+    (read_or (behind (codes "run ") bytes) (one Run)
+    (read_or (behind (codes "period ") bytes) (one Period)
+    (read_or (behind (codes "idle ") bytes) (one IdleLine)
+    (read_or (behind (codes "frame ") bytes) (one Frame)
+    (read_or (behind (codes "abort ") bytes) (one Abort)
+    (read_or (behind (codes "wait ") bytes) (one Wait)
+    (read_or (behind (codes "unhandled ") bytes) (one Unhandled)
+    (read_or (behind (codes "handled ") bytes) (one Handled) None))))))))))
 
 -- the events with other fields, but no value
 unfoldable pub worded_at : List ℕ → Option Event
 worded_at bytes =
     cond (is_word (codes "ret") bytes) (Some Ret)
-    (or_else (behind (codes "turn ") bytes) turn_at
-    (or_else (behind (codes "reg ") bytes) reg_at
-    (or_else (behind (codes "arm ") bytes) arm_at
-    (or_else (behind (codes "job ") bytes) job_at
-    (or_else (behind (codes "enq ") bytes) enq_at
-    (or_else (behind (codes "prio ") bytes) prio_at
-    (or_else (behind (codes "host ") bytes) host_at
-    (or_else (behind (codes "end ") bytes) (λ word. option_map EndLine (end_at word)) None))))))))
+    (read_or (behind (codes "turn ") bytes) turn_at
+    (read_or (behind (codes "reg ") bytes) reg_at
+    (read_or (behind (codes "arm ") bytes) arm_at
+    (read_or (behind (codes "job ") bytes) job_at
+    (read_or (behind (codes "enq ") bytes) enq_at
+    (read_or (behind (codes "prio ") bytes) prio_at
+    (read_or (behind (codes "host ") bytes) host_at
+    (read_or (behind (codes "end ") bytes) (λ word. option_map EndLine (end_at word)) None))))))))
 
 -- the events with a value
 unfoldable pub valued_at : List ℕ → Option Event
 valued_at bytes =
-    or_else (behind (codes "throw ") bytes) (λ v. Some (Throw v))
-    (or_else (behind (codes "report ") bytes) (λ v. Some (Report v))
-    (or_else (behind (codes "log ") bytes) (λ v. Some (Log v))
-    (or_else (behind (codes "settle ") bytes) settle_at None)))
+    read_or (behind (codes "throw ") bytes) (λ v. Some (Throw v))
+    (read_or (behind (codes "report ") bytes) (λ v. Some (Report v))
+    (read_or (behind (codes "log ") bytes) (λ v. Some (Log v))
+    (read_or (behind (codes "settle ") bytes) settle_at None)))
 
 -- ---- Ours: what a reading tells
 

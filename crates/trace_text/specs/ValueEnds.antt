@@ -2,7 +2,7 @@
 use Rattle.std.specs.Prelude.{◌≡◌, ℕ, Bool, true, false, cond, ◌||◌, ◌==◌, ◌⊎◌, List, [], ◌∷◌, ◌++◌, length, drop, take_while, Option, Some, None, codes, IsTrue}
 use Rattle.std.specs.List.{join_with_byte}
 use Rattle.page_base.specs.Decimals.{is_digit, number_at, after_digits}
-use Rattle.page_base.specs.Fields.{behind, ◌>>=◌, or_else}
+use Rattle.page_base.specs.Fields.{behind, ◌>>=◌, read_or}
 use Rattle.page_values.specs.Names.{is_name, is_name_byte}
 use Rattle.page_values.specs.Spellings.{is_plain, Each, IsRow}
 
@@ -18,7 +18,7 @@ after_negative bytes = number_at 9223372036854775808 bytes >>= λ n. cond (n == 
 
 -- behind an integer of 64 bits
 unfoldable pub after_int : List ℕ → Option (List ℕ)
-after_int bytes = or_else (behind (codes "-") bytes) after_negative (after_number 9223372036854775807 bytes)
+after_int bytes = read_or (behind (codes "-") bytes) after_negative (after_number 9223372036854775807 bytes)
 
 abbrev mutual
   -- behind the parts of a text and the `"` that ends it
@@ -38,32 +38,32 @@ after_cause bytes = behind (codes "(\"") bytes >>= after_parts >>= behind (codes
 -- behind a fault
 unfoldable pub after_fault : List ℕ → Option (List ℕ)
 after_fault bytes =
-    or_else (behind (codes "Error") bytes) after_cause
-    (or_else (behind (codes "TypeError") bytes) after_cause
-    (or_else (behind (codes "RangeError") bytes) after_cause
-    (or_else (behind (codes "AbortError") bytes) after_cause
-    (or_else (behind (codes "TimeoutError") bytes) after_cause
-    (or_else (behind (codes "NotAllowedError") bytes) after_cause None)))))
+    read_or (behind (codes "Error") bytes) after_cause
+    (read_or (behind (codes "TypeError") bytes) after_cause
+    (read_or (behind (codes "RangeError") bytes) after_cause
+    (read_or (behind (codes "AbortError") bytes) after_cause
+    (read_or (behind (codes "TimeoutError") bytes) after_cause
+    (read_or (behind (codes "NotAllowedError") bytes) after_cause None)))))
 
 -- behind the time of a deadline, if there is one
 unfoldable pub after_deadline : List ℕ → Option (List ℕ)
-after_deadline bytes = or_else (behind (codes "@") bytes) (after_number 18446744073709551615) (Some bytes)
+after_deadline bytes = read_or (behind (codes "@") bytes) (after_number 18446744073709551615) (Some bytes)
 
 -- behind what has a number, or a fault
 unfoldable pub after_numbered : List ℕ → Option (List ℕ)
 after_numbered bytes =
-    or_else (behind (codes "promise#") bytes) (after_number 4294967295)
-    (or_else (behind (codes "signal#") bytes) (after_number 4294967295)
-    (or_else (behind (codes "controller#") bytes) (after_number 4294967295)
-    (or_else (behind (codes "deadline") bytes) after_deadline (after_fault bytes))))
+    read_or (behind (codes "promise#") bytes) (after_number 4294967295)
+    (read_or (behind (codes "signal#") bytes) (after_number 4294967295)
+    (read_or (behind (codes "controller#") bytes) (after_number 4294967295)
+    (read_or (behind (codes "deadline") bytes) after_deadline (after_fault bytes))))
 
 -- behind a simple value that is no integer
 unfoldable pub after_word : List ℕ → Option (List ℕ)
 after_word bytes =
-    or_else (behind (codes "unit") bytes) Some
-    (or_else (behind (codes "true") bytes) Some
-    (or_else (behind (codes "false") bytes) Some
-    (or_else (behind (codes "\"") bytes) after_parts (after_numbered bytes))))
+    read_or (behind (codes "unit") bytes) Some
+    (read_or (behind (codes "true") bytes) Some
+    (read_or (behind (codes "false") bytes) Some
+    (read_or (behind (codes "\"") bytes) after_parts (after_numbered bytes))))
 
 -- whether the first byte is `-` or a digit
 abbrev pub begins_number : List ℕ → Bool
@@ -83,7 +83,7 @@ inside_name bytes = cond (is_name (take_while is_name_byte bytes)) (behind (code
 -- behind what begins a list or a function, with the byte that will close it
 unfoldable pub inside : List ℕ → Option (ℕ × List ℕ)
 inside bytes =
-    or_else (behind (codes "[") bytes) (λ row. Some (93, row))
+    read_or (behind (codes "[") bytes) (λ row. Some (93, row))
     (behind (codes "fn:") bytes >>= inside_name >>= λ row. Some (41, row))
 
 -- the byte closes a list, or a function

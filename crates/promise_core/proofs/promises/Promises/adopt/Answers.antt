@@ -5,7 +5,8 @@ use Rattle.page_parts.specs.Promises as parts
 use Rattle.page_parts.specs.Promises.{PromiseRecord, pending_promise, no_change, has_failed}
 use Rattle.promise_core.specs.declared.record.Record.{Record}
 use Rattle.promise_core.specs.Seen.{records_seen, jobs_seen}
-use Rattle.promise_core.specs.Held.{the_promise, changed}
+use Rattle.promise_core.specs.Held.{changed}
+use Rattle.page_parts.specs.Promises.{the_promise}
 use Rattle.promise_core.proofs.Telling.{tells-jobs}
 use Rattle.promise_core.proofs.HeldLemmas.{held_of, changed-kept}
 use Rattle.promise_core.proofs.promises.Promises.adopt.Goals as goal
@@ -22,6 +23,6 @@ returns-clause-ok c =
       state =
           ap (λ xs. held_of (records_seen xs) ns) (with_items_is c.self.inside.records c.lock_at.new.records (c.lock_at.auto.records ∙ c.deref_mut.ensures.len))
           ∙ (ap (λ qs. held_of qs ns) records ∙ (changed-kept (records_seen rs) ns p (parts.adopt p (numbered (records_seen rs) p pending_promise) c.args.from) c.requires.counted within refl refl
-          ∙ ap (λ s. changed p (parts.adopt p (the_promise s p) c.args.from) s) c.self.view_is));
-      tells = tells-jobs c.with_jobs.result c.in_ok-jobs.jobs (parts.adopt p (the_promise c.args.self.now p) c.args.from) c.with_jobs.ensures refl refl (ap jobs_seen c.in_ok-jobs.ensures.items);
+          ∙ ap (λ s. changed p (parts.adopt p (the_promise s.promises p) c.args.from) s) c.self.view_is));
+      tells = tells-jobs c.with_jobs.result c.in_ok-jobs.jobs (parts.adopt p (the_promise c.args.self.now.promises p) c.args.from) c.with_jobs.ensures refl refl (ap jobs_seen c.in_ok-jobs.ensures.items);
     }

@@ -4,7 +4,7 @@ use Rattle.page_parts.specs.Promises as parts
 use Rattle.page_parts.specs.Promises.{PromiseRecord, pending_promise, no_change, has_failed}
 use Rattle.page_values.specs.Seen.{seen}
 use Rattle.promise_core.specs.Seen.{record_seen, records_seen}
-use Rattle.promise_core.specs.Held.{the_promise}
+use Rattle.page_parts.specs.Promises.{the_promise}
 use Rattle.promise_core.proofs.Telling.{brings-nothing}
 use Rattle.promise_core.proofs.HeldLemmas.{reject-locked}
 use Rattle.promise_core.proofs.promises.Promises.reject.Goals as goal
@@ -12,8 +12,8 @@ use Rattle.promise_core.proofs.promises.Promises.reject.Goals as goal
 pub returns-then-record_of-clause-ok : goal.returns-then-record_of-clause-ok
 returns-then-record_of-clause-ok c =
     let p = c.args.p in
-    let read : record_seen c.record_of.result.now ≡ the_promise c.args.self.now p =
-    c.record_of.ensures ∙ (ap (λ xs. numbered (records_seen xs) p pending_promise) c.deref.ensures.value ∙ ap (λ s. the_promise s p) c.self.view_is) in
-    let locked : (the_promise c.args.self.now p).locked ≡ true = sym (ap (λ q. q.locked) read) ∙ c.if-record_of.true in
-    brings-nothing c.with_jobs.result c.new.result p c.args.self.now (parts.reject p (the_promise c.args.self.now p) (seen c.args.v)) c.with_jobs.ensures c.new.ensures.items
-    (reject-locked p (the_promise c.args.self.now p) (seen c.args.v) locked)
+    let read : record_seen c.record_of.result.now ≡ the_promise c.args.self.now.promises p =
+    c.record_of.ensures ∙ (ap (λ xs. numbered (records_seen xs) p pending_promise) c.deref.ensures.value ∙ ap (λ s. the_promise s.promises p) c.self.view_is) in
+    let locked : (the_promise c.args.self.now.promises p).locked ≡ true = sym (ap (λ q. q.locked) read) ∙ c.if-record_of.true in
+    brings-nothing c.with_jobs.result c.new.result p c.args.self.now (parts.reject p (the_promise c.args.self.now.promises p) (seen c.args.v)) c.with_jobs.ensures c.new.ensures.items
+    (reject-locked p (the_promise c.args.self.now.promises p) (seen c.args.v) locked)

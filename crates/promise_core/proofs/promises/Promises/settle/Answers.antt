@@ -6,7 +6,8 @@ use Rattle.page_parts.specs.Promises as parts
 use Rattle.page_parts.specs.Promises.{PromiseRecord, pending_promise, no_change, has_failed}
 use Rattle.promise_core.specs.declared.record.Record.{Record}
 use Rattle.promise_core.specs.Seen.{record_seen, records_seen, settled_seen}
-use Rattle.promise_core.specs.Held.{the_promise, changed, all_within}
+use Rattle.promise_core.specs.Held.{changed, all_within}
+use Rattle.page_parts.specs.Promises.{the_promise}
 use Rattle.promise_core.proofs.HeldLemmas.{held_of, changed-settled, all_within-note}
 use Rattle.promise_core.proofs.promises.Promises.settle.Goals as goal
 
@@ -32,7 +33,7 @@ returns-clause-ok c =
     let within : p ≤ length (records_seen rs) = subst (λ s. p ≤ length s.promises) (sym c.self.view_is) c.requires.within in
     let q = numbered (records_seen rs) p pending_promise in
     let read : record_seen c.record_of-record.result.now ≡ q = c.record_of-record.ensures ∙ ap (λ xs. numbered (records_seen xs) p pending_promise) c.deref.ensures.value in
-    let known : q ≡ the_promise c.args.self.now p = ap (λ s. the_promise s p) c.self.view_is in
+    let known : q ≡ the_promise c.args.self.now.promises p = ap (λ s. the_promise s.promises p) c.self.view_is in
     let after : List Record → List PromiseRecord = λ xs. with_numbered (records_seen xs) p (parts.settle p (numbered (records_seen xs) p pending_promise) how).promise in
     let records : records_seen c.settle_at.new.records ≡ after rs = c.settle_at.ensures ∙ ap after c.deref_mut.ensures.value in
     let newly : c.is_newly_rejected-newly_rejected.result ≡ (parts.settle p q how).newly_rejected =
@@ -43,7 +44,7 @@ returns-clause-ok c =
       state =
           ap (λ xs. held_of (records_seen xs) c.note_rejected.new.rejected.items) (with_items_is c.self.inside.records c.settle_at.new.records (c.settle_at.auto.records ∙ c.deref_mut.ensures.len))
           ∙ (ap (λ qs. held_of qs c.note_rejected.new.rejected.items) records ∙ (ap (held_of (after rs)) noted ∙ (changed-settled (records_seen rs) ns p how c.requires.counted within
-          ∙ ap (λ s. changed p (parts.settle p (the_promise s p) how) s) c.self.view_is)));
+          ∙ ap (λ s. changed p (parts.settle p (the_promise s.promises p) how) s) c.self.view_is)));
       tells = record {
         settled = refl;
         jobs = c.in_ok-jobs.ensures ∙ ap (λ q. (parts.settle p q how).jobs) (read ∙ known);
