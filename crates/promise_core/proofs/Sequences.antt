@@ -183,7 +183,7 @@ after-own a n s is =
     ap (λ ps. numbered (with_numbered ps n (step a n (the_promise s.promises n)).promise) n pending_promise) (before-promises a n s)
     ∙ numbered-with s.promises n (step a n (the_promise s.promises n)).promise pending_promise is.counted is.within
 
-after-other : (a : Act) (m n : ℕ) (s : Held) → IsMade s m → 0 < n → m ≢ n → the_promise (after (Of m a) s) n ≡ the_promise s.promises n
+after-other : (a : Act) (m n : ℕ) (s : Held) → IsMade s m → 0 < n → m ≢ n → the_promise (after (Of m a) s).promises n ≡ the_promise s.promises n
 after-other a m n s is h ne =
     ap (λ ps. numbered (with_numbered ps m (step a m (the_promise s.promises m)).promise) n pending_promise) (before-promises a m s)
     ∙ numbered-with_other s.promises m n (step a m (the_promise s.promises m)).promise pending_promise (apart n m h is.counted (λ e. ne (sym e)))
