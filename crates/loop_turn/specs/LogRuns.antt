@@ -25,4 +25,4 @@ lines_of_run t = Head ∷ map Of (events_of_run t)
 abbrev pub EndsAs : {C : Type 0} → End → Turned C → Type 0
 EndsAs end (GoesOn m c) = ⊥
 EndsAs end (Ended e m c) = e ≡ end
-EndsAs end (Stuck m c) = ⊥
+EndsAs end (Stuck at m c) = ⊥

@@ -16,7 +16,7 @@ use Rattle.page_model.specs.Numbers.{HoldsNoNumbers}
 use Rattle.page_model.specs.Operations.{page_operations}
 use Rattle.page_model.specs.PageTime.{idle_step}
 use Rattle.page_model.specs.State.{Page, State, on_page}
-use Rattle.page_model.specs.Turns.{GoesOn, Stuck, Turned, at_time, choose_turned, ends, first_page, first_state, is_pending, state_of, step_three}
+use Rattle.page_model.specs.Turns.{GoesOn, Stuck, NoAct, Turned, at_time, choose_turned, ends, first_page, first_state, is_pending, state_of, step_three}
 use Rattle.page_model.specs.View.{view}
 use Rattle.page_parts.specs.Setup.{Setup}
 use Rattle.page_parts.specs.Words.{is_empty}
@@ -27,19 +27,19 @@ module _ {C : Type 0} (program : Program) where
   module _ (rules : Rules C) (call : Caller Page) (calls_go : CallsGo program call) where
     at_moment-lands : (t : ℕ) (next : C → State → Turned C) (c : C) (m : State) → ((r : State) → Good r → Rests r → Lands program r (next c r)) → Good m → Rests m → Lands program m (at_moment t (next c) c m)
     at_moment-lands t next c m k g x =
-        choose-lands program (nat_le m.host.now t) (λ m. next c (on_page (at_time t) m)) (λ m. Stuck m c) m
+        choose-lands program (nat_le m.host.now t) (λ m. next c (on_page (at_time t) m)) (λ m. Stuck NoAct m c) m
         (let a = at_time-comes program rules call calls_go t m g x in lands-then program m (on_page (at_time t) m) (next c (on_page (at_time t) m)) a.0 (k (on_page (at_time t) m) a.1 a.2)) here
 
     rest-lands : (c : C) (m : State) → Good m → Rests m → Lands program m (rest c m)
     rest-lands c m g x =
-        choose-lands program (is_empty (view m.host)) (λ m. GoesOn (on_page idle_step m) c) (λ m. Stuck m c) m
+        choose-lands program (is_empty (view m.host)) (λ m. GoesOn (on_page idle_step m) c) (λ m. Stuck NoAct m c) m
         (comes_by m idle_step g x (idle_step-held m.host g.0, idle_step-changes m.host x.0.0 x.1) (idle_step-notices m.host)) here
 
     serve-lands : (until : ℕ) (c : C) (m : State) → Good m → Rests m → Lands program m (serve rules call until c m)
-    serve-lands until c m g x = choose-lands program (is_empty (view m.host)) (λ m. Stuck m c) (step_three rules call until c) m here (step_three-lands program rules call calls_go until c m g x)
+    serve-lands until c m g x = choose-lands program (is_empty (view m.host)) (λ m. Stuck NoAct m c) (step_three rules call until c) m here (step_three-lands program rules call calls_go until c m g x)
 
     stop_by_clock-lands : (until : ℕ) (c : C) (m : State) → Good m → Rests m → Lands program m (stop_by_clock until c m)
-    stop_by_clock-lands until c m g x = choose-lands program (nat_le until m.host.now) (ends ClockEnd c) (λ m. Stuck m c) m (ends-lands program ClockEnd c m g x) here
+    stop_by_clock-lands until c m g x = choose-lands program (nat_le until m.host.now) (ends ClockEnd c) (λ m. Stuck NoAct m c) m (ends-lands program ClockEnd c m g x) here
 
     stop-lands : (until : ℕ) (c : C) (m : State) → Good m → Rests m → Lands program m (stop until c m)
     stop-lands until c m g x =

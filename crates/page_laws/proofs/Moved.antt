@@ -367,7 +367,7 @@ complete_at-changes None p = nothing
 complete_at-changes (Some c) p = complete-changes c p
 
 take_item-changes : (what : ItemKind) (p : Page) → Changes p (take_item what p)
-take_item-changes (ArrivalItem a) p = quietly p (take_item (ArrivalItem a) p) refl refl refl refl refl
+take_item-changes (ArrivalItem n a) p = quietly p (take_item (ArrivalItem n a) p) refl refl refl refl refl
 take_item-changes (HostItem a) p = lined (Due a.task.registration) p (take_item (HostItem a) p) refl refl refl refl refl refl
 take_item-changes (TimerItem t) p =
     let q = without_timer t.start p in

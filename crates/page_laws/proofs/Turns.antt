@@ -93,7 +93,7 @@ complete_at-notices None p = refl
 complete_at-notices (Some c) p = complete-notices c p
 
 take_item-notices : (what : ItemKind) (p : Page) → (take_item what p).notices ≡ p.notices
-take_item-notices (ArrivalItem a) p = refl
+take_item-notices (ArrivalItem n a) p = refl
 take_item-notices (HostItem a) p = refl
 take_item-notices (TimerItem t) p = complete_at-notices (completion_of p.completions t.start) (without_timer t.start p)
 take_item-notices (IdleItem t) p = refl
@@ -165,12 +165,12 @@ module _ {C : Type 0} (program : Program) where
   abbrev pub Lands : State → Turned C → Type 0
   Lands m (GoesOn r c) = Comes m r
   Lands m (Ended end r c) = Stop m r
-  Lands m (Stuck r c) = Stop m r
+  Lands m (Stuck at r c) = Stop m r
 
   pub lands-then : (m r : State) (t : Turned C) → Le m r → Lands r t → Lands m t
   lands-then m r (GoesOn s c) le h = comes-then m r s le h
   lands-then m r (Ended end s c) le h = moves-then le.1 h
-  lands-then m r (Stuck s c) le h = moves-then le.1 h
+  lands-then m r (Stuck at s c) le h = moves-then le.1 h
 
   pub ends-lands : (end : End) (c : C) (m : State) → Good m → Rests m → Lands m (ends end c m)
   ends-lands DoneEnd c m g x = (on_page-reached m (emit (EndLine DoneEnd)) g (rested-onto (EndLine DoneEnd) m refl g x)).0.1
@@ -279,7 +279,7 @@ module _ {C : Type 0} (program : Program) where
     step_five-lands : (t : Turned C) (m : State) → Lands m t → Lands m (next_turn t (λ m c. GoesOn (step_five m) c))
     step_five-lands (GoesOn r c) m h = comes-then m r (step_five r) h.0 (step_five-comes r h.1 h.2)
     step_five-lands (Ended end r c) m h = h
-    step_five-lands (Stuck r c) m h = h
+    step_five-lands (Stuck at r c) m h = h
 
     from_step_three-lands : (until : ℕ) (c : C) (m : State) → Good m → Rests m → Lands m (from_step_three rules call until c m)
     from_step_three-lands until c m g x = step_five-lands (step_three rules call until c m) m (step_three-lands until c m g x)
@@ -337,7 +337,7 @@ module _ {C : Type 0} (program : Program) where
     pub next_turn-stops : (m : State) (t : Turned C) (next : State → C → Turned C) → Lands m t → ((r : State) (c : C) → Good r → Rests r → Stops r (next r c)) → Stops m (next_turn t next)
     next_turn-stops m (GoesOn r c) next h k = moves-then h.0.1 (k r c h.1 h.2)
     next_turn-stops m (Ended end r c) next h k = h
-    next_turn-stops m (Stuck r c) next h k = h
+    next_turn-stops m (Stuck at r c) next h k = h
 
     pub turns-stop : (until n : ℕ) (m : State) (c : C) → Good m → Rests m → Stops m (turns rules call until n m c)
     turns-stop until zero m c g z = here

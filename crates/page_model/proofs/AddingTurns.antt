@@ -138,7 +138,7 @@ module _ (es : List Stamped) where
   complete_at-adds (Some c) p = complete-adds c p
 
   take_item-adds : (what : ItemKind) → Adds es (take_item what)
-  take_item-adds (ArrivalItem a) p = refl
+  take_item-adds (ArrivalItem n a) p = refl
   take_item-adds (HostItem a) p = refl
   take_item-adds (TimerItem t) p = complete_at-adds (completion_of p.completions t.start) (without_timer t.start p)
   take_item-adds (IdleItem t) p = refl
@@ -175,7 +175,7 @@ module _ (es : List Stamped) where
   next_turn-adds : {C : Type 0} (next : State → C → Turned C) → ((c : C) → TurnAdds es (λ m. next m c)) → (t : Turned C) → next_turn (turned_after es t) next ≡ turned_after es (next_turn t next)
   next_turn-adds next k (GoesOn m c) = k c m
   next_turn-adds next k (Ended end m c) = refl
-  next_turn-adds next k (Stuck m c) = refl
+  next_turn-adds next k (Stuck at m c) = refl
 
   module _ {C : Type 0} (rules : Rules C) (call : Caller Page) (calls_add : CallsFollow (after es) call call) where
     pub task_done-adds : (c : C) (d d' : Done Page) → d' ≡ done_hosted (after es) d → task_done call c d' ≡ turned_after es (task_done call c d)

@@ -102,7 +102,7 @@ module _ {C : Type 0} (rules : Rules C) (program : Program) (other : State → C
   next_turn-agree : (n : ℕ) (m : State) (t : Turned C) (next next' : State → C → Turned C) → m.fuel ≤ n → TurnForward m t → ((a : State) (c : C) → suc a.fuel ≤ n → next a c ≡ next' a c) → next_turn t next ≡ next_turn t next'
   next_turn-agree n m (GoesOn a c) next next' h k q = q a c (let less = k.1 in omega arith)
   next_turn-agree n m (Ended end a c) next next' h k q = refl
-  next_turn-agree n m (Stuck a c) next next' h k q = refl
+  next_turn-agree n m (Stuck at a c) next next' h k q = refl
 
   pub turns-agree : (until n k : ℕ) (m : State) (c : C) → m.fuel < n → m.fuel < k → turns_or other rules outside until n m c ≡ turns rules outside until k m c
   turns-agree until zero k m c h h' = absurd (omega arith)

@@ -4,15 +4,14 @@ use Rattle.std.specs.Prelude.{◌==◌}
 use Rattle.page_types.specs.declared.Source.{Source}
 use Rattle.page_types.specs.declared.Source.TheVariants.{Net, Timer, Render, Idle}
 use Rattle.page_types.specs.Events.{Due}
-use Rattle.page_parts.specs.Words.{without, is_empty, is_there, and_last}
+use Rattle.page_parts.specs.Words.{without, without_numbered, is_empty, is_there, and_last}
 use Rattle.page_parts.specs.Setup.{Arrival}
 use Rattle.page_parts.specs.Sources.{same_source}
-use Rattle.lang_meaning.specs.Evaluation.{without_first}
 use Rattle.page_model.specs.State.{Page, Steps, RunTimer, TimeOutSignal, FireAtWindow, AnswerHost, IdleTimeout, Completion, QueueTimer, EnqueuePost, QueueSignal, emit, queue_task, the_registration}
 use Rattle.page_model.specs.PageSignals.{is_aborted_source}
 use Rattle.page_model.specs.PageTime.{first_task, next_frame, without_timer, completion_of}
 use Rattle.page_model.specs.SchedulerTasks.{enqueue}
-use Rattle.page_model.specs.Parallel.{ItemKind, ArrivalItem, HostItem, TimerItem, IdleItem, FrameItem, Item, frame_items, items_in_order, first_item_from, first_item_of, first_item, complete, complete_at, take_item, due_item, take_due, item_count}
+use Rattle.page_model.specs.Parallel.{ItemKind, ArrivalItem, HostItem, TimerItem, IdleItem, FrameItem, Item, arrival_items, frame_items, items_in_order, first_item_from, first_item_of, first_item, complete, complete_at, take_item, due_item, take_due, item_count}
 use Rattle.page_model.specs.Bounds.{take_due_or}
 use Rattle.page_model.proofs.Holding.{Every, IfThere, Every-append}
 
@@ -116,15 +115,20 @@ queued-frames p source steps =
 
 -- taking what is there makes one less: the list that it stands in is shorter without it
 abbrev pub Known : Page → ItemKind → Type 0
-Known p (ArrivalItem a) = 0 < length p.arrivals
+Known p (ArrivalItem n a) = length (without_numbered n p.arrivals) < length p.arrivals
 Known p (HostItem a) = length (without (λ b. b.task.registration == a.task.registration) p.host_answers) < length p.host_answers
 Known p (TimerItem t) = length (without (λ a. a.start == t.start) p.timers.active) < length p.timers.active
 Known p (IdleItem t) = length (without (λ u. u.handle == t.handle) p.idle_timers) < length p.idle_timers
 Known p FrameItem = 0 < frames_waiting p
 
-arrivals_known : (p : Page) (xs : List Arrival) → length xs ≤ length p.arrivals → Every (λ (i : Item). Known p i.what) (map (λ a. record { due = a.at; what = ArrivalItem a }) xs)
-arrivals_known p [] h = tt
-arrivals_known p (x ∷ xs) h = (omega arith, arrivals_known p xs (omega arith))
+shorter : {X : Type 0} (n : ℕ) (xs : List X) → n < length xs → length (without_numbered (suc n) xs) < length xs
+shorter n [] h = absurd (omega (arith, h))
+shorter zero (x ∷ xs) h = omega arith
+shorter (suc n) (x ∷ xs) h = omega (arith, shorter n xs (omega arith))
+
+arrivals_known : (p : Page) (n : ℕ) (xs : List Arrival) → n + length xs ≤ length p.arrivals → Every (λ (i : Item). Known p i.what) (arrival_items (suc n) xs)
+arrivals_known p n [] h = tt
+arrivals_known p n (x ∷ xs) h = (shorter n p.arrivals (omega arith), arrivals_known p (suc n) xs (omega arith))
 
 frames_known : (p : Page) (o : Option ℕ) → length (frame_items o) ≤ frames_waiting p → Every (λ (i : Item). Known p i.what) (frame_items o)
 frames_known p None h = tt
@@ -133,14 +137,14 @@ frames_known p (Some t) h = (h, tt)
 all_known : (p : Page) → Every (λ (i : Item). Known p i.what) (items_in_order p)
 all_known p =
     let P : Item → Type 0 = λ i. Known p i.what in
-    let arrivals : List Item = map (λ a. record { due = a.at; what = ArrivalItem a }) p.arrivals in
+    let arrivals : List Item = arrival_items 1 p.arrivals in
     let hosts : List Item = map (λ a. record { due = a.due; what = HostItem a }) p.host_answers in
     let timers : List Item = map (λ t. record { due = t.due; what = TimerItem t }) p.timers.active in
     let idles : List Item = map (λ t. record { due = t.due; what = IdleItem t }) p.idle_timers in
     Every-append P (arrivals ++ hosts ++ timers ++ idles) (frame_items (next_frame p))
     (Every-append P (arrivals ++ hosts ++ timers) idles
     (Every-append P (arrivals ++ hosts) timers
-    (Every-append P arrivals hosts (arrivals_known p p.arrivals (le_refl (length p.arrivals)))
+    (Every-append P arrivals hosts (arrivals_known p 0 p.arrivals (omega arith))
     (Every-of_map P (λ a. record { due = a.due; what = HostItem a }) p.host_answers (each_shrinks (λ a b. b.task.registration == a.task.registration) (λ a. eq-eqb a.task.registration a.task.registration refl) p.host_answers)))
     (Every-of_map P (λ t. record { due = t.due; what = TimerItem t }) p.timers.active (each_shrinks (λ t a. a.start == t.start) (λ t. eq-eqb t.start t.start refl) p.timers.active)))
     (Every-of_map P (λ t. record { due = t.due; what = IdleItem t }) p.idle_timers (each_shrinks (λ t u. u.handle == t.handle) (λ t. eq-eqb t.handle t.handle refl) p.idle_timers)))
@@ -187,15 +191,11 @@ completed_at-items : (c : Option Completion) (p : Page) → items_waiting (compl
 completed_at-items None p = le_refl (items_waiting p)
 completed_at-items (Some c) p = completed-items c p
 
-fewer_arrivals : {X : Type 0} (xs : List X) → 0 < length xs → suc (length (without_first xs)) ≤ length xs
-fewer_arrivals [] h = h
-fewer_arrivals (x ∷ xs) h = le_refl (suc (length xs))
-
 framed-none : (p : Page) → frames_waiting (take_item FrameItem p) ≡ 0
 framed-none p = frames_none (is_empty p.frames.callbacks) (is_there (first_task Render (take_item FrameItem p).tasks)) _ (find_there-last (λ t. same_source t.source Render) p.tasks _ refl)
 
 pub taken-items : (p : Page) (what : ItemKind) → Known p what → suc (items_waiting (take_item what p)) ≤ items_waiting p
-taken-items p (ArrivalItem a) h = omega (arith, queued-frames p a.source (FireAtWindow a.name a.value), fewer_arrivals p.arrivals h)
+taken-items p (ArrivalItem n a) h = omega (arith, queued-frames p a.source (FireAtWindow a.name a.value))
 taken-items p (HostItem a) h = omega (arith, queued-frames p Net (AnswerHost a.task))
 taken-items p (TimerItem t) h = omega (arith, completed_at-items (completion_of p.completions t.start) (without_timer t.start p))
 taken-items p (IdleItem t) h = omega (arith, queued-frames p Idle (IdleTimeout t.handle))

@@ -69,7 +69,7 @@ module _ {C : Type 0} (rules : Rules C) (program : Program) (until : ℕ) (other
       → ((a : State) (c : C) → BeginsWell a → row_of (turn_or other more rules outside until) n a c ≡ turns rules outside until n a c) → next_turn t (row_of (turn_or other more rules outside until) n) ≡ next_turn t (turns rules outside until n)
   next-agree n m (GoesOn a c) h q = q a c (λ z. absurd (let counted = h.2 in omega arith))
   next-agree n m (Ended end a c) h q = refl
-  next-agree n m (Stuck a c) h q = refl
+  next-agree n m (Stuck at a c) h q = refl
 
   pub row-agree : (n : ℕ) (m : State) (c : C) → BeginsWell m → row_of (turn_or other more rules outside until) n m c ≡ turns rules outside until n m c
   row-agree zero m c b = refl

@@ -102,7 +102,7 @@ took m n left e h = let less = h.fuel in omega arith
 pub turn_forward : {C : Type 0} (program : Program) (m : State) (t : Turned C) → TurnKept program forward Took took_on took m t → TurnForward m t
 turn_forward program m (GoesOn n c) h = (h.0, h.2)
 turn_forward program m (Ended end n c) h = h.0
-turn_forward program m (Stuck n c) h = h.0
+turn_forward program m (Stuck at n c) h = h.0
 
 -- ---- waits
 

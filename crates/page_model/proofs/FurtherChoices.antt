@@ -40,7 +40,7 @@ Grown es t = (new : List Stamped) × ((state_of t).host.events ≡ new ++ es)
 events-after : {C : Type 0} (es : List Stamped) (t : Turned C) → (state_of (turned_after es t)).host.events ≡ (state_of t).host.events ++ es
 events-after es (GoesOn m c) = refl
 events-after es (Ended end m c) = refl
-events-after es (Stuck m c) = refl
+events-after es (Stuck at m c) = refl
 
 grown : {C : Type 0} (f : State → Turned C) → ((es : List Stamped) → TurnAdds es f) → (m : State) → Grown m.host.events (f m)
 grown f k m =
@@ -120,7 +120,7 @@ module _ (more_sources : List Source) (more_readings : List ℕ) (more_answers :
   abbrev Further : Turned Choices → Turned Choices → Type 0
   Further (GoesOn m c) t = t ≡ GoesOn m (longer c)
   Further (Ended end m c) t = t ≡ Ended end m (longer c)
-  Further (Stuck m c) t = Grown m.host.events t
+  Further (Stuck at m c) t = Grown m.host.events t
 
   choose-further : (b : Bool) (m : State) (f g f' g' : State → Turned Choices) → Further (f m) (f' m) → Further (g m) (g' m) → Further (choose_turned b f g m) (choose_turned b f' g' m)
   choose-further true m f g f' g' h k = h
@@ -135,12 +135,12 @@ module _ (more_sources : List Source) (more_readings : List ℕ) (more_answers :
   next_turn-grown : (es : List Stamped) (next : State → Choices → Turned Choices) → ((es : List Stamped) (c : Choices) → TurnAdds es (λ m. next m c)) → (t : Turned Choices) → Grown es t → Grown es (next_turn t next)
   next_turn-grown es next k (GoesOn m c) g = grown-after es m.host.events g.0 (next m c) g.1 (grown (λ m. next m c) (λ es. k es c) m)
   next_turn-grown es next k (Ended end m c) g = g
-  next_turn-grown es next k (Stuck m c) g = g
+  next_turn-grown es next k (Stuck at m c) g = g
 
   next_turn-further : (next : State → Choices → Turned Choices) → ((es : List Stamped) (c : Choices) → TurnAdds es (λ m. next m c)) → ((m : State) (c : Choices) → Further (next m c) (next m (longer c))) → (t t' : Turned Choices) → Further t t' → Further (next_turn t next) (next_turn t' next)
   next_turn-further next k f (GoesOn m c) t' h = subst (λ (t : Turned Choices). Further (next m c) (next_turn t next)) (sym h) (f m c)
   next_turn-further next k f (Ended end m c) t' h = ap (λ (t : Turned Choices). next_turn t next) h
-  next_turn-further next k f (Stuck m c) t' h = next_turn-grown m.host.events next k t' h
+  next_turn-further next k f (Stuck at m c) t' h = next_turn-grown m.host.events next k t' h
 
   module _ (call : Caller Page) (adds : (es : List Stamped) → CallsFollow (after es) call call) where
     task_done-further : (c : Choices) (d : Done Page) → Further (task_done call c d) (task_done call (longer c) d)
@@ -253,7 +253,7 @@ module _ (more_sources : List Source) (more_readings : List ℕ) (more_answers :
   continues : (t t' : Turned Choices) → Further t t' → Continues more_sources more_readings more_answers t t'
   continues (GoesOn m c) t' h = h
   continues (Ended end m c) t' h = h
-  continues (Stuck m c) t' h = (reverse h.0, ap reverse h.1 ∙ reverse-append h.0 m.host.events)
+  continues (Stuck at m c) t' h = (reverse h.0, ap reverse h.1 ∙ reverse-append h.0 m.host.events)
 
   pub run-further : (program : Program) (setup : Setup) (hosts : List HostClosure) (c : Choices) → Continues more_sources more_readings more_answers (run program setup hosts c) (run program setup hosts (longer c))
   unfolding run run_by

@@ -144,29 +144,29 @@ module _ (program : Program) (k : PageKeeping) where
     abbrev pub TurnKept : State → Turned C → Type 0
     TurnKept m (GoesOn n c) = k.states.Le m n × k.states.Good n × Went m n
     TurnKept m (Ended end n c) = k.states.Le m n × k.states.Good n
-    TurnKept m (Stuck n c) = k.states.Le m n × k.states.Good n
+    TurnKept m (Stuck at n c) = k.states.Le m n × k.states.Good n
 
     -- the same of the part of a turn in which a unit has been taken
     abbrev PartKept : State → Turned C → Type 0
     PartKept m (GoesOn n c) = k.states.Le m n × k.states.Good n
     PartKept m (Ended end n c) = k.states.Le m n × k.states.Good n
-    PartKept m (Stuck n c) = k.states.Le m n × k.states.Good n
+    PartKept m (Stuck at n c) = k.states.Le m n × k.states.Good n
 
     turn-wider : (m n : State) (t : Turned C) → k.states.Le m n → TurnKept n t → TurnKept m t
     turn-wider m n (GoesOn r c) le h = (k.states.chain m n r le h.0, h.1, went_on m n r le h.2)
     turn-wider m n (Ended end r c) le h = (k.states.chain m n r le h.0, h.1)
-    turn-wider m n (Stuck r c) le h = (k.states.chain m n r le h.0, h.1)
+    turn-wider m n (Stuck at r c) le h = (k.states.chain m n r le h.0, h.1)
 
     part-wider : (m n : State) (t : Turned C) → k.states.Le m n → PartKept n t → PartKept m t
     part-wider m n (GoesOn r c) le h = (k.states.chain m n r le h.0, h.1)
     part-wider m n (Ended end r c) le h = (k.states.chain m n r le h.0, h.1)
-    part-wider m n (Stuck r c) le h = (k.states.chain m n r le h.0, h.1)
+    part-wider m n (Stuck at r c) le h = (k.states.chain m n r le h.0, h.1)
 
     -- a part of a turn that began with taking a unit
     with_unit : (m : State) (left : ℕ) (t : Turned C) → m.fuel ≡ suc left → k.states.Le m (counted_turn left m) → PartKept (counted_turn left m) t → TurnKept m t
     with_unit m left (GoesOn r c) e le h = (k.states.chain m (counted_turn left m) r le h.0, h.1, went m r left e h.0)
     with_unit m left (Ended end r c) e le h = (k.states.chain m (counted_turn left m) r le h.0, h.1)
-    with_unit m left (Stuck r c) e le h = (k.states.chain m (counted_turn left m) r le h.0, h.1)
+    with_unit m left (Stuck at r c) e le h = (k.states.chain m (counted_turn left m) r le h.0, h.1)
 
     ends-kept : (end : End) (c : C) (m : State) → k.states.Good m → PartKept m (ends end c m)
     ends-kept end c m g = k.leave m (emit (EndLine end) m.host) refl g
@@ -244,7 +244,7 @@ module _ (program : Program) (k : PageKeeping) where
       five-kept : (m : State) (t : Turned C) → PartKept m t → PartKept m (next_turn t (λ m c. GoesOn (step_five m) c))
       five-kept m (GoesOn n c) h = kept-then program k m n (step_five n) h (step_five-kept n)
       five-kept m (Ended end n c) h = h
-      five-kept m (Stuck n c) h = h
+      five-kept m (Stuck at n c) h = h
 
       fuel_and_five-kept : (fuel : ℕ) (m : State) (c : C) → m.fuel ≡ fuel → k.states.Good m → TurnKept m (next_turn (with_turn_fuel rules call fuel m c) (λ m c. GoesOn (step_five m) c))
       fuel_and_five-kept zero m c e g = turn_ends-kept FuelEnd c m g
@@ -314,7 +314,7 @@ module _ (program : Program) (k : PageKeeping) where
       next_turn-kept : (m : State) (t : Turned C) (next : State → C → Turned C) → TurnKept m t → ((n : State) (c : C) → k.states.Good n → Kept program k n (state_of (next n c))) → Kept program k m (state_of (next_turn t next))
       next_turn-kept m (GoesOn n c) next h q = kept-then program k m n (state_of (next n c)) (h.0, h.1) (q n c)
       next_turn-kept m (Ended end n c) next h q = h
-      next_turn-kept m (Stuck n c) next h q = h
+      next_turn-kept m (Stuck at n c) next h q = h
 
       -- rows of turns
       pub turns-kept : (until n : ℕ) (m : State) (c : C) → k.states.Good m → Kept program k m (state_of (turns rules call until n m c))

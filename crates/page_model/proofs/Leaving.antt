@@ -280,7 +280,7 @@ complete_at-leaves None p = refl
 complete_at-leaves (Some c) p = complete-leaves c p
 
 pub take_item-leaves : (what : ItemKind) → Leaves (take_item what)
-take_item-leaves (ArrivalItem a) p = refl
+take_item-leaves (ArrivalItem n a) p = refl
 take_item-leaves (HostItem a) p = refl
 take_item-leaves (TimerItem t) p = complete_at-leaves (completion_of p.completions t.start) (without_timer t.start p)
 take_item-leaves (IdleItem t) p = refl

@@ -50,6 +50,7 @@ pub mod Following
 pub mod OneDeep
 pub mod Waiting
 pub mod CountedTurns
+pub mod Pending
 pub mod Ending
 pub mod Agreeing
 pub mod RunsBySteps

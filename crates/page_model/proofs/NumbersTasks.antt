@@ -7,7 +7,7 @@ use Rattle.page_types.specs.Tree.{Program}
 use Rattle.page_types.specs.declared.FaultName.TheVariants.{TimeoutError}
 use Rattle.page_types.specs.Events.{Ret, Unhandled, Handled, Host, Frame, IdleLine, Due}
 use Rattle.page_types.specs.declared.Source.TheVariants.{Net, Timer, Render, Idle}
-use Rattle.page_parts.specs.Words.{is_empty, without, and_last}
+use Rattle.page_parts.specs.Words.{is_empty, without, without_numbered, and_last}
 use Rattle.page_parts.specs.Kinds.{a_fault}
 use Rattle.page_parts.specs.Promises.{Settled, settled_value}
 use Rattle.page_parts.specs.Timers.{ActiveTimer, is_live}
@@ -16,7 +16,6 @@ use Rattle.page_parts.specs.Listeners.{Window}
 use Rattle.page_parts.specs.Setup.{Arrival}
 use Rattle.page_parts.specs.HostClosures.{HostClosure, fired}
 use Rattle.lang_meaning.specs.Machine.{Done, finish, afterwards, Caller}
-use Rattle.lang_meaning.specs.Evaluation.{without_first}
 use Rattle.page_model.specs.State.{Page, State, TimerTask, HostTask, HostAnswer, IdleTimer, Steps, RunScript, RunTimer, TimeOutSignal, FireAtWindow, AnswerHost, RunFrame, InvokeIdle, IdleTimeout, NotifyRejected, NotifyHandled, SchedTask, Completion, Completing, QueueTimer, EnqueuePost, QueueSignal, on_page, emit, queue_task, the_registration}
 use Rattle.page_model.specs.PagePromises as promises
 use Rattle.page_model.specs.PagePromises.{promise_at}
@@ -25,7 +24,7 @@ use Rattle.page_model.specs.SchedulerTasks.{with_state, enqueue}
 use Rattle.page_model.specs.Invoke.{Ways, invoke, settle_derived, checkpoint, call_begun, call_ended}
 use Rattle.page_model.specs.PageSignals.{dispatch, unwatch, is_aborted_source}
 use Rattle.page_model.specs.Tasks.{initialised_again, timer_goes_on, where_live, run_timer, frame_callback, run_frame, background, call_idle, invoke_idle_again, idle_called, invoke_idle, timed_out, promise_reason, outstanding_if_unhandled, notify_one, perform_steps, continued, post_state, run_post, perform_sched, fire_closure, settle_answer, answer_host, after_task}
-use Rattle.page_model.specs.Parallel.{ItemKind, ArrivalItem, HostItem, TimerItem, IdleItem, FrameItem, Item, frame_items, items_in_order, first_item_from, first_item_of, first_item, complete, complete_at, take_item, due_item, take_due, item_count, parallel}
+use Rattle.page_model.specs.Parallel.{ItemKind, ArrivalItem, HostItem, TimerItem, IdleItem, FrameItem, Item, arrival_items, frame_items, items_in_order, first_item_from, first_item_of, first_item, complete, complete_at, take_item, due_item, take_due, item_count, parallel}
 use Rattle.page_model.specs.Numbers.{HostTaskIsGiven, Each, IfThere, Made, made_by, IsGiven, HasPromise, IsKnown, NoticesAreGiven, TimerTaskIsGiven, StepsAreGiven, SchedTaskIsGiven, CompletionIsGiven, CompletingIsGiven, IdleTimerIsGiven, CallbackIsGiven, IdleIsGiven}
 use Rattle.page_model.proofs.NumbersGrow.{Each-append, Each-last, Each-map, Each-without, Each-find, Grows-same, promise-grows, TimerTask-grows, InNotices, InIdleTimers, InHostAnswers, InArrivals, InCompletions, Held, Onward, stays, onward-then, InFrames, InIdle}
 use Rattle.page_model.proofs.NumbersParts.{length-put, the_promise-given}
@@ -212,7 +211,7 @@ module _ (program : Program) where
 -- ---- parallel items
 
 abbrev ItemIsGiven : Made → ItemKind → Type 0
-ItemIsGiven n (ArrivalItem a) = IsKnown n a.value
+ItemIsGiven n (ArrivalItem k a) = IsKnown n a.value
 ItemIsGiven n (HostItem a) = HostTaskIsGiven n a.task
 ItemIsGiven n (TimerItem t) = Unit {0}
 ItemIsGiven n (IdleItem t) = IdleTimerIsGiven n t
@@ -229,6 +228,10 @@ active-given : (n : Made) (ts : List ActiveTimer) → Each (λ (t : ActiveTimer)
 active-given n [] = tt
 active-given n (t ∷ ts) = (tt, active-given n ts)
 
+arrival_items-given : (n : Made) (k : ℕ) (xs : List Arrival) → Each (λ (a : Arrival). IsKnown n a.value) xs → ItemsAreGiven n (arrival_items k xs)
+arrival_items-given n k [] h = tt
+arrival_items-given n k (x ∷ xs) h = (h.0, arrival_items-given n (suc k) xs h.1)
+
 items-given : (p : Page) → Held (made_by p) p → ItemsAreGiven (made_by p) (items_in_order p)
 items-given p h =
     let n = made_by p in
@@ -239,7 +242,7 @@ items-given p h =
     Each-append P _ _
     (Each-append P _ _
     (Each-append P _ _
-    (Each-append P _ _ (Each-map P (λ (a : Arrival). record { due = a.at; what = ArrivalItem a }) p.arrivals arrivals)
+    (Each-append P _ _ (arrival_items-given n 1 p.arrivals arrivals)
     (Each-map P (λ (a : HostAnswer). record { due = a.due; what = HostItem a }) p.host_answers answers))
     (Each-map P (λ (t : ActiveTimer). record { due = t.due; what = TimerItem t }) p.timers.active (active-given n p.timers.active)))
     (Each-map P (λ (t : IdleTimer). record { due = t.due; what = IdleItem t }) p.idle_timers idle))
@@ -297,15 +300,17 @@ put_idle_timers : (n : Made) (p : Page) (ts : List IdleTimer) → Each (IdleTime
 put_idle_timers n p ts new h InIdleTimers = new
 put_idle_timers n p ts new h part = h part
 
-without_first-each : {X : Type 0} (P : X → Type 0) (xs : List X) → Each P xs → Each P (without_first xs)
-without_first-each P [] h = tt
-without_first-each P (x ∷ xs) h = h.1
+without_numbered-each : {X : Type 0} (P : X → Type 0) (k : ℕ) (xs : List X) → Each P xs → Each P (without_numbered k xs)
+without_numbered-each P zero xs h = h
+without_numbered-each P (suc k) [] h = tt
+without_numbered-each P (suc zero) (x ∷ xs) h = h.1
+without_numbered-each P (suc (suc k)) (x ∷ xs) h = (h.0, without_numbered-each P (suc k) xs h.1)
 
 take_item-held : (what : ItemKind) (p : Page) → Held (made_by p) p → ItemIsGiven (made_by p) what → Onward (made_by p) (take_item what p)
-take_item-held (ArrivalItem a) p h x =
+take_item-held (ArrivalItem k a) p h x =
     let n = made_by p in
-    let q : Page = record p { arrivals = without_first p.arrivals } in
-    let left : Held n q = put_arrivals n p (without_first p.arrivals) (without_first-each (λ (a : Arrival). IsKnown n a.value) p.arrivals (h InArrivals)) h in
+    let q : Page = record p { arrivals = without_numbered k p.arrivals } in
+    let left : Held n q = put_arrivals n p (without_numbered k p.arrivals) (without_numbered-each (λ (a : Arrival). IsKnown n a.value) k p.arrivals (h InArrivals)) h in
     queue_task-held a.source (FireAtWindow a.name a.value) q left x
 take_item-held (HostItem a) p h x =
     let n = made_by p in

@@ -113,7 +113,7 @@ module _ {C : Type 0} (program : Program) where
   next_turn-lands : (m : State) (t : Turned C) (next : State → C → Turned C) → Lands m t → ((r : State) (c : C) → Good r → Lands r (next r c)) → Lands m (next_turn t next)
   next_turn-lands m (GoesOn r c) next h k = lands-then m r (next r c) h (k r c)
   next_turn-lands m (Ended end r c) next h k = h
-  next_turn-lands m (Stuck r c) next h k = h
+  next_turn-lands m (Stuck at r c) next h k = h
 
   module _ (rules : Rules C) (call : Caller Page) (calls_go : CallsGo program call) where
     task_done-lands : (c : C) (m : State) (d : Done Page) → Goes program m d → Lands m (task_done call c d)

@@ -26,7 +26,7 @@ use Rattle.page_model.specs.SchedulerTasks.{first_sched, without_sched}
 use Rattle.page_model.specs.Parallel.{item_count}
 use Rattle.page_model.specs.State.{Page, State, HostTask, Task, SchedTask, on_page, emit}
 use Rattle.page_model.specs.Tasks.{perform_steps, perform_sched, answer_host, after_task}
-use Rattle.page_model.specs.Turns.{Turned, GoesOn, Ended, Stuck, ends, goes_on, choose_turned, step_five, task_done, without_task, not_dropped, host_answered, perform_host, perform_task, perform_first, perform_first_sched, perform, turn_line, perform_picked, step_four, counted_turn, with_turn_fuel, step_three, from_step_three, is_pending, target, at_time, waited, step_two_at, step_two_by, step_two, step_one, after_step_one, from_step_one, turn, next_turn, turns, first_state, run, run_by, state_of, events_of_run}
+use Rattle.page_model.specs.Turns.{Refusal, NoSource, NoReading, NoAnswer, AtBound, Turned, GoesOn, Ended, Stuck, ends, goes_on, choose_turned, step_five, task_done, without_task, not_dropped, host_answered, perform_host, perform_task, perform_first, perform_first_sched, perform, turn_line, perform_picked, step_four, counted_turn, with_turn_fuel, step_three, from_step_three, is_pending, target, at_time, waited, step_two_at, step_two_by, step_two, step_one, after_step_one, from_step_one, turn, next_turn, turns, first_state, run, run_by, state_of, events_of_run}
 use Rattle.page_model.specs.View.{view}
 use Rattle.page_model.proofs.Silent.{Has, DoneHas, CallsKeep, afterwards-keeps}
 use Rattle.page_model.proofs.SilentRuns.{in_task-keeps}
@@ -152,7 +152,7 @@ answer-again kind x a rest e =
 abbrev IsStuck : {C : Type 0} → Turned C → Type 0
 IsStuck (GoesOn m c) = ⊥
 IsStuck (Ended end m c) = ⊥
-IsStuck (Stuck m c) = Unit {0}
+IsStuck (Stuck at m c) = Unit {0}
 
 -- From m the run comes to t, and by lists it does the same again. `picks` are the choices on the way, which stand in its lines.
 -- What comes behind them in the lists is left; where the run is stuck nothing may come behind them.
@@ -172,9 +172,9 @@ module _ {C : Type 0} where
       record { picks = p ∷ r.picks; lines = λ l h. r.lines (with_pick p l) (k l h); same = λ rest h. e (before r.picks rest) ∙ r.same rest h }
 
   -- a choice was refused: by empty lists it is refused again
-  refused-replays : (m : State) (c : C) (again : Choices → Turned Choices) → again (recorded no_lists) ≡ Stuck m (recorded no_lists) → Replays m (Stuck m c) again
-  refused-replays m c again e =
-      record { picks = []; lines = λ l h. h; same = λ rest h. subst (λ (r : Lists). again (recorded r) ≡ Stuck m (recorded r)) (sym (h tt)) e }
+  refused-replays : (at : Refusal) (m : State) (c : C) (again : Choices → Turned Choices) → again (recorded no_lists) ≡ Stuck at m (recorded no_lists) → Replays m (Stuck at m c) again
+  refused-replays at m c again e =
+      record { picks = []; lines = λ l h. h; same = λ rest h. subst (λ (r : Lists). again (recorded r) ≡ Stuck at m (recorded r)) (sym (h tt)) e }
 
   -- a step that makes no choice comes first
   stepped-replays : (m n : State) (t : Turned C) (again : Choices → Turned Choices) → ((x : Choices) → Has x m.host → Has x n.host) → Replays n t again → Replays m t again
@@ -211,7 +211,7 @@ module _ {C : Type 0} where
       }
   next_turn-replays m (Ended end n c) again next next' r k =
       record { picks = r.picks; lines = r.lines; same = λ rest h. ap (λ (t : Turned Choices). next_turn t next') (r.same rest h) }
-  next_turn-replays m (Stuck n c) again next next' r k =
+  next_turn-replays m (Stuck at n c) again next next' r k =
       record { picks = r.picks; lines = r.lines; same = λ rest h. ap (λ (t : Turned Choices). next_turn t next') (r.same rest h) }
 
   module _ (rules : Rules C) (call : Caller Page) (silent : (x : Choices) → CallsKeep x call) where
@@ -225,7 +225,7 @@ module _ {C : Type 0} where
         (λ x. goes_on-same x c checked)
 
     host_answered-replays : (t : HostTask) (kind : HostKind) (a : Option (Chosen (Result ℤ ℤ) C)) → IsLegalChoice (meets kind t.number) a → (m : State) (c : C) → Replays m (host_answered call t a m c) (λ x. host_answered call t (chosen_answer choice_rules kind t.number x) m x)
-    host_answered-replays t kind None l m c = refused-replays m c _ refl
+    host_answered-replays t kind None l m c = refused-replays (NoAnswer t) m c _ refl
     host_answered-replays t kind (Some a) l m c =
         let told : State = on_page (emit (Host t.closure t.number a.choice)) m in
         let done : Done Page = finish (on_page (answer_host t a.choice) m) in
@@ -245,14 +245,14 @@ module _ {C : Type 0} where
     perform_task-replays task (Some t) m c = perform_host-replays t (not_dropped (slice_get m.host.hosts t.closure)) m c
 
     perform_first-replays : (task : Option Task) (m : State) (c : C) → Replays m (perform_first rules call task m c) (λ x. perform_first choice_rules call task m x)
-    perform_first-replays None m c = silent-replays m (Stuck m c) _ (λ x h. h) (λ x. refl)
+    perform_first-replays None m c = silent-replays m (Stuck NoSource m c) _ (λ x h. h) (λ x. refl)
     perform_first-replays (Some task) m c =
         let begun : State = on_page (without_task task.number) m in
         stepped-replays m begun (perform_task rules call task (host_task_of task.steps) begun c) (λ x. perform_task choice_rules call task (host_task_of task.steps) begun x) (λ x h. h)
         (perform_task-replays task (host_task_of task.steps) begun c)
 
     perform_first_sched-replays : (t : Option SchedTask) (m : State) (c : C) → Replays m (perform_first_sched call t m c) (λ x. perform_first_sched call t m x)
-    perform_first_sched-replays None m c = silent-replays m (Stuck m c) _ (λ x h. h) (λ x. refl)
+    perform_first_sched-replays None m c = silent-replays m (Stuck NoSource m c) _ (λ x h. h) (λ x. refl)
     perform_first_sched-replays (Some t) m c =
         let begun : State = on_page (without_sched t.registration) m in
         task_done-replays c m (perform_sched (in_task call) t begun) (λ x. perform_sched-keeps x (in_task call) (in_task-keeps x call (silent x)) t begun)
@@ -269,7 +269,7 @@ module _ {C : Type 0} where
     -- ---- a turn
 
     perform_picked-replays : (rs : List Runnable) (o : Option (Chosen Source C)) → IsLegalChoice (is_runnable rs) o → (m : State) (c : C) → Replays m (perform_picked rules call o m c) (λ x. perform_picked choice_rules call (chosen_source choice_rules rs x) m x)
-    perform_picked-replays rs None l m c = refused-replays m c _ refl
+    perform_picked-replays rs None l m c = refused-replays NoSource m c _ refl
     perform_picked-replays rs (Some s) l m c =
         let told : State = turn_line (Some s.choice) m in
         picked-replays (Served s.choice) m told (perform rules call s.choice told s.left) (λ x. perform choice_rules call s.choice told x) (λ x. perform_picked choice_rules call (chosen_source choice_rules rs x) m x)
@@ -302,7 +302,7 @@ module _ {C : Type 0} where
     -- again, once a turn can be done again from its beginning
     module _ (until : ℕ) (begin : State → C → Turned C) (begin' : State → Choices → Turned Choices) (begin-replays : (m : State) (c : C) → Replays m (begin m c) (begin' m)) where
       waited-replays : (t : ℕ) (o : Option (Chosen ℕ C)) → IsLegalChoice (is_reading t) o → (m : State) (c : C) → Replays m (waited t o begin c m) (λ x. waited t (chosen_reading choice_rules t x) begin' x m)
-      waited-replays t None l m c = refused-replays m c _ refl
+      waited-replays t None l m c = refused-replays (NoReading t) m c _ refl
       waited-replays t (Some r) l m c =
           let told : State = on_page (λ p. emit (Wait t) (at_time r.choice p)) m in
           picked-replays (Read r.choice) m told (begin told r.left) (begin' told) (λ x. waited t (chosen_reading choice_rules t x) begin' x m)
@@ -336,13 +336,13 @@ module _ {C : Type 0} where
           (step_two-replays m c) (from_step_three-replays until m c)
 
     from_step_one-replays : (until n : ℕ) (m : State) (c : C) → Replays m (from_step_one rules call until n m c) (λ x. from_step_one choice_rules call until n m x)
-    from_step_one-replays until zero m c = silent-replays m (Stuck m c) _ (λ x h. h) (λ x. refl)
+    from_step_one-replays until zero m c = silent-replays m (Stuck AtBound m c) _ (λ x h. h) (λ x. refl)
     from_step_one-replays until (suc n) m c =
         stepped-replays m (step_one m) (after_step_one rules call until (from_step_one rules call until n) c (step_one m)) (λ x. after_step_one choice_rules call until (from_step_one choice_rules call until n) x (step_one m)) (λ x h. step_one-keeps x m h)
         (after_step_one-replays until (from_step_one rules call until n) (from_step_one choice_rules call until n) (from_step_one-replays until n) (step_one m) c)
 
     turns-replays : (until n : ℕ) (m : State) (c : C) → Replays m (turns rules call until n m c) (λ x. turns choice_rules call until n m x)
-    turns-replays until zero m c = silent-replays m (Stuck m c) _ (λ x h. h) (λ x. refl)
+    turns-replays until zero m c = silent-replays m (Stuck AtBound m c) _ (λ x h. h) (λ x. refl)
     turns-replays until (suc n) m c =
         next_turn-replays m (turn rules call until m c) (λ x. turn choice_rules call until m x) (turns rules call until n) (turns choice_rules call until n)
         (from_step_one-replays until (suc (suc (item_count m.host))) m c) (turns-replays until n)

@@ -48,7 +48,7 @@ module _ {C D : Type 0} (Together : C → D → Type 0) where
   next_turn-alike : (next : State → C → Turned C) (next' : State → D → Turned D) → ((m : State) (c : C) (d : D) → Together c d → EndAlike Together (next m c) (next' m d)) → (t : Turned C) (t' : Turned D) → EndAlike Together t t' → EndAlike Together (next_turn t next) (next_turn t' next')
   next_turn-alike next next' k (GoesOn m c) t' h = subst (λ (t : Turned D). EndAlike Together (next m c) (next_turn t next')) (sym h.1) (k m c h.0 h.2)
   next_turn-alike next next' k (Ended end m c) t' h = (h.0, ap (λ (t : Turned D). next_turn t next') h.1, h.2)
-  next_turn-alike next next' k (Stuck m c) t' h = (h.0, ap (λ (t : Turned D). next_turn t next') h.1, h.2)
+  next_turn-alike next next' k (Stuck at m c) t' h = (h.0, ap (λ (t : Turned D). next_turn t next') h.1, h.2)
 
   module _ (rules : Rules C) (others : Rules D) (alike : ChooseAlike rules others Together) (call : Caller Page) where
     task_done-alike : (c : C) (d : D) → Together c d → (x : Done Page) → EndAlike Together (task_done call c x) (task_done call d x)
@@ -163,4 +163,4 @@ module _ {C D : Type 0} (Together : C → D → Type 0) where
   pub alike-events : (t : Turned C) (t' : Turned D) → EndAlike Together t t' → events_of_run t' ≡ events_of_run t
   alike-events (GoesOn m c) t' h = ap events_of_run h.1
   alike-events (Ended end m c) t' h = ap events_of_run h.1
-  alike-events (Stuck m c) t' h = ap events_of_run h.1
+  alike-events (Stuck at m c) t' h = ap events_of_run h.1

@@ -57,7 +57,7 @@ complete_at-leaves None p = refl
 complete_at-leaves (Some c) p = complete-leaves c p
 
 take_item-leaves : (what : ItemKind) → Leaves (take_item what)
-take_item-leaves (ArrivalItem a) p = refl
+take_item-leaves (ArrivalItem n a) p = refl
 take_item-leaves (HostItem a) p = refl
 take_item-leaves (TimerItem t) p = complete_at-leaves (completion_of p.completions t.start) (without_timer t.start p)
 take_item-leaves (IdleItem t) p = refl
@@ -110,7 +110,7 @@ goes_on-agrees c m (OutOfFuel n) e h = (ap (goes_on c) h.0, h.1.2)
 next_turn-agrees : {C : Type 0} (next next' : State → C → Turned C) → ((c : C) → TurnsAgree (λ m. next m c) (λ m. next' m c)) → (t u : Turned C) → AtTurn t u → AtTurn (next_turn t next) (next_turn u next')
 next_turn-agrees next next' k (GoesOn m c) u h = let then = k c m h.1 in (ap (λ x. next_turn x next') h.0 ∙ then.0, then.1)
 next_turn-agrees next next' k (Ended end m c) u h = (ap (λ x. next_turn x next') h.0, h.1)
-next_turn-agrees next next' k (Stuck m c) u h = (ap (λ x. next_turn x next') h.0, h.1)
+next_turn-agrees next next' k (Stuck at m c) u h = (ap (λ x. next_turn x next') h.0, h.1)
 
 module _ {C : Type 0} (rules : Rules C) (call call' : Caller Page) (agree : CallersAgree call call') where
   task_done-agrees : (c : C) (m : State) (d e : Done Page) → At m d e → AtTurn (task_done call c d) (task_done call' c e)

@@ -134,7 +134,7 @@ module _ (c : Choices) where
   complete_at-keeps (Some x) p h = complete-keeps x p h
 
   take_item-keeps : (what : ItemKind) → Keeps c (take_item what)
-  take_item-keeps (ArrivalItem a) p h = h
+  take_item-keeps (ArrivalItem n a) p h = h
   take_item-keeps (HostItem a) p h = h
   take_item-keeps (TimerItem t) p h = complete_at-keeps (completion_of p.completions t.start) (without_timer t.start p) h
   take_item-keeps (IdleItem t) p h = h

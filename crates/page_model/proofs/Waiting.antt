@@ -12,7 +12,7 @@ use Rattle.page_model.specs.SchedulerTasks.{enqueue}
 use Rattle.page_model.specs.Parallel.{ItemKind, ArrivalItem, HostItem, TimerItem, IdleItem, FrameItem, Item, first_item, due_item, complete, complete_at, take_item, take_due, item_count, parallel}
 use Rattle.page_model.specs.Choosing.{Rules, Chosen, is_reading, chosen_reading}
 use Rattle.page_model.specs.View.{view}
-use Rattle.page_model.specs.Turns.{Turned, Stuck, choose_turned, from_step_three, is_pending, target, at_time, waited, step_two_by, step_one, after_step_one, from_step_one, turn}
+use Rattle.page_model.specs.Turns.{Turned, Stuck, AtBound, choose_turned, from_step_three, is_pending, target, at_time, waited, step_two_by, step_one, after_step_one, from_step_one, turn}
 use Rattle.page_model.specs.Bounds.{from_step_one_or, BeginsWell}
 use Rattle.page_model.proofs.Holding.{IfThere}
 use Rattle.page_model.proofs.Leaving.{parallel-leaves}
@@ -37,7 +37,7 @@ complete_at-period None p = refl
 complete_at-period (Some c) p = complete-period c p
 
 take_item-period : (what : ItemKind) (p : Page) → (take_item what p).idle_period_end ≡ p.idle_period_end
-take_item-period (ArrivalItem a) p = refl
+take_item-period (ArrivalItem n a) p = refl
 take_item-period (HostItem a) p = refl
 take_item-period (TimerItem t) p = complete_at-period (completion_of p.completions t.start) (without_timer t.start p)
 take_item-period (IdleItem t) p = refl
@@ -225,9 +225,9 @@ module _ {C : Type 0} (rules : Rules C) (call : Caller Page) (until : ℕ) (othe
   turn-agree n m c b h = from-agree n (suc (suc (item_count m.host))) m c b (omega (arith, step_one-waits m)) (omega (arith, step_one-waits m))
 
 -- with its own answer at 0 it is the same for every bound
-from_or-own : {C : Type 0} (rules : Rules C) (call : Caller Page) (until n : ℕ) (m : State) (c : C) → from_step_one_or Stuck rules call until n m c ≡ from_step_one rules call until n m c
+from_or-own : {C : Type 0} (rules : Rules C) (call : Caller Page) (until n : ℕ) (m : State) (c : C) → from_step_one_or (Stuck AtBound) rules call until n m c ≡ from_step_one rules call until n m c
 from_or-own rules call until zero m c = refl
-from_or-own rules call until (suc n) m c = after-agree rules call until Stuck (from_step_one_or Stuck rules call until n) (from_step_one rules call until n) c (step_one m) (λ e t r d at before le. from_or-own rules call until n _ d)
+from_or-own rules call until (suc n) m c = after-agree rules call until (Stuck AtBound) (from_step_one_or (Stuck AtBound) rules call until n) (from_step_one rules call until n) c (step_one m) (λ e t r d at before le. from_or-own rules call until n _ d)
 
 pub from_greater : {C : Type 0} (rules : Rules C) (call : Caller Page) (until n : ℕ) (m : State) (c : C) → BeginsWell m → suc (suc (item_count m.host)) ≤ n → from_step_one rules call until n m c ≡ turn rules call until m c
-from_greater rules call until n m c b h = sym (from_or-own rules call until n m c) ∙ turn-agree rules call until Stuck n m c b h
+from_greater rules call until n m c b h = sym (from_or-own rules call until n m c) ∙ turn-agree rules call until (Stuck AtBound) n m c b h

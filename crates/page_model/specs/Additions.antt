@@ -24,7 +24,7 @@ AddsAll es f = Follows (after es) f f
 abbrev pub turned_after : {C : Type 0} → List Stamped → Turned C → Turned C
 turned_after es (GoesOn m c) = GoesOn (hosted (after es) m) c
 turned_after es (Ended end m c) = Ended end (hosted (after es) m) c
-turned_after es (Stuck m c) = Stuck (hosted (after es) m) c
+turned_after es (Stuck at m c) = Stuck at (hosted (after es) m) c
 
 -- the same of a turn
 abbrev pub TurnAdds : {C : Type 0} → List Stamped → (State → Turned C) → Type 0

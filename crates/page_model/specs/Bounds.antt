@@ -1,5 +1,8 @@
 -- Bounds of recursions: with another answer where the bound is 0.
-use Rattle.std.specs.Prelude.{◌≡◌, ◌⊎◌, ℕ, slice_get, zero, suc, ◌+◌, ◌<◌, true, false, ◌||◌, [], length, Some, None}
+use Rattle.std.specs.Prelude.{◌≡◌, ℕ, slice_get, zero, suc, ◌+◌, ◌<◌, ◌≤◌, true, false, ◌||◌, [], length, Option, Some, None}
+use Rattle.page_types.specs.declared.Source.{Source}
+use Rattle.page_types.specs.declared.End.{End}
+use Rattle.page_types.specs.declared.End.TheVariants.{Done as DoneEnd, Fuel as FuelEnd, Clock as ClockEnd}
 use Rattle.page_types.specs.declared.Priority.{Priority}
 use Rattle.page_types.specs.Tree.{Program}
 use Rattle.page_parts.specs.Words.{has_number, is_there, is_empty}
@@ -7,14 +10,15 @@ use Rattle.page_parts.specs.TaskSignals.{Prios, record_of, followed, followers, 
 use Rattle.lang_meaning.specs.Machine.{Machine, Done, and_then, finish, branch, take_unit, Caller}
 use Rattle.lang_meaning.specs.Evaluation.{Around, around, calls, tested}
 use Rattle.page_parts.specs.HostClosures.{HostClosure}
-use Rattle.page_model.specs.State.{Page, State, HostTask}
+use Rattle.page_model.specs.State.{Page, State, Task, HostTask, on_page}
 use Rattle.page_model.specs.Invoke.{Ways, run_oldest}
-use Rattle.page_model.specs.PageSignals.{has_priority, change_through}
+use Rattle.page_model.specs.PageTime.{first_task}
+use Rattle.page_model.specs.PageSignals.{has_priority, change_through, host_task_of}
 use Rattle.page_model.specs.Operations.{page_operations}
-use Rattle.page_model.specs.Choosing.{Rules, chosen_source, chosen_reading, chosen_answer}
+use Rattle.page_model.specs.Choosing.{Rules, Chosen, chosen_source, chosen_reading, chosen_answer}
 use Rattle.page_model.specs.Parallel.{take_item, due_item, first_item, item_count}
 use Rattle.page_model.specs.View.{view}
-use Rattle.page_model.specs.Turns.{Turned, GoesOn, Ended, Stuck, turn, next_turn, step_one, after_step_one, target, not_dropped}
+use Rattle.page_model.specs.Turns.{Refusal, NoSource, NoReading, NoAnswer, NoAct, AtBound, Turned, GoesOn, Ended, Stuck, turn, next_turn, step_one, after_step_one, is_pending, target, not_dropped, without_task, turn_line}
 
 -- ---- Ours: where a definition counts down from a bound, each definition here is the same one with `other` for what it answers at 0.
 -- A law that the two agree, for every bound from the rules' one on and for every `other`, says that 0 is never met.
@@ -50,7 +54,7 @@ turn_or other more rules call until m c = from_step_one_or other rules call unti
 
 -- at most n turns, each done so
 abbrev pub row_of : {C : Type 0} → (State → C → Turned C) → ℕ → State → C → Turned C
-row_of once zero m c = Stuck m c
+row_of once zero m c = Stuck AtBound m c
 row_of once (suc n) m c = next_turn (once m c) (row_of once n)
 
 -- in the first turn, where no item is taken, a task is runnable
@@ -83,16 +87,54 @@ OneDeep p = FollowsOnce p.prios (length p.signals)
 
 -- ---- Ours: how a run ends
 
--- What is held refuses the choice that a run comes to: the source, where a task is runnable; the reading, where the target is after now and before the time is up; the answer of a closure that was not
--- dropped.
-abbrev pub Refused : {C : Type 0} → Rules C → ℕ → State → C → Type 0
-Refused rules until m c =
-    (is_empty (view m.host) ≡ false × chosen_source rules (view m.host) c ≡ None)
-    ⊎ ((t : ℕ) × target m.host ≡ Some t × m.host.now < t × t < until × chosen_reading rules t c ≡ None)
-    ⊎ ((t : HostTask) × (k : HostClosure) × not_dropped (slice_get m.host.hosts t.closure) ≡ Some k × chosen_answer rules k.kind t.number c ≡ None)
+-- The source is refused: in step 4, before the time is up, where a task is runnable.
+pub record SourceIsRefused {C : Type 0} (rules : Rules C) (until : ℕ) (m : State) (c : C) : Type 0 where
+  pub in_time : m.host.now < until
+  pub runnable : is_empty (view m.host) ≡ false
+  pub refused : chosen_source rules (view m.host) c ≡ None
 
--- a run has ended, or is stuck at a choice that is refused
+-- The reading is refused: in step 2, where no task is runnable and something is pending, for the target, which is after now and before the time is up.
+pub record ReadingIsRefused {C : Type 0} (rules : Rules C) (until t : ℕ) (m : State) (c : C) : Type 0 where
+  pub idle : is_empty (view m.host) ≡ true
+  pub pending : is_pending m.host ≡ true
+  pub aim : target m.host ≡ Some t
+  pub ahead : m.host.now < t
+  pub in_time : t < until
+  pub refused : chosen_reading rules t c ≡ None
+
+-- The answer to a host task is refused: in step 4, before the time is up. The task was the first one of the source that was chosen; it has been taken out, behind the line of
+-- the turn, and its closure was not dropped.
+pub record AnswerIsRefused {C : Type 0} (rules : Rules C) (until : ℕ) (t : HostTask) (m : State) (c : C) : Type 0 where
+  pub before : State
+  pub held : C
+  pub picked : Chosen Source C
+  pub task : Task
+  pub closure : HostClosure
+  pub in_time : before.host.now < until
+  pub choice : chosen_source rules (view before.host) held ≡ Some picked
+  pub left : picked.left ≡ c
+  pub first : first_task picked.choice before.host.tasks ≡ Some task
+  pub asks : host_task_of task.steps ≡ Some t
+  pub taken : m ≡ on_page (without_task task.number) (turn_line (Some picked.choice) before)
+  pub live : not_dropped (slice_get m.host.hosts t.closure) ≡ Some closure
+  pub refused : chosen_answer rules closure.kind t.number c ≡ None
+
+-- the choice at which a run is stuck is refused by what is held, in the step that comes to it; no run is stuck at anything else
+abbrev pub IsRefused : {C : Type 0} → Rules C → ℕ → Refusal → State → C → Type 0
+IsRefused rules until NoSource m c = SourceIsRefused rules until m c
+IsRefused rules until (NoReading t) m c = ReadingIsRefused rules until t m c
+IsRefused rules until (NoAnswer t) m c = AnswerIsRefused rules until t m c
+IsRefused rules until NoAct m c = ⊥
+IsRefused rules until AtBound m c = ⊥
+
+-- The end of a run is told truly: where it is done, no task is runnable and nothing is pending; by the clock, the time is up.
+abbrev pub IsTrueEnd : End → (until : ℕ) → State → Type 0
+IsTrueEnd DoneEnd until m = is_empty (view m.host) ≡ true × is_pending m.host ≡ false
+IsTrueEnd ClockEnd until m = until ≤ m.host.now
+IsTrueEnd FuelEnd until m = Unit {0}
+
+-- a run has ended, which is told truly, or it is stuck at a choice that is refused
 abbrev pub EndsOrIsRefused : {C : Type 0} → Rules C → ℕ → Turned C → Type 0
 EndsOrIsRefused rules until (GoesOn m c) = ⊥
-EndsOrIsRefused rules until (Ended end m c) = Unit {0}
-EndsOrIsRefused rules until (Stuck m c) = Refused rules until m c
+EndsOrIsRefused rules until (Ended end m c) = IsTrueEnd end until m
+EndsOrIsRefused rules until (Stuck at m c) = IsRefused rules until at m c

@@ -11,7 +11,7 @@ use Rattle.page_model.specs.Turns.{Turned, GoesOn, Ended, Stuck, events_of_run}
 abbrev pub with_left : {C D : Type 0} → D → Turned C → Turned D
 with_left d (GoesOn m c) = GoesOn m d
 with_left d (Ended end m c) = Ended end m d
-with_left d (Stuck m c) = Stuck m d
+with_left d (Stuck at m c) = Stuck at m d
 
 -- no choice is left in any list
 abbrev pub no_choices : Choices
@@ -21,7 +21,7 @@ no_choices = Recorded [] [] []
 abbrev pub HasEnded : {C : Type 0} → Turned C → Type 0
 HasEnded (GoesOn m c) = ⊥
 HasEnded (Ended end m c) = Unit {0}
-HasEnded (Stuck m c) = ⊥
+HasEnded (Stuck at m c) = ⊥
 
 -- choices with further ones behind each list; behind written choices there are only further answers
 abbrev pub with_further : List Source → List ℕ → List (Result ℤ ℤ) → Choices → Choices
@@ -38,4 +38,4 @@ BeginsWith start es = (rest : List Stamped) × (es ≡ start ++ rest)
 abbrev pub Continues : List Source → List ℕ → List (Result ℤ ℤ) → Turned Choices → Turned Choices → Type 0
 Continues more_sources more_readings more_answers (GoesOn m c) t = t ≡ GoesOn m (with_further more_sources more_readings more_answers c)
 Continues more_sources more_readings more_answers (Ended end m c) t = t ≡ Ended end m (with_further more_sources more_readings more_answers c)
-Continues more_sources more_readings more_answers (Stuck m c) t = BeginsWith (events_of_run (Stuck m c)) (events_of_run t)
+Continues more_sources more_readings more_answers (Stuck at m c) t = BeginsWith (events_of_run (Stuck at m c)) (events_of_run t)

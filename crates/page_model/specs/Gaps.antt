@@ -12,7 +12,7 @@ use Rattle.page_model.specs.PageTime.{idle_step}
 use Rattle.page_model.specs.Operations.{page_operations}
 use Rattle.page_model.specs.Choosing.{Rules, choice_rules}
 use Rattle.page_model.specs.View.{view}
-use Rattle.page_model.specs.Turns.{Turned, GoesOn, Stuck, ends, choose_turned, next_turn, step_one, step_three, is_pending, at_time, first_state}
+use Rattle.page_model.specs.Turns.{Turned, GoesOn, Stuck, NoAct, ends, choose_turned, next_turn, step_one, step_three, is_pending, at_time, first_state}
 
 -- ---- HTML, "Event loops: processing model": a loop that several pages share. Ours: what is done for one of them is a list of acts, whose steps are those of a turn
 
@@ -25,7 +25,7 @@ pub data Act : Type 0 where
 
 -- it is a moment, which is not before now; else the run is stuck
 abbrev pub at_moment : {C : Type 0} → ℕ → (State → Turned C) → C → State → Turned C
-at_moment t next c m = choose_turned (nat_le m.host.now t) (λ m. next (on_page (at_time t) m)) (λ m. Stuck m c) m
+at_moment t next c m = choose_turned (nat_le m.host.now t) (λ m. next (on_page (at_time t) m)) (λ m. Stuck NoAct m c) m
 
 -- time has passed
 abbrev pub pass : {C : Type 0} → C → State → Turned C
@@ -33,15 +33,15 @@ pass c m = GoesOn (step_one m) c
 
 -- a task is served, where one is runnable
 abbrev pub serve : {C : Type 0} → Rules C → Caller Page → ℕ → C → State → Turned C
-serve rules call until c m = choose_turned (is_empty (view m.host)) (λ m. Stuck m c) (step_three rules call until c) m
+serve rules call until c m = choose_turned (is_empty (view m.host)) (λ m. Stuck NoAct m c) (step_three rules call until c) m
 
 -- the idle step is done, where no task is runnable
 abbrev pub rest : {C : Type 0} → C → State → Turned C
-rest c m = choose_turned (is_empty (view m.host)) (λ m. GoesOn (on_page idle_step m) c) (λ m. Stuck m c) m
+rest c m = choose_turned (is_empty (view m.host)) (λ m. GoesOn (on_page idle_step m) c) (λ m. Stuck NoAct m c) m
 
 -- where the time is up
 abbrev pub stop_by_clock : {C : Type 0} → ℕ → C → State → Turned C
-stop_by_clock until c m = choose_turned (nat_le until m.host.now) (ends ClockEnd c) (λ m. Stuck m c) m
+stop_by_clock until c m = choose_turned (nat_le until m.host.now) (ends ClockEnd c) (λ m. Stuck NoAct m c) m
 
 -- the run ends: it is done where no task is runnable and nothing is pending, and else the time is up
 abbrev pub stop : {C : Type 0} → ℕ → C → State → Turned C

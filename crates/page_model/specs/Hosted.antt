@@ -32,4 +32,4 @@ call_by_steps program f args m = done_hosted (λ (h : Hosting). h.page) (call_fr
 abbrev pub TurnEndsBounded : {C : Type 0} → Turned C → Type 0
 TurnEndsBounded (GoesOn m c) = IsBounded m.host
 TurnEndsBounded (Ended end m c) = IsBounded m.host
-TurnEndsBounded (Stuck m c) = IsBounded m.host
+TurnEndsBounded (Stuck at m c) = IsBounded m.host

@@ -22,4 +22,4 @@ pub record ChooseAlike {C D : Type 0} (rules : Rules C) (others : Rules D) (Toge
 abbrev pub EndAlike : {C D : Type 0} → (C → D → Type 0) → Turned C → Turned D → Type 0
 EndAlike {C} {D} Together (GoesOn m c) t = (d : D) × (t ≡ GoesOn m d) × Together c d
 EndAlike {C} {D} Together (Ended end m c) t = (d : D) × (t ≡ Ended end m d) × Together c d
-EndAlike {C} {D} Together (Stuck m c) t = (d : D) × (t ≡ Stuck m d) × Together c d
+EndAlike {C} {D} Together (Stuck at m c) t = (d : D) × (t ≡ Stuck at m d) × Together c d

@@ -30,7 +30,7 @@ key_in until m c =
 abbrev pub key_of : (until : ℕ) → Turned Choices → Option ℕ
 key_of until (GoesOn m c) = key_in until m c
 key_of until (Ended end m c) = None
-key_of until (Stuck m c) = None
+key_of until (Stuck at m c) = None
 
 -- whether step 1 takes an item
 abbrev pub takes_item : Page → Bool

@@ -33,7 +33,7 @@ caller_of r = call_from_outside r.program page_operations
 abbrev pub live_in : Turned Choices → Option State
 live_in (GoesOn m c) = Some m
 live_in (Ended end m c) = None
-live_in (Stuck m c) = None
+live_in (Stuck at m c) = None
 
 -- whether a run goes on
 abbrev pub is_live : PageRun → Bool
@@ -95,7 +95,7 @@ standing r = state_of r.run
 abbrev pub with_page_of : (Page → Page) → Turned Choices → Turned Choices
 with_page_of f (GoesOn m c) = GoesOn (on_page f m) c
 with_page_of f (Ended end m c) = Ended end (on_page f m) c
-with_page_of f (Stuck m c) = Stuck (on_page f m) c
+with_page_of f (Stuck at m c) = Stuck at (on_page f m) c
 
 -- the posts since the last taking
 abbrev pub posts_of : Option PageRun → List Post

@@ -18,7 +18,7 @@ page_trace program setup hosts answers = text_of setup.trace (events_of_run (run
 abbrev pub EndsWith : {C : Type 0} → List Stamped → Turned C → Type 0
 EndsWith es (GoesOn m c) = ⊥
 EndsWith es (Ended end m c) = reverse m.host.events ≡ es
-EndsWith es (Stuck m c) = ⊥
+EndsWith es (Stuck at m c) = ⊥
 
 -- events are legal where the run under their own choices ends with exactly them
 abbrev pub IsLegal : Program → Setup → List HostClosure → List Stamped → Type 0

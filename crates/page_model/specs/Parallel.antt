@@ -2,8 +2,7 @@
 use Rattle.std.specs.Prelude.{ℕ, zero, suc, ◌+◌, false, cond, List, [], ◌∷◌, ◌++◌, map, length, Option, Some, None, nat_lt, nat_le, ◌==◌}
 use Rattle.page_types.specs.declared.Source.TheVariants.{Net, Timer, Render, Idle}
 use Rattle.page_types.specs.Events.{Due}
-use Rattle.page_parts.specs.Words.{without}
-use Rattle.lang_meaning.specs.Evaluation.{without_first}
+use Rattle.page_parts.specs.Words.{without, without_numbered}
 use Rattle.page_parts.specs.Timers.{ActiveTimer}
 use Rattle.page_model.specs.State.{RunTimer, TimeOutSignal, FireAtWindow, AnswerHost, RunFrame, IdleTimeout, Completion, QueueTimer, EnqueuePost, QueueSignal, IdleTimer, HostAnswer, Page, the_registration, emit, queue_task}
 use Rattle.page_parts.specs.Setup.{Arrival}
@@ -13,9 +12,9 @@ use Rattle.page_model.specs.SchedulerTasks.{enqueue}
 
 -- ---- HTML, "Event loops: processing model": what goes on in parallel. Ours: its order, and that it is done only at the top of a turn
 
--- what goes on beside the script: an arrival, a host answer, an active timer, an idle timeout, a rendering opportunity
+-- what goes on beside the script: an arrival with its number among those that are left, a host answer, an active timer, an idle timeout, a rendering opportunity
 pub data ItemKind : Type 0 where
-  ArrivalItem : Arrival → ItemKind
+  ArrivalItem : (number : ℕ) → Arrival → ItemKind
   HostItem : HostAnswer → ItemKind
   TimerItem : ActiveTimer → ItemKind
   IdleItem : IdleTimer → ItemKind
@@ -40,10 +39,15 @@ abbrev pub frame_items : Option ℕ → List Item
 frame_items None = []
 frame_items (Some t) = record { due = t; what = FrameItem } ∷ []
 
+-- the arrivals in line order, numbered from n on
+abbrev pub arrival_items : ℕ → List Arrival → List Item
+arrival_items n [] = []
+arrival_items n (a ∷ more) = record { due = a.at; what = ArrivalItem n a } ∷ arrival_items (suc n) more
+
 -- all items, class after class: arrivals in line order, host answers, active timers and idle timeouts in order of start, the next rendering opportunity
 abbrev pub items_in_order : Page → List Item
 items_in_order p =
-    map (λ a. record { due = a.at; what = ArrivalItem a }) p.arrivals
+    arrival_items 1 p.arrivals
     ++ map (λ a. record { due = a.due; what = HostItem a }) p.host_answers
     ++ map (λ t. record { due = t.due; what = TimerItem t }) p.timers.active
     ++ map (λ t. record { due = t.due; what = IdleItem t }) p.idle_timers
@@ -77,7 +81,7 @@ complete_at (Some c) p = complete c p
 
 -- what taking an item does: all but a delayed `postTask` queue a task; a rendering opportunity sets the last render opportunity time to now
 abbrev pub take_item : ItemKind → Page → Page
-take_item (ArrivalItem a) p = queue_task a.source (FireAtWindow a.name a.value) (record p { arrivals = without_first p.arrivals })
+take_item (ArrivalItem n a) p = queue_task a.source (FireAtWindow a.name a.value) (record p { arrivals = without_numbered n p.arrivals })
 take_item (HostItem a) p =
     queue_task Net (AnswerHost a.task)
     (emit (Due a.task.registration) (record p { host_answers = without (λ b. b.task.registration == a.task.registration) p.host_answers }))

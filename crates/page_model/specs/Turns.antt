@@ -38,11 +38,20 @@ use Rattle.page_model.specs.View.{view}
 -- 4: the first task of the chosen source is performed, and then a microtask checkpoint.
 -- 5: where no task is runnable then, an idle period may start.
 
+-- The choice at which a run is stuck, since the rules give none or none that is legal: the source that is served, the reading for a target, the answer to a host task.
+-- A run in pieces is stuck at an act that cannot be done then. At the bound of its waits or turns no run is stuck.
+pub data Refusal : Type 0 where
+  NoSource : Refusal
+  NoReading : (target : ℕ) → Refusal
+  NoAnswer : HostTask → Refusal
+  NoAct : Refusal
+  AtBound : Refusal
+
 -- how a turn ends, with what the rules hold then: the run goes on, has ended, or is stuck at a choice
 pub data Turned (C : Type 0) : Type 0 where
   GoesOn : State → C → Turned C
   Ended : End → State → C → Turned C
-  Stuck : State → C → Turned C
+  Stuck : Refusal → State → C → Turned C
 
 -- the run ends, with its line
 abbrev pub ends : {C : Type 0} → End → C → State → Turned C
@@ -59,7 +68,7 @@ goes_on c (OutOfFuel m) = ends FuelEnd c m
 abbrev pub next_turn : {C : Type 0} → Turned C → (State → C → Turned C) → Turned C
 next_turn (GoesOn m c) next = next m c
 next_turn (Ended end m c) next = Ended end m c
-next_turn (Stuck m c) next = Stuck m c
+next_turn (Stuck at m c) next = Stuck at m c
 
 -- one way or the other
 abbrev pub choose_turned : {C : Type 0} → Bool → (State → Turned C) → (State → Turned C) → State → Turned C
@@ -81,7 +90,7 @@ not_dropped (Some c) = elim c.mark [ Live ↦ Some c | QueuedMark ↦ Some c | F
 
 -- a net task with the answer that was chosen; without a legal one the run is stuck
 abbrev pub host_answered : {C : Type 0} → Caller Page → HostTask → Option (Chosen (Result ℤ ℤ) C) → State → C → Turned C
-host_answered call t None m c = Stuck m c
+host_answered call t None m c = Stuck (NoAnswer t) m c
 host_answered call t (Some a) m c = task_done call a.left (finish (on_page (answer_host t a.choice) m))
 
 -- a net task of a host: a task whose signal was aborted before does nothing
@@ -96,12 +105,12 @@ perform_task rules call task (Some t) m c = perform_host rules call t (not_dropp
 
 -- the first task of a queue is removed and performed
 abbrev pub perform_first : {C : Type 0} → Rules C → Caller Page → Option Task → State → C → Turned C
-perform_first rules call None m c = Stuck m c
+perform_first rules call None m c = Stuck NoSource m c
 perform_first rules call (Some task) m c = perform_task rules call task (host_task_of task.steps) (on_page (without_task task.number) m) c
 
 -- the scheduler task that is next is removed and performed
 abbrev pub perform_first_sched : {C : Type 0} → Caller Page → Option SchedTask → State → C → Turned C
-perform_first_sched call None m c = Stuck m c
+perform_first_sched call None m c = Stuck NoSource m c
 perform_first_sched call (Some t) m c = task_done call c (perform_sched (in_task call) t (on_page (without_sched t.registration) m))
 
 -- the first task of a source is removed and performed
@@ -115,7 +124,7 @@ turn_line source m = on_page (λ p. emit (Turn p.turns source) p) m
 
 -- the line of the turn, and the first task of the source that was chosen; without a legal one the run is stuck
 abbrev pub perform_picked : {C : Type 0} → Rules C → Caller Page → Option (Chosen Source C) → State → C → Turned C
-perform_picked rules call None m c = Stuck m c
+perform_picked rules call None m c = Stuck NoSource m c
 perform_picked rules call (Some s) m c = perform rules call s.choice (turn_line (Some s.choice) m) s.left
 
 -- step 4
@@ -148,7 +157,7 @@ from_step_three rules call until c m = next_turn (step_three rules call until c 
 -- whether anything is pending
 abbrev pub is_pending : Page → Bool
 is_pending p =
-    not (is_empty p.timers.active && is_empty p.idle_timers && is_empty p.host_answers && is_empty p.arrivals && is_empty p.frames.callbacks) || waits p.idle
+    not (is_empty p.arrivals && is_empty p.host_answers && is_empty p.timers.active && is_empty p.idle_timers && is_empty p.frames.callbacks) || waits p.idle
 
 -- the least of the next due time, the next rendering opportunity and the idle moment
 abbrev pub target : Page → Option ℕ
@@ -160,7 +169,7 @@ at_time t p = record p { now = t }
 
 -- a wait: the reading that was chosen becomes the time, and the turn begins again; without a legal one the run is stuck
 abbrev pub waited : {C : Type 0} → ℕ → Option (Chosen ℕ C) → (State → C → Turned C) → C → State → Turned C
-waited t None again c m = Stuck m c
+waited t None again c m = Stuck (NoReading t) m c
 waited t (Some r) again c m = again (on_page (λ p. emit (Wait t) (at_time r.choice p)) m) r.left
 
 -- step 2 with a target
@@ -191,7 +200,7 @@ after_step_one rules call until again c m =
 
 -- steps 1 and 2, again after each wait; each wait takes an item, opens a frame or comes to the idle moment, so n of them are enough
 abbrev pub from_step_one : {C : Type 0} → Rules C → Caller Page → ℕ → ℕ → State → C → Turned C
-from_step_one rules call until zero m c = Stuck m c
+from_step_one rules call until zero m c = Stuck AtBound m c
 from_step_one rules call until (suc n) m c = after_step_one rules call until (from_step_one rules call until n) c (step_one m)
 
 -- one turn
@@ -200,7 +209,7 @@ turn rules call until m c = from_step_one rules call until (suc (suc (item_count
 
 -- at most n turns
 abbrev pub turns : {C : Type 0} → Rules C → Caller Page → ℕ → ℕ → State → C → Turned C
-turns rules call until zero m c = Stuck m c
+turns rules call until zero m c = Stuck AtBound m c
 turns rules call until (suc n) m c = next_turn (turn rules call until m c) (turns rules call until n)
 
 -- the script's own body has the number after the last function
@@ -269,7 +278,7 @@ run program setup hosts c = run_by choice_rules program setup hosts c
 abbrev pub state_of : {C : Type 0} → Turned C → State
 state_of (GoesOn m c) = m
 state_of (Ended end m c) = m
-state_of (Stuck m c) = m
+state_of (Stuck at m c) = m
 
 -- the events of a run
 abbrev pub events_of_run : {C : Type 0} → Turned C → List Stamped

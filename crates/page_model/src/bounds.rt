@@ -16,7 +16,8 @@ ghost use Rattle.page_model.specs.Invoke.{run_jobs, in_script};
 ghost use Rattle.page_model.specs.PageSignals.{change};
 ghost use Rattle.page_model.specs.Operations.{page_operations};
 ghost use Rattle.page_model.specs.Parallel.{first_item, due_item, take_due, item_count, parallel};
-ghost use Rattle.page_model.specs.Turns.{Turned, from_step_one, turn, turns, first_page, first_state, run_by, state_of};
+ghost use Rattle.page_model.specs.View.{view};
+ghost use Rattle.page_model.specs.Turns.{is_pending, target, Turned, from_step_one, turn, turns, first_page, first_state, run_by, state_of};
 ghost use Rattle.page_model.specs.FuelAndTime.{CallsForward, end_state};
 ghost use Rattle.page_model.specs.Bounds.{run_jobs_or, loop_turns_or, at_depth, turns_or, take_due_or, change_or, OneDeep, from_step_one_or, turn_or, row_of, BeginsWell, EndsOrIsRefused};
 
@@ -72,7 +73,13 @@ pub fn waits_end_before_their_bound<R: Choosing>()
     ensures whole_run { (program : Program) (setup : Setup) (hosts : List HostClosure) (other : State → R.Held → Turned R.Held) (more : ℕ) (c : R.Held) → row_of (turn_or other more R.rules (call_from_outside program page_operations) setup.until) (suc setup.fuel) (first_state program setup hosts) c ≡ run_by R.rules program setup hosts c }
 {}
 
-/// The law that every run ends, or is stuck at a choice that the rules refuse: no bound of it is ever met.
+/// The law that where no task is runnable there is a target exactly where something is pending, whatever the page.
+pub fn a_target_is_there_where_something_is_pending()
+    ensures { (p : Page) → is_empty (view p) ≡ true → is_there (target p) ≡ is_pending p }
+{}
+
+/// The law that every run ends, and tells its end truly, or is stuck at a choice that the rules refuse in the step that comes to it: no bound
+/// of it is ever met. So no run is done while a task is runnable or something is pending.
 pub fn runs_end_or_are_refused_a_choice<R: Choosing>()
     ensures { (program : Program) (setup : Setup) (hosts : List HostClosure) (c : R.Held) → EndsOrIsRefused R.rules setup.until (run_by R.rules program setup hosts c) }
 {}

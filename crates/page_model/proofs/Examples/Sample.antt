@@ -83,9 +83,9 @@ summary_text program setup hosts answers = summary_of (events_of_run (run progra
 abbrev pub has_ended : Turned Choices → Bool
 has_ended (GoesOn m c) = false
 has_ended (Ended end m c) = true
-has_ended (Stuck m c) = false
+has_ended (Stuck at m c) = false
 
 abbrev pub is_stuck : Turned Choices → Bool
 is_stuck (GoesOn m c) = false
 is_stuck (Ended end m c) = false
-is_stuck (Stuck m c) = true
+is_stuck (Stuck at m c) = true

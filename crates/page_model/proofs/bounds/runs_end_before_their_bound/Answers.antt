@@ -1,5 +1,5 @@
 use Rattle.std.proofs.Common.{suc, sym, ◌∙◌, lt-suc_self}
-use Rattle.page_model.specs.Turns.{Stuck, first_state, run_by}
+use Rattle.page_model.specs.Turns.{Stuck, AtBound, first_state, run_by}
 use Rattle.page_model.proofs.BoundsOfFuel.{turns-agree}
 use Rattle.page_model.proofs.bounds.runs_end_before_their_bound.Goals as goal
 
@@ -8,7 +8,7 @@ returns-clause-whatever_at_0 g c = λ program other until n m choices h. turns-a
 
 pub returns-clause-greater : goal.returns-clause-greater
 returns-clause-greater g c = λ program until n m choices h.
-    sym (turns-agree g.R.Choosing.rules program Stuck until n n m choices h h) ∙ turns-agree g.R.Choosing.rules program Stuck until n (suc m.fuel) m choices h (lt-suc_self m.fuel)
+    sym (turns-agree g.R.Choosing.rules program (Stuck AtBound) until n n m choices h h) ∙ turns-agree g.R.Choosing.rules program (Stuck AtBound) until n (suc m.fuel) m choices h (lt-suc_self m.fuel)
 
 pub returns-clause-whole_run : goal.returns-clause-whole_run
 unfolding run_by

@@ -11,7 +11,7 @@ returns-clause-again g c = λ program setup hosts held. run-again g.R.Choosing.r
 ends_with-own : {C D : Type 0} (d : D) (t : Turned C) → HasEnded t → EndsWith (events_of_run t) (with_left d t)
 ends_with-own d (GoesOn m c) h = absurd h
 ends_with-own d (Ended end m c) h = refl
-ends_with-own d (Stuck m c) h = absurd h
+ends_with-own d (Stuck at m c) h = absurd h
 
 pub returns-clause-legal : goal.returns-clause-legal
 returns-clause-legal g c = λ program setup hosts held ended.
