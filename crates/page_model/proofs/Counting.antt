@@ -49,7 +49,7 @@ bounded-near more a b h few g =
       registrations = omega (arith, h.registrations, few);
       listeners = let l = ap length h.listeners in omega (arith, h.registrations, l, g.listeners);
       signals = omega (arith, h.signals, g.signals);
-      dependents = λ s d. subst (λ ds. times ds d ≤ 2) (sym (h.dependents s)) (g.dependents s d);
+      dependents = λ s d. subst (λ ds. times ds d ≤ 1) (sym (h.dependents s)) (g.dependents s d);
       none_ahead = λ s d l. subst (λ ds. times ds d ≡ 0) (sym (h.dependents s)) (g.none_ahead s d (let k = h.signals in omega (arith, l, k)));
       prios = let l = ap length h.prios in omega (arith, l, h.signals, g.prios);
       followers = subst (λ ps. (s : ℕ) → AllHaveRecords ps (elim (record_of ps s) [ None ↦ [] | Some r ↦ r.followers ])) (sym h.prios) g.followers;
@@ -98,10 +98,13 @@ at_place f (y ∷ xs) (suc i) zero x d e = refl
 at_place f (y ∷ xs) (suc i) (suc j) x d e = at_place f xs i j x d e
 
 pub alike-with : (ss : Signals Value) (s t : ℕ) (x : SignalRecord Value) → x.dependents ≡ (the_signal ss s).dependents → (the_signal (with_numbered ss s x) t).dependents ≡ (the_signal ss t).dependents
-alike-with ss s t x e = at_place (λ (r : SignalRecord Value). r.dependents) ss (pred s) (pred t) x fresh_signal e
+alike-with ss zero t x e = refl
+alike-with ss (suc s) zero x e = refl
+alike-with ss (suc s) (suc t) x e = at_place (λ (r : SignalRecord Value). r.dependents) ss s t x fresh_signal e
 
 pub with_numbered-length : {X : Type 0} (xs : List X) (n : ℕ) (x : X) → length (with_numbered xs n x) ≡ length xs
-with_numbered-length xs n x = length-set xs (pred n) x
+with_numbered-length xs zero x = refl
+with_numbered-length xs (suc n) x = length-set xs n x
 
 -- the page with signals that are alike
 pub near-signals : (p : Page) (ss : Signals Value) → length ss ≡ length p.signals → ((s : ℕ) → (the_signal ss s).dependents ≡ (the_signal p.signals s).dependents) → Near 0 (counted p) (counted (record p { signals = ss }))

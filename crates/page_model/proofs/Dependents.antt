@@ -1,4 +1,4 @@
--- New signals keep a page within bounds: no signal depends on another one more than twice.
+-- New signals keep a page within bounds: no signal depends on another one more than once.
 use Rattle.std.proofs.Common.{◌≡◌, ◌≢◌, ℕ, zero, suc, pred, ◌+◌, ◌≤◌, ◌<◌, arith, Bool, true, false, List, [], ◌∷◌, ◌++◌, length, Option, Some, None, refl, ap, sym, subst, ◌∙◌, cond, ◌||◌, ◌⊎◌, inl, inr}
 use Rattle.std.specs.Prelude.{◌==◌, slice_get, slice_set, unwrap_or}
 use Rattle.std.proofs.lemmas.Bool.{eqb-true, eq-eqb}
@@ -78,35 +78,23 @@ set-joins d e b (r ∷ ss) zero (suc j) h = omega arith
 set-joins d e b (r ∷ ss) (suc i) zero h = omega arith
 set-joins d e b (r ∷ ss) (suc i) (suc j) h = set-joins d e b ss i j (λ q. h (ap suc q))
 
--- the numbers that stand for the same signal as s
-abbrev both : List ℕ → ℕ → ℕ
-both sources t = times sources 0 + times sources (suc (pred t))
-
-one-both : (s t : ℕ) → pred s ≡ pred t → 1 ≤ cond (0 == s) 1 0 + cond (suc (pred t) == s) 1 0
-one-both zero t h = omega arith
-one-both (suc s) t h =
-    let same = if_true 1 (suc (pred t) == suc s) (eq-eqb (suc (pred t)) (suc s) (ap suc (sym h))) in
-    omega (arith, same)
-
 one-joins : (d e s t : ℕ) (ss : Signals Value)
     → times (the_signal (with_numbered ss s (record (the_signal ss s) { dependents = and_last (the_signal ss s).dependents d })) t).dependents e
-    ≤ times (the_signal ss t).dependents e + cond (e == d) (cond (0 == s) 1 0 + cond (suc (pred t) == s) 1 0) 0
-one-joins d e s t ss = set-joins d e (cond (e == d) (cond (0 == s) 1 0 + cond (suc (pred t) == s) 1 0) 0) ss (pred s) (pred t) (λ h. by (e == d) h)
+    ≤ times (the_signal ss t).dependents e + cond (e == d) (cond (t == s) 1 0) 0
+one-joins d e zero t ss = omega arith
+one-joins d e (suc s) zero ss = omega arith
+one-joins d e (suc s) (suc t) ss = set-joins d e (cond (e == d) (cond (suc t == suc s) 1 0) 0) ss s t (λ h. by (e == d) h)
   where
-    by : (b : Bool) → pred s ≡ pred t → cond b 1 0 ≤ cond b (cond (0 == s) 1 0 + cond (suc (pred t) == s) 1 0) 0
-    by true h = one-both s t h
+    by : (b : Bool) → s ≡ t → cond b 1 0 ≤ cond b (cond (suc t == suc s) 1 0) 0
+    by true h = let same = if_true 1 (suc t == suc s) (eq-eqb (suc t) (suc s) (ap suc (sym h))) in omega (arith, same)
     by false h = omega arith
 
-with_dependent-times : (d e t : ℕ) (sources : List ℕ) (ss : Signals Value) → times (the_signal (with_dependent d sources ss) t).dependents e ≤ times (the_signal ss t).dependents e + cond (e == d) (both sources t) 0
-with_dependent-times d e t [] ss = by (e == d)
-  where
-    by : (b : Bool) → times (the_signal ss t).dependents e ≤ times (the_signal ss t).dependents e + cond b (0 + 0) 0
-    by true = omega arith
-    by false = omega arith
+with_dependent-times : (d e t : ℕ) (sources : List ℕ) (ss : Signals Value) → times (the_signal (with_dependent d sources ss) t).dependents e ≤ times (the_signal ss t).dependents e + cond (e == d) (times sources t) 0
+with_dependent-times d e t [] ss = omega arith
 with_dependent-times d e t (s ∷ more) ss =
     by _ _ _ (e == d) (one-joins d e s t ss) (with_dependent-times d e t more (with_numbered ss s (record (the_signal ss s) { dependents = and_last (the_signal ss s).dependents d })))
   where
-    by : (a x y : ℕ) (b : Bool) → x ≤ y + cond b (cond (0 == s) 1 0 + cond (suc (pred t) == s) 1 0) 0 → a ≤ x + cond b (both more t) 0 → a ≤ y + cond b (both (s ∷ more) t) 0
+    by : (a x y : ℕ) (b : Bool) → x ≤ y + cond b (cond (t == s) 1 0) 0 → a ≤ x + cond b (times more t) 0 → a ≤ y + cond b (times (s ∷ more) t) 0
     by a x y true h k = omega (arith, h, k)
     by a x y false h k = omega (arith, h, k)
 
@@ -118,7 +106,8 @@ with_dependent-length d (s ∷ more) ss =
 
 -- a new signal with no dependent ones is as one that is not there
 last-alike : (ss : Signals Value) (x : SignalRecord Value) (t : ℕ) → x.dependents ≡ [] → (the_signal (and_last ss x) t).dependents ≡ (the_signal ss t).dependents
-last-alike ss x t h = at ss (pred t)
+last-alike ss x zero h = refl
+last-alike ss x (suc t) h = at ss t
   where
     at : (ss : Signals Value) (i : ℕ) → (unwrap_or (slice_get (ss ++ x ∷ []) i) fresh_signal).dependents ≡ (unwrap_or (slice_get ss i) fresh_signal).dependents
     at [] zero = h
@@ -136,7 +125,7 @@ module _ (c : Counted) (g : AreBounded c) (few : 1 + length c.signals ≤ 429496
         registrations = g.registrations;
         listeners = g.listeners;
         signals = omega (arith, more, few);
-        dependents = λ s d. subst (λ ds. times ds d ≤ 2) (sym (last-alike c.signals x s h)) (g.dependents s d);
+        dependents = λ s d. subst (λ ds. times ds d ≤ 1) (sym (last-alike c.signals x s h)) (g.dependents s d);
         none_ahead = λ s d l. subst (λ ds. times ds d ≡ 0) (sym (last-alike c.signals x s h)) (g.none_ahead s d (omega (arith, l, more)));
         prios = let p = g.prios in omega (arith, p, more);
         followers = g.followers;
@@ -152,17 +141,15 @@ module _ (c : Counted) (g : AreBounded c) (few : 1 + length c.signals ≤ 429496
     abbrev d : ℕ
     d = length made
 
-    new-times : (t e : ℕ) → times (the_signal (with_dependent d sources made) t).dependents e ≤ times (the_signal c.signals t).dependents e + cond (e == d) 2 0
+    new-times : (t e : ℕ) → times (the_signal (with_dependent d sources made) t).dependents e ≤ times (the_signal c.signals t).dependents e + cond (e == d) 1 0
     new-times t e =
         let joins = with_dependent-times d e t sources made in
         let alike = ap (λ ds. times ds e) (last-alike c.signals x t refl) in
-        let a = once 0 in
-        let b = once (suc (pred t)) in
-        by _ _ _ _ _ (e == d) joins alike a b
+        by _ _ _ _ (e == d) joins alike (once t)
       where
-        by : (k l m n y : ℕ) (q : Bool) → y ≤ k + cond q (m + n) 0 → k ≡ l → m ≤ 1 → n ≤ 1 → y ≤ l + cond q 2 0
-        by k l m n y true j e a b = omega (arith, j, e, a, b)
-        by k l m n y false j e a b = omega (arith, j, e)
+        by : (k l m y : ℕ) (q : Bool) → y ≤ k + cond q m 0 → k ≡ l → m ≤ 1 → y ≤ l + cond q 1 0
+        by k l m y true j e a = omega (arith, j, e, a)
+        by k l m y false j e a = omega (arith, j, e)
 
     depended-bounded : AreBounded (record c { signals = with_dependent d sources made })
     depended-bounded =
@@ -172,32 +159,32 @@ module _ (c : Counted) (g : AreBounded c) (few : 1 + length c.signals ≤ 429496
           registrations = g.registrations;
           listeners = g.listeners;
           signals = omega (arith, more, same, few);
-          dependents = λ t e. twice t e (e == d) refl;
+          dependents = λ t e. at_most_once t e (e == d) refl;
           none_ahead = λ t e l. ahead t e (omega (arith, l, same, more)) (omega (arith, l, same)) (e == d) refl;
           prios = let p = g.prios in omega (arith, p, more, same);
           followers = g.followers;
         }
       where
-        twice : (t e : ℕ) (b : Bool) → (e == d) ≡ b → times (the_signal (with_dependent d sources made) t).dependents e ≤ 2
-        twice t e true q =
+        at_most_once : (t e : ℕ) (b : Bool) → (e == d) ≡ b → times (the_signal (with_dependent d sources made) t).dependents e ≤ 1
+        at_most_once t e true q =
             let n = new-times t e in
             let same : e ≡ d = eqb-true e d q in
             let more = and_last-length c.signals x in
             let none = g.none_ahead t e (omega (arith, same, more)) in
-            let two = if_true 2 (e == d) q in
-            omega (arith, n, none, two)
-        twice t e false q =
+            let one = if_true 1 (e == d) q in
+            omega (arith, n, none, one)
+        at_most_once t e false q =
             let n = new-times t e in
-            let two = g.dependents t e in
-            let none = if_false 2 (e == d) q in
-            omega (arith, n, none, two)
+            let one = g.dependents t e in
+            let none = if_false 1 (e == d) q in
+            omega (arith, n, none, one)
 
         ahead : (t e : ℕ) → length c.signals < e → d < e → (b : Bool) → (e == d) ≡ b → times (the_signal (with_dependent d sources made) t).dependents e ≡ 0
         ahead t e l k true q = let same : e ≡ d = eqb-true e d q in let never : ⊥ = omega (arith, same, k) in absurd never
         ahead t e l k false q =
             let n = new-times t e in
             let zero' = g.none_ahead t e l in
-            let none = if_false 2 (e == d) q in
+            let none = if_false 1 (e == d) q in
             omega (arith, n, none, zero')
 
   pub any-bounded : (of : List ℕ) → AreBounded (record c { signals = any of c.signals })

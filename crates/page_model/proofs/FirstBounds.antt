@@ -1,20 +1,20 @@
 -- The page before the first turn is within bounds.
-use Rattle.std.proofs.Common.{◌≡◌, ℕ, zero, suc, pred, arith, List, [], refl}
-use Rattle.std.specs.Prelude.{slice_get, unwrap_or}
+use Rattle.std.proofs.Common.{◌≡◌, ℕ, zero, suc, arith, List, [], refl}
 use Rattle.page_types.specs.Values.{Value}
 use Rattle.page_types.specs.Tree.{Program}
 use Rattle.page_parts.specs.Setup.{Setup}
 use Rattle.page_parts.specs.HostClosures.{HostClosure}
-use Rattle.page_parts.specs.AbortGraph.{Signals, fresh_signal}
+use Rattle.page_parts.specs.AbortGraph.{Signals, the_signal}
 use Rattle.page_model.specs.Turns.{first_page}
 use Rattle.page_model.specs.FoldBounds.{times, IsBounded}
 
 abbrev no_signals : Signals Value
 no_signals = []
 
-none_there : (i d : ℕ) → times (unwrap_or (slice_get no_signals i) fresh_signal).dependents d ≡ 0
+none_there : (i d : ℕ) → times (the_signal no_signals i).dependents d ≡ 0
 none_there zero d = refl
-none_there (suc i) d = refl
+none_there (suc zero) d = refl
+none_there (suc (suc i)) d = refl
 
 pub first-bounded : (program : Program) (setup : Setup) (hosts : List HostClosure) → IsBounded (first_page program setup hosts)
 first-bounded program setup hosts =
@@ -22,8 +22,8 @@ first-bounded program setup hosts =
       registrations = omega arith;
       listeners = omega arith;
       signals = omega arith;
-      dependents = λ s d. let n = none_there (pred s) d in omega (arith, n);
-      none_ahead = λ s d l. none_there (pred s) d;
+      dependents = λ s d. let n = none_there s d in omega (arith, n);
+      none_ahead = λ s d l. none_there s d;
       prios = omega arith;
       followers = λ s. tt;
     }

@@ -32,7 +32,7 @@ use Rattle.page_model.specs.PageSignals.{change, is_aborted, is_aborted_source, 
 use Rattle.page_model.specs.PagePromises.{new_settled, last_promise}
 use Rattle.page_model.specs.Operations.{does, answers, where_left, registration_left, promise_left, signal_left, is_left, priority_in, int_within, delay_in, signal_or_unit, busy_for, micro_registered, last_promise_value, script_promise, settle_own, settled_promise, resolved_value, then_made, then_value, timer_set, set_timer, with_handle, frame_requested, idle_requested, controller_value, signal_value, with_signals, task_signal_made, reason_given, change_by, signals_in, any_made, any_with_priority, followed_through, any_following, make_task_any, timeout_signal_made, target_in, listener_added, listener_removed, rejected_with, given_or_rejected, priority_or_unit, source_reason, prio_source_of, post_queued, post_accepted, post_task, continuation_queued, yield_in, closure_at, is_fresh, fitting, host_queued, host_accepted, host_asked, host, operation, page_operations, may_operate, combined, raced, promises_for_all, finally_value, finally_made, port_in, sendable_in, posted, post_message}
 use Rattle.page_model.proofs.Holding.{given_any, Holds, OperateHolds, calls-hold, given_any-holds, branch-holds, answered-holds, take_unit-holds, finish-holds, fault-holds}
-use Rattle.page_model.proofs.Leaving.{PageKeeping, Leaves, with_page, resolve-leaves, reject-leaves, clear_timer-leaves, cancel_frame-leaves, cancel_idle-leaves, micro_registered-leaves, then_made-leaves, idle_requested-leaves, listener_removed-leaves, post_queued-leaves, continuation_queued-leaves, host_queued-leaves, part, relates-leaves, finally_made-leaves}
+use Rattle.page_model.proofs.Leaving.{with_numbered-length, PageKeeping, Leaves, with_page, resolve-leaves, reject-leaves, clear_timer-leaves, cancel_frame-leaves, cancel_idle-leaves, micro_registered-leaves, then_made-leaves, idle_requested-leaves, listener_removed-leaves, post_queued-leaves, continuation_queued-leaves, host_queued-leaves, part, relates-leaves, finally_made-leaves}
 use Rattle.page_model.proofs.HoldingRuns.{K, Kept, Changes, Goes, CallsGo, WaysGo, kept-then, leaves-change, finish-leaves, abort-goes, change-goes, in_script-goes}
 use Rattle.page_parts.specs.Combinators.{CombinatorKind, All, AnyOf, AllSettled as AllSettledKind}
 use Rattle.page_model.specs.PageCombinators.{all_made, race_made, are_promises_left}
@@ -44,7 +44,7 @@ with_dependent-length : {R : Type 0} (d : ℕ) (sources : List ℕ) (ss : Signal
 with_dependent-length d [] ss = refl
 with_dependent-length d (s ∷ more) ss =
     with_dependent-length d more (with_numbered ss s (record (the_signal ss s) { dependents = and_last (the_signal ss s).dependents d }))
-    ∙ length-set ss _ _
+    ∙ with_numbered-length ss s _
 
 and_last-length : {X : Type 0} (xs : List X) (x : X) → length (and_last xs x) ≡ suc (length xs)
 and_last-length [] x = refl

@@ -148,8 +148,9 @@ cancel_idle-leaves handle p = elim-leaves (idle_callback handle p) p p _ refl (�
 
 -- ---- signals
 
-with_numbered-length : {X : Type 0} (xs : List X) (n : ℕ) (x : X) → length (with_numbered xs n x) ≡ length xs
-with_numbered-length xs n x = length-set xs (pred n) x
+pub with_numbered-length : {X : Type 0} (xs : List X) (n : ℕ) (x : X) → length (with_numbered xs n x) ≡ length xs
+with_numbered-length xs zero x = refl
+with_numbered-length xs (suc n) x = length-set xs n x
 
 pub watch-leaves : (signal : Option ℕ) (r : ℕ) → Leaves (watch signal r)
 watch-leaves None r p = refl

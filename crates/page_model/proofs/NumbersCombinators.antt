@@ -12,8 +12,8 @@ use Rattle.page_model.specs.PagePromises as promises
 use Rattle.page_model.specs.PagePromises.{new_promise, last_promise, inner_subscription}
 use Rattle.page_model.specs.PageCombinators.{element_at, no_combining, combining_at, settle_result, with_combining, report_to, report, lead_into, last_combinator, with_combinator, combinator_made, item_made, item_number, with_element, element_made, subscribe_into, each_item, all_made, race_made, promises_for, are_promises_left, passed_on, pass_on}
 use Rattle.page_model.specs.Numbers.{Each, IfThere, Made, made_by, Grows, IsGiven, IsKnown, OutcomeIsKnown, KindIsGiven, CombiningIsGiven, ElementIsGiven}
-use Rattle.page_model.proofs.NumbersGrow.{Each-last, Each-map, Each-get, Each-find, Each-set, IfThere-cond, length-last, last-given, IsGiven-more, promise-grows, Kind-grows, IsKnown-grows, values-grow, Combining-grows, InCombinators, InElements, Held, Onward, stays, onward-then, Grows-combinators, unwrapped}
-use Rattle.page_model.proofs.NumbersParts.{length-put, values-known, promise_in-given}
+use Rattle.page_model.proofs.NumbersGrow.{Each-last, Each-map, Each-get, Each-find, Each-with, IfThere-cond, length-last, last-given, IsGiven-more, promise-grows, Kind-grows, IsKnown-grows, values-grow, Combining-grows, InCombinators, InElements, Held, Onward, stays, onward-then, Grows-combinators, unwrapped}
+use Rattle.page_model.proofs.NumbersParts.{length-with, values-known, promise_in-given}
 use Rattle.page_model.proofs.NumbersPages.{moves, resolve-held, reject-held, follow-held, subscribe-held, new_promise-held}
 
 -- ---- lists
@@ -118,10 +118,10 @@ report_to-held c k r p h given x =
     let noted = with_combining k (record c { combine = with_report r c.combine }) p in
     let new : CombiningIsGiven n (record c { combine = with_report r c.combine }) =
     record { kind = given.kind; reports = Each-last (λ (r : Report). OutcomeIsKnown n r.outcome) c.combine.reports r given.reports x; result = given.result } in
-    let same = length-put p.combinators (pred k) (record c { combine = with_report r c.combine }) in
+    let same = length-with p.combinators k (record c { combine = with_report r c.combine }) in
     let grows : Grows n (made_by noted) = Grows-combinators n (length noted.combinators) (omega (arith, same)) in
     let here : Onward n noted =
-    moves p noted h grows (λ q. put_combinators (made_by noted) noted.combinators p (Each-set (CombiningIsGiven (made_by noted)) p.combinators (pred k) _ (q InCombinators) (Combining-grows n (made_by noted) grows _ new)) q) in
+    moves p noted h grows (λ q. put_combinators (made_by noted) noted.combinators p (Each-with (CombiningIsGiven (made_by noted)) p.combinators k _ (q InCombinators) (Combining-grows n (made_by noted) grows _ new)) q) in
     onward-then n noted (report_to c k r p) here
     (settle_result-held (report_answer r c.combine) c.result noted here.1 (promise-grows n (made_by noted) grows c.result given.result)
     (report_answer-known (made_by noted) r c.combine (Kind-grows n (made_by noted) grows c.combine.kind given.kind)

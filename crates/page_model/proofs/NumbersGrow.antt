@@ -2,7 +2,7 @@
 use Rattle.std.proofs.Common.{◌≡◌, ℕ, zero, suc, ◌<◌, ◌≤◌, Bool, true, false, List, [], ◌∷◌, ◌++◌, length, map, Option, Some, None, refl, sym, ap, ◌∙◌, subst, arith, append_assoc, length-append, slice_get, cond}
 use Rattle.std.specs.Prelude.{pred, find, filter, unwrap_or, slice_set}
 use Rattle.page_types.specs.Values.{Value, UnitValue, BoolValue, IntValue, TextValue, ListValue, FunValue, PromiseValue, SignalValue, ControllerValue, DeadlineValue, FaultValue, Values, no_values, with_value}
-use Rattle.page_parts.specs.Words.{numbered, and_last, without}
+use Rattle.page_parts.specs.Words.{numbered, with_numbered, and_last, without}
 use Rattle.page_parts.specs.Kinds.{Func}
 use Rattle.page_parts.specs.Promises.{settled_value, Reaction, PromiseRecord, PromiseJob, React, Adopt}
 use Rattle.page_parts.specs.Notices.{WaitingJob, Todo, Micro, OfPromise, Notices}
@@ -58,12 +58,17 @@ unwrapped P None d h k = k
 unwrapped P (Some x) d h k = h
 
 pub Each-numbered : {X : Type 0} (P : X → Type 0) (xs : List X) (k : ℕ) (d : X) → Each P xs → P d → P (numbered xs k d)
-Each-numbered P xs k d h p = unwrapped P (slice_get xs (pred k)) d (Each-get P xs (pred k) h) p
+Each-numbered P xs zero d h p = p
+Each-numbered P xs (suc k) d h p = unwrapped P (slice_get xs k) d (Each-get P xs k h) p
 
 pub Each-set : {X : Type 0} (P : X → Type 0) (xs : List X) (k : ℕ) (x : X) → Each P xs → P x → Each P (slice_set xs k x)
 Each-set P [] k x h p = tt
 Each-set P (y ∷ xs) zero x h p = (p, h.1)
 Each-set P (y ∷ xs) (suc k) x h p = (h.0, Each-set P xs k x h.1 p)
+
+pub Each-with : {X : Type 0} (P : X → Type 0) (xs : List X) (k : ℕ) (x : X) → Each P xs → P x → Each P (with_numbered xs k x)
+Each-with P xs zero x h p = h
+Each-with P xs (suc k) x h p = Each-set P xs k x h p
 
 pub IfThere-cond : {X : Type 0} (P : X → Type 0) (b : Bool) (o q : Option X) → IfThere P o → IfThere P q → IfThere P (cond b o q)
 IfThere-cond P true o q h k = h

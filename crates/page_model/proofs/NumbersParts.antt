@@ -19,12 +19,16 @@ use Rattle.page_types.specs.declared.RegKind.TheVariants.{Listener as ListenerKi
 use Rattle.page_model.specs.State.{OfKind, HostTask}
 use Rattle.page_model.specs.PageSignals.{closure_dropped, drop_at, drop_closure}
 use Rattle.page_model.specs.Numbers.{IsFor, JobIsGiven, Each, IfThere, Made, IsGiven, HasPromise, IsKnown, AreKnown, ReactionIsGiven, PromiseIsGiven, PromiseJobIsGiven, TodoIsGiven, NoticesAreGiven, SignalIsGiven, PrioIsGiven, ListenerIsGiven}
-use Rattle.page_model.proofs.NumbersGrow.{Each-more, Each-last, Each-cond, Each-without, Each-filter, Each-map, Each-numbered, Each-set, Each-find, length-last}
+use Rattle.page_model.proofs.NumbersGrow.{Each-more, Each-last, Each-cond, Each-without, Each-filter, Each-map, Each-with, Each-numbered, Each-set, Each-find, length-last}
 
 pub length-put : {X : Type 0} (xs : List X) (k : ℕ) (x : X) → length (slice_set xs k x) ≡ length xs
 length-put [] k x = refl
 length-put (y ∷ xs) zero x = refl
 length-put (y ∷ xs) (suc k) x = ap suc (length-put xs k x)
+
+pub length-with : {X : Type 0} (xs : List X) (k : ℕ) (x : X) → length (with_numbered xs k x) ≡ length xs
+length-with xs zero x = refl
+length-with xs (suc k) x = length-put xs k x
 
 -- ---- no number is given back
 
@@ -148,7 +152,7 @@ module _ (n : Made) where
   changed-given now y names k c s le g x h =
       queue_jobs-given now y c.jobs (promise_changed names k c s).notices le x.jobs
       (record {
-        promises = Each-set (PromiseIsGiven n) s.promises (pred k) c.promise h.promises x.promise;
+        promises = Each-with (PromiseIsGiven n) s.promises k c.promise h.promises x.promise;
         jobs = h.jobs;
         rejected = Each-cond (IsGiven n.promises) c.newly_rejected (and_last s.rejected k) s.rejected (Each-last (IsGiven n.promises) s.rejected k h.rejected g) h.rejected;
         outstanding = h.outstanding;
@@ -222,7 +226,7 @@ module _ (n : Made) where
   with_dependent-given d (s ∷ more) ss g h =
       let x = the_signal-given ss s h in
       with_dependent-given d more (with_numbered ss s (record (the_signal ss s) { dependents = and_last (the_signal ss s).dependents d })) g
-      (Each-set (SignalIsGiven n) ss (pred s) _ h (record { reason = x.reason; sources = x.sources; dependents = Each-last (IsGiven n.signals) (the_signal ss s).dependents d x.dependents g; algorithms = x.algorithms }))
+      (Each-with (SignalIsGiven n) ss s _ h (record { reason = x.reason; sources = x.sources; dependents = Each-last (IsGiven n.signals) (the_signal ss s).dependents d x.dependents g; algorithms = x.algorithms }))
 
   -- a dependent signal, where its own number is among those of n
   pub any-given : (of : List ℕ) (ss : Signals Value) → suc (length ss) ≤ n.signals → Each (IsGiven n.signals) of → Each (SignalIsGiven n) ss → Each (SignalIsGiven n) (AbortGraph.any of ss)
@@ -247,12 +251,12 @@ module _ (n : Made) where
   with_reason-given reason (s ∷ more) ss r h =
       let x = the_signal-given ss s h in
       with_reason-given reason more (with_numbered ss s (record (the_signal ss s) { reason = Some reason })) r
-      (Each-set (SignalIsGiven n) ss (pred s) _ h (record { reason = r; sources = x.sources; dependents = x.dependents; algorithms = x.algorithms }))
+      (Each-with (SignalIsGiven n) ss s _ h (record { reason = r; sources = x.sources; dependents = x.dependents; algorithms = x.algorithms }))
 
   pub with_algorithms-given : (s : ℕ) (rs : List ℕ) (ss : Signals Value) → Each (HasPromise n) rs → Each (SignalIsGiven n) ss → Each (SignalIsGiven n) (with_algorithms s rs ss)
   with_algorithms-given s rs ss r h =
       let x = the_signal-given ss s h in
-      Each-set (SignalIsGiven n) ss (pred s) _ h (record { reason = x.reason; sources = x.sources; dependents = x.dependents; algorithms = r })
+      Each-with (SignalIsGiven n) ss s _ h (record { reason = x.reason; sources = x.sources; dependents = x.dependents; algorithms = r })
 
   -- ---- priorities
 
@@ -291,7 +295,7 @@ queue_jobs-count now [] s = refl
 queue_jobs-count now (x ∷ js) s = queue_jobs-count now js (queue_job now (OfPromise x) s).notices
 
 changed-count : (now : Context) (names : List (List ℕ)) (k : ℕ) (c : Change) (s : Notices) → length (changed now names k c s).notices.promises ≡ length s.promises
-changed-count now names k c s = queue_jobs-count now c.jobs (promise_changed names k c s).notices ∙ length-put s.promises (pred k) c.promise
+changed-count now names k c s = queue_jobs-count now c.jobs (promise_changed names k c s).notices ∙ length-with s.promises k c.promise
 
 pub settle_promise-count : (now : Context) (names : List (List ℕ)) (k : ℕ) (how : Settled) (s : Notices) → length (settle_promise now names k how s).notices.promises ≡ length s.promises
 settle_promise-count now names k (Fulfilled v) s = changed-count now names k (Promises.resolve k (the_promise s.promises k) v) s
@@ -305,7 +309,7 @@ subscribe_promise-count now k r s = changed-count now [] k (Promises.subscribe k
 
 with_dependent-count : (d : ℕ) (sources : List ℕ) (ss : Signals Value) → length (with_dependent d sources ss) ≡ length ss
 with_dependent-count d [] ss = refl
-with_dependent-count d (s ∷ more) ss = with_dependent-count d more _ ∙ length-put ss (pred s) _
+with_dependent-count d (s ∷ more) ss = with_dependent-count d more _ ∙ length-with ss s _
 
 pub any-count : (of : List ℕ) (ss : Signals Value) → length (AbortGraph.any of ss) ≡ suc (length ss)
 any-count of ss = by_reason (first_reason ss of)
@@ -316,10 +320,10 @@ any-count of ss = by_reason (first_reason ss of)
 
 pub with_reason-count : (reason : Value) (of : List ℕ) (ss : Signals Value) → length (with_reason reason of ss) ≡ length ss
 with_reason-count reason [] ss = refl
-with_reason-count reason (s ∷ more) ss = with_reason-count reason more _ ∙ length-put ss (pred s) _
+with_reason-count reason (s ∷ more) ss = with_reason-count reason more _ ∙ length-with ss s _
 
 pub with_algorithms-count : (s : ℕ) (rs : List ℕ) (ss : Signals Value) → length (with_algorithms s rs ss) ≡ length ss
-with_algorithms-count s rs ss = length-put ss (pred s) _
+with_algorithms-count s rs ss = length-with ss s _
 
 -- ---- host closures
 

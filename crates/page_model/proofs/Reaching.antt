@@ -185,7 +185,7 @@ all_hear-signal t name (s ∷ ss) = by (all_hear-signal t name ss) (t == s) (sam
     by h true false = omega (arith, h)
     by h false c = omega (arith, h)
 
-all_hear-few : (target : Target) (name ss : List ℕ) → ((s : ℕ) → times ss s ≤ 3) → all_hear target name ss ≤ 3
+all_hear-few : (target : Target) (name ss : List ℕ) → ((s : ℕ) → times ss s ≤ 2) → all_hear target name ss ≤ 2
 all_hear-few Window name ss h = let n = all_hear-window name ss in omega (arith, n)
 all_hear-few (AtSignal t) name ss h = let k = all_hear-signal t name ss in let m = h t in omega (arith, k, m)
 
@@ -206,7 +206,7 @@ all_heard-more l ls [] = omega arith
 all_heard-more l ls (s ∷ ss) = let one = heard-more l ls s in let more = all_heard-more l ls ss in omega (arith, one, more)
 
 -- each listener hears at most three of these aborts
-all_heard-few : (ss : List ℕ) → ((s : ℕ) → times ss s ≤ 3) → (ls : List Listener) → all_heard ls ss ≤ 3 * length ls
+all_heard-few : (ss : List ℕ) → ((s : ℕ) → times ss s ≤ 2) → (ls : List Listener) → all_heard ls ss ≤ 2 * length ls
 all_heard-few ss h [] = let n = all_heard-none ss in omega (arith, n)
 all_heard-few ss h (l ∷ ls) =
     let one = all_heard-more l ls ss in
@@ -266,7 +266,7 @@ module _ (args : List Value) (rest : Rest) (next : Page → Reached) (k : RestRe
 
 -- ---- abort
 
-aborts-reach : (ss : List ℕ) (p : Page) → IsBounded p → ((s : ℕ) → times ss s ≤ 3) → ReachesFewer p.prios (all_heard p.listeners ss) (aborts_from ss p)
+aborts-reach : (ss : List ℕ) (p : Page) → IsBounded p → ((s : ℕ) → times ss s ≤ 2) → ReachesFewer p.prios (all_heard p.listeners ss) (aborts_from ss p)
 aborts-reach [] p b few = (b, λ s h. h)
 aborts-reach (s ∷ ss) p b few =
     let near = run_algorithms-near s p in
@@ -349,10 +349,10 @@ one-time : (b : Bool) → cond b 1 0 ≤ 1
 one-time true = omega arith
 one-time false = omega arith
 
-marked-times : (s : ℕ) (p : Page) → IsBounded p → (t : ℕ) → times (marked s p.signals) t ≤ 3
+marked-times : (s : ℕ) (p : Page) → IsBounded p → (t : ℕ) → times (marked s p.signals) t ≤ 2
 marked-times s p b t = by (AbortGraph.is_aborted p.signals s)
   where
-    by : (c : Bool) → times (cond c [] (s ∷ filter (λ d. not (AbortGraph.is_aborted p.signals d)) (the_signal p.signals s).dependents)) t ≤ 3
+    by : (c : Bool) → times (cond c [] (s ∷ filter (λ d. not (AbortGraph.is_aborted p.signals d)) (the_signal p.signals s).dependents)) t ≤ 2
     by true = omega arith
     by false =
         let short = filter-times (λ d. not (AbortGraph.is_aborted p.signals d)) (the_signal p.signals s).dependents t in

@@ -73,14 +73,13 @@ abbrev pub times : List ℕ → ℕ → ℕ
 times [] n = 0
 times (m ∷ ms) n = cond (n == m) 1 0 + times ms n
 
--- fewer than 2 ^ 32 registrations, each listener with its own; fewer than 2 ^ 32 signals, each of which depends on another one at most twice; each with a priority at most once;
+-- fewer than 2 ^ 32 registrations, each listener with its own; fewer than 2 ^ 32 signals, each of which depends on another one at most once; each with a priority at most once;
 -- and each signal that follows another has a priority.
--- (A script can make no signal depend on another one twice. It would take a signal with the number 0, which stands for the first one.)
 pub record AreBounded (c : Counted) : Type 0 where
   pub registrations : c.registrations ≤ 4294967295
   pub listeners : length c.listeners ≤ c.registrations
   pub signals : length c.signals ≤ 4294967295
-  pub dependents : (s d : ℕ) → times (the_signal c.signals s).dependents d ≤ 2
+  pub dependents : (s d : ℕ) → times (the_signal c.signals s).dependents d ≤ 1
   pub none_ahead : (s d : ℕ) → length c.signals < d → times (the_signal c.signals s).dependents d ≡ 0
   pub prios : length c.prios ≤ length c.signals
   pub followers : (s : ℕ) → AllHaveRecords c.prios (followers c.prios s)
@@ -97,7 +96,7 @@ CanChange ps (EndChange s ∷ more) = CanChange ps more
 
 -- what comes after the listeners is within the bounds
 abbrev pub RestIsBounded : Prios → Rest → Type 0
-RestIsBounded ps (AbortsLeft ss) = (s : ℕ) → times ss s ≤ 3
+RestIsBounded ps (AbortsLeft ss) = (s : ℕ) → times ss s ≤ 2
 RestIsBounded ps (ChangesLeft priority more) = CanChange ps more
 
 -- a fold is within the bounds

@@ -1,5 +1,5 @@
 -- What the arrivals file sets: the choices of a run and what arrives.
-use Rattle.std.specs.Prelude.{ℕ, List}
+use Rattle.std.specs.Prelude.{◌≡◌, ◌⊎◌, ℕ, Bool, true, ◌&&◌, List, [], ◌∷◌, nat_le}
 use Rattle.page_types.specs.Values.{Value}
 use Rattle.page_types.specs.declared.Source.{Source}
 
@@ -11,6 +11,16 @@ pub record Arrival : Type 0 where
   pub source : Source
   pub name : List ℕ
   pub value : Value
+
+-- whether a moment is not after the first of these arrivals
+abbrev pub is_not_after : ℕ → List Arrival → Bool
+is_not_after t [] = true
+is_not_after t (a ∷ more) = nat_le t a.at
+
+-- whether arrivals stand in the order of time: none comes before one that stands before it
+abbrev pub are_in_order : List Arrival → Bool
+are_in_order [] = true
+are_in_order (a ∷ more) = is_not_after a.at more && are_in_order more
 
 -- which task source is served: that of the oldest first task, the first in a list, or a fair one, by which a source that was passed over K times goes first
 pub data Policy : Type 0 where
@@ -34,3 +44,9 @@ pub record Setup : Type 0 where
   pub late : List ℕ
   pub latencies : List Latency
   pub arrivals : List Arrival
+
+-- what an arrivals file sets is a setup: its forms are 1 or 2, and its arrivals stand in the order of time
+pub record IsSetup (s : Setup) : Type 0 where
+  pub form : (s.form ≡ 1) ⊎ (s.form ≡ 2)
+  pub trace : (s.trace ≡ 1) ⊎ (s.trace ≡ 2)
+  pub in_order : are_in_order s.arrivals ≡ true
