@@ -19,7 +19,7 @@ use Rattle.page_model.proofs.NumbersGrow.{length-last}
 use Rattle.page_laws.specs.History.{History, count_lines, is_call_of, is_rest}
 use Rattle.page_laws.specs.Moves.{is_aside, is_end, promise_changes, PageChange, elsewhere, told, rested, registered, frame_asked, frame_gone, promised, settled, followed, adopted, subscribed, micro_queued, rejected_taken, noted, Beginning, TheScript, ATimer, AFrame, AnIdle, ALateIdle, AListener, APost, AContinuation, AMicro, AReaction, called_by, role_of, taken, Waited, Moves, here, changing, calling, ending, flagging, running}
 use Rattle.page_laws.proofs.Lines.{added, emit_each-events}
-use Rattle.page_laws.proofs.Registered.{At, at_before, false_true}
+use Rattle.page_laws.proofs.Registered.{At, at_number, false_true}
 
 -- one where the test holds
 abbrev one_if : Bool → ℕ
@@ -108,7 +108,7 @@ added-fits now (e ∷ es) xs cs past h f = added-fits now es xs cs (record { tim
 -- ---- registrations and callbacks
 
 at_older : (xs : List Registration) (x : Registration) (r : ℕ) → 1 ≤ r → r ≤ length xs → At (and_last xs x) r ≡ At xs r
-at_older xs x r one le = at_before xs x (pred r) (λ e. absurd (omega (arith, one, le, e)))
+at_older xs x r one le = at_number xs x r one (λ e. absurd (omega (arith, le, e)))
 
 older : (r n : ℕ) → r ≤ suc n → (r == suc n) ≡ false → r ≤ n
 older r n le q = by_size (nat_le r n) refl

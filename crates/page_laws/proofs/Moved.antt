@@ -10,6 +10,7 @@ use Rattle.page_types.specs.declared.Source.{Source}
 use Rattle.page_types.specs.declared.Source.TheVariants.{Dom, Idle as IdleSource}
 use Rattle.page_types.specs.Events.{Event, Report, Arm, Due, Drop, Period, Prio, Abort, Host, Send}
 use Rattle.page_parts.specs.Words.{is_empty}
+use Rattle.page_parts.proofs.Numbered.{with_numbered-own}
 use Rattle.page_parts.specs.Spelling.{spelled}
 use Rattle.page_parts.specs.Kinds.{Func, func_in, promise_in, a_fault}
 use Rattle.page_parts.specs.Promises.{Settled, Fulfilled, Failed, Reaction, PromiseRecord, pending_promise, no_change}
@@ -64,14 +65,9 @@ elim-changes (Some x) p q f h k = k x
 
 -- ---- promises and jobs
 
-put_same : {X : Type 0} (xs : List X) (i : ℕ) (d : X) → slice_set xs i (unwrap_or (slice_get xs i) d) ≡ xs
-put_same [] i d = refl
-put_same (x ∷ xs) zero d = refl
-put_same (x ∷ xs) (suc i) d = ap (x ∷◌) (put_same xs i d)
-
 -- a change that changes nothing
 unchanged : (n : ℕ) (p : Page) → Changes p (promise_changes n (no_change (the_promise p.notices.promises n)) p)
-unchanged n p = quietly p (promise_changes n (no_change (the_promise p.notices.promises n)) p) (ap {A = List PromiseRecord} {B = Notices} (λ qs. record p.notices { promises = qs }) (put_same p.notices.promises (pred n) pending_promise)) refl refl refl refl
+unchanged n p = quietly p (promise_changes n (no_change (the_promise p.notices.promises n)) p) (ap {A = List PromiseRecord} {B = Notices} (λ qs. record p.notices { promises = qs }) (with_numbered-own p.notices.promises n pending_promise)) refl refl refl refl
 
 by_lock : (n : ℕ) (p : Page) (c : Promises.Change) (b : Bool) → (the_promise p.notices.promises n).locked ≡ b → ((the_promise p.notices.promises n).locked ≡ false → Changes p (promise_changes n c p)) → Changes p (promise_changes n (cond b (no_change (the_promise p.notices.promises n)) c) p)
 by_lock n p c true e k = unchanged n p

@@ -102,13 +102,19 @@ pub false_true : false ≡ true → ⊥
 false_true h = Prim.cc
 
 at_past : (xs : List Registration) (r : ℕ) → length xs ≤ pred r → At xs r ≡ no_registration
-at_past xs r h = ap {A = Option Registration} {B = Registration} (λ o. unwrap_or o no_registration) (slice_get_past xs (pred r) h)
+at_past xs zero h = refl
+at_past xs (suc r) h = ap {A = Option Registration} {B = Registration} (λ o. unwrap_or o no_registration) (slice_get_past xs r h)
 
 pub at_before : (xs : List Registration) (x : Registration) (i : ℕ) → (i ≡ length xs → ⊥) → unwrap_or (slice_get (and_last xs x) i) no_registration ≡ unwrap_or (slice_get xs i) no_registration
 at_before [] x zero h = absurd (h refl)
 at_before [] x (suc i) h = refl
 at_before (y ∷ xs) x zero h = refl
 at_before (y ∷ xs) x (suc i) h = at_before xs x i (λ e. h (ap suc e))
+
+-- the same by its number
+pub at_number : (xs : List Registration) (x : Registration) (r : ℕ) → 1 ≤ r → (r ≡ suc (length xs) → ⊥) → At (and_last xs x) r ≡ At xs r
+at_number xs x zero one h = absurd (omega (arith, one))
+at_number xs x (suc i) one h = at_before xs x i (λ e. h (ap suc e))
 
 -- ---- a registration is made, and something is called
 
@@ -128,7 +134,7 @@ made-fits k by x now xs past e f =
         ∙ sym (ap {A = ℕ} {B = Option RegKind} (λ i. kind_in_role (At (and_last xs x) i).role) (sym (eqb-true (suc (length xs)) r q)) ∙ (ap {A = Registration} {B = Option RegKind} (λ y. kind_in_role y.role) last ∙ ap kind_in_role e))
     by_number r one false q =
         ap {A = Bool} {B = Option RegKind} (λ b. cond b (Some k) (kind_of past r)) q
-        ∙ (f.tie r one ∙ sym (ap {A = Registration} {B = Option RegKind} (λ y. kind_in_role y.role) (at_before xs x (pred r) (λ same. false_true (sym q ∙ eq-eqb (suc (length xs)) r (omega (arith, one, same)))))))
+        ∙ (f.tie r one ∙ sym (ap {A = Registration} {B = Option RegKind} (λ y. kind_in_role y.role) (at_number xs x r one (λ same. false_true (sym q ∙ eq-eqb (suc (length xs)) r (sym same))))))
 
 -- what has a callback
 abbrev IsCallable : Role → Type 0
@@ -285,8 +291,9 @@ moves-fit (running {q = q} a j others x y) f = silent-fits (Run j.number) q.now 
 
 -- from a page with no lines, in which nothing is registered but the script, registrations have the kinds of their lines
 pub kinds_fit : {p q : Page} → Moves p q → (x : Registration) → p.events ≡ [] → p.registrations ≡ x ∷ [] → x.role ≡ ScriptRole → Kept kinds q.events
-kinds_fit {p = p} a x y z w = (moves-fit a (subst (KindsFit p.registrations) (sym y) (subst (λ (xs : List Registration). KindsFit xs []) (sym z) (record { tie = λ r one. first (pred r); kept = tt })))).kept
+kinds_fit {p = p} a x y z w = (moves-fit a (subst (KindsFit p.registrations) (sym y) (subst (λ (xs : List Registration). KindsFit xs []) (sym z) (record { tie = λ r one. first r one; kept = tt })))).kept
   where
-    first : (i : ℕ) → None ≡ kind_in_role (unwrap_or (slice_get (x ∷ []) i) no_registration).role
-    first zero = sym (ap kind_in_role w)
-    first (suc i) = refl
+    first : (r : ℕ) → 1 ≤ r → None ≡ kind_in_role (At (x ∷ []) r).role
+    first zero one = absurd (omega (arith, one))
+    first (suc zero) one = sym (ap kind_in_role w)
+    first (suc (suc i)) one = refl

@@ -42,13 +42,15 @@ record SettlesFit (qs : List PromiseRecord) (past : History) : Type 0 where
 -- ---- lists of promises
 
 at_same : (qs : List PromiseRecord) (n : ℕ) (q : PromiseRecord) → IsGiven (length qs) n → At (with_numbered qs n q) n ≡ q
-at_same qs n q g = unwrap_or-slice_get (slice_set qs (pred n) q) (pred n) pending_promise ∙ get_or-set_same qs (pred n) q pending_promise (omega (arith, g.from_one, g.to_last))
+at_same qs zero q g = absurd (omega (arith, g.from_one))
+at_same qs (suc n) q g = unwrap_or-slice_get (slice_set qs n q) n pending_promise ∙ get_or-set_same qs n q pending_promise (omega (arith, g.to_last))
 
 at_other : (qs : List PromiseRecord) (n m : ℕ) (q : PromiseRecord) → 1 ≤ n → 1 ≤ m → (n ≡ m → ⊥) → At (with_numbered qs n q) m ≡ At qs m
-at_other qs n m q x y z =
-    unwrap_or-slice_get (slice_set qs (pred n) q) (pred m) pending_promise
-    ∙ (get_or-set_other qs (pred n) (pred m) q pending_promise (λ e. z (omega (arith, x, y, e)))
-    ∙ sym (unwrap_or-slice_get qs (pred m) pending_promise))
+at_other qs zero m q x y z = absurd (omega (arith, x))
+at_other qs (suc n) zero q x y z = absurd (omega (arith, y))
+at_other qs (suc n) (suc m) q x y z =
+    unwrap_or-slice_get (slice_set qs n q) m pending_promise
+    ∙ (get_or-set_other qs n m q pending_promise (λ e. z (ap suc (sym e))) ∙ sym (unwrap_or-slice_get qs m pending_promise))
 
 -- one more pending promise is seen nowhere
 at_last : (qs : List PromiseRecord) (i : ℕ) → unwrap_or (slice_get (and_last qs pending_promise) i) pending_promise ≡ unwrap_or (slice_get qs i) pending_promise
@@ -56,6 +58,10 @@ at_last [] zero = refl
 at_last [] (suc i) = refl
 at_last (q ∷ qs) zero = refl
 at_last (q ∷ qs) (suc i) = at_last qs i
+
+at_last_number : (qs : List PromiseRecord) (n : ℕ) → At (and_last qs pending_promise) n ≡ At qs n
+at_last_number qs zero = refl
+at_last_number qs (suc i) = at_last qs i
 
 -- ---- lines
 
@@ -234,8 +240,8 @@ subscribed-fits n r p g f = notices-fit (subscribe_promise (context p) n r) p (b
 promised-fits : (p : Page) → Fits p → Fits (new_promise p)
 promised-fits p f =
     record {
-      told_of = λ m one. f.told_of m one ∙ sym (ap {A = PromiseRecord} {B = Bool} (λ q. is_there q.outcome) (at_last p.notices.promises (pred m)));
-      unlocked = λ m one h. ap {A = PromiseRecord} {B = Option Settled} (λ q. q.outcome) (at_last p.notices.promises (pred m)) ∙ f.unlocked m one (sym (ap {A = PromiseRecord} {B = Bool} (λ q. q.locked) (at_last p.notices.promises (pred m))) ∙ h);
+      told_of = λ m one. f.told_of m one ∙ sym (ap {A = PromiseRecord} {B = Bool} (λ q. is_there q.outcome) (at_last_number p.notices.promises m));
+      unlocked = λ m one h. ap {A = PromiseRecord} {B = Option Settled} (λ q. q.outcome) (at_last_number p.notices.promises m) ∙ f.unlocked m one (sym (ap {A = PromiseRecord} {B = Bool} (λ q. q.locked) (at_last_number p.notices.promises m)) ∙ h);
       kept = f.kept;
     }
 
@@ -284,4 +290,8 @@ moves-fit (running {q = q} a j others x y) f = silent-fits (Run j.number) q.now 
 
 -- from a page with no lines and no promises on, no promise is settled twice
 pub settle_once : {p q : Page} → Moves p q → p.events ≡ [] → p.notices.promises ≡ [] → Kept settling q.events
-settle_once {p = p} a x y = (moves-fit a (subst (SettlesFit p.notices.promises) (sym x) (subst (λ (qs : List PromiseRecord). SettlesFit qs []) (sym y) (record { told_of = λ n one. refl; unlocked = λ n one h. refl; kept = tt })))).kept
+settle_once {p = p} a x y = (moves-fit a (subst (SettlesFit p.notices.promises) (sym x) (subst (λ (qs : List PromiseRecord). SettlesFit qs []) (sym y) (record { told_of = λ n one. sym (ap {A = PromiseRecord} {B = Bool} (λ q. is_there q.outcome) (none-at n)); unlocked = λ n one h. ap {A = PromiseRecord} {B = Option Settled} (λ q. q.outcome) (none-at n); kept = tt })))).kept
+  where
+    none-at : (n : ℕ) → At [] n ≡ pending_promise
+    none-at zero = refl
+    none-at (suc n) = refl

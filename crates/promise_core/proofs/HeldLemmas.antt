@@ -8,6 +8,7 @@ use Rattle.page_parts.specs.Words.{and_last, without, numbered, with_numbered}
 use Rattle.page_types.specs.Values.{Value}
 use Rattle.page_parts.specs.Kinds.{promise_in}
 use Rattle.page_parts.specs.Promises.{PromiseRecord, Settled, Failed, Reaction, reject, resolve, resolve_unlocked, subscribe, subscribe_by, Change, pending_promise, settle, follow, no_change, has_failed}
+use Rattle.page_parts.proofs.Numbered.{with_numbered-own}
 use Rattle.promise_core.specs.Held.{Held, changed, made, no_longer_rejected, unhandled, all_within}
 use Rattle.page_parts.specs.Promises.{the_promise}
 
@@ -22,25 +23,25 @@ and_true a b h k = ap (λ x. x && b) h ∙ k
 
 -- ---- Promises by their numbers
 
-numbered-get_or : {X : Type 0} (xs : List X) (n : ℕ) (d : X) → numbered xs n d ≡ get_or xs (pred n) d
-numbered-get_or xs n d = unwrap_or-slice_get xs (pred n) d
-
-pred_below : (n most : ℕ) → 0 < n → n ≤ most → pred n < most
-pred_below zero most h k = omega (arith, h)
-pred_below (suc n) most h k = omega (arith, k)
+numbered-get_or : {X : Type 0} (xs : List X) (n : ℕ) (d : X) → numbered xs (suc n) d ≡ get_or xs n d
+numbered-get_or xs n d = unwrap_or-slice_get xs n d
 
 -- the promise that was put in place
 pub numbered-with : (ps : List PromiseRecord) (n : ℕ) (q d : PromiseRecord) → 0 < n → n ≤ length ps → numbered (with_numbered ps n q) n d ≡ q
-numbered-with ps n q d h k = numbered-get_or (with_numbered ps n q) n d ∙ get_or-set_same ps (pred n) q d (pred_below n (length ps) h k)
+numbered-with ps zero q d h k = absurd (omega (arith, h))
+numbered-with ps (suc n) q d h k = numbered-get_or (slice_set ps n q) n d ∙ get_or-set_same ps n q d (omega (arith, k))
 
 -- another promise
-pub numbered-with_other : (ps : List PromiseRecord) (n m : ℕ) (q d : PromiseRecord) → pred m ≢ pred n → numbered (with_numbered ps n q) m d ≡ numbered ps m d
-numbered-with_other ps n m q d other =
-    numbered-get_or (with_numbered ps n q) m d ∙ get_or-set_other ps (pred n) (pred m) q d other ∙ sym (numbered-get_or ps m d)
+pub numbered-with_other : (ps : List PromiseRecord) (n m : ℕ) (q d : PromiseRecord) → m ≢ n → numbered (with_numbered ps n q) m d ≡ numbered ps m d
+numbered-with_other ps zero m q d other = refl
+numbered-with_other ps (suc n) zero q d other = refl
+numbered-with_other ps (suc n) (suc m) q d other =
+    numbered-get_or (slice_set ps n q) m d ∙ get_or-set_other ps n m q d (λ e. other (ap suc e)) ∙ sym (numbered-get_or ps m d)
 
 -- a new promise is as one that is not there
 pub numbered-made : (ps : List PromiseRecord) (n : ℕ) → numbered (and_last ps pending_promise) n pending_promise ≡ numbered ps n pending_promise
-numbered-made ps n = at_end ps (pred n)
+numbered-made ps zero = refl
+numbered-made ps (suc n) = at_end ps n
   where
     at_end : (ps : List PromiseRecord) (i : ℕ) → unwrap_or (slice_get (ps ++ pending_promise ∷ []) i) pending_promise ≡ unwrap_or (slice_get ps i) pending_promise
     at_end [] zero = refl
@@ -130,17 +131,11 @@ unhandled-same ps n q h k same ns = without-same (λ m. (numbered (with_numbered
   where
     each : (m : ℕ) → (numbered (with_numbered ps n q) m pending_promise).handled ≡ (numbered ps m pending_promise).handled
     each m =
-        elim (eqb_tells (pred m) (pred n)) [
-          | inl e ↦ ap (λ i. (unwrap_or (slice_get (with_numbered ps n q) i) pending_promise).handled) e.1 ∙ ap (λ r. r.handled) (numbered-with ps n q pending_promise h k) ∙ same
-              ∙ ap (λ i. (unwrap_or (slice_get ps i) pending_promise).handled) (sym e.1)
+        elim (eqb_tells m n) [
+          | inl e ↦ ap (λ i. (numbered (with_numbered ps n q) i pending_promise).handled) e.1 ∙ ap (λ r. r.handled) (numbered-with ps n q pending_promise h k) ∙ same
+              ∙ ap (λ i. (numbered ps i pending_promise).handled) (sym e.1)
           | inr e ↦ ap (λ r. r.handled) (numbered-with_other ps n m q pending_promise e.1)
         ]
-
--- numbers that differ stand at places that differ
-pub apart : (m n : ℕ) → 0 < m → 0 < n → m ≢ n → pred m ≢ pred n
-apart zero n a b ne same = omega (arith, a)
-apart (suc m) zero a b ne same = omega (arith, b)
-apart (suc m) (suc n) a b ne same = ne (ap suc same)
 
 -- a promise that is handled leaves the list
 pub unhandled-handled : (ps : List PromiseRecord) (n : ℕ) (q : PromiseRecord) (most : ℕ) → 0 < n → n ≤ length ps → q.handled ≡ true → (ns : List ℕ) → all_within most ns ≡ true
@@ -153,7 +148,7 @@ unhandled-handled ps n q most h k marked ns ok =
         elim (eqb_tells m n) [
           | inl e ↦ ap (λ i. (numbered (with_numbered ps n q) i pending_promise).handled) e.1 ∙ ap (λ r. r.handled) (numbered-with ps n q pending_promise h k) ∙ marked
               ∙ ap (λ b. b || (numbered ps m pending_promise).handled) (sym e.0)
-          | inr e ↦ ap (λ r. r.handled) (numbered-with_other ps n m q pending_promise (apart m n a h e.1)) ∙ ap (λ b. b || (numbered ps m pending_promise).handled) (sym e.0)
+          | inr e ↦ ap (λ r. r.handled) (numbered-with_other ps n m q pending_promise e.1) ∙ ap (λ b. b || (numbered ps m pending_promise).handled) (sym e.0)
         ]
 
 -- a new promise, which is not handled, leaves the list
@@ -170,12 +165,7 @@ unhandled-last ps ns n h = without-last (λ m. (numbered ps m pending_promise).h
 
 -- a promise's own record, put back
 pub with_numbered-same : (ps : List PromiseRecord) (n : ℕ) (d : PromiseRecord) → with_numbered ps n (numbered ps n d) ≡ ps
-with_numbered-same ps n d = at_place ps (pred n)
-  where
-    at_place : (ps : List PromiseRecord) (i : ℕ) → slice_set ps i (unwrap_or (slice_get ps i) d) ≡ ps
-    at_place [] i = refl
-    at_place (q ∷ ps) zero = refl
-    at_place (q ∷ ps) (suc i) = ap (λ qs. q ∷ qs) (at_place ps i)
+with_numbered-same ps n d = with_numbered-own ps n d
 
 -- what is held, where the numbers rejected unhandled are known
 abbrev pub held_of : List PromiseRecord → List ℕ → Held

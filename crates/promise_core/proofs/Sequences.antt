@@ -1,5 +1,5 @@
 -- The laws on sequences of calls: what each step keeps, and then all calls.
-use Rattle.std.proofs.Common.{◌≡◌, ◌≢◌, ℕ, ◌+◌, ◌<◌, arith, List, [], ◌∷◌, ◌++◌, map, Bool, true, false, cond, refl, ap, sym, subst, ◌∙◌, inl, inr, append_assoc, append-nil}
+use Rattle.std.proofs.Common.{◌≡◌, ◌≢◌, ℕ, zero, suc, ◌+◌, ◌<◌, arith, List, [], ◌∷◌, ◌++◌, map, Bool, true, false, cond, refl, ap, sym, subst, ◌∙◌, inl, inr, append_assoc, append-nil}
 use Rattle.std.specs.Prelude.{Option, Some, None, is_some, ◌==◌}
 use Rattle.std.proofs.lemmas.Bool.{eq-eqb}
 use Rattle.std.proofs.lemmas.Bool.Decides.{eqb_tells}
@@ -11,7 +11,7 @@ use Rattle.page_parts.specs.Promises.{PromiseRecord, Settled, Fulfilled, Failed,
 use Rattle.promise_core.specs.Held.{Held, IsMade, nothing_held}
 use Rattle.page_parts.specs.Promises.{the_promise}
 use Rattle.promise_core.specs.Calls.{Act, Resolve, Reject, Follow, Subscribe, Call, Make, TakeRejected, Of, step, before_step, after, after_all, IsOfMade, AreOfMade, settled_by, times_settled, reactions_of, reacted_by, reacted, given, subscribed}
-use Rattle.promise_core.proofs.HeldLemmas.{numbered-with, numbered-with_other, numbered-made, apart}
+use Rattle.promise_core.proofs.HeldLemmas.{numbered-with, numbered-with_other, numbered-made}
 
 -- 1 for a pending promise, which may still settle
 abbrev pub left : PromiseRecord → ℕ
@@ -186,7 +186,7 @@ after-own a n s is =
 after-other : (a : Act) (m n : ℕ) (s : Held) → IsMade s m → 0 < n → m ≢ n → the_promise (after (Of m a) s).promises n ≡ the_promise s.promises n
 after-other a m n s is h ne =
     ap (λ ps. numbered (with_numbered ps m (step a m (the_promise s.promises m)).promise) n pending_promise) (before-promises a m s)
-    ∙ numbered-with_other s.promises m n (step a m (the_promise s.promises m)).promise pending_promise (apart n m h is.counted (λ e. ne (sym e)))
+    ∙ numbered-with_other s.promises m n (step a m (the_promise s.promises m)).promise pending_promise (λ e. ne (sym e))
 
 -- a call that names it
 own-keeps : (a : Act) (n : ℕ) (s : Held) → IsMade s n → IsSound (the_promise s.promises n) → CallKeeps n (Of n a) s
@@ -250,8 +250,13 @@ all-pending n h (c ∷ cs) s are sound p =
     let first = keeps.pending rest.0 in
     (first.0, ap (λ xs. xs ++ reacted n cs (after c s)) first.1 ∙ rest.1)
 
-sound-at-first : IsSound pending_promise
-sound-at-first = record { locked = λ h. absurd (false_true h); none_waits = λ h. refl }
+-- no promise is there at first
+at-first : (n : ℕ) → the_promise nothing_held.promises n ≡ pending_promise
+at-first zero = refl
+at-first (suc n) = refl
+
+sound-at-first : (n : ℕ) → IsSound (the_promise nothing_held.promises n)
+sound-at-first n = subst IsSound (sym (at-first n)) (record { locked = λ h. absurd (false_true h); none_waits = λ h. refl })
 
 one_or_none : (t : ℕ) (b : Bool) → t + cond b 0 1 ≡ 1 → t ≡ cond b 1 0
 one_or_none t true h = omega (arith, h)
@@ -259,14 +264,14 @@ one_or_none t false h = omega (arith, h)
 
 -- a promise settles once, or not
 pub settles-once : (cs : List Call) (n : ℕ) → AreOfMade cs nothing_held → 0 < n → times_settled n cs nothing_held ≡ cond (is_some (the_promise (after_all cs nothing_held).promises n).outcome) 1 0
-settles-once cs n are h = one_or_none (times_settled n cs nothing_held) (is_some (the_promise (after_all cs nothing_held).promises n).outcome) (all-settles n h cs nothing_held are sound-at-first)
+settles-once cs n are h = one_or_none (times_settled n cs nothing_held) (is_some (the_promise (after_all cs nothing_held).promises n).outcome) (all-settles n h cs nothing_held are (sound-at-first n) ∙ ap left (at-first n))
 
 -- one job for each reaction of a settled promise
 pub reacts-once : (cs : List Call) (n : ℕ) → AreOfMade cs nothing_held → 0 < n → is_some (the_promise (after_all cs nothing_held).promises n).outcome ≡ true → reacted n cs nothing_held ≡ subscribed n cs
 reacts-once cs n are h settled =
-    let sound = all-sound n h cs nothing_held are sound-at-first in
-    sym (append-nil (reacted n cs nothing_held)) ∙ (ap (λ xs. reacted n cs nothing_held ++ xs) (sym (sound.none_waits settled)) ∙ all-reacts n h cs nothing_held are sound-at-first)
+    let sound = all-sound n h cs nothing_held are (sound-at-first n) in
+    sym (append-nil (reacted n cs nothing_held)) ∙ (ap (λ xs. reacted n cs nothing_held ++ xs) (sym (sound.none_waits settled)) ∙ (all-reacts n h cs nothing_held are (sound-at-first n) ∙ ap (λ q. q.reactions ++ subscribed n cs) (at-first n)))
 
 -- no job yet for a pending one
 pub reacts-not_yet : (cs : List Call) (n : ℕ) → AreOfMade cs nothing_held → 0 < n → is_some (the_promise (after_all cs nothing_held).promises n).outcome ≡ false → reacted n cs nothing_held ≡ []
-reacts-not_yet cs n are h pending = (all-pending n h cs nothing_held are sound-at-first pending).1
+reacts-not_yet cs n are h pending = (all-pending n h cs nothing_held are (sound-at-first n) pending).1

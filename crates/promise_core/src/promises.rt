@@ -203,8 +203,10 @@ fn record_of(records: &[Record], p: u32) -> &Record
 fn is_handled(records: &[Record], p: u32) -> bool
     ensures { result ≡ (numbered (records_seen records.now) p parts.pending_promise).handled }
 {
-    let index = p.saturating_sub(1) as usize;
-    match records.get(index) {
+    if p == 0 {
+        return false;
+    }
+    match records.get(p as usize - 1) {
         Some(record) => record.handled,
         None => false,
     }

@@ -11,4 +11,4 @@ returns c =
     let read = numbered_at rs c.args.p c.index-records-p.result c.requires.counted c.requires.within in
     let after : PromiseRecord → PromiseRecord = λ q. record q { locked = true } in
     let made : record_seen c.lock.new.self ≡ after (record_seen (get_or rs (c.args.p - 1) c.index-records-p.result)) = c.lock.ensures in
-    records_seen-set rs c.args.p (c.args.p - 1) c.lock.new.self (after (numbered (records_seen rs) c.args.p pending_promise)) (sub-one c.args.p) (made ∙ ap after read)
+    records_seen-set rs c.args.p (c.args.p - 1) c.lock.new.self (after (numbered (records_seen rs) c.args.p pending_promise)) c.requires.counted (sub-one c.args.p) (made ∙ ap after read)

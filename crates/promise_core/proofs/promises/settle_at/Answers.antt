@@ -11,4 +11,4 @@ returns c =
     let read = numbered_at rs c.args.p c.index-records-p.result c.requires.counted c.requires.within in
     let after : PromiseRecord → PromiseRecord = λ q. (settle 0 q (settled_seen c.args.how)).promise in
     let made : record_seen c.settle.new.self ≡ after (record_seen (get_or rs (c.args.p - 1) c.index-records-p.result)) = c.settle.ensures in
-    records_seen-set rs c.args.p (c.args.p - 1) c.settle.new.self (after (numbered (records_seen rs) c.args.p pending_promise)) (sub-one c.args.p) (made ∙ ap after read)
+    records_seen-set rs c.args.p (c.args.p - 1) c.settle.new.self (after (numbered (records_seen rs) c.args.p pending_promise)) c.requires.counted (sub-one c.args.p) (made ∙ ap after read)

@@ -12,7 +12,7 @@ returns-clause-ok c =
     let read = numbered_at rs c.args.p c.index-records-p.result c.requires.counted c.requires.within in
     let after : PromiseRecord → PromiseRecord = λ q. (subscribe c.args.p q (reaction_seen c.args.reaction)).promise in
     on_ok_weaker c.subscribe.result
-    (λ made. records_seen-set rs c.args.p (c.args.p - 1) c.subscribe.new.self (after (numbered (records_seen rs) c.args.p pending_promise)) (sub-one c.args.p) (made ∙ ap after read))
+    (λ made. records_seen-set rs c.args.p (c.args.p - 1) c.subscribe.new.self (after (numbered (records_seen rs) c.args.p pending_promise)) c.requires.counted (sub-one c.args.p) (made ∙ ap after read))
     c.subscribe.ensures.ok
 
 pub returns-clause-jobs : goal.returns-clause-jobs
