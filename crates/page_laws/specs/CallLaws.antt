@@ -79,7 +79,7 @@ holds_cancel es = each_line (λ past e. keeps_cancel past e.event && answers_fit
 abbrev pub Cancel : List Stamped → Type 0
 Cancel es = holds_cancel es ≡ true
 
--- ---- ECMA-262, "Promise Objects" and "Jobs"
+-- ---- ECMA-262, "Promise Objects" and "Jobs and Host Operations to Enqueue Jobs"
 
 abbrev pub is_settle_of : ℕ → Event → Bool
 is_settle_of p (Settle q ok v) = q == p
@@ -124,7 +124,7 @@ holds_jobs_in_order es = each_line (λ past e. keeps_jobs past e.event) [] es
 abbrev pub JobsInOrder : List Stamped → Type 0
 JobsInOrder es = holds_jobs_in_order es ≡ true
 
--- ---- HTML, "Perform a microtask checkpoint": no script is running then
+-- ---- HTML, "Event loops: processing model": perform a microtask checkpoint: no script is running then
 
 abbrev pub is_nil : List ℕ → Bool
 is_nil [] = true

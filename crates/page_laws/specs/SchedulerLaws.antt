@@ -11,7 +11,7 @@ use Rattle.page_types.specs.Events.{QueueName, FixedQueue, SignalQueue, Event, T
 use Rattle.page_laws.specs.History.{History, each_line, count_lines, is_turn, is_run, is_sched_turn, is_arm_of, is_due_of, is_some_and, is_host, is_scheduled, has_kind, kind_of, registered, registered_for, was_called, was_dropped, last_line}
 use Rattle.page_laws.specs.CallLaws.{is_answer}
 
--- ---- Prioritized Task Scheduling, "Selecting the next task of the scheduler's task queues"
+-- ---- Prioritized Task Scheduling, "Selecting the Task Queue of the Next Scheduler Task"
 
 abbrev pub rank_of : Priority → ℕ
 rank_of Background = 0

@@ -97,7 +97,7 @@ holds_timers_in_order form es = each_line (λ past e. keeps_timers form past e.t
 abbrev pub TimersInOrder : (form : ℕ) → List Stamped → Type 0
 TimersInOrder form es = holds_timers_in_order form es ≡ true
 
--- ---- HTML, "Run the animation frame callbacks"
+-- ---- HTML, "Animation frames": run the animation frame callbacks
 
 abbrev pub is_frame_line : Event → Bool
 is_frame_line (Frame t) = true
@@ -137,7 +137,7 @@ holds_frames_in_order es = each_line (λ past e. keeps_frames past e.event) [] e
 abbrev pub FramesInOrder : List Stamped → Type 0
 FramesInOrder es = holds_frames_in_order es ≡ true
 
--- ---- requestIdleCallback, "Start an idle period" and "Invoke idle callbacks"
+-- ---- requestIdleCallback, "Start an idle period algorithm" and "Invoke idle callbacks algorithm"
 
 abbrev pub is_idle_line : Event → Bool
 is_idle_line (IdleLine d) = true

@@ -51,6 +51,7 @@ pub mod OneDeep
 pub mod Waiting
 pub mod CountedTurns
 pub mod Pending
+pub mod InOrder
 pub mod Ending
 pub mod Agreeing
 pub mod RunsBySteps

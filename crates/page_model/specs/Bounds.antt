@@ -72,7 +72,7 @@ change_or other w priority zero s m = other s m
 change_or other w priority (suc n) s m =
     branch (is_changing m.host.prios s || has_priority m.host.prios s priority) m finish (change_through w s priority (change_or other w priority n))
 
--- ---- Prioritized Task Scheduling, "TaskSignal": a signal that is followed follows none
+-- ---- Prioritized Task Scheduling, "The TaskSignal Interface": a signal that is followed follows none
 
 -- Following is one deep: a follower follows, it is among the followers of the signal that it follows, and a signal that follows has no followers. No number beyond those of the signals has a priority.
 pub record FollowsOnce (ps : Prios) (signals : ℕ) : Type 0 where

@@ -60,7 +60,7 @@ aborts_from (s ∷ ss) p = fire s (codes "abort") (SignalValue s ∷ []) (Aborts
 abbrev pub changes_of : ℕ → List ℕ → List ChangePiece → List ChangePiece
 changes_of chain ss more = map (ChangeOf chain) ss ++ more
 
--- Prioritized Task Scheduling, "TaskSignal": each of these signals is changed by `one`, and then comes the rest
+-- Prioritized Task Scheduling, "The TaskSignal Interface": each of these signals is changed by `one`, and then comes the rest
 abbrev pub each_change : (ℕ → List ChangePiece → (Page → Reached) → Page → Reached) → ℕ → List ℕ → List ChangePiece → (Page → Reached) → Page → Reached
 each_change one chain [] more next p = next p
 each_change one chain (s ∷ ss) more next p = one s (changes_of chain ss more) (each_change one chain ss more next) p

@@ -96,7 +96,7 @@ invoke w r second args m =
     end_of_callback w.after (when_reported registration.role)
     (call_back w.call (callback_of second registration) args (on_page (call_begun r) m))
 
--- ---- ECMA-262, "NewPromiseReactionJob" and "NewPromiseResolveThenableJob"; HTML, "Microtask checkpoint"
+-- ---- ECMA-262, "NewPromiseReactionJob" and "NewPromiseResolveThenableJob"; HTML, "Event loops: processing model": perform a microtask checkpoint
 
 -- inside a checkpoint nothing more is done when a callback has returned
 abbrev pub in_checkpoint : Caller Page → Ways
@@ -180,7 +180,7 @@ notify_rejected p =
     cond (is_empty p.notices.rejected) p
     (queue_task Dom (NotifyRejected p.notices.rejected) (record p { notices = record p.notices { rejected = [] } }))
 
--- ---- HTML, "Microtask checkpoint" (perform a microtask checkpoint)
+-- ---- HTML, "Event loops: processing model": perform a microtask checkpoint
 
 -- the checkpoint begins
 abbrev pub checkpoint_begun : Page → Page

@@ -200,7 +200,7 @@ request_idle_callback f ms m =
 abbrev pub remaining : Value → State → Done Page
 remaining d m = given (deadline_in d) TypeError m (λ t m. Gives (IntValue (pos (time_remaining t m.host))) m)
 
--- ---- DOM, "Interface AbortController" and "Interface AbortSignal"; Prioritized Task Scheduling, "TaskController" and "TaskSignal"
+-- ---- DOM, "Interface AbortController" and "Interface AbortSignal"; Prioritized Task Scheduling, "The TaskController Interface" and "The TaskSignal Interface"
 
 -- a change of the signals
 abbrev pub with_signals : (AbortGraph.Signals Value → AbortGraph.Signals Value) → Page → Page
@@ -337,7 +337,7 @@ abbrev pub listener_removed : ℕ → Page → Page
 listener_removed r p =
     cond (is_listening r p.listeners) (emit (Drop r) (record p { listeners = off r p.listeners })) p
 
--- ---- Prioritized Task Scheduling, "Scheduler: postTask and yield" and "Scheduling tasks and continuations"
+-- ---- Prioritized Task Scheduling, "The Scheduler Interface": postTask() and yield(), and "Scheduling Tasks and Continuations"
 
 -- a promise that is rejected with a fault, as the answer
 abbrev pub rejected_with : Value → State → Done Page

@@ -121,7 +121,7 @@ drop_registration r p =
       host_answers = without (λ a. a.task.registration == r) p.host_answers;
     }))
 
--- Prioritized Task Scheduling, "Scheduling tasks and continuations": the abort steps of a registration: its promise is rejected with the reason, and it is dropped where it had not begun
+-- Prioritized Task Scheduling, "Scheduling Tasks and Continuations": the abort steps of a registration: its promise is rejected with the reason, and it is dropped where it had not begun
 abbrev pub abort_registration : Value → ℕ → Page → Page
 abort_registration reason r p =
     cond (has_not_begun r p) (drop_registration r) (λ q. q) (promises.reject (the_registration p r).promise reason p)
@@ -161,7 +161,7 @@ watch (Some s) r p = record p { signals = add_algorithm s r p.signals }
 abbrev pub unwatch : ℕ → Page → Page
 unwatch r p = elim (the_registration p r).signal [ None ↦ p | Some s ↦ record p { signals = remove_algorithm s r p.signals } ]
 
--- ---- Prioritized Task Scheduling, "TaskSignal": signal priority change
+-- ---- Prioritized Task Scheduling, "The TaskSignal Interface": signal priority change
 
 -- a priority as a value, unit for none
 abbrev pub priority_value : Option Priority → Value

@@ -84,12 +84,14 @@ without_frame handle p = record p { frames = Frames.cancel handle p.frames }
 abbrev pub cancel_frame : ℕ → Page → Page
 cancel_frame handle p = elim (callback_in p.frames.callbacks handle) [ None ↦ p | Some c ↦ emit (Drop c.registration) (without_frame handle p) ]
 
--- ---- requestIdleCallback, "Start an idle period algorithm". Ours: the deadline, and when a start is delayed
+-- ---- HTML, "Event loops: processing model": the deadline of an idle period (compute deadline)
 
 -- the deadline of an idle period with this start: where a frame callback waits, the last opportunity plus the period counts too
 abbrev pub deadline : ℕ → Page → ℕ
 deadline start p =
     IdleCallbacks.deadline start (next_due p.timers) (cond (is_empty p.frames.callbacks) None (Some (p.last_opportunity + p.refresh_period)))
+
+-- ---- requestIdleCallback, "Start an idle period algorithm". Ours: when a start is delayed
 
 -- the moment at which the next idle period could start; it counts only where an idle callback waits and the period would have some length
 abbrev pub idle_moment : Page → Option ℕ

@@ -36,7 +36,7 @@ first_of p (a ∷ more) = Some (first_sched_from p a more)
 abbrev pub first_sched : Page → Option SchedTask
 first_sched p = first_of p p.sched_tasks
 
--- ---- Prioritized Task Scheduling, "Scheduling tasks and continuations"
+-- ---- Prioritized Task Scheduling, "Scheduling Tasks and Continuations"
 
 -- the queue of a priority source, in its line
 abbrev pub queue_name : PrioSource → QueueName

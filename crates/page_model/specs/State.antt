@@ -38,7 +38,7 @@ pub record Registration : Type 0 where
   pub signal : Option ℕ
   pub finally : Bool
 
--- ---- HTML, "Event loops: processing model" and "Task sources": tasks
+-- ---- HTML, "Event loops: processing model" and "Generic task sources": tasks
 
 -- a timer of setTimeout or setInterval: its registration, id, handle, level, whether it repeats, and its timeout as given
 pub record TimerTask : Type 0 where
@@ -75,7 +75,7 @@ pub record Task : Type 0 where
   pub source : Source
   pub steps : Steps
 
--- ---- Prioritized Task Scheduling, "Scheduling tasks and continuations"
+-- ---- Prioritized Task Scheduling, "Scheduling Tasks and Continuations"
 
 -- the priority source of a scheduler task: a fixed priority, or a signal's priority at each moment
 pub data PrioSource : Type 0 where
@@ -113,7 +113,7 @@ pub record HostAnswer : Type 0 where
   pub due : ℕ
   pub task : HostTask
 
--- Prioritized Task Scheduling, "Scheduling tasks and continuations": the scheduling state: the signal that aborts what is scheduled under it, and its priority source
+-- Prioritized Task Scheduling, "Scheduling Tasks and Continuations": the scheduling state: the signal that aborts what is scheduled under it, and its priority source
 pub record SchedulingState : Type 0 where
   pub abort_source : Option ℕ
   pub prio_source : PrioSource

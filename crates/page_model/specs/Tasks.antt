@@ -118,7 +118,7 @@ perform_steps w (NotifyRejected ps) m = each_in_turn ps (notify_one w) m
 perform_steps w (NotifyHandled n) m =
     dispatch w Window (codes "rejectionhandled") (PromiseValue n ∷ promise_reason m.host n ∷ []) (on_page (emit (Handled n)) m)
 
--- ---- Prioritized Task Scheduling, "Scheduling tasks and continuations"
+-- ---- Prioritized Task Scheduling, "Scheduling Tasks and Continuations"
 
 -- a continuation resolves its promise; it runs no script
 abbrev pub continued : ℕ → Page → Page

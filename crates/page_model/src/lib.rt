@@ -2,6 +2,7 @@
 //! runs, the trace of a run and legal traces. Definitions in `specs/`, and laws above them as functions with empty bodies.
 #![tactic(auto)]
 
+mod arrivals;
 mod bounds;
 mod choices;
 mod choosing;
@@ -18,8 +19,9 @@ ghost use Rattle.page_model.specs.Operations.{page_operations};
 ghost use Rattle.page_model.specs.Turns.{turns};
 ghost use Rattle.page_model.specs.Additions.{TurnAdds};
 
+pub use arrivals::arrivals_stay_in_order;
 pub use bounds::{
-    due_items_are_all_taken, following_stays_one_deep, jobs_end_before_their_bound,
+    a_target_is_there_where_something_is_pending, due_items_are_all_taken, following_stays_one_deep, jobs_end_before_their_bound,
     loops_end_before_their_bound, priority_changes_end_before_their_bound,
     runs_end_before_their_bound, runs_end_or_are_refused_a_choice, waits_end_before_their_bound,
 };

@@ -27,7 +27,7 @@ waiting_callback handle i = callback_in (i.runnable ++ i.pending) handle
 abbrev pub cancel : ℕ → Idle → Idle
 cancel handle i = record i { pending = without_handle handle i.pending; runnable = without_handle handle i.runnable }
 
--- ---- requestIdleCallback, "Start an idle period algorithm". Ours: the deadline
+-- ---- requestIdleCallback, "Start an idle period algorithm"
 
 -- the pending callbacks are appended to the runnable list
 abbrev pub started : Idle → Idle
@@ -37,12 +37,13 @@ started i = record i { runnable = i.runnable ++ i.pending; pending = [] }
 abbrev pub waits : Idle → Bool
 waits i = not (is_empty i.pending && is_empty i.runnable)
 
+-- ---- HTML, "Event loops: processing model": the deadline of an idle period (compute deadline)
+
 -- a number, lowered to another where there is one
 abbrev pub at_most : ℕ → Option ℕ → ℕ
 at_most n None = n
 at_most n (Some m) = min n m
 
--- the deadline of an idle period with this start: 50 milliseconds on, lowered to the next due time of a timer, and to the next rendering where one is awaited. Ours: the draft leaves it to the
--- user agent.
+-- the deadline of an idle period with this start: 50 milliseconds on, lowered to the next due time of a timer, and to the next rendering where one is awaited
 abbrev pub deadline : ℕ → Option ℕ → Option ℕ → ℕ
 deadline start timer render = at_most (at_most (start + 50000) timer) render

@@ -5,14 +5,14 @@ use Rattle.page_parts.specs.Words.{and_last, without, has_number, numbered, with
 use Rattle.page_parts.specs.Spelling.{spelled}
 use Rattle.page_parts.specs.Promises.{Settled, Fulfilled, Failed, Reaction, PromiseRecord, PromiseJob, React, Adopt, Change, pending_promise, the_promise, resolve, reject, follow, subscribe}
 
--- ---- ECMA-262, "Jobs"; HTML, "Microtask checkpoint": the queue of microtasks
+-- ---- ECMA-262, "Jobs and Host Operations to Enqueue Jobs"; HTML, "Event loops: processing model": perform a microtask checkpoint: the queue of microtasks
 
 -- what a job does: it calls the callback of a `queueMicrotask` registration, or it is a job of a promise
 pub data Todo : Type 0 where
   Micro : ℕ → Todo
   OfPromise : PromiseJob → Todo
 
--- HTML, "Timers"; Prioritized Task Scheduling, "Scheduling tasks and continuations": the nesting level and the scheduling state that are current
+-- HTML, "Timers"; Prioritized Task Scheduling, "Scheduling Tasks and Continuations": the nesting level and the scheduling state that are current
 pub record Context : Type 0 where
   pub level : ℕ
   pub state : Option ℕ
@@ -51,7 +51,7 @@ pub record Noticed : Type 0 where
 abbrev pub make : Notices → Notices
 make s = record s { promises = and_last s.promises pending_promise }
 
--- ---- ECMA-262, "Jobs", "NewPromiseReactionJob" and "NewPromiseResolveThenableJob"
+-- ---- ECMA-262, "Jobs and Host Operations to Enqueue Jobs", "NewPromiseReactionJob" and "NewPromiseResolveThenableJob"
 
 -- the word of a job in its line
 abbrev pub queued_as : Todo → Queued

@@ -13,7 +13,7 @@ pub data Settled : Type 0 where
   Failed : Value → Settled
 
 -- a reaction: its `then` registration, absent for an inner subscription; the promise that it settles;
--- the scheduling state that it keeps (Prioritized Task Scheduling, "Scheduling tasks and continuations")
+-- the scheduling state that it keeps (Prioritized Task Scheduling, "Scheduling Tasks and Continuations")
 pub record Reaction : Type 0 where
   pub registration : Option ℕ
   pub into : ℕ

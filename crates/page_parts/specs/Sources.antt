@@ -3,7 +3,7 @@ use Rattle.std.specs.Prelude.{ℕ, Bool, List, [], ◌∷◌, ◌==◌}
 use Rattle.page_types.specs.declared.Source.{Source}
 use Rattle.page_types.specs.declared.Source.TheVariants.{User, Net, Dom, Timer, Render, Sched, Idle}
 
--- ---- HTML, "Task sources". Ours: how they are ordered
+-- ---- HTML, "Generic task sources". Ours: how they are ordered
 
 -- the default list, which decides where a policy names no order of its own
 abbrev pub default_list : List Source

@@ -4,7 +4,7 @@ use Rattle.page_types.specs.declared.Priority.{Priority}
 use Rattle.page_types.specs.declared.Priority.TheVariants.{Background, UserVisible, UserBlocking}
 use Rattle.page_parts.specs.Words.{and_last}
 
--- ---- Prioritized Task Scheduling, "TaskSignal"
+-- ---- Prioritized Task Scheduling, "The TaskSignal Interface"
 
 -- a signal with a priority: the priority now; the signal that it follows; the signals that follow it; whether its priority is being changed
 pub record PrioRecord : Type 0 where
@@ -57,13 +57,13 @@ changed_at s f (r ∷ rs) = cond (r.signal == s) (f r) r ∷ changed_at s f rs
 abbrev pub give : ℕ → Priority → Prios → Prios
 give s priority ps = and_last ps (record { signal = s; priority = priority; follows = None; followers = []; changing = false })
 
--- ---- Prioritized Task Scheduling, "TaskSignal": create a dependent task signal: following is apart from the dependence for aborts
+-- ---- Prioritized Task Scheduling, "The TaskSignal Interface": create a dependent task signal: following is apart from the dependence for aborts
 
 -- s follows another signal from now on
 abbrev pub depend : ℕ → ℕ → Prios → Prios
 depend s on ps = changed_at s (λ r. record r { follows = Some on }) (changed_at on (λ r. record r { followers = and_last r.followers s }) ps)
 
--- ---- Prioritized Task Scheduling, "TaskSignal": signal priority change
+-- ---- Prioritized Task Scheduling, "The TaskSignal Interface": signal priority change
 
 -- a change begins: the new priority is set, and the change is in progress
 abbrev pub begun : ℕ → Priority → Prios → Prios
