@@ -16,7 +16,7 @@ use Rattle.page_base.specs.Fields.{behind, is_word}
 use Rattle.trace_text.specs.LineReading.{count_at, int_at, source_at, kind_at, priority_at, end_at, how_at, form_at, queue_at, queued_at, one, turn_at, reg_at, reg_by_at, prio_at, arm_at, job_at, enq_at, host_at, settle_at, send_at, answer_of, numbered_at, worded_at, valued_at}
 use Rattle.trace_text.proofs.Cutting.{lacks, lacks-append, cut_front}
 use Rattle.trace_text.proofs.Counts.{count_complete, int_complete, lacks-decimal, lacks-int}
-use Rattle.trace_text.proofs.FieldWords.{source_complete, source_free, kind_complete, kind_free, priority_complete, priority_free, end_complete, end_free, how_word, how_complete, how_free, form_word, form_complete, form_free, queue_word, queue_complete, queue_free, queue_spaceless, queued_word, queued_complete, queued_free}
+use Rattle.trace_text.proofs.FieldWords.{source_complete, source_free, kind_complete, kind_free, kind_spaceless, priority_complete, priority_free, end_complete, end_free, how_word, how_complete, how_free, form_word, form_complete, form_free, queue_word, queue_complete, queue_free, queue_spaceless, queued_word, queued_complete, queued_free}
 use Rattle.trace_text.proofs.EventsRead.{first_of, event_at, reg_read, reg_is, reg_by_is, job_is, arm_is, enq_is, host_is, settle_is}
 use Rattle.trace_text.proofs.SpelledLines.{printed_free}
 

@@ -160,6 +160,10 @@ first_there : (rest : List ℕ) → behind (codes "trace 1\n") (head_text 1 ++ r
 unfolding behind
 first_there rest = refl
 
+not_first_there : (rest : List ℕ) → behind (codes "trace 1\n") (head_text 2 ++ rest) ≡ None
+unfolding behind
+not_first_there rest = refl
+
 second_there : (rest : List ℕ) → behind (codes "trace 2\n") (head_text 2 ++ rest) ≡ Some rest
 unfolding behind
 second_there rest = refl
@@ -211,7 +215,7 @@ second_same : (xs ys : List ℕ) → head_text 2 ++ xs ≡ head_text 2 ++ ys →
 second_same xs ys h = cc
 
 none_same : (xs ys : List ℕ) → head_text 1 ++ xs ≡ head_text 2 ++ ys → ⊥
-none_same xs ys h = absurd (cc)
+none_same xs ys h = let there = sym (first_there xs) ∙ ap (behind (codes "trace 1\n")) h ∙ not_first_there ys in absurd (cc)
 
 heads_same : (a b x y : ℕ) (xs ys : List ℕ) → a ≡ x → b ≡ y → head_text a ++ xs ≡ head_text b ++ ys → head_text x ++ xs ≡ head_text y ++ ys
 heads_same a b x y xs ys is other h = ap (λ n. head_text n ++ xs) (sym is) ∙ h ∙ ap (λ n. head_text n ++ ys) other

@@ -29,8 +29,7 @@ impl Model for Events {
     ghost invariant = { λ events.
         IsForm events.form
         × IsTrue (list_all (λ e. is_of_form events.form (event_seen e.event)) events.items.items)
-        × IsTrue (is_whole (map stamped_seen events.items.items))
-    };
+        × IsTrue (is_whole (map stamped_seen events.items.items)) };
 }
 
 impl Events {

@@ -100,12 +100,7 @@ fn write_source(source: Option<Source>, into: &mut Vec<u8>) -> Result<(), AllocE
     write_field(source_word(source), into)
 }
 
-fn write_reg(
-    r: u64,
-    kind: RegKind,
-    by: Option<u64>,
-    into: &mut Vec<u8>,
-) -> Result<(), AllocError>
+fn write_reg(r: u64, kind: RegKind, by: Option<u64>, into: &mut Vec<u8>) -> Result<(), AllocError>
     ensures { IfOk result (λ _. into.new.items ≡ into.old.items ++ event_text (Reg r kind by)) }
 {
     write_numbered(b"reg", r, into)?;

@@ -1,4 +1,3 @@
-use Rattle.std.proofs.Common.{sym}
 use Rattle.trace_text.proofs.TracesRead.{first_head_read, second_head_read, no_head_read}
 use Rattle.trace_text.proofs.reading.read_head.Goals as goal
 

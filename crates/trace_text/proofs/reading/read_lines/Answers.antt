@@ -5,12 +5,12 @@ use Rattle.page_parts.specs.TraceText.{head_text}
 use Rattle.trace_text.specs.EventSeen.{stamped_seen}
 use Rattle.trace_text.specs.LineReading.{IsRead}
 use Rattle.trace_text.proofs.SoFar.{IsSoFar}
-use Rattle.trace_text.proofs.TracesRead.{so_far_first, so_far_more, so_far_whole, refused_line, refused_order, refused_end, err_same, empty_now}
+use Rattle.trace_text.proofs.TracesRead.{so_far_first, so_far_more, refused_line, refused_order, refused_end, err_same, empty_now}
 use Rattle.trace_text.proofs.reading.read_lines.Goals as goal
 use Rattle.trace_text.proofs.reading.read_lines.Goals.{then-ended-via-then-ended, then-ended-via-else-ended+then-next-last, then-not-ended-via-then-not-ended, then-not-ended-via-else-not-ended+then-not-is_empty}
 
 pub loop-line-init : goal.loop-line-init
-loop-line-init c = so_far_first c.args.form c.args.text.now
+loop-line-init c = rw c.new-items.ensures.items (so_far_first c.args.form c.args.text.now)
 
 pub returns-in_default-2-clause-bad : goal.returns-in_default-2-clause-bad
 returns-in_default-2-clause-bad c = λ line is.

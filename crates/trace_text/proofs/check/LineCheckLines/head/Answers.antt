@@ -1,7 +1,7 @@
 use Rattle.std.proofs.Common.{map, sym}
 use Rattle.trace_text.specs.EventSeen.{stamped_seen}
 use Rattle.trace_text.specs.Line.{Head}
-use Rattle.trace_text.proofs.Checking.{agrees, differs_from, no_head_later, other_head, same_head}
+use Rattle.trace_text.proofs.Checking.{differs_from, no_head_later}
 use Rattle.trace_text.proofs.check.LineCheckLines.head.Goals as goal
 
 pub returns-then-self-gt0 : goal.returns-then-self-gt0
