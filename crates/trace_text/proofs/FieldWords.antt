@@ -83,6 +83,19 @@ kind_free ThenKind = refl
 kind_free MicroKind = refl
 kind_free SignalKind = refl
 
+pub kind_spaceless : (x : RegKind) → lacks 32 (kind_text x) ≡ true
+kind_spaceless TimeoutKind = refl
+kind_spaceless IntervalKind = refl
+kind_spaceless FrameKind = refl
+kind_spaceless IdleKind = refl
+kind_spaceless PostKind = refl
+kind_spaceless YieldKind = refl
+kind_spaceless HostKind = refl
+kind_spaceless ListenerKind = refl
+kind_spaceless ThenKind = refl
+kind_spaceless MicroKind = refl
+kind_spaceless SignalKind = refl
+
 pub priority_sound : (x : Priority) (w : List ℕ) → priority_at w ≡ Some x → w ≡ priority_text x
 unfolding priority_at
 priority_sound x w is = word_whole (priority_text x) w (found (λ y. is_word (priority_text y) w) all_priorities x is)

@@ -1,8 +1,8 @@
 -- What a sink of lines holds after some lines, and after a call that stopped among them.
-use Rattle.std.proofs.Common.{◌≡◌, ℕ, List, [], ◌∷◌, ◌++◌, refl, sym, ◌∙◌, ap, subst, inl, inr, Option, Some, None, append_assoc, append-nil, ◌≤◌, map, codes}
+use Rattle.std.proofs.Common.{◌≡◌, ℕ, List, [], ◌∷◌, ◌++◌, refl, sym, ◌∙◌, ap, subst, inl, inr, Option, Some, None, append_assoc, append-nil, ◌≤◌, map}
 use Rattle.page_types.specs.Counts.{Rose}
 use Rattle.page_types.specs.Events.{Stamped}
-use Rattle.page_parts.specs.TraceText.{line_text, lines_text, text_of}
+use Rattle.page_parts.specs.TraceText.{head_text, line_text, lines_text, text_of}
 use Rattle.page_types.specs.Told.{appended, AppendsStartOf}
 use Rattle.trace_text.specs.Line.{Line, Head, Of, text_of_line, text_of_lines}
 use Rattle.trace_text.specs.declared.lines.NoLine.{NoLine}
@@ -76,15 +76,15 @@ pub text_of_lines-events : (es : List Stamped) → text_of_lines (map Of es) ≡
 text_of_lines-events [] = refl
 text_of_lines-events (e ∷ es) = ap (λ bytes. line_text e ++ bytes) (text_of_lines-events es)
 
-pub text_of_lines-trace : (es : List Stamped) → text_of_lines (Head ∷ map Of es) ≡ text_of es
-text_of_lines-trace es = ap (λ bytes. codes "trace 1\n" ++ bytes) (text_of_lines-events es)
+pub text_of_lines-trace : (form : ℕ) (es : List Stamped) → text_of_lines (Head form ∷ map Of es) ≡ text_of form es
+text_of_lines-trace form es = ap (λ bytes. head_text form ++ bytes) (text_of_lines-events es)
 
 -- A sink that was given a whole trace holds its text behind what it held.
-pub Gives-sink_trace : {old new : Seen (List ℕ)} (es : List Stamped) → Gives sink_keeping old (Head ∷ map Of es) None new → new.told ≡ appended old.told (text_of es)
-Gives-sink_trace {old = old} es h = Gives-sink h ∙ ap (appended old.told) (text_of_lines-trace es)
+pub Gives-sink_trace : {old new : Seen (List ℕ)} (form : ℕ) (es : List Stamped) → Gives sink_keeping old (Head form ∷ map Of es) None new → new.told ≡ appended old.told (text_of form es)
+Gives-sink_trace {old = old} form es h = Gives-sink h ∙ ap (appended old.told) (text_of_lines-trace form es)
 
 -- One that was not given all of it holds a start of the text behind what it held.
-pub Gives-sink_trace_stop : {old new : Seen (List ℕ)} (es : List Stamped) {why : NoLine} → Gives sink_keeping old (Head ∷ map Of es) (Some why) new → AppendsStartOf old.told new.told (text_of es)
-Gives-sink_trace_stop {old = old} {new = new} es h =
+pub Gives-sink_trace_stop : {old new : Seen (List ℕ)} (form : ℕ) (es : List Stamped) {why : NoLine} → Gives sink_keeping old (Head form ∷ map Of es) (Some why) new → AppendsStartOf old.told new.told (text_of form es)
+Gives-sink_trace_stop {old = old} {new = new} form es h =
     let P : List ℕ → Type 0 = λ text. AppendsStartOf old.told new.told text in
-    subst P (text_of_lines-trace es) (Gives-sink_stop h)
+    subst P (text_of_lines-trace form es) (Gives-sink_stop h)

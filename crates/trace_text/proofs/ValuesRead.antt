@@ -1,10 +1,10 @@
 -- Events whose value is tested.
 use Rattle.std.proofs.Common.{◌≡◌, ℕ, Bool, List, Option, Some, None, Result, Ok, Err, refl, ap, sym, subst, IfOk}
 use Rattle.std.specs.Prelude.{codes, option_map}
-use Rattle.page_types.specs.Events.{Event, Throw, Report, Log, Settle}
+use Rattle.page_types.specs.Events.{Event, Throw, Report, Log, Settle, Send}
 use Rattle.trace_text.specs.Trace.{IsPrinted, EventFits}
 use Rattle.page_base.specs.Fields.{behind, cut_at}
-use Rattle.trace_text.specs.LineReading.{count_at, how_at, settle_at, valued_at, IsValueRead, IsTested}
+use Rattle.trace_text.specs.LineReading.{count_at, how_at, settle_at, send_at, valued_at, IsValueRead, IsTested}
 use Rattle.trace_text.proofs.Counts.{count_sound}
 
 tested_by : (make : List ℕ → Event) (v : List ℕ) (r : Option (List ℕ)) → (EventFits (make v) → IsPrinted v) → (IsPrinted v → EventFits (make v)) → IsValueRead v r → IsTested (Some (make v)) (option_map make r)
@@ -22,6 +22,13 @@ pub tested_settle : (w a r b v : List ℕ) (n : ℕ) (ok : Bool) (value : Option
     → IsTested (settle_at w) (option_map (Settle n ok) value)
 tested_settle w a r b v n ok value first second count how read =
     tested_value (settle_at w) (Settle n ok) v value (settle_by w a r b v n ok first second (sym count) (sym how)) (λ h. h.1) (λ h. ((count_sound n a (sym count)).0, h)) read
+
+send_by : (w a v : List ℕ) (n : ℕ) → cut_at 32 w ≡ Some (a, v) → count_at a ≡ Some n → send_at w ≡ Some (Send n v)
+unfolding send_at
+send_by w a v n first count = rw (first, count) refl
+
+pub tested_send : (w a v : List ℕ) (n : ℕ) (value : Option (List ℕ)) → cut_at 32 w ≡ Some (a, v) → Some n ≡ count_at a → IsValueRead v value → IsTested (send_at w) (option_map (Send n) value)
+tested_send w a v n value first count read = tested_value (send_at w) (Send n) v value (send_by w a v n first (sym count)) (λ h. h.1) (λ h. ((count_sound n a (sym count)).0, h)) read
 
 throw_by : (t v : List ℕ) → behind (codes "throw ") t ≡ Some v → valued_at t ≡ Some (Throw v)
 unfolding valued_at

@@ -1,5 +1,5 @@
 -- How lines are compared with those of a trace that is kept.
-use Rattle.std.specs.Prelude.{ℕ, zero, suc, Bool, true, false, cond, List, [], ◌∷◌, map, Option, Some, None}
+use Rattle.std.specs.Prelude.{ℕ, zero, suc, ◌==◌, Bool, false, cond, List, [], ◌∷◌, map, Option, Some, None}
 use Rattle.page_types.specs.Events.{Stamped}
 use Rattle.page_parts.specs.Words.{same_bytes}
 use Rattle.page_parts.specs.TraceText.{line_text}
@@ -11,19 +11,19 @@ pub record Kept : Type 0 where
   pub left : List Line
   pub matched : ℕ
 
--- the lines of a trace: its head, and one for each event
-abbrev pub lines_of : List Stamped → List Line
-lines_of es = Head ∷ map Of es
+-- the lines of a trace in a form: its head, and one for each event
+abbrev pub lines_of : ℕ → List Stamped → List Line
+lines_of form es = Head form ∷ map Of es
 
 -- The lines of a trace that are left where so many were met and these events are left: before its first line the whole
 -- trace, head and all.
-abbrev pub kept_lines : List Stamped → ℕ → List Line
-kept_lines es zero = lines_of es
-kept_lines es (suc matched) = map Of es
+abbrev pub kept_lines : ℕ → List Stamped → ℕ → List Line
+kept_lines form es zero = lines_of form es
+kept_lines form es (suc matched) = map Of es
 
--- two lines are the same where both are the head, or lines of events with the same text
+-- two lines are the same where both are heads of the same form, or lines of events with the same text
 abbrev pub same_line : Line → Line → Bool
-same_line Head Head = true
+same_line (Head a) (Head b) = a == b
 same_line (Of a) (Of b) = same_bytes (line_text a) (line_text b)
 same_line a b = false
 

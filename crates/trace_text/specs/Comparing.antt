@@ -4,11 +4,12 @@ use Rattle.trace_text.specs.declared.event.Stamped.{Stamped}
 use Rattle.trace_text.specs.EventSeen.{stamped_seen}
 use Rattle.trace_text.specs.Checks.{Kept, kept_lines}
 
--- the events of the trace whose lines are left, how many lines were met, the head among them, and how often one differed
+-- the form of the trace, its events whose lines are left, how many lines were met, the head among them, and how often one differed
 pub record Comparison : Type 0 where
+  pub form : ℕ
   pub left : List Stamped
   pub matched : ℕ
   pub refusals : ℕ
 
 abbrev pub kept_in : Comparison → Kept
-kept_in c = record { left = kept_lines (map stamped_seen c.left) c.matched; matched = c.matched }
+kept_in c = record { left = kept_lines c.form (map stamped_seen c.left) c.matched; matched = c.matched }

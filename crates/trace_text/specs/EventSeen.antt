@@ -1,4 +1,5 @@
--- What an event of the code is in the definitions.
+-- What an event of the code is in the definitions, and what the events of a trace are seen as.
+use Rattle.std.specs.Prelude.{ℕ, List}
 use Rattle.page_types.specs.Events as m
 use Rattle.trace_text.specs.declared.event.Queued.{Queued}
 use Rattle.trace_text.specs.declared.event.Queued.TheVariants as q
@@ -24,7 +25,7 @@ event_seen e.Ret = m.Ret
 event_seen (e.Throw v) = m.Throw v
 event_seen (e.Report v) = m.Report v
 event_seen (e.Log v) = m.Log v
-event_seen (e.Reg r kind) = m.Reg r kind
+event_seen (e.Reg r kind by) = m.Reg r kind by
 event_seen (e.Arm r due level) = m.Arm r due.0 level
 event_seen (e.Due r) = m.Due r
 event_seen (e.Drop r) = m.Drop r
@@ -41,7 +42,13 @@ event_seen (e.Wait t) = m.Wait t.0
 event_seen (e.Host k x answer) = m.Host k x answer
 event_seen (e.Unhandled p) = m.Unhandled p
 event_seen (e.Handled p) = m.Handled p
+event_seen (e.Send n v) = m.Send n v
 event_seen (e.End end) = m.EndLine end
 
 abbrev pub stamped_seen : Stamped → m.Stamped
 stamped_seen s = record { time = s.time.0; event = event_seen s.event }
+
+-- a trace: its form, and its events
+pub record TraceSeen : Type 0 where
+  pub form : ℕ
+  pub events : List Stamped

@@ -1,14 +1,14 @@
--- A line of a trace: its head, or an event. And its text.
-use Rattle.std.specs.Prelude.{ℕ, List, [], ◌∷◌, ◌++◌, codes}
+-- A line of a trace: its head, in a form, or an event. And its text.
+use Rattle.std.specs.Prelude.{ℕ, List, [], ◌∷◌, ◌++◌}
 use Rattle.page_types.specs.Events.{Stamped}
-use Rattle.page_parts.specs.TraceText.{line_text}
+use Rattle.page_parts.specs.TraceText.{head_text, line_text}
 
 pub data Line : Type 0 where
-  Head : Line
+  Head : ℕ → Line
   Of : Stamped → Line
 
 abbrev pub text_of_line : Line → List ℕ
-text_of_line Head = codes "trace 1\n"
+text_of_line (Head form) = head_text form
 text_of_line (Of e) = line_text e
 
 abbrev pub text_of_lines : List Line → List ℕ

@@ -1,5 +1,5 @@
 -- How one line of a trace is read, by its fields.
-use Rattle.std.specs.Prelude.{◌≡◌, ◌≢◌, ℕ, zero, suc, Bool, true, false, cond, List, [], ◌∷◌, ◌++◌, Option, Some, None, option_map, Result, Ok, Err, ℤ, pos, negsuc, codes, find}
+use Rattle.std.specs.Prelude.{◌≡◌, ◌≢◌, ℕ, zero, suc, Bool, true, false, cond, List, [], ◌∷◌, ◌++◌, Option, Some, None, option_map, Result, Ok, Err, ℤ, pos, negsuc, codes, find, IsTrue, ◌==◌, if◌then◌else◌}
 use Rattle.page_types.specs.declared.Source.{Source}
 use Rattle.page_types.specs.declared.Source.TheVariants.{User, Net, Dom, Timer, Render, Sched, Idle}
 use Rattle.page_types.specs.declared.End.{End}
@@ -8,13 +8,13 @@ use Rattle.page_types.specs.declared.RegKind.{RegKind}
 use Rattle.page_types.specs.declared.RegKind.TheVariants.{Timeout as TimeoutKind, Interval as IntervalKind, Frame as FrameKind, Idle as IdleKind, Post as PostKind, Yield as YieldKind, Host as HostKind, Listener as ListenerKind, Then as ThenKind, Micro as MicroKind, Signal as SignalKind}
 use Rattle.page_types.specs.declared.Priority.{Priority}
 use Rattle.page_types.specs.declared.Priority.TheVariants.{Background, UserVisible, UserBlocking}
-use Rattle.page_types.specs.Events.{Queued, MicroJob, ReactJob, AdoptJob, QueueName, FixedQueue, SignalQueue, Event, Turn, Call, Ret, Throw, Report, Log, Reg, Arm, Due, Drop, Job, Run, Settle, Period, IdleLine, Frame, Enq, Prio, Abort, Wait, Host, Unhandled, Handled, EndLine, Stamped}
+use Rattle.page_types.specs.Events.{Queued, MicroJob, ReactJob, AdoptJob, QueueName, FixedQueue, SignalQueue, Event, Turn, Call, Ret, Throw, Report, Log, Reg, Arm, Due, Drop, Job, Run, Settle, Period, IdleLine, Frame, Enq, Prio, Abort, Wait, Host, Unhandled, Handled, Send, EndLine, Stamped}
 use Rattle.page_parts.specs.Words.{is_empty, decimal_of}
 use Rattle.page_parts.specs.Spelling.{priority_text}
-use Rattle.page_parts.specs.TraceText.{source_text, end_text, kind_text, event_text}
+use Rattle.page_parts.specs.TraceText.{head_text, source_text, end_text, kind_text, event_text}
 use Rattle.page_base.specs.Decimals.{number_at, after_digits}
 use Rattle.page_base.specs.Fields.{behind, is_word, cut_at, ◌>>=◌, read_or, where_true}
-use Rattle.trace_text.specs.Trace.{IsPrinted, EventFits, Fits}
+use Rattle.trace_text.specs.Trace.{IsPrinted, EventFits, IsForm, is_of_form, Fits}
 
 -- ---- Ours: fields
 
@@ -95,12 +95,23 @@ turn_at bytes = do
   source ← source_at first.1
   Some (Turn n source)
 
+-- a registration in the first form
 unfoldable pub reg_at : List ℕ → Option Event
 reg_at bytes = do
   first ← cut_at 32 bytes
   r ← count_at first.0
   kind ← kind_at first.1
-  Some (Reg r kind)
+  Some (Reg r kind None)
+
+-- a registration in the second form, which tells who registered
+unfoldable pub reg_by_at : List ℕ → Option Event
+reg_by_at bytes = do
+  first ← cut_at 32 bytes
+  second ← cut_at 32 first.1
+  r ← count_at first.0
+  kind ← kind_at second.0
+  by ← count_at second.1
+  Some (Reg r kind (Some by))
 
 unfoldable pub prio_at : List ℕ → Option Event
 prio_at bytes = do
@@ -161,6 +172,12 @@ settle_at bytes = do
   ok ← how_at second.0
   Some (Settle p ok second.1)
 
+unfoldable pub send_at : List ℕ → Option Event
+send_at bytes = do
+  first ← cut_at 32 bytes
+  n ← count_at first.0
+  Some (Send n first.1)
+
 -- ---- Ours: events
 
 -- the events with one number
@@ -178,12 +195,12 @@ numbered_at bytes =
     (read_or (behind (codes "unhandled ") bytes) (one Unhandled)
     (read_or (behind (codes "handled ") bytes) (one Handled) None))))))))))
 
--- the events with other fields, but no value
-unfoldable pub worded_at : List ℕ → Option Event
-worded_at bytes =
+-- the events with other fields, but no value, in a form
+unfoldable pub worded_at : ℕ → List ℕ → Option Event
+worded_at form bytes =
     cond (is_word (codes "ret") bytes) (Some Ret)
     (read_or (behind (codes "turn ") bytes) turn_at
-    (read_or (behind (codes "reg ") bytes) reg_at
+    (read_or (behind (codes "reg ") bytes) (if form == 1 then reg_at else reg_by_at)
     (read_or (behind (codes "arm ") bytes) arm_at
     (read_or (behind (codes "job ") bytes) job_at
     (read_or (behind (codes "enq ") bytes) enq_at
@@ -197,7 +214,8 @@ valued_at bytes =
     read_or (behind (codes "throw ") bytes) (λ v. Some (Throw v))
     (read_or (behind (codes "report ") bytes) (λ v. Some (Report v))
     (read_or (behind (codes "log ") bytes) (λ v. Some (Log v))
-    (read_or (behind (codes "settle ") bytes) settle_at None)))
+    (read_or (behind (codes "settle ") bytes) settle_at
+    (read_or (behind (codes "send ") bytes) send_at None))))
 
 -- ---- Ours: what a reading tells
 
@@ -212,16 +230,21 @@ IsTested None read = read ≡ None
 IsTested (Some e) None = EventFits e → ⊥
 IsTested (Some e) (Some read) = (read ≡ e) × EventFits e
 
--- some bytes, as the text of an event, or as that of none
-abbrev pub IsEventRead : List ℕ → Option Event → Type 0
-IsEventRead bytes None = (e : Event) → EventFits e → bytes ≢ event_text e
-IsEventRead bytes (Some e) = EventFits e × (bytes ≡ event_text e)
+-- some bytes, as the text of an event of a form, or as that of none
+abbrev pub IsEventRead : ℕ → List ℕ → Option Event → Type 0
+IsEventRead form bytes None = (e : Event) → EventFits e → IsTrue (is_of_form form e) → bytes ≢ event_text e
+IsEventRead form bytes (Some e) = EventFits e × IsTrue (is_of_form form e) × (bytes ≡ event_text e)
 
 -- the line of an event, without its LF
 abbrev pub body_of : Stamped → List ℕ
 body_of e = decimal_of e.time ++ 32 ∷ event_text e.event
 
--- a line without its LF, as that of an event, or as that of none
-abbrev pub IsRead : List ℕ → Option Stamped → Type 0
-IsRead line None = (e : Stamped) → Fits e → line ≢ body_of e
-IsRead line (Some e) = Fits e × (line ≡ body_of e)
+-- a line without its LF, as that of an event of a form, or as that of none
+abbrev pub IsRead : ℕ → List ℕ → Option Stamped → Type 0
+IsRead form line None = (e : Stamped) → Fits form e → line ≢ body_of e
+IsRead form line (Some e) = Fits form e × (line ≡ body_of e)
+
+-- some bytes, as a head and what stands behind it, or as none
+abbrev pub IsHeadRead : List ℕ → Option (ℕ × List ℕ) → Type 0
+IsHeadRead bytes None = (form : ℕ) (rest : List ℕ) → IsForm form → bytes ≢ head_text form ++ rest
+IsHeadRead bytes (Some head) = IsForm head.0 × (bytes ≡ head_text head.0 ++ head.1)

@@ -88,7 +88,7 @@ counts_after before event = record {
 
 -- the counts after a further line; the head counts nothing
 abbrev pub count_line : Counts → Line → Option Counts
-count_line before Head = Some before
+count_line before (Head form) = Some before
 count_line before (Of e) = Some (counts_after before e.event)
 
 -- every line is taken

@@ -1,10 +1,9 @@
 -- What is a trace, and where some bytes stop being one.
-use Rattle.std.specs.Prelude.{◌≡◌, ◌≢◌, ℕ, ◌+◌, ◌<◌, ◌^◌, Bool, true, false, not, ◌&&◌, nat_le, List, [], ◌∷◌, ◌++◌, length, ℤ, Result, Ok, Err, FitsSigned, IsTrue, All, Option, Some, None, ◌==◌}
+use Rattle.std.specs.Prelude.{◌≡◌, ◌≢◌, ℕ, ◌+◌, ◌<◌, ◌≤◌, ◌^◌, Bool, true, false, not, ◌&&◌, nat_le, List, [], ◌∷◌, ◌++◌, length, ℤ, Result, Ok, Err, FitsSigned, IsTrue, All, Option, Some, None, ◌==◌}
 use Rattle.std.specs.Int.{w64}
 use Rattle.page_types.specs.Events.{Queued, MicroJob, ReactJob, AdoptJob, QueueName, FixedQueue, SignalQueue, Event, Turn, Call, Ret, Throw, Report, Log, Reg, Arm, Due, Drop, Job, Run, Settle, Period, IdleLine, Frame, Enq, Prio, Abort, Wait, Host, Unhandled, Handled, Send, EndLine, Stamped}
 use Rattle.page_parts.specs.TraceText.{head_text, line_text, text_of}
 use Rattle.page_values.specs.Spellings.{IsSpelling}
-use Rattle.std.specs.List.{list_all}
 
 -- ---- Ours: which events a line can spell
 
@@ -64,14 +63,19 @@ EventFits (EndLine end) = Unit {0}
 
 -- ---- Ours: the two forms of a trace
 
+-- a form is 1 or 2
+abbrev pub IsForm : ℕ → Type 0
+IsForm form = (1 ≤ form) × (form ≤ 2)
+
 -- whether a registration tells which callback was running: in the second form, and not in the first
 abbrev pub is_of_form : ℕ → Event → Bool
 is_of_form form (Reg r kind None) = form == 1
 is_of_form form (Reg r kind (Some by)) = form == 2
 is_of_form form e = true
 
-abbrev pub Fits : Stamped → Type 0
-Fits e = IsCount e.time × EventFits e.event
+-- what the line of an event can spell, in a form
+abbrev pub Fits : ℕ → Stamped → Type 0
+Fits form e = IsCount e.time × EventFits e.event × IsTrue (is_of_form form e.event)
 
 -- ---- Ours: the order of lines
 
@@ -97,16 +101,11 @@ is_whole es = are_in_order es && ends es
 
 -- ---- Ours: traces, and the first line that is refused in its place
 
--- a form is 1 or 2
-abbrev pub IsForm : ℕ → Type 0
-IsForm form = (form ≡ 1) ⊎ (form ≡ 2)
-
 -- The bytes are the trace of these events, in this form.
 pub record IsTrace (form : ℕ) (bytes : List ℕ) (es : List Stamped) : Type 0 where
   pub spelled : bytes ≡ text_of form es
   pub known : IsForm form
-  pub fit : All Fits es
-  pub formed : IsTrue (list_all (λ e. is_of_form form e.event) es)
+  pub fit : All (Fits form) es
   pub whole : IsTrue (is_whole es)
 
 -- The bytes are no trace, and the line of this number, counted from 1, is the first that is not spelled as one in its
@@ -117,10 +116,9 @@ pub data IsBadLine (bytes : List ℕ) (number : ℕ) : Type 0 where
   no_line : (form : ℕ) (good : List Stamped) (rest : List ℕ)
       → bytes ≡ text_of form good ++ rest
       → IsForm form
-      → All Fits good
-      → IsTrue (list_all (λ e. is_of_form form e.event) good)
+      → All (Fits form) good
       → IsTrue (are_in_order good)
       → number ≡ length good + 2
-      → ((e : Stamped) (more : List ℕ) → Fits e → IsTrue (is_of_form form e.event) → IsTrue (are_in_order (good ++ e ∷ [])) → rest ≢ line_text e ++ more)
+      → ((e : Stamped) (more : List ℕ) → Fits form e → IsTrue (are_in_order (good ++ e ∷ [])) → rest ≢ line_text e ++ more)
       → (rest ≡ [] → ends good ≡ false)
       → IsBadLine bytes number

@@ -16,6 +16,7 @@ use std::marker::Model;
 #[derive(Drop)]
 pub struct LineCheck<'e> {
     alloc: Global,
+    form: u32,
     left: &'e [Stamped],
     matched: usize,
     refusals: u64,
@@ -27,7 +28,7 @@ impl<'e> Model for LineCheck<'e> {
 
     ghost Value = { Comparison };
 
-    ghost view = { λ check. record { left = check.left.now; matched = check.matched; refusals = check.refusals } };
+    ghost view = { λ check. record { form = check.form; left = check.left.now; matched = check.matched; refusals = check.refusals } };
 
     ghost invariant = { λ check. check.matched + length check.left.now ≤ 2 ^ 60 };
 }
@@ -35,10 +36,11 @@ impl<'e> Model for LineCheck<'e> {
 impl<'e> LineCheck<'e> {
     /// A comparison with this trace, of which no line was met. Takes no memory.
     pub fn new(alloc: Global, events: &'e Events) -> LineCheck<'e>
-        ensures { result ≡ record { left = events.now; matched = 0; refusals = 0 } }
+        ensures { result ≡ record { form = events.now.form; left = events.now.events; matched = 0; refusals = 0 } }
     {
         LineCheck {
             alloc,
+            form: events.form(),
             left: events.items(),
             matched: 0,
             refusals: 0,
@@ -54,14 +56,15 @@ impl<'e> LineCheck<'e> {
 
     fn differs(&mut self) -> Result<(), NoLine>
         ensures answer { result ≡ Err Differs }
-        ensures counted { self.new ≡ record { left = self.old.left; matched = self.old.matched; refusals = raised self.old.refusals } }
+        ensures counted { self.new ≡ record { form = self.old.form; left = self.old.left; matched = self.old.matched; refusals = raised self.old.refusals } }
     {
         self.refusals = self.refusals.saturating_add(1);
         Err(NoLine::Differs)
     }
 }
 
-/// `Differs` comes exactly where the next line of the trace is another or absent; then that line is still the next one.
+/// `Differs` comes exactly where the next line of the trace is another or absent, at the head where the trace has another
+/// form; then that line is still the next one.
 /// `Failed` never comes.
 impl<'e> Lines for LineCheck<'e> {
     ghost use Rattle.std.specs.Prelude.{[], ◌∷◌};
@@ -79,8 +82,11 @@ impl<'e> Lines for LineCheck<'e> {
 
     ghost keeping = { check_keeping };
 
-    fn head(&mut self) -> Result<(), NoLine> {
+    fn head(&mut self, form: u32) -> Result<(), NoLine> {
         if self.matched > 0 {
+            return self.differs();
+        }
+        if form != self.form {
             return self.differs();
         }
         self.matched = 1;

@@ -51,8 +51,13 @@ fn lines_of_a_trace_are_met_in_order(rt: HostRuntime) -> Result<(), Fail> {
         Err(NoLine::Differs),
         "an event before the head"
     );
-    assert_eq!(rt; check.head(), Ok(()));
-    assert_eq!(rt; check.head(), Err(NoLine::Differs), "a second head");
+    assert_eq!(rt;
+        check.head(2),
+        Err(NoLine::Differs),
+        "a head of another form"
+    );
+    assert_eq!(rt; check.head(1), Ok(()));
+    assert_eq!(rt; check.head(1), Err(NoLine::Differs), "a second head");
     for e in events.items() {
         assert_eq!(rt; check.emit(e), Ok(()));
     }
@@ -73,7 +78,7 @@ fn another_line_differs_and_the_next_one_is_still_met(rt: HostRuntime) -> Result
     let first = events.items().first().ok_or("no event")?;
     let last = events.items().last().ok_or("no event")?;
 
-    assert_eq!(rt; check.head(), Ok(()));
+    assert_eq!(rt; check.head(1), Ok(()));
     assert_eq!(rt; check.emit(last), Err(NoLine::Differs));
     assert_eq!(rt; check.matched(), 1);
     assert_eq!(rt; check.emit(first), Ok(()));
@@ -104,7 +109,7 @@ fn a_summary_counts_a_trace(rt: HostRuntime) -> Result<(), Fail> {
     assert_eq!(rt; summary_of(&timer_first), of_timer_first);
 
     let mut count = LineCount::new();
-    assert_eq!(rt; count.head(), Ok(()));
+    assert_eq!(rt; count.head(1), Ok(()));
     assert_eq!(rt; count.summary(), None);
     for e in events.items() {
         assert_eq!(rt; count.emit(e), Ok(()));

@@ -45,10 +45,12 @@ pub enum Event {
     Log {
         v: Printed,
     },
-    /// A registration is made.
+    /// A registration is made. `by` is the registration of the innermost open call; a trace of form 2 tells it, and one
+    /// of form 1 does not.
     Reg {
         r: u64,
         kind: RegKind,
+        by: Option<u64>,
     },
     /// A registration is due at a time; `level` is the nesting level of a timer, and 0 for what is no timer.
     Arm {
@@ -124,6 +126,11 @@ pub enum Event {
     /// Something handles a promise that was told as unhandled.
     Handled {
         p: u64,
+    },
+    /// A value is sent to a port.
+    Send {
+        n: u64,
+        v: Printed,
     },
     /// The run ends.
     End(End),

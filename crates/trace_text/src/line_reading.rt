@@ -2,8 +2,9 @@
 
 ghost use Rattle.std.specs.Prelude.{◌≡◌, IfOk, IfSome};
 ghost use Rattle.std.specs.Option.{option_map};
-ghost use Rattle.trace_text.specs.LineReading.{turn_at, reg_at, prio_at, arm_at, job_at, enq_at, host_at, settle_at, numbered_at, worded_at, valued_at, IsTested, IsEventRead, IsRead};
+ghost use Rattle.trace_text.specs.LineReading.{turn_at, reg_at, reg_by_at, prio_at, arm_at, job_at, enq_at, host_at, settle_at, send_at, numbered_at, worded_at, valued_at, IsTested, IsEventRead, IsRead};
 ghost use Rattle.trace_text.specs.EventSeen.{event_seen, stamped_seen};
+ghost use Rattle.trace_text.specs.Trace.{IsForm};
 
 use crate::fields::{
     read_count, read_end, read_form, read_how, read_int, read_kind, read_priority, read_queue,
@@ -13,9 +14,15 @@ use crate::{Event, Stamped};
 use page_base::{Micros, behind, cut_at, is_word};
 use std::alloc::{AllocError, Global};
 
-/// The time and the event of a line without its line feed. None where it is not the line of an event.
-pub(crate) fn read_line(alloc: Global, line: &[u8]) -> Result<Option<Stamped>, AllocError>
-    ensures { IfOk result (λ read. IsRead line.now (option_map stamped_seen read)) }
+/// The time and the event of a line without its line feed, in a trace of this form. None where it is not the line of an
+/// event.
+pub(crate) fn read_line(
+    alloc: Global,
+    form: u32,
+    line: &[u8],
+) -> Result<Option<Stamped>, AllocError>
+    requires { IsForm form }
+    ensures { IfOk result (λ read. IsRead form line.now (option_map stamped_seen read)) }
 {
     let Some((time, text)) = cut_at(line, b' ') else {
         return Ok(None);
@@ -23,7 +30,7 @@ pub(crate) fn read_line(alloc: Global, line: &[u8]) -> Result<Option<Stamped>, A
     let Some(time) = read_count(time) else {
         return Ok(None);
     };
-    let Some(event) = read_event(alloc, text)? else {
+    let Some(event) = read_event(alloc, form, text)? else {
         return Ok(None);
     };
     Ok(Some(Stamped {
@@ -33,13 +40,14 @@ pub(crate) fn read_line(alloc: Global, line: &[u8]) -> Result<Option<Stamped>, A
 }
 
 // The event that the whole text spells.
-fn read_event(alloc: Global, text: &[u8]) -> Result<Option<Event>, AllocError>
-    ensures { IfOk result (λ read. IsEventRead text.now (option_map event_seen read)) }
+fn read_event(alloc: Global, form: u32, text: &[u8]) -> Result<Option<Event>, AllocError>
+    requires { IsForm form }
+    ensures { IfOk result (λ read. IsEventRead form text.now (option_map event_seen read)) }
 {
     if let Some(event) = read_numbered(text) {
         return Ok(Some(event));
     }
-    if let Some(event) = read_worded(text) {
+    if let Some(event) = read_worded(form, text) {
         return Ok(Some(event));
     }
     read_valued(alloc, text)
@@ -88,8 +96,8 @@ fn read_numbered(text: &[u8]) -> Option<Event>
 
 // An event with other fields, but no value.
 #[tactic(auto, unfolding(crate::specs::LineReading::worded_at))]
-fn read_worded(text: &[u8]) -> Option<Event>
-    ensures { option_map event_seen result ≡ worded_at text.now }
+fn read_worded(form: u32, text: &[u8]) -> Option<Event>
+    ensures { option_map event_seen result ≡ worded_at form text.now }
 {
     if is_word(text, b"ret") {
         return Some(Event::Ret);
@@ -98,7 +106,11 @@ fn read_worded(text: &[u8]) -> Option<Event>
         return read_turn(rest);
     }
     if let Some(rest) = behind(text, b"reg ") {
-        return read_reg(rest);
+        return if form == 1 {
+            read_reg(rest)
+        } else {
+            read_reg_by(rest)
+        };
     }
     if let Some(rest) = behind(text, b"arm ") {
         return read_arm(rest);
@@ -138,7 +150,19 @@ fn read_reg(fields: &[u8]) -> Option<Event>
     let (first, rest) = cut_at(fields, b' ')?;
     let r = read_count(first)?;
     let kind = read_kind(rest)?;
-    Some(Event::Reg { r, kind })
+    Some(Event::Reg { r, kind, by: None })
+}
+
+#[tactic(auto, unfolding(crate::specs::LineReading::reg_by_at))]
+fn read_reg_by(fields: &[u8]) -> Option<Event>
+    ensures { option_map event_seen result ≡ reg_by_at fields.now }
+{
+    let (first, rest) = cut_at(fields, b' ')?;
+    let (second, rest) = cut_at(rest, b' ')?;
+    let r = read_count(first)?;
+    let kind = read_kind(second)?;
+    let by = Some(read_count(rest)?);
+    Some(Event::Reg { r, kind, by })
 }
 
 #[tactic(auto, unfolding(crate::specs::LineReading::prio_at))]
@@ -232,6 +256,9 @@ fn read_valued(alloc: Global, text: &[u8]) -> Result<Option<Event>, AllocError>
     if let Some(rest) = behind(text, b"settle ") {
         return read_settle(alloc, rest);
     }
+    if let Some(rest) = behind(text, b"send ") {
+        return read_send(alloc, rest);
+    }
     Ok(None)
 }
 
@@ -255,4 +282,20 @@ fn read_settle(alloc: Global, fields: &[u8]) -> Result<Option<Event>, AllocError
         return Ok(None);
     };
     Ok(Some(Event::Settle { p, ok, v }))
+}
+
+#[tactic(auto, unfolding(crate::specs::LineReading::send_at))]
+fn read_send(alloc: Global, fields: &[u8]) -> Result<Option<Event>, AllocError>
+    ensures { IfOk result (λ read. IsTested (send_at fields.now) (option_map event_seen read)) }
+{
+    let Some((first, value)) = cut_at(fields, b' ') else {
+        return Ok(None);
+    };
+    let Some(n) = read_count(first) else {
+        return Ok(None);
+    };
+    let Some(v) = read_value(alloc, value)? else {
+        return Ok(None);
+    };
+    Ok(Some(Event::Send { n, v }))
 }

@@ -6,6 +6,7 @@ ghost use Rattle.trace_text.specs.Line.{Head, Of};
 ghost use Rattle.trace_text.specs.declared.lines.NoLine.TheVariants.{OutOfMemory};
 ghost use Rattle.trace_text.specs.EventSeen.{stamped_seen};
 ghost use Rattle.trace_text.specs.Given.{Keeping, Seen, Gives};
+ghost use Rattle.trace_text.specs.Trace.{IsForm};
 
 use crate::Stamped;
 use std::alloc::{AllocError, AllocFailed};
@@ -29,10 +30,11 @@ pub trait Lines {
     /// How it goes on from what it tells.
     ghost keeping: { Keeping Told };
 
-    /// Takes the head of a trace. `Failed` comes only where the count of faults rose in this call, and `Differs`
-    /// exactly where the count of refusals did.
-    fn head(&mut self) -> Result<(), NoLine>
-        ensures { Gives keeping (seen self.old) (Head ∷ []) (result_err result) (seen self.new) };
+    /// Takes the head of a trace of this form, 1 or 2. `Failed` comes only where the count of faults rose in this call,
+    /// and `Differs` exactly where the count of refusals did.
+    fn head(&mut self, form: u32) -> Result<(), NoLine>
+        requires { IsForm form }
+        ensures { Gives keeping (seen self.old) (Head form ∷ []) (result_err result) (seen self.new) };
 
     /// Takes the line of an event. The errors come as those of `head` do.
     fn emit(&mut self, e: &Stamped) -> Result<(), NoLine>

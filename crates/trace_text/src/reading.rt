@@ -1,8 +1,10 @@
 //! A whole trace.
 
-ghost use Rattle.std.specs.Prelude.{◌≡◌, ◌+◌, ◌^◌, ◌<◌, ◌++◌, length, map, codes, IfOk, Err};
+ghost use Rattle.std.specs.Prelude.{◌≡◌, ◌+◌, ◌^◌, ◌<◌, ◌++◌, length, map, option_map, IfOk, Err};
+ghost use Rattle.page_parts.specs.TraceText.{head_text};
 ghost use Rattle.trace_text.specs.EventSeen.{event_seen, stamped_seen};
-ghost use Rattle.trace_text.specs.Trace.{IsTrace, IsBadLine, is_end as ends};
+ghost use Rattle.trace_text.specs.Trace.{IsForm, IsTrace, IsBadLine, is_end as ends};
+ghost use Rattle.trace_text.specs.LineReading.{IsHeadRead};
 ghost use Rattle.trace_text.specs.declared.fault.BadLine.{BadLine as BadLineSeen};
 ghost use Rattle.trace_text.specs.declared.fault.TraceFault.TheVariants as fault;
 
@@ -13,7 +15,8 @@ use std::alloc::Global;
 
 /// The events of a trace.
 ///
-/// The first line is `trace 1`. Every other is a time, one space, the word of an event and its fields, one space before
+/// The first line is `trace 1` in form 1, and `trace 2` in form 2. In form 2 a `reg` line has one more field, the
+/// registration by which it was made. Every other is a time, one space, the word of an event and its fields, one space before
 /// each, and ends with a line feed, the last one too. Numbers are canonical decimals below 2^64, and values are spelled as
 /// they are printed, nested at most 64 deep, of whatever weight. Times never fall, and the last line, and no other, is an
 /// `end` line.
@@ -22,29 +25,43 @@ use std::alloc::Global;
 /// 1; where the `end` line is missing, that is the line after the last. Whether the lines are those of a run is not asked.
 /// `OutOfMemory` comes where memory ran out.
 pub fn read_trace(alloc: Global, bytes: &[u8]) -> Result<Events, TraceFault>
-    ensures trace { IfOk result (λ events. IsTrace bytes.now (map stamped_seen events)) }
+    ensures trace { IfOk result (λ trace. IsTrace trace.form bytes.now (map stamped_seen trace.events)) }
     ensures bad { (line : BadLineSeen) → result ≡ Err (fault.Is line) → IsBadLine bytes.now line.line }
 {
-    let Some(text) = behind(bytes, b"trace 1\n") else {
+    let Some((form, text)) = read_head(bytes) else {
         return Err(TraceFault::Is(BadLine { line: 1 }));
     };
-    match read_lines(alloc, text) {
-        Ok(items) => Ok(Events::new(items)),
+    match read_lines(alloc, form, text) {
+        Ok(items) => Ok(Events::new(form, items)),
         Err(fault) => Err(fault),
     }
 }
 
+// The form of the head, and what stands behind it.
+fn read_head(bytes: &[u8]) -> Option<(u32, &[u8])>
+    ensures { IsHeadRead bytes.now (option_map (λ head. (head.0, head.1.now)) result) }
+{
+    if let Some(text) = behind(bytes, b"trace 1\n") {
+        return Some((1, text));
+    }
+    if let Some(text) = behind(bytes, b"trace 2\n") {
+        return Some((2, text));
+    }
+    None
+}
+
 // The events of the lines behind the head.
-fn read_lines(alloc: Global, text: &[u8]) -> Result<Vec<Stamped>, TraceFault>
-    ensures trace { IfOk result (λ items. IsTrace (codes "trace 1\n" ++ text.now) (map stamped_seen items.items)) }
-    ensures bad { (line : BadLineSeen) → result ≡ Err (fault.Is line) → IsBadLine (codes "trace 1\n" ++ text.now) line.line }
+fn read_lines(alloc: Global, form: u32, text: &[u8]) -> Result<Vec<Stamped>, TraceFault>
+    requires { IsForm form }
+    ensures trace { IfOk result (λ items. IsTrace form (head_text form ++ text.now) (map stamped_seen items.items)) }
+    ensures bad { (line : BadLineSeen) → result ≡ Err (fault.Is line) → IsBadLine (head_text form ++ text.now) line.line }
 {
     let mut items = Vec::new(alloc);
     let mut last = 0;
     let mut ended = false;
     let mut rest = text;
     while let Some((line, after)) = cut_at(rest, b'\n') {
-        let Some(next) = read_line(alloc, line)? else {
+        let Some(next) = read_line(alloc, form, line)? else {
             return Err(bad_line(&items));
         };
         if ended || next.time.0 < last {

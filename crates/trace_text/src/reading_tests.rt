@@ -1,6 +1,7 @@
 //! Whole traces, and the line at which each of some others is refused.
 
-use crate::{TraceFault, read_trace, write_event};
+use crate::{LineSink, Lines, TraceFault, read_trace};
+use page_io::MemSink;
 use std::alloc::Global;
 use std::process::Abort;
 use std::test::Fail;
@@ -17,16 +18,24 @@ const EACH_KIND: &[u8] =
 3 drop 1\n4 job 1 micro 1\n4 job 2 react 10\n4 job 3 adopt 100\n4 run 1\n4 settle 1 ok \"ok v\"\n4 settle 1 err -5\n\
 5 period 50000\n5 idle 50000\n5 frame 16666\n6 enq 1 user-blocking cont 1\n6 enq 2 s0 task 2\n6 prio 1 user-visible\n\
 6 abort 1\n7 wait 10\n8 host 0 -9223372036854775808 ok 9223372036854775807\n8 host 4095 0 err -1\n8 unhandled 1\n\
-9 handled 1\n18446744073709551615 end clock\n";
+9 handled 1\n9 send 64 unit\n18446744073709551615 end clock\n";
 
-// The trace is read, and its lines are written as they stand there.
-fn expect_read(rt: &impl Abort, alloc: Global, trace: &[u8]) -> Result<(), Fail> {
+// Who registered is told, and a message is sent.
+const SECOND_FORM: &[u8] =
+    b"trace 2\n0 turn 1 dom\n0 call 1\n0 reg 2 frame 1\n0 reg 3 frame 1\n0 send 3 [1,\"a\"]\n\
+0 throw TypeError(\"\")\n0 report TypeError(\"\")\n20000 reg 4 frame 2\n20000 end done\n";
+
+// The trace is read in its form, and its lines are written as they stand there.
+fn expect_read(rt: &impl Abort, alloc: Global, form: u32, trace: &[u8]) -> Result<(), Fail> {
     let events = read_trace(alloc, trace)?;
-    let mut text = b"trace 1\n".to_vec(alloc)?;
+    assert_eq!(rt; events.form(), form);
+    let mut lines = LineSink::new(alloc, MemSink::new(alloc, 4000, Vec::new(alloc))?);
+    assert_eq!(rt; lines.head(events.form()), Ok(()));
     for event in events.items() {
-        write_event(alloc, event, &mut text)?;
+        assert_eq!(rt; lines.emit(event), Ok(()));
     }
-    assert_eq!(rt; text.as_slice(), trace);
+    let sink = lines.into_sink();
+    assert_eq!(rt; sink.bytes(), trace);
     Ok(())
 }
 
@@ -45,8 +54,9 @@ fn expect_refused(rt: &impl Abort, alloc: Global, table: &[(&[u8], usize)]) {
 
 #[test]
 fn traces_are_read_and_written_back(rt: HostRuntime) -> Result<(), Fail> {
-    expect_read(&rt, rt.alloc(), TIMER_FIRST)?;
-    expect_read(&rt, rt.alloc(), EACH_KIND)
+    expect_read(&rt, rt.alloc(), 1, TIMER_FIRST)?;
+    expect_read(&rt, rt.alloc(), 1, EACH_KIND)?;
+    expect_read(&rt, rt.alloc(), 2, SECOND_FORM)
 }
 
 #[test]
@@ -63,7 +73,7 @@ fn a_start_of_a_trace_is_refused_where_it_ends(rt: HostRuntime) {
 fn lines_stand_in_their_order(rt: HostRuntime) {
     let table: [(&[u8], usize); 11] = [
         (b"", 1),
-        (b"trace 2\n0 end done\n", 1),
+        (b"trace 3\n0 end done\n", 1),
         (b"trace 1\r\n0 end done\n", 1),
         (b"0 end done\n", 1),
         (b"trace 1\n0 ret\n", 3),
@@ -79,7 +89,11 @@ fn lines_stand_in_their_order(rt: HostRuntime) {
 
 #[test]
 fn fields_have_one_spelling(rt: HostRuntime) {
-    let table: [(&[u8], usize); 16] = [
+    let table: [(&[u8], usize); 20] = [
+        (b"trace 1\n0 reg 2 frame 1\n0 end done\n", 2),
+        (b"trace 2\n0 reg 2 frame\n0 end done\n", 2),
+        (b"trace 2\n0 reg 2 frame 01\n0 end done\n", 2),
+        (b"trace 1\n0 send 3\n0 end done\n", 2),
         (b"trace 1\n00 ret\n0 end done\n", 2),
         (b"trace 1\n0 call 01\n0 end done\n", 2),
         (b"trace 1\n0 call +1\n0 end done\n", 2),

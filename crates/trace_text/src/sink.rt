@@ -2,6 +2,7 @@
 
 ghost use Rattle.std.specs.Prelude.{◌≡◌};
 
+use crate::words::head_line;
 use crate::writing::write_line;
 use crate::{Lines, NoLine, Stamped};
 use page_io::Sink;
@@ -47,6 +48,7 @@ impl<O: Sink> Lines for LineSink<O> {
     ghost use Rattle.trace_text.specs.EventSeen.{stamped_seen};
     ghost use Rattle.trace_text.specs.Line.{Head, Of};
     ghost use Rattle.trace_text.specs.Sinks.{puts_after, seen_through, sink_keeping};
+    ghost use Rattle.trace_text.specs.Trace.{IsForm};
 
     ghost Told = { List ℕ };
 
@@ -55,12 +57,13 @@ impl<O: Sink> Lines for LineSink<O> {
     ghost keeping = { sink_keeping };
 
     /// It takes no memory.
-    fn head(&mut self) -> Result<(), NoLine>
-        ensures gives { Gives sink_keeping (seen_through O.bytes O.faults self.old) (Head ∷ []) (result_err result) (seen_through O.bytes O.faults self.new) }
+    fn head(&mut self, form: u32) -> Result<(), NoLine>
+        requires { IsForm form }
+        ensures gives { Gives sink_keeping (seen_through O.bytes O.faults self.old) (Head form ∷ []) (result_err result) (seen_through O.bytes O.faults self.new) }
         ensures no_memory { result ≢ Err OutOfMemory }
         ensures one_put { O.puts self.new ≡ raised (O.puts self.old) }
     {
-        match self.out.put(b"trace 1\n") {
+        match self.out.put(head_line(form)) {
             Ok(()) => Ok(()),
             Err(_) => Err(NoLine::Failed),
         }

@@ -1,6 +1,6 @@
 //! The summary of a trace.
 
-ghost use Rattle.std.specs.Prelude.{◌≡◌, List, [], map, MatchOption, Some, None};
+ghost use Rattle.std.specs.Prelude.{◌≡◌, ℕ, List, [], map, MatchOption, Some, None};
 ghost use Rattle.page_types.specs.Events.{Stamped as StampedSeen};
 ghost use Rattle.trace_text.specs.EventSeen.{event_seen, stamped_seen};
 ghost use Rattle.trace_text.specs.Checks.{lines_of};
@@ -82,6 +82,7 @@ impl Lines for LineCount {
     ghost use Rattle.trace_text.specs.Given.{Gives};
     ghost use Rattle.trace_text.specs.Summaries.{Counts, count_keeping, seen_counts};
     ghost use Rattle.trace_text.specs.Counters.{counts_in};
+    ghost use Rattle.trace_text.specs.Trace.{IsForm};
 
     ghost Told = { Counts };
 
@@ -90,8 +91,9 @@ impl Lines for LineCount {
     ghost keeping = { count_keeping };
 
     /// It takes the head, and no memory.
-    fn head(&mut self) -> Result<(), NoLine>
-        ensures gives { Gives count_keeping (seen_counts (counts_in self.old)) (Head ∷ []) (result_err result) (seen_counts (counts_in self.new)) }
+    fn head(&mut self, _form: u32) -> Result<(), NoLine>
+        requires { IsForm _form }
+        ensures gives { Gives count_keeping (seen_counts (counts_in self.old)) (Head _form ∷ []) (result_err result) (seen_counts (counts_in self.new)) }
         ensures always { result ≡ Ok tt }
     {
         Ok(())
@@ -109,7 +111,7 @@ impl Lines for LineCount {
 
 /// The summary of a trace. Takes no memory.
 pub fn summary_of(events: &Events) -> Summary
-    ensures { summarised result ≡ counts_of (map stamped_seen events.now) }
+    ensures { summarised result ≡ counts_of (map stamped_seen events.now.events) }
 {
     let mut count = LineCount::new();
     let mut rest = events.items();
@@ -123,7 +125,7 @@ pub fn summary_of(events: &Events) -> Summary
     }
 }
 
-/// The law of the count: given the lines of some events it has their counts.
+/// The law of the count: given the lines of some events, in any form, it has their counts.
 pub fn counting_gives_the_summary()
-    ensures { (es : List StampedSeen) → after_all count_keeping (Some (counts_of [])) (lines_of es) ≡ Some (counts_of es) }
+    ensures { (form : ℕ) (es : List StampedSeen) → after_all count_keeping (Some (counts_of [])) (lines_of form es) ≡ Some (counts_of es) }
 {}

@@ -59,9 +59,21 @@ fn lines_of_turns_and_callbacks(rt: HostRuntime) -> Result<(), Fail> {
                 Event::Reg {
                     r: 10,
                     kind: RegKind::Timeout,
+                    by: None,
                 },
             ),
             "8000 reg 10 timeout\n",
+        ),
+        (
+            at(
+                20000,
+                Event::Reg {
+                    r: 4,
+                    kind: RegKind::Frame,
+                    by: Some(2),
+                },
+            ),
+            "20000 reg 4 frame 2\n",
         ),
         (
             at(
@@ -287,7 +299,7 @@ fn lines_of_faults(rt: HostRuntime) -> Result<(), Fail> {
 fn a_sink_takes_a_trace(rt: HostRuntime) -> Result<(), Fail> {
     let alloc = rt.alloc();
     let mut lines = LineSink::new(alloc, MemSink::new(alloc, 1000, Vec::new(alloc))?);
-    assert_eq!(rt; lines.head(), Ok(()));
+    assert_eq!(rt; lines.head(1), Ok(()));
     let turn = Event::Turn {
         n: 1,
         source: Some(Source::Dom),
@@ -308,9 +320,9 @@ fn a_line_that_failed_leaves_a_start(rt: HostRuntime) -> Result<(), Fail> {
     let mut fails = Vec::new(alloc);
     fails.push((2, 5))?;
     let mut lines = LineSink::new(alloc, MemSink::new(alloc, 1000, fails)?);
-    assert_eq!(rt; lines.head(), Ok(()));
+    assert_eq!(rt; lines.head(2), Ok(()));
     assert_eq!(rt; lines.emit(&at(0, Event::Ret)), Err(NoLine::Failed));
     let sink = lines.into_sink();
-    assert_eq!(rt; sink.bytes(), b"trace 1\n0 ret".as_slice());
+    assert_eq!(rt; sink.bytes(), b"trace 2\n0 ret".as_slice());
     Ok(())
 }

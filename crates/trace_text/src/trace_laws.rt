@@ -6,12 +6,13 @@ ghost use Rattle.trace_text.specs.Trace.{IsTrace, IsBadLine};
 
 /// A law: no line of a trace is bad. So what `write_event` writes of the events of a trace, behind the head, is read again.
 pub fn a_trace_is_read()
-    ensures { (bytes : List ℕ) (es : List Stamped) (number : ℕ) → IsTrace bytes es → IsBadLine bytes number → ⊥ }
+    ensures { (form : ℕ) (bytes : List ℕ) (es : List Stamped) (number : ℕ) → IsTrace form bytes es → IsBadLine bytes number → ⊥ }
 {}
 
-/// A law: some bytes are the trace of one list of events at most. So what is read is what was written.
+/// A law: some bytes are the trace of one list of events at most, in one form. So what is read is what was written.
 pub fn a_trace_has_one_reading()
-    ensures { (bytes : List ℕ) (es others : List Stamped) → IsTrace bytes es → IsTrace bytes others → es ≡ others }
+    ensures form { (a b : ℕ) (bytes : List ℕ) (es others : List Stamped) → IsTrace a bytes es → IsTrace b bytes others → a ≡ b }
+    ensures events { (a b : ℕ) (bytes : List ℕ) (es others : List Stamped) → IsTrace a bytes es → IsTrace b bytes others → es ≡ others }
 {}
 
 /// A law: one line at most is the first that is refused.

@@ -2,10 +2,23 @@
 
 ghost use Rattle.std.specs.Prelude.{◌≡◌};
 ghost use Rattle.page_parts.specs.Spelling.{priority_text};
-ghost use Rattle.page_parts.specs.TraceText.{source_text, end_text, kind_text};
+ghost use Rattle.page_parts.specs.TraceText.{head_text, source_text, end_text, kind_text};
+ghost use Rattle.trace_text.specs.Trace.{IsForm};
 
 use crate::{PrioName, RegKind};
 use page_base::{End, Source};
+
+/// The first line of a trace of this form.
+pub(crate) fn head_line(form: u32) -> &'static [u8]
+    requires { IsForm form }
+    ensures { result.now ≡ head_text form }
+{
+    if form == 1 {
+        b"trace 1\n"
+    } else {
+        b"trace 2\n"
+    }
+}
 
 pub(crate) fn source_word(source: Option<Source>) -> &'static [u8]
     ensures { result.now ≡ source_text source }

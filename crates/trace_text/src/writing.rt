@@ -1,9 +1,9 @@
 //! The lines of events.
 
 ghost use Rattle.std.specs.Prelude.{◌≡◌, ◌++◌, [], ◌∷◌, cond, codes, OnOk, OnErr, IfOk};
-ghost use Rattle.page_types.specs.Events.{Turn, Throw, Reg, Arm, Job, Settle, Enq, Prio, Host, EndLine};
+ghost use Rattle.page_types.specs.Events.{Turn, Throw, Reg, Arm, Job, Settle, Enq, Prio, Host, Send, EndLine};
 ghost use Rattle.page_parts.specs.Spelling.{priority_text};
-ghost use Rattle.page_parts.specs.TraceText.{source_text, end_text, kind_text, field, number_field, int_field, queued_text, queue_text, how_text, answer_text, event_text, line_text};
+ghost use Rattle.page_parts.specs.TraceText.{source_text, end_text, kind_text, field, number_field, int_field, by_field, queued_text, queue_text, how_text, answer_text, event_text, line_text};
 ghost use Rattle.trace_text.specs.EventSeen.{queued_seen, queue_seen, event_seen, stamped_seen};
 
 use crate::words::{end_word, kind_word, priority_word, source_word};
@@ -45,7 +45,7 @@ fn write_text(event: &Event, into: &mut Vec<u8>) -> Result<(), AllocError>
         Event::Throw { v } => write_value(b"throw", v, into),
         Event::Report { v } => write_value(b"report", v, into),
         Event::Log { v } => write_value(b"log", v, into),
-        Event::Reg { r, kind } => write_reg(*r, *kind, into),
+        Event::Reg { r, kind, by } => write_reg(*r, *kind, *by, into),
         Event::Arm { r, due, level } => write_arm(*r, due.0, *level, into),
         Event::Due { r } => write_numbered(b"due", *r, into),
         Event::Drop { r } => write_numbered(b"drop", *r, into),
@@ -62,6 +62,7 @@ fn write_text(event: &Event, into: &mut Vec<u8>) -> Result<(), AllocError>
         Event::Host { k, x, answer } => write_host(*k, *x, *answer, into),
         Event::Unhandled { p } => write_numbered(b"unhandled", *p, into),
         Event::Handled { p } => write_numbered(b"handled", *p, into),
+        Event::Send { n, v } => write_send(*n, v, into),
         Event::End(end) => write_end(*end, into),
     }
 }
@@ -99,11 +100,26 @@ fn write_source(source: Option<Source>, into: &mut Vec<u8>) -> Result<(), AllocE
     write_field(source_word(source), into)
 }
 
-fn write_reg(r: u64, kind: RegKind, into: &mut Vec<u8>) -> Result<(), AllocError>
-    ensures { IfOk result (λ _. into.new.items ≡ into.old.items ++ event_text (Reg r kind)) }
+fn write_reg(
+    r: u64,
+    kind: RegKind,
+    by: Option<u64>,
+    into: &mut Vec<u8>,
+) -> Result<(), AllocError>
+    ensures { IfOk result (λ _. into.new.items ≡ into.old.items ++ event_text (Reg r kind by)) }
 {
     write_numbered(b"reg", r, into)?;
-    write_kind(kind, into)
+    write_kind(kind, into)?;
+    write_by(by, into)
+}
+
+fn write_by(by: Option<u64>, into: &mut Vec<u8>) -> Result<(), AllocError>
+    ensures { IfOk result (λ _. into.new.items ≡ into.old.items ++ by_field by) }
+{
+    match by {
+        None => Ok(()),
+        Some(r) => write_number(r, into),
+    }
 }
 
 fn write_kind(kind: RegKind, into: &mut Vec<u8>) -> Result<(), AllocError>
@@ -218,6 +234,13 @@ fn write_answer(answer: Result<i64, i64>, into: &mut Vec<u8>) -> Result<(), Allo
         Ok(value) => write_integer(value, into),
         Err(value) => write_integer(value, into),
     }
+}
+
+fn write_send(n: u64, v: &Printed, into: &mut Vec<u8>) -> Result<(), AllocError>
+    ensures { IfOk result (λ _. into.new.items ≡ into.old.items ++ event_text (Send n v.now)) }
+{
+    write_numbered(b"send", n, into)?;
+    write_printed(v, into)
 }
 
 fn write_end(end: End, into: &mut Vec<u8>) -> Result<(), AllocError>

@@ -11,4 +11,4 @@ returns c =
     let same : same_bytes (line_text (stamped_seen c.in-Some.next.now)) (line_text (stamped_seen c.args.e.now)) ≡ true = search rules in
     rw (sym c.self.view_is)
     (agrees _ _ _ c.self.inside.refusals
-    (event_agrees (map stamped_seen c.self.inside.left.now) (map stamped_seen c.in-Some.left.now) c.self.inside.matched (stamped_seen c.in-Some.next.now) (stamped_seen c.args.e.now) c.if-self-eq0.false (ap (map stamped_seen) left_is) same))
+    (event_agrees c.self.inside.form (map stamped_seen c.self.inside.left.now) (map stamped_seen c.in-Some.left.now) c.self.inside.matched (stamped_seen c.in-Some.next.now) (stamped_seen c.args.e.now) c.if-self-eq0.false (ap (map stamped_seen) left_is) same))
