@@ -3,11 +3,11 @@ use Rattle.std.proofs.Common.{◌≡◌, ℕ, ◌≤◌, ◌&&◌, Bool, true, f
 use Rattle.std.specs.List.{filter_map, cons_option}
 use Rattle.std.specs.Option.{IfSome}
 use Rattle.std.proofs.lemmas.List.Elements.{All-nil}
-use Rattle.page_parts.specs.Setup.{Latency, Arrival}
+use Rattle.page_parts.specs.Setup.{Latency, Arrival, is_not_after, are_in_order}
 use Rattle.page_base.specs.Readings.{AreShort}
 use Rattle.loop_policy.specs.Policies.{is_policy}
-use Rattle.arrivals_text.specs.Arrivals.{Line, PageLine, PolicyLine, FuelLine, UntilLine, RefreshLine, LateLine, RoomLine, HostLine, ArrivalLine, Settings, line_at, says_something, place_of, may_follow, rank_of, follow, last_or, policy_in, fuel_in, until_in, refresh_in, late_in, room_in, latency_in, arrival_in, settings_after, default_settings, lines_of}
-use Rattle.arrivals_text.specs.Limits.{is_below, are_latencies, is_not_after, are_arrivals}
+use Rattle.arrivals_text.specs.Arrivals.{Line, PageLine, TraceLine, PolicyLine, FuelLine, UntilLine, RefreshLine, LateLine, RoomLine, HostLine, ArrivalLine, Settings, line_at, says_something, place_of, may_follow, rank_of, follow, last_or, form_in, trace_in, policy_in, fuel_in, until_in, refresh_in, late_in, room_in, latency_in, arrival_in, settings_after, default_settings, lines_of}
+use Rattle.arrivals_text.specs.Limits.{is_below, are_latencies, are_arrivals}
 use Rattle.arrivals_text.specs.Reading.{IsWithin, goes, settled}
 use Rattle.arrivals_text.specs.declared.place.Place.{Place}
 use Rattle.arrivals_text.specs.declared.place.Place.TheVariants as place
@@ -41,9 +41,10 @@ and_true a b h k = rw (h, k) refl
 
 -- ---- order
 
-host_last : (k : ℕ) (next : Place) → may_follow (place.Host k) next ≡ true → 8 ≤ rank_of next
+host_last : (k : ℕ) (next : Place) → may_follow (place.Host k) next ≡ true → 9 ≤ rank_of next
 host_last k place.Start h = cc
 host_last k place.Page h = cc
+host_last k place.Trace h = cc
 host_last k place.Policy h = cc
 host_last k place.Fuel h = cc
 host_last k place.Until h = cc
@@ -53,9 +54,10 @@ host_last k place.Room h = cc
 host_last k (place.Host l) h = omega arith
 host_last k (place.At t) h = omega arith
 
-arrival_last : (t : ℕ) (next : Place) → may_follow (place.At t) next ≡ true → 9 ≤ rank_of next
+arrival_last : (t : ℕ) (next : Place) → may_follow (place.At t) next ≡ true → 10 ≤ rank_of next
 arrival_last t place.Start h = cc
 arrival_last t place.Page h = cc
+arrival_last t place.Trace h = cc
 arrival_last t place.Policy h = cc
 arrival_last t place.Fuel h = cc
 arrival_last t place.Until h = cc
@@ -75,11 +77,12 @@ abbrev Comes : Place → List Arrival → Type 0
 Comes (place.At t) arrivals = is_not_after t arrivals ≡ true
 Comes other arrivals = Unit {0}
 
-early : (last next : Place) (hosts : List Latency) → may_follow last next ≡ true → rank_of next ≤ 7 → Rises last hosts
+early : (last next : Place) (hosts : List Latency) → may_follow last next ≡ true → rank_of next ≤ 8 → Rises last hosts
 early (place.Host k) next hosts h le = absurd (omega (arith, host_last k next h))
 early (place.At t) next hosts h le = absurd (omega (arith, arrival_last t next h))
 early place.Start next hosts h le = tt
 early place.Page next hosts h le = tt
+early place.Trace next hosts h le = tt
 early place.Policy next hosts h le = tt
 early place.Fuel next hosts h le = tt
 early place.Until next hosts h le = tt
@@ -87,11 +90,12 @@ early place.Refresh next hosts h le = tt
 early place.Late next hosts h le = tt
 early place.Room next hosts h le = tt
 
-not_yet : (last next : Place) (arrivals : List Arrival) → may_follow last next ≡ true → rank_of next ≤ 8 → Comes last arrivals
+not_yet : (last next : Place) (arrivals : List Arrival) → may_follow last next ≡ true → rank_of next ≤ 9 → Comes last arrivals
 not_yet (place.At t) next arrivals h le = absurd (omega (arith, arrival_last t next h))
 not_yet (place.Host k) next arrivals h le = tt
 not_yet place.Start next arrivals h le = tt
 not_yet place.Page next arrivals h le = tt
+not_yet place.Trace next arrivals h le = tt
 not_yet place.Policy next arrivals h le = tt
 not_yet place.Fuel next arrivals h le = tt
 not_yet place.Until next arrivals h le = tt
@@ -104,6 +108,7 @@ host_rises (place.Host k) host hosts h = h
 host_rises (place.At t) host hosts h = cc
 host_rises place.Start host hosts h = tt
 host_rises place.Page host hosts h = tt
+host_rises place.Trace host hosts h = tt
 host_rises place.Policy host hosts h = tt
 host_rises place.Fuel host hosts h = tt
 host_rises place.Until host hosts h = tt
@@ -116,6 +121,7 @@ no_more_hosts (place.Host k) hosts h = ap (is_below k) h
 no_more_hosts (place.At t) hosts h = h
 no_more_hosts place.Start hosts h = tt
 no_more_hosts place.Page hosts h = tt
+no_more_hosts place.Trace hosts h = tt
 no_more_hosts place.Policy hosts h = tt
 no_more_hosts place.Fuel hosts h = tt
 no_more_hosts place.Until hosts h = tt
@@ -128,6 +134,7 @@ arrival_comes (place.At t) a arrivals h = h
 arrival_comes (place.Host k) a arrivals h = tt
 arrival_comes place.Start a arrivals h = tt
 arrival_comes place.Page a arrivals h = tt
+arrival_comes place.Trace a arrivals h = tt
 arrival_comes place.Policy a arrivals h = tt
 arrival_comes place.Fuel a arrivals h = tt
 arrival_comes place.Until a arrivals h = tt
@@ -139,6 +146,7 @@ nothing_comes : (last : Place) → Comes last []
 nothing_comes (place.At t) = refl
 nothing_comes place.Start = tt
 nothing_comes place.Page = tt
+nothing_comes place.Trace = tt
 nothing_comes place.Policy = tt
 nothing_comes place.Fuel = tt
 nothing_comes place.Until = tt
@@ -151,6 +159,7 @@ record Ordered (last : Place) (lines : List Line) : Type 0 where
   pub latencies : are_latencies (filter_map latency_in lines) ≡ true
   pub rises : Rises last (filter_map latency_in lines)
   pub arrivals : are_arrivals (filter_map arrival_in lines) ≡ true
+  pub in_order : are_in_order (filter_map arrival_in lines) ≡ true
   pub comes : Comes last (filter_map arrival_in lines)
 
 both : (a b : Bool) → (a && b) ≡ true → (a ≡ true) × (b ≡ true)
@@ -158,20 +167,22 @@ both true b h = (refl, h)
 both false b h = cc
 
 no_order : (last : Place) → Ordered last []
-no_order last = record { latencies = refl; rises = no_more_hosts last [] refl; arrivals = refl; comes = nothing_comes last }
+no_order last = record { latencies = refl; rises = no_more_hosts last [] refl; arrivals = refl; in_order = refl; comes = nothing_comes last }
 
 -- a line that is no host and no arrival
 other_line : (last : Place) (line : Line) (lines : List Line) → filter_map latency_in (line ∷ lines) ≡ filter_map latency_in lines → filter_map arrival_in (line ∷ lines) ≡ filter_map arrival_in lines
-    → rank_of (place_of line) ≤ 7 → may_follow last (place_of line) ≡ true → Ordered (place_of line) lines → Ordered last (line ∷ lines)
+    → rank_of (place_of line) ≤ 8 → may_follow last (place_of line) ≡ true → Ordered (place_of line) lines → Ordered last (line ∷ lines)
 other_line last line lines hosts arrivals le h rest = record {
   latencies = ap are_latencies hosts ∙ rest.latencies;
   rises = early last (place_of line) (filter_map latency_in (line ∷ lines)) h le;
   arrivals = ap are_arrivals arrivals ∙ rest.arrivals;
+  in_order = ap are_in_order arrivals ∙ rest.in_order;
   comes = not_yet last (place_of line) (filter_map arrival_in (line ∷ lines)) h (omega arith);
 }
 
 ordered_step : (last : Place) (line : Line) (lines : List Line) → LineWithin line → may_follow last (place_of line) ≡ true → Ordered (place_of line) lines → Ordered last (line ∷ lines)
-ordered_step last PageLine lines w h rest = other_line last PageLine lines refl refl (omega arith) h rest
+ordered_step last (PageLine n) lines w h rest = other_line last (PageLine n) lines refl refl (omega arith) h rest
+ordered_step last TraceLine lines w h rest = other_line last TraceLine lines refl refl (omega arith) h rest
 ordered_step last (PolicyLine p) lines w h rest = other_line last (PolicyLine p) lines refl refl (omega arith) h rest
 ordered_step last (FuelLine n) lines w h rest = other_line last (FuelLine n) lines refl refl (omega arith) h rest
 ordered_step last (UntilLine n) lines w h rest = other_line last (UntilLine n) lines refl refl (omega arith) h rest
@@ -182,12 +193,14 @@ ordered_step last (HostLine host) lines w h rest = record {
   latencies = and_true _ _ w (and_true _ _ rest.rises rest.latencies);
   rises = host_rises last host (filter_map latency_in lines) h;
   arrivals = rest.arrivals;
+  in_order = rest.in_order;
   comes = not_yet last (place.Host host.closure) (filter_map arrival_in lines) h (omega arith);
 }
 ordered_step last (ArrivalLine a) lines w h rest = record {
   latencies = rest.latencies;
   rises = no_more_hosts last (filter_map latency_in lines) rest.rises;
-  arrivals = and_true _ _ w (and_true _ _ rest.comes rest.arrivals);
+  arrivals = and_true _ _ w rest.arrivals;
+  in_order = and_true _ _ rest.comes rest.in_order;
   comes = arrival_comes last a (filter_map arrival_in lines) h;
 }
 
@@ -199,8 +212,33 @@ ordered last (line ∷ lines) w h =
 
 -- ---- the settings
 
+form_own : (line : Line) → LineWithin line → IfSome (form_in line) (λ n. (1 ≤ n) × (n ≤ 2))
+form_own (PageLine n) w = w
+form_own TraceLine w = tt
+form_own (PolicyLine p) w = tt
+form_own (FuelLine n) w = tt
+form_own (UntilLine n) w = tt
+form_own (RefreshLine n) w = tt
+form_own (LateLine late) w = tt
+form_own (RoomLine n) w = tt
+form_own (HostLine host) w = tt
+form_own (ArrivalLine a) w = tt
+
+trace_own : (line : Line) → LineWithin line → IfSome (trace_in line) (λ n. (1 ≤ n) × (n ≤ 2))
+trace_own (PageLine n) w = tt
+trace_own TraceLine w = (omega arith, omega arith)
+trace_own (PolicyLine p) w = tt
+trace_own (FuelLine n) w = tt
+trace_own (UntilLine n) w = tt
+trace_own (RefreshLine n) w = tt
+trace_own (LateLine late) w = tt
+trace_own (RoomLine n) w = tt
+trace_own (HostLine host) w = tt
+trace_own (ArrivalLine a) w = tt
+
 policy_own : (line : Line) → LineWithin line → IfSome (policy_in line) (λ policy. is_policy policy ≡ true)
-policy_own PageLine w = tt
+policy_own (PageLine n) w = tt
+policy_own TraceLine w = tt
 policy_own (PolicyLine p) w = w
 policy_own (FuelLine n) w = tt
 policy_own (UntilLine n) w = tt
@@ -211,7 +249,8 @@ policy_own (HostLine host) w = tt
 policy_own (ArrivalLine a) w = tt
 
 fuel_own : (line : Line) → LineWithin line → IfSome (fuel_in line) (λ n. (1 ≤ n) × (n ≤ 10000000))
-fuel_own PageLine w = tt
+fuel_own (PageLine n) w = tt
+fuel_own TraceLine w = tt
 fuel_own (PolicyLine p) w = tt
 fuel_own (FuelLine n) w = w
 fuel_own (UntilLine n) w = tt
@@ -222,7 +261,8 @@ fuel_own (HostLine host) w = tt
 fuel_own (ArrivalLine a) w = tt
 
 until_own : (line : Line) → LineWithin line → IfSome (until_in line) (λ n. (1 ≤ n) × (n ≤ 1000000000000))
-until_own PageLine w = tt
+until_own (PageLine n) w = tt
+until_own TraceLine w = tt
 until_own (PolicyLine p) w = tt
 until_own (FuelLine n) w = tt
 until_own (UntilLine n) w = w
@@ -233,7 +273,8 @@ until_own (HostLine host) w = tt
 until_own (ArrivalLine a) w = tt
 
 refresh_own : (line : Line) → LineWithin line → IfSome (refresh_in line) (λ n. (1 ≤ n) × (n ≤ 240))
-refresh_own PageLine w = tt
+refresh_own (PageLine n) w = tt
+refresh_own TraceLine w = tt
 refresh_own (PolicyLine p) w = tt
 refresh_own (FuelLine n) w = tt
 refresh_own (UntilLine n) w = tt
@@ -244,7 +285,8 @@ refresh_own (HostLine host) w = tt
 refresh_own (ArrivalLine a) w = tt
 
 late_own : (line : Line) → LineWithin line → IfSome (late_in line) AreShort
-late_own PageLine w = tt
+late_own (PageLine n) w = tt
+late_own TraceLine w = tt
 late_own (PolicyLine p) w = tt
 late_own (FuelLine n) w = tt
 late_own (UntilLine n) w = tt
@@ -255,7 +297,8 @@ late_own (HostLine host) w = tt
 late_own (ArrivalLine a) w = tt
 
 room_own : (line : Line) → LineWithin line → IfSome (room_in line) (λ n. n ≤ 1000000)
-room_own PageLine w = tt
+room_own (PageLine n) w = tt
+room_own TraceLine w = tt
 room_own (PolicyLine p) w = tt
 room_own (FuelLine n) w = tt
 room_own (UntilLine n) w = tt
@@ -269,6 +312,8 @@ lines_within : (lines : List Line) → AllWithin lines → follow place.Start li
 lines_within lines w h =
     let order = ordered place.Start lines w h in
     record {
+      has_form = last_within (λ n. (1 ≤ n) × (n ≤ 2)) form_in form_own lines w 1 (omega arith, omega arith);
+      has_trace = last_within (λ n. (1 ≤ n) × (n ≤ 2)) trace_in trace_own lines w 1 (omega arith, omega arith);
       is_policy = last_within (λ policy. is_policy policy ≡ true) policy_in policy_own lines w _ refl;
       has_fuel = last_within (λ n. (1 ≤ n) × (n ≤ 10000000)) fuel_in fuel_own lines w 1000000 (omega arith, omega arith);
       has_end = last_within (λ n. (1 ≤ n) × (n ≤ 1000000000000)) until_in until_own lines w 10000000 (omega arith, omega arith);
@@ -277,6 +322,7 @@ lines_within lines w h =
       has_room = last_within (λ n. n ≤ 1000000) room_in room_own lines w 0 (omega arith);
       rises = order.latencies;
       arrives = order.arrivals;
+      in_order = order.in_order;
     }
 
 within_by : (s : Settings) (file : List (List ℕ)) (r : Result (List Line) ℕ) → goes place.Start file ≡ r → settled 0 default_settings r ≡ Ok s → IsWithin s

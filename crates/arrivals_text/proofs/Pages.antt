@@ -2,8 +2,9 @@
 use Rattle.std.proofs.Common.{◌≡◌, ℕ, suc, ◌+◌, ◌≤◌, ◌<◌, ◌&&◌, Bool, true, false, cond, List, [], ◌∷◌, ◌++◌, length, take, map, filter, Option, Some, None, Result, Ok, Err, refl, ap, sym, ◌∙◌, subst, arith, append-nil, codes}
 use Rattle.std.proofs.lemmas.List.Elements.{filter-append}
 use Rattle.page_parts.specs.Words.{is_empty}
-use Rattle.page_base.specs.Fields.{◌>>=◌, where_true, is_word}
-use Rattle.arrivals_text.specs.Arrivals.{Line, PageLine, PolicyLine, FuelLine, UntilLine, RefreshLine, LateLine, RoomLine, HostLine, ArrivalLine, Settings, default_settings, line_at, says_something, place_of, may_follow, follow, SetsUp, BeginsPage, IsBadLine, lines_of}
+use Rattle.page_base.specs.Fields.{◌>>=◌, where_true, behind}
+use Rattle.arrivals_text.specs.Fields.{number_in}
+use Rattle.arrivals_text.specs.Arrivals.{Line, PageLine, TraceLine, PolicyLine, FuelLine, UntilLine, RefreshLine, LateLine, RoomLine, HostLine, ArrivalLine, Settings, default_settings, line_at, says_something, place_of, may_follow, follow, SetsUp, BeginsPage, IsBadLine, lines_of}
 use Rattle.arrivals_text.specs.Reading.{step, last_place, is_start, further, goes, settled, Gives}
 use Rattle.arrivals_text.specs.declared.fault.BadLine.{BadLine}
 use Rattle.arrivals_text.specs.declared.fault.PageFault.{PageFault}
@@ -163,7 +164,8 @@ goes_behind last line lines more given all same in_order =
     behind_first (may_follow last (place_of line)) (follow (place_of line) more) (sym (ap (follow last) (all ∙ ap (λ l. l ∷ more) (sym is))) ∙ in_order)
 
 not_at_start : (line : Line) → is_start (place_of line) ≡ false
-not_at_start PageLine = refl
+not_at_start (PageLine n) = refl
+not_at_start TraceLine = refl
 not_at_start (PolicyLine p) = refl
 not_at_start (FuelLine n) = refl
 not_at_start (UntilLine n) = refl
@@ -236,22 +238,22 @@ read_by bytes s (Ok lines) is e =
     record { lines = lines; page = record { spelled = h.spells; some = h.some refl; in_order = h.in_order }; sets = cc }
 read_by bytes s (Err n) is e = cc
 
-first_page : line_at (codes "page 1") ≡ Some PageLine
-unfolding line_at is_word
+first_page : line_at (codes "page 1") ≡ Some (PageLine 1)
+unfolding line_at behind number_in
 first_page = refl
 
 no_words : (xs : List (List ℕ)) → map line_at xs ≡ [] → xs ≡ []
 no_words [] h = refl
 no_words (x ∷ xs) h = cc
 
-page_added : (file : List (List ℕ)) → Spells file [] → Spells (file ++ codes "page 1" ∷ []) (PageLine ∷ [])
+page_added : (file : List (List ℕ)) → Spells file [] → Spells (file ++ codes "page 1" ∷ []) (PageLine 1 ∷ [])
 page_added file spells =
     ap (map line_at) (filter-append says_something file (codes "page 1" ∷ []))
     ∙ ap (λ xs. map line_at (xs ++ codes "page 1" ∷ [])) (no_words (filter says_something file) spells) ∙ ap (λ o. o ∷ []) first_page
 
 begun : (file : List (List ℕ)) (front : List Line) → Spells file front → follow place.Start front ≡ true → BeginsPage file
 begun file [] spells in_order =
-    (codes "page 1" ∷ [], PageLine ∷ [], record { spelled = page_added file spells; some = refl; in_order = refl })
+    (codes "page 1" ∷ [], PageLine 1 ∷ [], record { spelled = page_added file spells; some = refl; in_order = refl })
 begun file (line ∷ front) spells in_order = ([], line ∷ front, record { spelled = rw (append-nil file) spells; some = refl; in_order = in_order })
 
 refused_by : (file : List (List ℕ)) (number : ℕ) (r : Result (List Line) ℕ) → goes place.Start file ≡ r → Err number ≡ settled 0 default_settings r → IsBadLine file number

@@ -2,7 +2,7 @@
 use Rattle.std.proofs.Common.{◌≡◌, ℕ, ◌+◌, true, false, cond, List, [], ◌∷◌, ◌++◌, Option, Some, None, Result, Ok, Err, refl, ap, sym, ◌∙◌, arith, append_assoc, append-nil}
 use Rattle.std.specs.List.{filter_map}
 use Rattle.std.proofs.lemmas.List.Elements.{filter_map-append}
-use Rattle.arrivals_text.specs.Arrivals.{Line, Settings, settings_after, last_or, policy_in, fuel_in, until_in, refresh_in, late_in, room_in, latency_in, arrival_in}
+use Rattle.arrivals_text.specs.Arrivals.{Line, Settings, settings_after, last_or, form_in, trace_in, policy_in, fuel_in, until_in, refresh_in, late_in, room_in, latency_in, arrival_in}
 use Rattle.arrivals_text.specs.Reading.{step, last_place, is_start, further, goes, settled, IsTaken}
 use Rattle.arrivals_text.specs.declared.place.Place.{Place}
 
@@ -19,6 +19,8 @@ rows_in read front xs ys = ap (λ more. front ++ more) (filter_map-append read x
 pub after_both : (s : Settings) (xs ys : List Line) → settings_after s (xs ++ ys) ≡ settings_after (settings_after s xs) ys
 after_both s xs ys =
     rw (
+      last_in form_in s.setup.form xs ys,
+      last_in trace_in s.setup.trace xs ys,
       last_in policy_in s.setup.policy xs ys,
       last_in fuel_in s.setup.fuel xs ys,
       last_in until_in s.setup.until xs ys,

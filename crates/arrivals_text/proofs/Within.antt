@@ -17,7 +17,7 @@ use Rattle.page_values.specs.Names.{is_name}
 use Rattle.loop_policy.specs.Policies.{is_policy, lists_each}
 use Rattle.page_base.specs.Fields.{◌>>=◌, where_true, read_or, behind, is_word, cut_at}
 use Rattle.arrivals_text.specs.Fields.{all_of, words_of, number_in, source_among, sources_at, rank_at, fair_at, policy_at, late_at, latency_at, text_at, parts_at, int_at, value_at, arrival_at}
-use Rattle.arrivals_text.specs.Arrivals.{Line, PageLine, PolicyLine, FuelLine, UntilLine, RefreshLine, LateLine, RoomLine, HostLine, ArrivalLine, line_at}
+use Rattle.arrivals_text.specs.Arrivals.{Line, PageLine, TraceLine, PolicyLine, FuelLine, UntilLine, RefreshLine, LateLine, RoomLine, HostLine, ArrivalLine, line_at}
 use Rattle.arrivals_text.specs.Limits.{may_arrive, is_arrival}
 
 -- ---- what holds of an answer, where there is one
@@ -200,7 +200,8 @@ arrival_within bytes =
 
 -- a line within the limits
 abbrev pub LineWithin : Line → Type 0
-LineWithin PageLine = Unit {0}
+LineWithin (PageLine n) = (1 ≤ n) × (n ≤ 2)
+LineWithin TraceLine = Unit {0}
 LineWithin (PolicyLine policy) = is_policy policy ≡ true
 LineWithin (FuelLine n) = (1 ≤ n) × (n ≤ 10000000)
 LineWithin (UntilLine n) = (1 ≤ n) × (n ≤ 1000000000000)
@@ -213,7 +214,8 @@ LineWithin (ArrivalLine a) = is_arrival a ≡ true
 pub line_within : (bytes : List ℕ) → IfSome (line_at bytes) LineWithin
 unfolding line_at
 line_within bytes =
-    if_cond LineWithin (is_word (codes "page 1") bytes) (Some PageLine) _ tt
+    if_else LineWithin (behind (codes "page ") bytes) _ _ (λ rest. if_map (λ n. (1 ≤ n) × (n ≤ 2)) LineWithin PageLine (number_in 1 2 rest) (λ x h. h) (numbers_within 1 2 rest))
+    (if_cond LineWithin (is_word (codes "trace 2") bytes) (Some TraceLine) _ tt
     (if_else LineWithin (behind (codes "policy ") bytes) _ _ (λ rest. if_map (λ policy. is_policy policy ≡ true) LineWithin PolicyLine (policy_at rest) (λ x h. h) (policy_within rest))
     (if_else LineWithin (behind (codes "fuel ") bytes) _ _ (λ rest. if_map (λ n. (1 ≤ n) × (n ≤ 10000000)) LineWithin FuelLine (number_in 1 10000000 rest) (λ x h. h) (numbers_within 1 10000000 rest))
     (if_else LineWithin (behind (codes "until ") bytes) _ _ (λ rest. if_map (λ n. (1 ≤ n) × (n ≤ 1000000000000)) LineWithin UntilLine (number_in 1 1000000000000 rest) (λ x h. h) (numbers_within 1 1000000000000 rest))
@@ -221,4 +223,4 @@ line_within bytes =
     (if_else LineWithin (behind (codes "late ") bytes) _ _ (λ rest. if_map AreShort LineWithin LateLine (late_at rest) (λ x h. h) (late_within rest))
     (if_else LineWithin (behind (codes "room ") bytes) _ _ (λ rest. if_map (λ n. (0 ≤ n) × (n ≤ 1000000)) LineWithin RoomLine (number_in 0 1000000 rest) (λ x h. h.1) (numbers_within 0 1000000 rest))
     (if_else LineWithin (behind (codes "host ") bytes) _ _ (λ rest. if_map (λ host. (nat_le host.closure 4095 && nat_le host.latency 1000000000) ≡ true) LineWithin HostLine (latency_at rest) (λ x h. h) (latency_within rest))
-    (if_else LineWithin (behind (codes "at ") bytes) _ None (λ rest. if_map (λ a. is_arrival a ≡ true) LineWithin ArrivalLine (arrival_at rest) (λ x h. h) (arrival_within rest)) tt))))))))
+    (if_else LineWithin (behind (codes "at ") bytes) _ None (λ rest. if_map (λ a. is_arrival a ≡ true) LineWithin ArrivalLine (arrival_at rest) (λ x h. h) (arrival_within rest)) tt)))))))))

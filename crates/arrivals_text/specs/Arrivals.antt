@@ -9,7 +9,7 @@ use Rattle.arrivals_text.specs.Fields.{number_in, policy_at, late_at, latency_at
 use Rattle.arrivals_text.specs.declared.place.Place.{Place}
 use Rattle.arrivals_text.specs.declared.place.Place.TheVariants as place
 
--- The setup of a file that sets nothing: the default rank, 1,000,000 units of fuel, 10,000,000 microseconds, 60 frames
+-- The setup of a file that sets nothing: form 1 and a trace of form 1, the default rank, 1,000,000 units of fuel, 10,000,000 microseconds, 60 frames
 -- a second, and no lateness, latency or arrival.
 abbrev pub default_setup : Setup
 default_setup =
@@ -19,7 +19,10 @@ default_setup =
 
 -- a line of the file, by what it sets
 pub data Line : Type 0 where
-  PageLine : Line
+  -- with the form of the run
+  PageLine : ℕ → Line
+  -- a trace of form 2
+  TraceLine : Line
   PolicyLine : Policy → Line
   FuelLine : ℕ → Line
   UntilLine : ℕ → Line
@@ -32,7 +35,8 @@ pub data Line : Type 0 where
 -- the line that these bytes spell
 unfoldable pub line_at : List ℕ → Option Line
 line_at bytes =
-    cond (is_word (codes "page 1") bytes) (Some PageLine)
+    read_or (behind (codes "page ") bytes) (λ rest. option_map PageLine (number_in 1 2 rest))
+    (cond (is_word (codes "trace 2") bytes) (Some TraceLine)
     (read_or (behind (codes "policy ") bytes) (λ rest. option_map PolicyLine (policy_at rest))
     (read_or (behind (codes "fuel ") bytes) (λ rest. option_map FuelLine (number_in 1 10000000 rest))
     (read_or (behind (codes "until ") bytes) (λ rest. option_map UntilLine (number_in 1 1000000000000 rest))
@@ -40,7 +44,7 @@ line_at bytes =
     (read_or (behind (codes "late ") bytes) (λ rest. option_map LateLine (late_at rest))
     (read_or (behind (codes "room ") bytes) (λ rest. option_map RoomLine (number_in 0 1000000 rest))
     (read_or (behind (codes "host ") bytes) (λ rest. option_map HostLine (latency_at rest))
-    (read_or (behind (codes "at ") bytes) (λ rest. option_map ArrivalLine (arrival_at rest)) None))))))))
+    (read_or (behind (codes "at ") bytes) (λ rest. option_map ArrivalLine (arrival_at rest)) None)))))))))
 
 -- The bytes between line feeds. What stands behind the last one is a line only where it is not empty.
 abbrev pub but_empty_last : List (List ℕ) → List (List ℕ)
@@ -60,7 +64,8 @@ says_something (b ∷ bytes) = not (b == 35)
 
 -- the place of a line in the file
 abbrev pub place_of : Line → Place
-place_of PageLine = place.Page
+place_of (PageLine n) = place.Page
+place_of TraceLine = place.Trace
 place_of (PolicyLine policy) = place.Policy
 place_of (FuelLine n) = place.Fuel
 place_of (UntilLine n) = place.Until
@@ -74,16 +79,17 @@ place_of (ArrivalLine arrival) = place.At arrival.at
 abbrev pub rank_of : Place → ℕ
 rank_of place.Start = 0
 rank_of place.Page = 1
-rank_of place.Policy = 2
-rank_of place.Fuel = 3
-rank_of place.Until = 4
-rank_of place.Refresh = 5
-rank_of place.Late = 6
-rank_of place.Room = 7
-rank_of (place.Host k) = 8
-rank_of (place.At t) = 9
+rank_of place.Trace = 2
+rank_of place.Policy = 3
+rank_of place.Fuel = 4
+rank_of place.Until = 5
+rank_of place.Refresh = 6
+rank_of place.Late = 7
+rank_of place.Room = 8
+rank_of (place.Host k) = 9
+rank_of (place.At t) = 10
 
--- whether a line may stand at a place: the first one is `page 1`, and each one comes later in the order than the one before
+-- whether a line may stand at a place: the first one is `page 1` or `page 2`, and each one comes later in the order than the one before
 -- it; only `host` lines may follow each other, with rising numbers, and `at` lines, with times that do not fall
 abbrev pub may_follow : Place → Place → Bool
 may_follow place.Start next = rank_of next == 1
@@ -112,6 +118,14 @@ pub record Settings : Type 0 where
 abbrev pub last_or : {X : Type 0} → X → List X → X
 last_or default [] = default
 last_or default (x ∷ xs) = last_or x xs
+
+abbrev pub form_in : Line → Option ℕ
+form_in (PageLine n) = Some n
+form_in line = None
+
+abbrev pub trace_in : Line → Option ℕ
+trace_in TraceLine = Some 2
+trace_in line = None
 
 abbrev pub policy_in : Line → Option Policy
 policy_in (PolicyLine policy) = Some policy
@@ -150,8 +164,8 @@ arrival_in line = None
 abbrev pub settings_after : Settings → List Line → Settings
 settings_after s lines = record {
   setup = record {
-    form = s.setup.form;
-    trace = s.setup.trace;
+    form = last_or s.setup.form (filter_map form_in lines);
+    trace = last_or s.setup.trace (filter_map trace_in lines);
     policy = last_or s.setup.policy (filter_map policy_in lines);
     fuel = last_or s.setup.fuel (filter_map fuel_in lines);
     until = last_or s.setup.until (filter_map until_in lines);

@@ -1,6 +1,6 @@
 -- The limits of what a file sets.
 use Rattle.std.specs.Prelude.{ℕ, Bool, true, false, ◌&&◌, nat_lt, nat_le, List, [], ◌∷◌, length}
-use Rattle.std.specs.List.{list_any}
+use Rattle.std.specs.List.{list_any, list_all}
 use Rattle.page_types.specs.declared.Source.TheVariants.{User, Net, Dom}
 use Rattle.page_types.specs.Values.{Value, UnitValue, BoolValue, IntValue, TextValue}
 use Rattle.page_parts.specs.Setup.{Latency, Arrival}
@@ -31,12 +31,6 @@ abbrev pub is_arrival : Arrival → Bool
 is_arrival a =
     (nat_le a.at 1000000000000 && list_any (same_source a.source) (User ∷ Net ∷ Dom ∷ [])) && (is_name a.name && may_arrive a.value)
 
--- whether a time is not after that of the next arrival
-abbrev pub is_not_after : ℕ → List Arrival → Bool
-is_not_after t [] = true
-is_not_after t (a ∷ arrivals) = nat_le t a.at
-
--- each is as the format says, and their times do not fall
+-- each is as the format says
 abbrev pub are_arrivals : List Arrival → Bool
-are_arrivals [] = true
-are_arrivals (a ∷ arrivals) = is_arrival a && (is_not_after a.at arrivals && are_arrivals arrivals)
+are_arrivals arrivals = list_all is_arrival arrivals

@@ -1,5 +1,6 @@
 -- How far the reading of a file has come.
 use Rattle.std.specs.Prelude.{◌≡◌, ℕ, ◌+◌, ◌≤◌, Bool, true, false, cond, ⊤, List, [], ◌∷◌, ◌++◌, map, Option, Some, None, Result, Ok, Err, IsTrue}
+use Rattle.page_parts.specs.Setup.{are_in_order}
 use Rattle.page_base.specs.Readings.{AreShort}
 use Rattle.loop_policy.specs.Policies.{policy_of, is_policy}
 use Rattle.page_base.specs.Fields.{◌>>=◌, where_true}
@@ -41,8 +42,8 @@ settled number s (Err good) = Err (number + good + 1)
 abbrev pub draft_of : Draft → Settings
 draft_of d = record {
   setup = record {
-    form = 1;
-    trace = 1;
+    form = d.form;
+    trace = d.trace;
     policy = policy_of d.policy;
     fuel = d.fuel;
     until = d.until;
@@ -67,6 +68,8 @@ IsTaken (Some lines) last old next new = (next ≡ Some (last_place last lines))
 
 -- settings within their limits
 pub record IsWithin (s : Settings) : Type 0 where
+  pub has_form : (1 ≤ s.setup.form) × (s.setup.form ≤ 2)
+  pub has_trace : (1 ≤ s.setup.trace) × (s.setup.trace ≤ 2)
   pub is_policy : IsTrue (is_policy s.setup.policy)
   pub has_fuel : (1 ≤ s.setup.fuel) × (s.setup.fuel ≤ 10000000)
   pub has_end : (1 ≤ s.setup.until) × (s.setup.until ≤ 1000000000000)
@@ -75,3 +78,4 @@ pub record IsWithin (s : Settings) : Type 0 where
   pub has_room : s.room ≤ 1000000
   pub rises : IsTrue (are_latencies s.setup.latencies)
   pub arrives : IsTrue (are_arrivals s.setup.arrivals)
+  pub in_order : IsTrue (are_in_order s.setup.arrivals)

@@ -1,7 +1,7 @@
 -- What the code's setup is seen as.
 use Rattle.std.specs.Prelude.{map}
 use Rattle.loop_policy.specs.Policies.{policy_of}
-use Rattle.arrivals_text.specs.Arrivals.{Settings, Line, PageLine, PolicyLine, FuelLine, UntilLine, RefreshLine, LateLine, RoomLine, HostLine, ArrivalLine}
+use Rattle.arrivals_text.specs.Arrivals.{Settings, Line, PageLine, TraceLine, PolicyLine, FuelLine, UntilLine, RefreshLine, LateLine, RoomLine, HostLine, ArrivalLine}
 use Rattle.arrivals_text.specs.declared.setup.PageSetup.{PageSetup}
 use Rattle.arrivals_text.specs.declared.line.Line as code
 use Rattle.arrivals_text.specs.declared.line.Line.TheVariants as line
@@ -11,8 +11,8 @@ use Rattle.arrivals_text.specs.SeenParts.{latency_of, arrival_of}
 abbrev pub settings_of : PageSetup → Settings
 settings_of s = record {
   setup = record {
-    form = 1;
-    trace = 1;
+    form = s.form;
+    trace = s.trace;
     policy = policy_of s.policy;
     fuel = s.fuel;
     until = s.until.0;
@@ -25,7 +25,8 @@ settings_of s = record {
 }
 
 abbrev pub line_of : code.Line → Line
-line_of line.Page = PageLine
+line_of (line.Page n) = PageLine n
+line_of line.Trace = TraceLine
 line_of (line.Policy policy) = PolicyLine (policy_of policy)
 line_of (line.Fuel n) = FuelLine n
 line_of (line.Until n) = UntilLine n

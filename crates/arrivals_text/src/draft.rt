@@ -6,6 +6,8 @@ use loop_policy::Policy;
 /// The settings of the lines so far.
 #[derive(Drop)]
 pub(crate) struct Draft {
+    pub(crate) form: u32,
+    pub(crate) trace: u32,
     pub(crate) policy: Policy,
     pub(crate) fuel: u64,
     pub(crate) until: u64,

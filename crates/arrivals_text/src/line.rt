@@ -6,7 +6,10 @@ use loop_policy::Policy;
 /// A line of the file, by what it sets.
 #[derive(Drop)]
 pub(crate) enum Line {
-    Page,
+    /// With the form of the run.
+    Page(u32),
+    /// A trace of form 2.
+    Trace,
     Policy(Policy),
     Fuel(u64),
     Until(u64),

@@ -11,14 +11,15 @@ fn rank_of(place: Place) -> u32
     match place {
         Place::Start => 0,
         Place::Page => 1,
-        Place::Policy => 2,
-        Place::Fuel => 3,
-        Place::Until => 4,
-        Place::Refresh => 5,
-        Place::Late => 6,
-        Place::Room => 7,
-        Place::Host(_) => 8,
-        Place::At(_) => 9,
+        Place::Trace => 2,
+        Place::Policy => 3,
+        Place::Fuel => 4,
+        Place::Until => 5,
+        Place::Refresh => 6,
+        Place::Late => 7,
+        Place::Room => 8,
+        Place::Host(_) => 9,
+        Place::At(_) => 10,
     }
 }
 

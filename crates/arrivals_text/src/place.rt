@@ -5,6 +5,7 @@
 pub(crate) enum Place {
     Start,
     Page,
+    Trace,
     Policy,
     Fuel,
     Until,

@@ -2,7 +2,7 @@
 
 ghost use Rattle.std.specs.Prelude.{◌≡◌, ◌≤◌, ◌<◌, ◌∷◌, [], length, Some, None, Ok, Err, IfOk, OnOk, IfSome, MatchOption};
 ghost use Rattle.std.specs.Option.{option_map};
-ghost use Rattle.page_parts.specs.Setup.{Arrival as ArrivalSeen};
+ghost use Rattle.page_parts.specs.Setup.{IsSetup};
 ghost use Rattle.arrivals_text.specs.Fields.{arrival_at, latency_at};
 ghost use Rattle.arrivals_text.specs.Arrivals.{HostLine, line_at, lines_of, says_something as says, place_of as placed, SetsUp, IsBadLine, default_settings, settings_after};
 ghost use Rattle.arrivals_text.specs.Reading.{step, goes, settled, draft_of, Gives, IsTaken, IsWithin, is_start as starts};
@@ -28,10 +28,11 @@ use std::alloc::{AllocError, Global};
 /// The setup of an arrivals file.
 ///
 /// `BadLine` comes exactly where the file sets up no run. It has the first line that is refused in its place, counted
-/// from 1: with the lines up to it no file that sets up a run can begin. Where `page 1` is missing at the end of the file,
-/// it is the line after the last.
+/// from 1: with the lines up to it no file that sets up a run can begin. Where the first line is missing at the end of
+/// the file, it is the line after the last.
 pub fn read_page(alloc: Global, bytes: &[u8]) -> Result<PageSetup, PageFault>
     ensures setup { IfOk result (λ setup. SetsUp bytes.now (settings_of setup)) }
+    ensures valid { IfOk result (λ setup. IsSetup (settings_of setup).setup) }
     ensures bad { (line : BadLineSeen) → result ≡ Err (fault.Is line) → IsBadLine (lines_of bytes.now) line.line }
 {
     match read_lines(alloc, bytes) {
@@ -45,6 +46,8 @@ fn finish(draft: Draft) -> PageSetup
     ensures { settings_of result ≡ draft_of draft }
 {
     PageSetup {
+        form: draft.form,
+        trace: draft.trace,
         policy: draft.policy,
         fuel: draft.fuel,
         until: Micros(draft.until),
@@ -91,6 +94,8 @@ fn new_draft(alloc: Global) -> Draft
     ensures { draft_of result ≡ default_settings }
 {
     Draft {
+        form: 1,
+        trace: 1,
         policy: Policy::Rank([
             Source::User,
             Source::Render,
@@ -161,7 +166,8 @@ fn place_of(line: &Line) -> Place
     ensures { result ≡ placed (line_of line.now) }
 {
     match line {
-        Line::Page => Place::Page,
+        Line::Page(_) => Place::Page,
+        Line::Trace => Place::Trace,
         Line::Policy(_) => Place::Policy,
         Line::Fuel(_) => Place::Fuel,
         Line::Until(_) => Place::Until,
@@ -177,7 +183,8 @@ fn set(draft: &mut Draft, line: Line) -> Result<(), AllocError>
     ensures { OnOk result (draft_of draft.new ≡ settings_after (draft_of draft.old) (line_of line ∷ [])) }
 {
     match line {
-        Line::Page => {}
+        Line::Page(form) => draft.form = form,
+        Line::Trace => draft.trace = 2,
         Line::Policy(policy) => draft.policy = policy,
         Line::Fuel(fuel) => draft.fuel = fuel,
         Line::Until(until) => draft.until = until,
@@ -195,8 +202,11 @@ fn set(draft: &mut Draft, line: Line) -> Result<(), AllocError>
 fn read_line(alloc: Global, text: &[u8]) -> Result<Option<Line>, AllocError>
     ensures { IfOk result (λ line. option_map line_of line ≡ line_at text.now) }
 {
-    if is_word(text, b"page 1") {
-        return Ok(Some(Line::Page));
+    if let Some(rest) = behind(text, b"page ") {
+        return Ok(number_in(rest, 1, 2).map(|form| Line::Page(form as u32)));
+    }
+    if is_word(text, b"trace 2") {
+        return Ok(Some(Line::Trace));
     }
     if let Some(rest) = behind(text, b"policy ") {
         return match read_policy(alloc, rest)? {

@@ -24,6 +24,8 @@ fn a_file_that_sets_nothing_has_the_defaults(rt: HostRuntime) -> Result<(), Fail
         Source::Dom,
         Source::Idle,
     ];
+    assert_eq!(rt; setup.form, 1);
+    assert_eq!(rt; setup.trace, 1);
     assert_eq!(rt; setup.policy, Policy::Rank(default_list));
     assert_eq!(rt; setup.fuel, 1_000_000);
     assert_eq!(rt; setup.until, Micros(10_000_000));
@@ -92,6 +94,21 @@ fn policies_are_read(rt: HostRuntime) -> Result<(), Fail> {
     Ok(())
 }
 
+#[test]
+fn the_second_forms_are_read(rt: HostRuntime) -> Result<(), Fail> {
+    let second = read(rt.alloc(), b"page 2\n# form 2\ntrace 2\nfuel 5\n")?;
+    assert_eq!(rt; second.form, 2);
+    assert_eq!(rt; second.trace, 2);
+    assert_eq!(rt; second.fuel, 5);
+    let traced = read(rt.alloc(), b"page 1\ntrace 2")?;
+    assert_eq!(rt; traced.form, 1);
+    assert_eq!(rt; traced.trace, 2);
+    let inherits = read(rt.alloc(), b"page 2")?;
+    assert_eq!(rt; inherits.form, 2);
+    assert_eq!(rt; inherits.trace, 1);
+    Ok(())
+}
+
 fn expect_refused(rt: &impl Abort, alloc: Global, table: &[(&[u8], usize)]) {
     for (file, line) in table {
         let refused = read_page(alloc, file).err();
@@ -105,11 +122,17 @@ fn expect_refused(rt: &impl Abort, alloc: Global, table: &[(&[u8], usize)]) {
 
 #[test]
 fn the_first_line_out_of_its_place_is_told(rt: HostRuntime) {
-    let table: [(&[u8], usize); 14] = [
+    let table: [(&[u8], usize); 20] = [
         (b"", 1),
         (b"\n", 2),
         (b"# only\n\n", 3),
-        (b"page 2", 1),
+        (b"page 0", 1),
+        (b"page 3", 1),
+        (b"trace 2\npage 2", 1),
+        (b"page 1\npage 2\n", 2),
+        (b"page 2\ntrace 1\n", 2),
+        (b"page 2\ntrace 2\ntrace 2\n", 3),
+        (b"page 2\nfuel 5\ntrace 2\n", 3),
         (b"\nfuel 5\npage 1\n", 2),
         (b"page 1\npage 1\n", 2),
         (b"page 1\nroom 1\nlate 1\n", 3),

@@ -197,12 +197,16 @@ fn operations_are_found_by_their_names(rt: HostRuntime) -> Result<(), Fail> {
     assert_eq!(rt; operation_named(&text(alloc, b"log")?), Some(Op::Log));
     assert_eq!(rt; operation_named(&text(alloc, b"host")?), Some(Op::HostOp));
     assert_eq!(rt;
+        operation_named(&text(alloc, b"allSettled")?),
+        Some(Op::AllSettled)
+    );
+    assert_eq!(rt;
         operation_named(&text(alloc, b"faultText")?),
         Some(Op::FaultTextOf)
     );
     assert_eq!(rt; operation_named(&text(alloc, b"lgo")?), None);
     assert_eq!(rt; operation_named(&text(alloc, b"Log")?), None);
-    assert_eq!(rt; operation_named(&text(alloc, b"all")?), None);
+    assert_eq!(rt; operation_named(&text(alloc, b"every")?), None);
     assert_eq!(rt; operation_named(&text(alloc, b"")?), None);
     Ok(())
 }

@@ -186,8 +186,8 @@ fn unknown_names_are_told(rt: HostRuntime) -> Result<(), Fail> {
     expect(
         &rt,
         alloc,
-        "all();",
-        &[Do(Call((b"all", 0), 0))],
+        "every();",
+        &[Do(Call((b"every", 0), 0))],
         Some(Unknown { at: 0 }),
     )?;
     Ok(())
