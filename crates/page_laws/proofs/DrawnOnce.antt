@@ -1,11 +1,12 @@
 -- A frame callback is called once at most: it waits or was called, never both.
-use Rattle.page_model.specs.Invoke.{call_begun}
+use Rattle.page_model.specs.Invoke.{call_begun, register_as}
 use Rattle.std.proofs.Common.{◌≡◌, ℕ, suc, pred, ◌≤◌, ◌<◌, ◌+◌, Bool, true, false, List, [], ◌∷◌, ◌++◌, Option, Some, None, refl, sym, subst, ap, ◌∙◌, cond, length, arith, unwrap_or, nat_le}
 use Rattle.std.proofs.lemmas.Bool.{eqb-true, eq-eqb, leb-true, leb-false}
 use Rattle.std.specs.Prelude.{◌==◌, filter}
 use Rattle.page_types.specs.declared.RegKind.TheVariants as kind
+use Rattle.page_types.specs.declared.RegKind.{RegKind}
 use Rattle.page_types.specs.declared.Source.TheVariants.{Sched}
-use Rattle.page_types.specs.Events.{Event, Call, Ret, Throw, Reg, Run, Turn, IdleLine}
+use Rattle.page_types.specs.Events.{Event, Call, Ret, Throw, Reg, Run, Turn, IdleLine, Host}
 use Rattle.page_parts.specs.Words.{and_last, without}
 use Rattle.page_parts.specs.Frames.{Frames, Callback, callback_in, without_handle}
 use Rattle.page_parts.specs.Promises.{Settled, Fulfilled, Failed, PromiseJob, Reaction}
@@ -17,7 +18,7 @@ use Rattle.page_model.specs.PageTime.{deadline}
 use Rattle.page_model.specs.Numbers.{Each, IsFor, made_by, timer_role}
 use Rattle.page_model.proofs.NumbersGrow.{length-last}
 use Rattle.page_laws.specs.History.{History, count_lines, is_call_of, is_rest}
-use Rattle.page_laws.specs.Moves.{is_aside, is_end, promise_changes, PageChange, elsewhere, told, rested, registered, frame_asked, frame_gone, promised, settled, followed, adopted, subscribed, micro_queued, rejected_taken, noted, Beginning, TheScript, ATimer, AFrame, AnIdle, ALateIdle, AListener, APost, AContinuation, AMicro, AReaction, called_by, role_of, taken, Waited, Moves, here, changing, calling, ending, flagging, running}
+use Rattle.page_laws.specs.Moves.{is_aside, is_end, promise_changes, PageChange, elsewhere, told, rested, registered, frame_asked, frame_gone, promised, settled, followed, adopted, subscribed, micro_asked, then_asked, answered, AsBefore, rejected_taken, noted, Beginning, TheScript, ATimer, AFrame, AnIdle, ALateIdle, AListener, APost, AContinuation, AMicro, AReaction, called_by, role_of, taken, Waited, Moves, here, changing, calling, ending, flagging, running}
 use Rattle.page_laws.proofs.Lines.{added, emit_each-events}
 use Rattle.page_laws.proofs.Registered.{At, at_before, false_true}
 
@@ -290,21 +291,29 @@ frame_asked-fits x handle now p f =
     asked-fits (and_last p.registrations x) p.frames.callbacks (record { handle = handle; registration = length (and_last p.registrations x) }) (record { time = now; event = Reg (suc (length p.registrations)) kind.Frame (caller p) } ∷ p.events) refl none
     (silent-fits (Reg (suc (length p.registrations)) kind.Frame (caller p)) now (and_last p.registrations x) p.frames.callbacks p.events refl (made-fits x p.registrations p.frames.callbacks p.events f))
 
+before-fits : {p q : Page} → AsBefore p q → Fits p → Fits q
+before-fits {p = p} {q = q} b f =
+    subst (λ (fr : Frames). DrawnFit q.registrations fr.callbacks q.events) (sym b.frames)
+    (subst (λ (xs : List Registration). DrawnFit xs p.frames.callbacks q.events) (sym b.registrations) (subst (DrawnFit p.registrations p.frames.callbacks) (sym b.events) f))
+
+registered-fits : (k : RegKind) (x : Registration) (p : Page) → Fits p → Fits (register_as k x p)
+registered-fits k x p f = silent-fits (Reg (suc (length p.registrations)) k (caller p)) p.now (and_last p.registrations x) p.frames.callbacks p.events refl (made-fits x p.registrations p.frames.callbacks p.events f)
+
 change-fits : {p q : Page} → PageChange p q → Fits p → Fits q
-change-fits {p = p} {q = q} (elsewhere x y z w v) f =
-    subst (λ (fr : Frames). DrawnFit q.registrations fr.callbacks q.events) (sym v)
-    (subst (λ (xs : List Registration). DrawnFit xs p.frames.callbacks q.events) (sym w) (subst (DrawnFit p.registrations p.frames.callbacks) (sym z) f))
+change-fits (elsewhere c b) f = before-fits b f
 change-fits {p = p} (told e h) f = silent-fits e p.now p.registrations p.frames.callbacks p.events (aside-silent e h) f
 change-fits {p = p} (rested e h x y) f = silent-fits e p.now p.registrations p.frames.callbacks p.events (rest-silent e h) f
-change-fits {p = p} (registered k x e) f = silent-fits (Reg (suc (length p.registrations)) k (caller p)) p.now (and_last p.registrations x) p.frames.callbacks p.events refl (made-fits x p.registrations p.frames.callbacks p.events f)
+change-fits {p = p} (answered source task t answer x y z b) f = before-fits b (silent-fits (Host t.closure t.number answer) p.now p.registrations p.frames.callbacks p.events refl f)
+change-fits {p = p} (registered k x e u b) f = before-fits b (registered-fits k x p f)
 change-fits {p = p} (frame_asked g) f = frame_asked-fits (record { role = OfKind kind.Frame; callback = Some g; second_callback = None; timer_id = 0; promise = 0; signal = None; finally = false }) (suc p.frames.made) p.now p f
 change-fits {p = p} (frame_gone handle) f = fewer-fits p.registrations p.frames.callbacks (without_handle handle p.frames.callbacks) p.events (λ r. waits-without r (λ c. c.handle == handle) p.frames.callbacks) f
 change-fits promised f = f
 change-fits {p = p} (settled n how x y) f = changes-fit n (Promises.settle n (the_promise p.notices.promises n) how) p f
 change-fits {p = p} (followed n how x y) f = changes-fit n (Promises.settle n (the_promise p.notices.promises n) how) p f
 change-fits {p = p} (adopted n from x y) f = changes-fit n (Promises.adopt n (the_promise p.notices.promises n) from) p f
-change-fits {p = p} (subscribed n r x) f = subscribed-fits n r p f
-change-fits {p = p} (micro_queued r) f = notices-fit (queue_micro (context p) r) p (refl, tt) f
+change-fits {p = p} (subscribed n r x y) f = subscribed-fits n r p f
+change-fits {p = p} (then_asked n x r e g y) f = subscribed-fits n r (register_as kind.Then x p) (registered-fits kind.Then x p f)
+change-fits {p = p} (micro_asked x r e y) f = notices-fit (queue_micro (context p) r) (register_as kind.Micro x p) (refl, tt) (registered-fits kind.Micro x p f)
 change-fits rejected_taken f = f
 change-fits (noted n) f = f
 
@@ -330,7 +339,7 @@ moves-fit here f = f
 moves-fit (changing a c) f = change-fits c (moves-fit a f)
 moves-fit (calling {q = q} a b w i) f = call-fits b q w i (moves-fit a f)
 moves-fit (ending {q = q} a e h) f = silent-fits e q.now q.registrations q.frames.callbacks q.events (end-silent e h) (moves-fit a f)
-moves-fit (flagging {q = q} {r = r} a x y z w) f =
+moves-fit (flagging {q = q} {r = r} a x y z w u) f =
     subst (λ (fr : Frames). DrawnFit r.registrations fr.callbacks r.events) (sym w)
     (subst (λ (xs : List Registration). DrawnFit xs q.frames.callbacks r.events) (sym z) (subst (DrawnFit q.registrations q.frames.callbacks) (sym y) (moves-fit a f)))
 moves-fit (running {q = q} a j others x y) f = silent-fits (Run j.number) q.now q.registrations q.frames.callbacks q.events refl (moves-fit a f)

@@ -5,7 +5,8 @@ use Rattle.std.proofs.lemmas.Option.{slice_get_past}
 use Rattle.std.specs.Prelude.{◌==◌}
 use Rattle.page_types.specs.declared.RegKind.{RegKind}
 use Rattle.page_types.specs.declared.RegKind.TheVariants as kind
-use Rattle.page_types.specs.Events.{Event, Call, Ret, Throw, Reg, Run, Turn, IdleLine}
+use Rattle.page_model.specs.Invoke.{register_as}
+use Rattle.page_types.specs.Events.{Event, Call, Ret, Throw, Reg, Run, Turn, IdleLine, Host}
 use Rattle.page_types.specs.declared.Source.TheVariants.{Sched}
 use Rattle.page_parts.specs.Words.{and_last, numbered, without}
 use Rattle.page_parts.specs.Promises.{Settled, Fulfilled, Failed, PromiseJob, Reaction}
@@ -19,7 +20,7 @@ use Rattle.page_model.proofs.NumbersGrow.{numbered-last, length-last}
 use Rattle.page_laws.specs.History.{History, some_line, is_reg_of, kind_of, kind_in, has_kind, is_some_and, is_rest}
 use Rattle.page_laws.specs.CallLaws.{has_no_callback}
 use Rattle.page_laws.specs.Registering.{keeps_kinds}
-use Rattle.page_laws.specs.Moves.{frame_asked, frame_gone, is_aside, is_end, promise_changes, PageChange, elsewhere, told, rested, registered, promised, settled, followed, adopted, subscribed, micro_queued, rejected_taken, noted, Beginning, TheScript, ATimer, AFrame, AnIdle, ALateIdle, AListener, APost, AContinuation, AMicro, AReaction, called_by, role_of, taken, Moves, here, changing, calling, ending, flagging, running}
+use Rattle.page_laws.specs.Moves.{frame_asked, frame_gone, is_aside, is_end, promise_changes, PageChange, elsewhere, told, rested, registered, promised, settled, followed, adopted, subscribed, micro_asked, then_asked, answered, AsBefore, rejected_taken, noted, Beginning, TheScript, ATimer, AFrame, AnIdle, ALateIdle, AListener, APost, AContinuation, AMicro, AReaction, called_by, role_of, taken, Moves, here, changing, calling, ending, flagging, running}
 use Rattle.page_laws.proofs.Lines.{added, emit_each-events}
 use Rattle.page_laws.proofs.Scans.{Test, Kept}
 
@@ -231,19 +232,24 @@ subscribed-fits n r p f =
     notices-fit (subscribe_promise (context p) n r) p
     (changed-silent (context p) [] n (Promises.subscribe n (the_promise p.notices.promises n) r) (record p.notices { rejected = without (λ m. m == n) p.notices.rejected; outstanding = without (λ m. m == n) p.notices.outstanding })) f
 
+before-fits : {p q : Page} → AsBefore p q → Fits p → Fits q
+before-fits {p = p} {q = q} b f = subst (λ (xs : List Registration). KindsFit xs q.events) (sym b.registrations) (subst (KindsFit p.registrations) (sym b.events) f)
+
 change-fits : {p q : Page} → PageChange p q → Fits p → Fits q
-change-fits {p = p} {q = q} (elsewhere x y z w v) f = subst (λ (xs : List Registration). KindsFit xs q.events) (sym w) (subst (KindsFit p.registrations) (sym z) f)
+change-fits {p = p} {q = q} (elsewhere c b) f = before-fits b f
 change-fits {p = p} (told e h) f = silent-fits e p.now p.registrations p.events (aside-silent e h) f
 change-fits {p = p} (rested e h x y) f = silent-fits e p.now p.registrations p.events (rest-silent e h) f
-change-fits {p = p} (registered k x e) f = made-fits k (caller p) x p.now p.registrations p.events e f
+change-fits {p = p} (answered source task t answer x y z b) f = before-fits b (silent-fits (Host t.closure t.number answer) p.now p.registrations p.events refl f)
+change-fits {p = p} (registered k x e u b) f = before-fits b (made-fits k (caller p) x p.now p.registrations p.events e f)
 change-fits {p = p} (frame_asked g) f = made-fits kind.Frame (caller p) (record { role = OfKind kind.Frame; callback = Some g; second_callback = None; timer_id = 0; promise = 0; signal = None; finally = false }) p.now p.registrations p.events refl f
 change-fits (frame_gone handle) f = f
 change-fits promised f = f
 change-fits {p = p} (settled n how x y) f = changes-fit n (Promises.settle n (the_promise p.notices.promises n) how) p f
 change-fits {p = p} (followed n how x y) f = changes-fit n (Promises.settle n (the_promise p.notices.promises n) how) p f
 change-fits {p = p} (adopted n from x y) f = changes-fit n (Promises.adopt n (the_promise p.notices.promises n) from) p f
-change-fits {p = p} (subscribed n r x) f = subscribed-fits n r p f
-change-fits {p = p} (micro_queued r) f = notices-fit (queue_micro (context p) r) p (refl, tt) f
+change-fits {p = p} (subscribed n r x y) f = subscribed-fits n r p f
+change-fits {p = p} (then_asked n x r e g y) f = subscribed-fits n r (register_as kind.Then x p) (made-fits kind.Then (caller p) x p.now p.registrations p.events e f)
+change-fits {p = p} (micro_asked x r e y) f = notices-fit (queue_micro (context p) r) (register_as kind.Micro x p) (refl, tt) (made-fits kind.Micro (caller p) x p.now p.registrations p.events e f)
 change-fits rejected_taken f = f
 change-fits (noted n) f = f
 
@@ -280,7 +286,7 @@ moves-fit (calling {q = q} a b w i) f =
     subst (λ (xs : List Registration). KindsFit xs (record { time = (taken b q).now; event = Call (called_by b) } ∷ (taken b q).events)) (sym same)
     (call-fits b (taken b q).now q (taken b q).events i (subst (λ (xs : List Registration). KindsFit xs (taken b q).events) same (begins-fit b q (moves-fit a f))))
 moves-fit (ending {q = q} a e h) f = silent-fits e q.now q.registrations q.events (end-silent e h) (moves-fit a f)
-moves-fit (flagging {q = q} {r = r} a x y z w) f = subst (λ (xs : List Registration). KindsFit xs r.events) (sym z) (subst (KindsFit q.registrations) (sym y) (moves-fit a f))
+moves-fit (flagging {q = q} {r = r} a x y z w u) f = subst (λ (xs : List Registration). KindsFit xs r.events) (sym z) (subst (KindsFit q.registrations) (sym y) (moves-fit a f))
 moves-fit (running {q = q} a j others x y) f = silent-fits (Run j.number) q.now q.registrations q.events refl (moves-fit a f)
 
 -- from a page with no lines, in which nothing is registered but the script, registrations have the kinds of their lines
