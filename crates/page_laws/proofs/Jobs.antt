@@ -1,21 +1,23 @@
 -- Jobs are numbered and run in order, and none waits between turns.
 use Rattle.page_types.specs.declared.RegKind.TheVariants as kind
+use Rattle.page_types.specs.declared.RegKind.{RegKind}
+use Rattle.page_model.specs.Invoke.{register_as}
 use Rattle.std.proofs.Common.{length, ◌≡◌, ℕ, suc, ◌≤◌, Bool, true, false, List, [], ◌∷◌, ◌&&◌, ◌||◌, Option, Some, None, refl, sym, subst, ap, ◌∙◌, cond, arith, nat_le}
 use Rattle.std.proofs.lemmas.Bool.{eq-eqb, leb-true, leb-false}
 use Rattle.std.specs.Prelude.{◌==◌}
 use Rattle.page_types.specs.declared.End.TheVariants.{Done as DoneEnd, Clock as ClockEnd}
 use Rattle.page_types.specs.declared.Source.TheVariants.{Sched}
 use Rattle.page_model.specs.PageTime.{deadline}
-use Rattle.page_types.specs.Events.{Reg, Event, Turn, Call, Ret, Throw, Run, Job, Settle, Period, IdleLine, Wait, EndLine}
+use Rattle.page_types.specs.Events.{Host, Reg, Event, Turn, Call, Ret, Throw, Run, Job, Settle, Period, IdleLine, Wait, EndLine}
 use Rattle.page_parts.specs.Words.{and_last, without}
 use Rattle.page_parts.specs.Promises.{Settled, Fulfilled, Failed, PromiseJob, Reaction}
 use Rattle.page_parts.specs.Promises as Promises
 use Rattle.page_parts.specs.Notices.{Notices, Noticed, Todo, OfPromise, Micro, WaitingJob, changed, queue_job, queue_jobs, settle_line, promise_changed, subscribe_promise, queue_micro, note_outstanding, Context}
 use Rattle.page_parts.specs.Promises.{the_promise}
-use Rattle.page_model.specs.State.{Page, emit_each, on_notices, context, caller}
+use Rattle.page_model.specs.State.{Registration, Page, emit_each, on_notices, context, caller}
 use Rattle.page_laws.specs.History.{History, count_lines, some_line, is_job, is_run, is_rest}
 use Rattle.page_laws.specs.CallLaws.{keeps_jobs, is_job_number}
-use Rattle.page_laws.specs.Moves.{frame_asked, frame_gone, registered, is_aside, is_end, promise_changes, PageChange, elsewhere, told, rested, promised, settled, followed, adopted, subscribed, micro_queued, rejected_taken, noted, Beginning, TheScript, ATimer, AFrame, AnIdle, ALateIdle, AListener, APost, AContinuation, AMicro, AReaction, taken, called_by, Waited, Moves, here, changing, calling, ending, flagging, running}
+use Rattle.page_laws.specs.Moves.{frame_asked, frame_gone, registered, is_aside, is_end, promise_changes, PageChange, elsewhere, told, rested, promised, settled, followed, adopted, subscribed, micro_asked, then_asked, answered, AsBefore, rejected_taken, noted, Beginning, TheScript, ATimer, AFrame, AnIdle, ALateIdle, AListener, APost, AContinuation, AMicro, AReaction, taken, called_by, Waited, Moves, here, changing, calling, ending, flagging, running}
 use Rattle.page_laws.proofs.Lines.{added, added-append, emit_each-events, emit_each-notices}
 use Rattle.page_laws.proofs.Scans.{Test, Kept}
 
@@ -182,19 +184,29 @@ noted-fits n s past f = by_handled (the_promise s.promises n).handled
     by_handled true = f
     by_handled false = again-fits s (record s { outstanding = and_last s.outstanding n }) past refl refl f
 
+before-fits : {p q : Page} → AsBefore p q → Fits p → Fits q
+before-fits {p = p} {q = q} b f = subst (λ (s : Notices). JobsFit s q.events) (sym b.notices) (subst (JobsFit p.notices) (sym b.events) f)
+
+registered-fits : (k : RegKind) (x : Registration) (p : Page) → Fits p → Fits (register_as k x p)
+registered-fits k x p f = silent-fits (Reg (suc (length p.registrations)) k (caller p)) p.now p.notices p.events refl f
+
 change-fits : {p q : Page} → PageChange p q → Fits p → Fits q
-change-fits {p = p} {q = q} (elsewhere x y z w v) f = subst (λ (s : Notices). JobsFit s q.events) (sym x) (subst (JobsFit p.notices) (sym z) f)
+change-fits (elsewhere c b) f = before-fits b f
 change-fits {p = p} (told e h) f = silent-fits e p.now p.notices p.events (aside-silent e h) f
 change-fits {p = p} (rested e h x y) f = rest-fits e p.now p.notices p.events h y f
-change-fits {p = p} (registered kind x e) f = silent-fits (Reg (suc (length p.registrations)) kind (caller p)) p.now p.notices p.events refl f
+change-fits {p = p} (answered source task t answer x y z b) f = before-fits b (silent-fits (Host t.closure t.number answer) p.now p.notices p.events refl f)
+change-fits {p = p} (registered kind x e u b) f = before-fits b (registered-fits kind x p f)
 change-fits {p = p} (frame_asked g) f = silent-fits (Reg (suc (length p.registrations)) kind.Frame (caller p)) p.now p.notices p.events refl f
 change-fits (frame_gone handle) f = f
 change-fits {p = p} promised f = again-fits p.notices _ p.events refl refl f
 change-fits {p = p} (settled n how x y) f = changes-fit n (Promises.settle n (the_promise p.notices.promises n) how) p f
 change-fits {p = p} (followed n how x y) f = changes-fit n (Promises.settle n (the_promise p.notices.promises n) how) p f
 change-fits {p = p} (adopted n from x y) f = changes-fit n (Promises.adopt n (the_promise p.notices.promises n) from) p f
-change-fits {p = p} (subscribed n r x) f = subscribed-fits n r p f
-change-fits {p = p} (micro_queued r) f = notices-fit (queue_micro (context p) r) p (queue_job-fits (context p) (Micro r) p.now p.notices p.events f)
+change-fits {p = p} (subscribed n r x y) f = subscribed-fits n r p f
+change-fits {p = p} (then_asked n x r e g y) f = subscribed-fits n r (register_as kind.Then x p) (registered-fits kind.Then x p f)
+change-fits {p = p} (micro_asked x r e y) f =
+    let made = register_as kind.Micro x p in
+    notices-fit (queue_micro (context p) r) made (queue_job-fits (context p) (Micro r) p.now p.notices made.events (registered-fits kind.Micro x p f))
 change-fits {p = p} rejected_taken f = again-fits p.notices _ p.events refl refl f
 change-fits {p = p} (noted n) f = noted-fits n p.notices p.events f
 
@@ -215,7 +227,7 @@ moves-fit here f = f
 moves-fit (changing a c) f = change-fits c (moves-fit a f)
 moves-fit (calling {q = q} a b w i) f = silent-fits (Call (called_by b)) (taken b q).now (taken b q).notices (taken b q).events refl (begins-fit b q w (moves-fit a f))
 moves-fit (ending {q = q} a e h) f = silent-fits e q.now q.notices q.events (end-silent e h) (moves-fit a f)
-moves-fit (flagging {q = q} {r = r} a x y z w) f = subst (λ (s : Notices). JobsFit s r.events) (sym x) (subst (JobsFit q.notices) (sym y) (moves-fit a f))
+moves-fit (flagging {q = q} {r = r} a x y z w u) f = subst (λ (s : Notices). JobsFit s r.events) (sym x) (subst (JobsFit q.notices) (sym y) (moves-fit a f))
 moves-fit (running {q = q} a j others x y) f = run-fits q.now q.notices q.events j others x (moves-fit a f)
 
 -- from a page with no lines and no jobs on, jobs go in order

@@ -25,6 +25,12 @@ interval_called_twice = refl
 script_called_twice : holds_once (at 0 (Call 1) ∷ at 0 Ret ∷ at 0 (Call 1) ∷ []) ≡ false
 script_called_twice = refl
 
+script_registered_as_a_host : holds_once (at 0 (Reg 1 kind.Host None) ∷ at 0 (Call 1) ∷ []) ≡ false
+script_registered_as_a_host = refl
+
+called_script_registered_as_a_signal : holds_once (at 0 (Call 1) ∷ at 0 (Reg 1 kind.Signal None) ∷ []) ≡ false
+called_script_registered_as_a_signal = refl
+
 host_is_called : holds_once (at 0 (Reg 2 kind.Host None) ∷ at 0 (Call 2) ∷ []) ≡ false
 host_is_called = refl
 
@@ -282,6 +288,20 @@ done_with_a_silent_host = refl
 
 done_with_a_dropped_host : holds_ends_truly 10000 100 (at 0 (Reg 2 kind.Host None) ∷ at 0 (Arm 2 0 0) ∷ at 0 (Drop 2) ∷ at 0 (EndLine end.Done) ∷ []) ≡ true
 done_with_a_dropped_host = refl
+
+-- an interval that is armed, is due and is dropped, with these lines before its drop
+abbrev interval_to_the_end : List Stamped → List Stamped
+interval_to_the_end [] = at 0 (Drop 2) ∷ at 0 (EndLine end.Done) ∷ []
+interval_to_the_end (e ∷ es) = e ∷ interval_to_the_end es
+
+done_with_each_arm_due : holds_ends_truly 10000 100 (interval_to_the_end (at 0 (Reg 2 kind.Interval None) ∷ at 0 (Arm 2 0 1) ∷ at 0 (Due 2) ∷ at 0 (Arm 2 0 2) ∷ at 0 (Due 2) ∷ [])) ≡ true
+done_with_each_arm_due = refl
+
+done_with_the_last_arm_active : holds_ends_truly 10000 100 (interval_to_the_end (at 0 (Reg 2 kind.Interval None) ∷ at 0 (Arm 2 0 1) ∷ at 0 (Due 2) ∷ at 0 (Due 2) ∷ at 0 (Arm 2 0 2) ∷ [])) ≡ false
+done_with_the_last_arm_active = refl
+
+done_with_two_arms_and_one_due : holds_ends_truly 10000 100 (interval_to_the_end (at 0 (Reg 2 kind.Interval None) ∷ at 0 (Arm 2 0 1) ∷ at 0 (Arm 2 0 2) ∷ at 0 (Due 2) ∷ [])) ≡ false
+done_with_two_arms_and_one_due = refl
 
 clock_before_until : holds_ends_truly 10000 100 (at 9999 (EndLine end.Clock) ∷ []) ≡ false
 clock_before_until = refl

@@ -16,6 +16,9 @@ pub mod Turns
 pub mod RunLaws
 pub mod Acts
 pub mod Registered
-pub mod DrawnOnce
+pub mod Totals
+pub mod Claims
+pub mod Once
+pub mod Answering
 mod LawExamples
 mod LawBreaks

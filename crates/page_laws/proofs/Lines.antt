@@ -1,5 +1,7 @@
 -- Lines given one after another, and what no change does: it opens and ends no call, and leaves the flag of the checkpoint.
 use Rattle.std.proofs.Common.{◌≡◌, ℕ, Bool, true, false, List, [], ◌∷◌, ◌++◌, Option, Some, None, refl, ap, ◌∙◌, cond}
+use Rattle.page_types.specs.declared.RegKind.TheVariants as kind
+use Rattle.page_model.specs.Invoke.{register_as}
 use Rattle.std.specs.Prelude.{◌==◌}
 use Rattle.page_parts.specs.Words.{without}
 use Rattle.page_types.specs.Events.{Event, Call, Ret, Throw}
@@ -10,7 +12,7 @@ use Rattle.page_parts.specs.Promises.{the_promise}
 use Rattle.page_model.specs.State.{Page, emit, emit_each, on_notices, context}
 use Rattle.page_model.specs.Numbers.{Each}
 use Rattle.page_laws.specs.History.{History, open_after, open_registrations, is_rest}
-use Rattle.page_laws.specs.Moves.{frame_asked, frame_gone, is_aside, promise_changes, PageChange, elsewhere, told, rested, registered, promised, settled, followed, adopted, subscribed, micro_queued, rejected_taken, noted, Changes, nothing, with_change, Beginning, TheScript, ATimer, AFrame, AnIdle, ALateIdle, AListener, APost, AContinuation, AMicro, AReaction, taken}
+use Rattle.page_laws.specs.Moves.{frame_asked, frame_gone, is_aside, promise_changes, PageChange, elsewhere, told, rested, registered, promised, settled, followed, adopted, subscribed, micro_asked, then_asked, answered, AsBefore, rejected_taken, noted, Changes, nothing, with_change, Beginning, TheScript, ATimer, AFrame, AnIdle, ALateIdle, AListener, APost, AContinuation, AMicro, AReaction, taken}
 
 -- ---- lines
 
@@ -94,19 +96,25 @@ subscribed-same n r p =
     notices-same (subscribe_promise (context p) n r) p
     (changed-shut (context p) [] n (Promises.subscribe n (the_promise p.notices.promises n) r) (record p.notices { rejected = without (λ m. m == n) p.notices.rejected; outstanding = without (λ m. m == n) p.notices.outstanding }))
 
+-- where a page is as another one but for the rest
+before-same : {p q : Page} → AsBefore p q → Same p q
+before-same b = (ap open_registrations b.events, b.performing)
+
 pub change-same : {p q : Page} → PageChange p q → Same p q
-change-same (elsewhere x y z w v) = (ap open_registrations z, y)
+change-same (elsewhere c b) = before-same b
 change-same {p = p} (told e h) = (aside-open e h (open_registrations p.events), refl)
 change-same {p = p} (rested e h x y) = (rest-open e h (open_registrations p.events), refl)
-change-same (registered kind x e) = (refl, refl)
+change-same (answered source task t answer x y z b) = before-same b
+change-same (registered kind x e u b) = before-same b
 change-same (frame_asked f) = (refl, refl)
 change-same (frame_gone handle) = (refl, refl)
 change-same promised = (refl, refl)
 change-same {p = p} (settled n how x y) = promise_changes-same n (Promises.settle n (the_promise p.notices.promises n) how) p
 change-same {p = p} (followed n how x y) = promise_changes-same n (Promises.settle n (the_promise p.notices.promises n) how) p
 change-same {p = p} (adopted n from x y) = promise_changes-same n (Promises.adopt n (the_promise p.notices.promises n) from) p
-change-same {p = p} (subscribed n r x) = subscribed-same n r p
-change-same {p = p} (micro_queued r) = notices-same (queue_micro (context p) r) p (λ calls. refl, tt)
+change-same {p = p} (subscribed n r x y) = subscribed-same n r p
+change-same {p = p} (then_asked n x r e g y) = subscribed-same n r (register_as kind.Then x p)
+change-same {p = p} (micro_asked x r e y) = notices-same (queue_micro (context p) r) (register_as kind.Micro x p) (λ calls. refl, tt)
 change-same rejected_taken = (refl, refl)
 change-same (noted n) = (refl, refl)
 

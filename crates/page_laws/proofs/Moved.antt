@@ -1,15 +1,16 @@
 -- What a page does is rows of changes, function by function.
-use Rattle.std.proofs.Common.{◌≡◌, ℕ, zero, suc, ◌+◌, ◌*◌, Bool, true, false, List, [], ◌∷◌, Option, Some, None, refl, ap, cond, ℤ, Result, Ok, Err, length, pred, unwrap_or, slice_get, ◌&&◌, nat_lt, nat_le, map}
+use Rattle.std.proofs.Common.{◌≡◌, ℕ, zero, suc, ◌+◌, ◌*◌, Bool, true, false, List, [], ◌∷◌, Option, Some, None, refl, ap, sym, subst, ◌∙◌, ◌++◌, cond, ℤ, Result, Ok, Err, length, pred, unwrap_or, slice_get, ◌&&◌, nat_lt, nat_le, map}
 use Rattle.std.specs.Prelude.{◌==◌, slice_set}
 use Rattle.page_types.specs.Values.{Value, IntValue}
 use Rattle.page_types.specs.declared.FaultName.TheVariants.{TypeError}
 use Rattle.page_types.specs.declared.Priority.{Priority}
 use Rattle.page_types.specs.declared.RegKind.{RegKind}
-use Rattle.page_types.specs.declared.RegKind.TheVariants.{Idle as IdleKind, Post as PostKind, Yield as YieldKind, Host as HostKind, Listener as ListenerKind, Then as ThenKind, Micro as MicroKind, Signal as SignalKind}
+use Rattle.page_types.specs.declared.RegKind.TheVariants.{Interval as IntervalKind, Idle as IdleKind, Post as PostKind, Yield as YieldKind, Host as HostKind, Listener as ListenerKind, Then as ThenKind, Micro as MicroKind, Signal as SignalKind}
 use Rattle.page_types.specs.declared.Source.{Source}
-use Rattle.page_types.specs.declared.Source.TheVariants.{Dom, Idle as IdleSource}
-use Rattle.page_types.specs.Events.{Event, Report, Arm, Due, Drop, Period, Prio, Abort, Host, Send}
-use Rattle.page_parts.specs.Words.{is_empty}
+use Rattle.page_types.specs.declared.Source.TheVariants.{Dom, Net, Timer, Render, Idle as IdleSource}
+use Rattle.page_types.specs.declared.HostMark.TheVariants.{Live}
+use Rattle.page_types.specs.Events.{Event, Report, Arm, Due, Drop, Period, Prio, Abort, Host, Send, Enq}
+use Rattle.page_parts.specs.Words.{is_empty, and_last, without, numbered, without_numbered}
 use Rattle.page_parts.proofs.Numbered.{with_numbered-own}
 use Rattle.page_parts.specs.Spelling.{spelled}
 use Rattle.page_parts.specs.Kinds.{Func, func_in, promise_in, a_fault}
@@ -18,7 +19,8 @@ use Rattle.page_parts.specs.Promises as Promises
 use Rattle.page_parts.specs.Notices.{Notices, subscribe_promise, is_outstanding}
 use Rattle.page_parts.specs.Promises.{the_promise}
 use Rattle.page_parts.specs.Timers as Timers
-use Rattle.page_parts.specs.Timers.{armed}
+use Rattle.page_parts.specs.Timers.{armed, with_armed, ActiveTimer}
+use Rattle.page_parts.specs.Setup.{Arrival}
 use Rattle.page_parts.specs.Frames.{callback_in}
 use Rattle.page_parts.specs.IdleCallbacks as IdleCallbacks
 use Rattle.page_parts.specs.IdleCallbacks.{waits}
@@ -27,29 +29,39 @@ use Rattle.page_parts.specs.AbortGraph.{the_signal, with_algorithms, with_reason
 use Rattle.page_parts.specs.TaskSignals as TaskSignals
 use Rattle.page_parts.specs.Listeners.{Target, is_listening, off}
 use Rattle.page_parts.specs.HostClosures.{HostClosure}
-use Rattle.page_model.specs.State.{context, OfKind, Registration, NotifyHandled, NotifyRejected, Steps, PrioSource, SchedulingState, HostTask, Completion, QueueTimer, EnqueuePost, QueueSignal, InvokeIdle, Page, emit, emit_each, on_notices, queue_task, the_registration, last_registration}
+use Rattle.page_model.specs.State.{context, OfKind, Registration, no_registration, Task, TimerTask, SchedTask, HostAnswer, IdleTimer, AnswerHost, TimeOutSignal, FireAtWindow, RunFrame, IdleTimeout, NotifyHandled, NotifyRejected, Steps, PrioSource, SchedulingState, HostTask, Completion, QueueTimer, EnqueuePost, QueueSignal, InvokeIdle, Page, emit, emit_each, on_notices, queue_task, the_registration, last_registration}
 use Rattle.page_model.specs.PagePromises as promises
 use Rattle.page_model.specs.PagePromises.{new_promise, last_promise}
-use Rattle.page_model.specs.PageTime.{run_after, init_timer, clear_id, clear_timer, registration_with_id, without_frame, cancel_frame, deadline, period_begun, idle_step, idle_timeout, request_idle, idle_callback, without_idle, cancel_idle, completion_of, without_timer}
-use Rattle.page_model.specs.SchedulerTasks.{enqueue, without_sched, with_state}
+use Rattle.page_model.specs.PageTime.{init_timer, clear_id, clear_timer, registration_with_id, first_task, next_frame, without_frame, cancel_frame, deadline, period_begun, idle_step, idle_timeout, idle_callback, without_idle, cancel_idle, completion_of, without_timer}
+use Rattle.page_model.specs.Turns.{without_task}
+use Rattle.page_model.proofs.NumbersGrow.{length-last, Each-append}
+use Rattle.page_model.specs.SchedulerTasks.{enqueue, queue_name, without_sched, with_state}
 use Rattle.page_model.specs.Invoke.{WhenReported, BeforeCheckpoint, AfterCheckpoint, Never, report_before, report_after, notify_rejected, register, register_as}
-use Rattle.page_model.specs.PageSignals.{has_not_begun, drop_registration, abort_registration, reason_set, watch, unwatch, give_priority, change_begun, change_ended, is_aborted_source}
-use Rattle.page_model.specs.Operations.{micro_registered, script_promise, then_made, timer_set, timer_registered, frame_requested, idle_requested, with_signals, task_signal_made, any_made, last_signal, timeout_signal_made, listener_added, listener_removed, promised, post_delayed, post_queued, continuation_queued, host_queued, finally_made, posted}
+use Rattle.page_model.specs.PageSignals.{task_in_answer, task_in_net, waiting_answer, waiting_net_task, has_not_begun, drop_registration, abort_registration, reason_set, watch, unwatch, give_priority, change_begun, change_ended, is_aborted_source}
+use Rattle.page_model.specs.Operations.{latency_of, queued_mark, micro_registered, script_promise, then_made, timer_set, frame_requested, idle_requested, with_signals, task_signal_made, any_made, last_signal, timeout_signal_made, listener_added, listener_removed, promised, post_delayed, post_queued, continuation_queued, host_queued, finally_made, posted}
 use Rattle.page_model.specs.Tasks.{invoke_idle_again, outstanding_if_unhandled, fire_closure, settle_answer, answer_host}
-use Rattle.page_model.specs.Parallel.{ItemKind, ArrivalItem, HostItem, TimerItem, IdleItem, FrameItem, complete, complete_at, take_item, due_item, first_item, take_due, item_count, parallel}
-use Rattle.page_model.specs.Numbers.{IsGiven}
+use Rattle.page_model.specs.Parallel.{ItemKind, ArrivalItem, HostItem, TimerItem, IdleItem, FrameItem, Item, arrival_items, frame_items, items_in_order, first_item_from, first_item_of, complete, complete_at, take_item, due_item, first_item, take_due, item_count, parallel}
+use Rattle.page_model.specs.Numbers.{IsGiven, Each, IfThere}
 use Rattle.page_laws.specs.History.{open_registrations}
-use Rattle.page_laws.specs.Moves.{is_aside, promise_changes, PageChange, elsewhere, frame_asked, frame_gone, registered, told, rested, settled, followed, adopted, subscribed, micro_queued, rejected_taken, noted, Changes, nothing, with_change}
+use Rattle.page_laws.specs.Moves.{is_aside, promise_changes, Places, places, is_free, PlaceChange, places_stay, task_queued, armed_again, signal_armed, timer_due, post_due, completed, idle_started, idle_left, sched_left, answer_due, answer_dropped, FirstPlace, nowhere, at_timer, at_delay, at_idle, at_queue, at_host, AsBefore, fired_at, PageChange, elsewhere, frame_asked, frame_gone, registered, answered, then_asked, micro_asked, told, rested, settled, followed, adopted, subscribed, rejected_taken, noted, Changes, nothing, with_change}
 use Rattle.page_laws.specs.Moves as moves
 use Rattle.page_laws.proofs.Moving.{changes-then}
 
 -- ---- ways to put changes together
 
-pub quietly : (p q : Page) → q.notices ≡ p.notices → q.performing ≡ p.performing → q.events ≡ p.events → q.registrations ≡ p.registrations → q.frames ≡ p.frames → Changes p q
-quietly p q x y z w v = with_change nothing (elsewhere x y z w v)
+-- a change of the places, and of what is not named otherwise
+pub placed : (p q : Page) → PlaceChange p.registrations (places p) (places q) → q.notices ≡ p.notices → q.performing ≡ p.performing → q.events ≡ p.events → q.registrations ≡ p.registrations → q.frames ≡ p.frames → Changes p q
+placed p q c x y z w v = with_change nothing (elsewhere c (record { notices = x; performing = y; events = z; registrations = w; frames = v }))
 
-pub lined : (e : Event) (p q : Page) → is_aside e ≡ true → q.notices ≡ p.notices → q.performing ≡ p.performing → q.events ≡ (emit e p).events → q.registrations ≡ p.registrations → q.frames ≡ p.frames → Changes p q
-lined e p q h x y z w v = with_change {q = emit e p} (with_change nothing (told e h)) (elsewhere x y z w v)
+pub quietly : (p q : Page) → places q ≡ places p → q.notices ≡ p.notices → q.performing ≡ p.performing → q.events ≡ p.events → q.registrations ≡ p.registrations → q.frames ≡ p.frames → Changes p q
+quietly p q s x y z w v = placed p q (subst (PlaceChange p.registrations (places p)) (sym s) places_stay) x y z w v
+
+-- the same with a line
+pub lined_placed : (e : Event) (p q : Page) → is_aside e ≡ true → PlaceChange p.registrations (places p) (places q) → q.notices ≡ p.notices → q.performing ≡ p.performing → q.events ≡ (emit e p).events → q.registrations ≡ p.registrations → q.frames ≡ p.frames → Changes p q
+lined_placed e p q h c x y z w v = with_change {q = emit e p} (with_change nothing (told e h)) (elsewhere c (record { notices = x; performing = y; events = z; registrations = w; frames = v }))
+
+pub lined : (e : Event) (p q : Page) → is_aside e ≡ true → places q ≡ places p → q.notices ≡ p.notices → q.performing ≡ p.performing → q.events ≡ (emit e p).events → q.registrations ≡ p.registrations → q.frames ≡ p.frames → Changes p q
+lined e p q h s x y z w v = lined_placed e p q h (subst (PlaceChange p.registrations (places p)) (sym s) places_stay) x y z w v
 
 pub cond_of-changes : (b : Bool) (f g : Page → Page) (p q : Page) → Changes q (f p) → Changes q (g p) → Changes q (cond b f g p)
 cond_of-changes true f g p q h k = h
@@ -67,7 +79,7 @@ elim-changes (Some x) p q f h k = k x
 
 -- a change that changes nothing
 unchanged : (n : ℕ) (p : Page) → Changes p (promise_changes n (no_change (the_promise p.notices.promises n)) p)
-unchanged n p = quietly p (promise_changes n (no_change (the_promise p.notices.promises n)) p) (ap {A = List PromiseRecord} {B = Notices} (λ qs. record p.notices { promises = qs }) (with_numbered-own p.notices.promises n pending_promise)) refl refl refl refl
+unchanged n p = quietly p (promise_changes n (no_change (the_promise p.notices.promises n)) p) refl (ap {A = List PromiseRecord} {B = Notices} (λ qs. record p.notices { promises = qs }) (with_numbered-own p.notices.promises n pending_promise)) refl refl refl refl
 
 by_lock : (n : ℕ) (p : Page) (c : Promises.Change) (b : Bool) → (the_promise p.notices.promises n).locked ≡ b → ((the_promise p.notices.promises n).locked ≡ false → Changes p (promise_changes n c p)) → Changes p (promise_changes n (cond b (no_change (the_promise p.notices.promises n)) c) p)
 by_lock n p c true e k = unchanged n p
@@ -96,14 +108,15 @@ follow-changes n how p x = by_outcome (the_promise p.notices.promises n).outcome
     by_outcome None e = with_change nothing (followed n how x e)
     by_outcome (Some before) e = unchanged n p
 
-pub queue_task-changes : (source : Source) (steps : Steps) (p : Page) → Changes p (queue_task source steps p)
-queue_task-changes source steps p = quietly p (queue_task source steps p) refl refl refl refl refl
+pub queue_task-changes : (source : Source) (steps : Steps) (p : Page) → is_free steps ≡ true → Changes p (queue_task source steps p)
+queue_task-changes source steps p h = placed p (queue_task source steps p) (task_queued (record { number = suc p.tasks_made; source = source; steps = steps }) h) refl refl refl refl refl
 
-pub subscribe-changes : (n : ℕ) (r : Reaction) (p : Page) → IsGiven (length p.notices.promises) n → Changes p (promises.subscribe n r p)
-subscribe-changes n r p x =
-    let q = on_notices (subscribe_promise (context p) n r) p in
-    let first : Changes p q = with_change nothing (subscribed n r x) in
-    cond_of-changes (is_outstanding n p.notices) (queue_task Dom (NotifyHandled n)) (λ q. q) q p (changes-then first (queue_task-changes Dom (NotifyHandled n) q)) first
+-- a reaction was added, and where the promise was outstanding a task is queued
+handled-changes : (n : ℕ) (b : Bool) (p q : Page) → Changes p q → Changes p (cond b (queue_task Dom (NotifyHandled n)) (λ q. q) q)
+handled-changes n b p q first = cond_of-changes b (queue_task Dom (NotifyHandled n)) (λ q. q) q p (changes-then first (queue_task-changes Dom (NotifyHandled n) q refl)) first
+
+pub subscribe-changes : (n : ℕ) (r : Reaction) (p : Page) → IsGiven (length p.notices.promises) n → r.registration ≡ None → Changes p (promises.subscribe n r p)
+subscribe-changes n r p x e = handled-changes n (is_outstanding n p.notices) p (on_notices (subscribe_promise (context p) n r) p) (with_change nothing (subscribed n r x e))
 
 pub new_promise-changes : (p : Page) → Changes p (new_promise p)
 new_promise-changes p = with_change nothing moves.promised
@@ -123,28 +136,36 @@ report_after-changes Never v p = nothing
 pub notify_rejected-changes : (p : Page) → Changes p (notify_rejected p)
 notify_rejected-changes p =
     cond-changes (is_empty p.notices.rejected) p p _ nothing
-    (changes-then (with_change nothing rejected_taken) (queue_task-changes Dom (NotifyRejected p.notices.rejected) (record p { notices = record p.notices { rejected = [] } })))
+    (changes-then (with_change nothing rejected_taken) (queue_task-changes Dom (NotifyRejected p.notices.rejected) (record p { notices = record p.notices { rejected = [] } }) refl))
 
+-- the number of a registration that was just made
+pub made_last : (kind : RegKind) (x : Registration) (p : Page) → last_registration (register_as kind x p) ≡ suc (length p.registrations)
+made_last kind x p = length-last p.registrations x
+
+-- a registration is made and waits nowhere
 pub register-changes : (kind : RegKind) (x : Registration) (p : Page) → x.role ≡ OfKind kind → Changes p (register_as kind x p)
-register-changes kind x p e = with_change nothing (registered kind x e)
+register-changes kind x p e = with_change nothing (registered kind x e nowhere (record { notices = refl; performing = refl; events = refl; registrations = refl; frames = refl }))
+
+-- it is made and waits at its first place, and its line is given
+register_at-changes : (kind : RegKind) (x : Registration) (e : Event) (p q : Page) → x.role ≡ OfKind kind → is_aside e ≡ true → FirstPlace (suc (length p.registrations)) (places p) (places q) → AsBefore (register_as kind x p) q → Changes p (emit e q)
+register_at-changes kind x e p q role h u b = with_change {q = q} (with_change nothing (registered kind x role u b)) (told e h)
 
 -- ---- time
 
-pub init_timer-changes : (again : Option ℕ) (r : ℕ) (repeats : Bool) (timeout : ℤ) (p : Page) → Changes p (init_timer again r repeats timeout p)
-init_timer-changes again r repeats timeout p =
-    let a = armed again timeout p.level p.now p.timers in
-    lined (Arm r a.due a.level) p (init_timer again r repeats timeout p) refl refl refl refl refl refl
-
-pub run_after-changes : (ms : ℕ) (c : Completion) (p : Page) → Changes p (run_after ms c p)
-run_after-changes ms c p = quietly p (run_after ms c p) refl refl refl refl refl
+-- an interval is armed again
+pub init_again-changes : (id r : ℕ) (timeout : ℤ) (p : Page) → (numbered p.registrations r no_registration).role ≡ OfKind IntervalKind → Changes p (init_timer (Some id) r true timeout p)
+init_again-changes id r timeout p e =
+    let a = armed (Some id) timeout p.level p.now p.timers in
+    let t : TimerTask = record { registration = r; id = a.id; handle = a.handle; level = a.level; repeats = true; timeout = timeout } in
+    lined_placed (Arm r a.due a.level) p (init_timer (Some id) r true timeout p) refl (armed_again a.start t e) refl refl refl refl refl
 
 pub clear_id-changes : (id : ℕ) (p : Page) → Changes p (clear_id id p)
-clear_id-changes id p = quietly p (clear_id id p) refl refl refl refl refl
+clear_id-changes id p = quietly p (clear_id id p) refl refl refl refl refl refl
 
 pub clear_timer-changes : (id : ℕ) (p : Page) → Changes p (clear_timer id p)
 clear_timer-changes id p =
     let r = registration_with_id id 1 p.registrations in
-    cond-changes (Timers.has_id id p.timers) p _ p (lined (Drop r) p (emit (Drop r) (clear_id id p)) refl refl refl refl refl refl) nothing
+    cond-changes (Timers.has_id id p.timers) p _ p (lined (Drop r) p (emit (Drop r) (clear_id id p)) refl refl refl refl refl refl refl) nothing
 
 pub without_frame-changes : (handle : ℕ) (p : Page) → Changes p (without_frame handle p)
 without_frame-changes handle p = with_change nothing (frame_gone handle)
@@ -158,44 +179,36 @@ idle_step-changes p x y =
     let end = deadline here.last_idle_start here in
     let told_one : Page = emit (Period end) p in
     let begun : Changes p told_one = with_change nothing (rested (Period end) refl x y) in
+    let started : Page = record told_one { last_idle_start = p.now; idle = IdleCallbacks.started p.idle; idle_period_end = end } in
     cond-changes (waits here.idle && nat_lt here.now (deadline here.last_idle_start here) && nat_le here.idle_period_end here.now) p (period_begun end here) here
-    (changes-then begun (quietly told_one (period_begun end here) refl refl refl refl refl)) (quietly p here refl refl refl refl refl)
+    (changes-then (changes-then begun (placed told_one started idle_started refl refl refl refl refl)) (queue_task-changes IdleSource InvokeIdle started refl)) (quietly p here refl refl refl refl refl refl)
 
 pub idle_timeout-changes : (ms r : ℕ) (p : Page) → Changes p (idle_timeout ms r p)
-idle_timeout-changes ms r p = lined (Arm r (p.now + ms * 1000) 0) p (idle_timeout ms r p) refl refl refl refl refl refl
-
-pub request_idle-changes : (ms r : ℕ) (p : Page) → Changes p (request_idle ms r p)
-request_idle-changes ms r p =
-    let q : Page = record p { idle = IdleCallbacks.request r p.idle } in
-    let first : Changes p q = quietly p q refl refl refl refl refl in
-    cond_of-changes (ms == 0) (λ q. q) (idle_timeout ms r) q p first (changes-then first (idle_timeout-changes ms r q))
+idle_timeout-changes ms r p = lined (Arm r (p.now + ms * 1000) 0) p (idle_timeout ms r p) refl refl refl refl refl refl refl
 
 pub without_idle-changes : (handle : ℕ) (p : Page) → Changes p (without_idle handle p)
-without_idle-changes handle p = quietly p (without_idle handle p) refl refl refl refl refl
+without_idle-changes handle p = placed p (without_idle handle p) (idle_left handle) refl refl refl refl refl
 
 pub cancel_idle-changes : (handle : ℕ) (p : Page) → Changes p (cancel_idle handle p)
-cancel_idle-changes handle p = elim-changes (idle_callback handle p) p p _ nothing (λ c. lined (Drop c.registration) p (emit (Drop c.registration) (without_idle handle p)) refl refl refl refl refl refl)
+cancel_idle-changes handle p = elim-changes (idle_callback handle p) p p _ nothing (λ c. lined_placed (Drop c.registration) p (emit (Drop c.registration) (without_idle handle p)) refl (idle_left handle) refl refl refl refl refl)
 
 -- ---- scheduler tasks, signals, hosts
 
-pub enqueue-changes : (r : ℕ) (source : PrioSource) (continuation : Bool) (p : Page) → Changes p (enqueue r source continuation p)
-enqueue-changes r source continuation p = lined _ p (enqueue r source continuation p) refl refl refl refl refl refl
-
 pub without_sched-changes : (r : ℕ) (p : Page) → Changes p (without_sched r p)
-without_sched-changes r p = quietly p (without_sched r p) refl refl refl refl refl
+without_sched-changes r p = placed p (without_sched r p) (sched_left r) refl refl refl refl refl
 
 pub with_state-changes : (s : SchedulingState) (p : Page) → Changes p (with_state s p)
-with_state-changes s p = quietly p (with_state s p) refl refl refl refl refl
+with_state-changes s p = quietly p (with_state s p) refl refl refl refl refl refl
 
 pub watch-changes : (signal : Option ℕ) (r : ℕ) (p : Page) → Changes p (watch signal r p)
 watch-changes None r p = nothing
-watch-changes (Some s) r p = quietly p (watch (Some s) r p) refl refl refl refl refl
+watch-changes (Some s) r p = quietly p (watch (Some s) r p) refl refl refl refl refl refl
 
 pub unwatch-changes : (r : ℕ) (p : Page) → Changes p (unwatch r p)
-unwatch-changes r p = elim-changes (the_registration p r).signal p p _ nothing (λ s. quietly p (record p { signals = AbortGraph.remove_algorithm s r p.signals }) refl refl refl refl refl)
+unwatch-changes r p = elim-changes (the_registration p r).signal p p _ nothing (λ s. quietly p (record p { signals = AbortGraph.remove_algorithm s r p.signals }) refl refl refl refl refl refl)
 
 pub drop-changes : (r : ℕ) (p : Page) → Changes p (drop_registration r p)
-drop-changes r p = lined (Drop r) p (drop_registration r p) refl refl refl refl refl refl
+drop-changes r p = lined_placed (Drop r) p (drop_registration r p) refl (answer_dropped r (task_in_answer (waiting_answer r p)) (task_in_net (waiting_net_task r p))) refl refl refl refl refl
 
 pub abort_registration-changes : (reason : Value) (r : ℕ) (p : Page) → IsGiven (length p.notices.promises) (the_registration p r).promise → Changes p (abort_registration reason r p)
 abort_registration-changes reason r p x =
@@ -210,58 +223,74 @@ emit_aborts (s ∷ ss) p = changes-then (with_change nothing (told (Abort s) ref
 pub reason_set-changes : (reason : Value) (ss : List ℕ) (p : Page) → Changes p (reason_set reason ss p)
 reason_set-changes reason ss p =
     let q : Page = record p { signals = with_reason reason ss p.signals } in
-    changes-then (quietly p q refl refl refl refl refl) (emit_aborts ss q)
+    changes-then (quietly p q refl refl refl refl refl refl) (emit_aborts ss q)
 
 pub give_priority-changes : (s : ℕ) (priority : Priority) (p : Page) → Changes p (give_priority s priority p)
-give_priority-changes s priority p = lined (Prio s priority) p (give_priority s priority p) refl refl refl refl refl refl
+give_priority-changes s priority p = lined (Prio s priority) p (give_priority s priority p) refl refl refl refl refl refl refl
 
 pub change_begun-changes : (s : ℕ) (priority : Priority) (p : Page) → Changes p (change_begun s priority p)
-change_begun-changes s priority p = lined (Prio s priority) p (change_begun s priority p) refl refl refl refl refl refl
+change_begun-changes s priority p = lined (Prio s priority) p (change_begun s priority p) refl refl refl refl refl refl refl
 
 pub change_ended-changes : (s : ℕ) (p : Page) → Changes p (change_ended s p)
-change_ended-changes s p = quietly p (change_ended s p) refl refl refl refl refl
+change_ended-changes s p = quietly p (change_ended s p) refl refl refl refl refl refl
 
 -- ---- operations
 
 pub micro_registered-changes : (f : Func) (p : Page) → Changes p (micro_registered f p)
 micro_registered-changes f p =
-    let made = register MicroKind (Some f) None p in
-    with_change {q = made} (register-changes MicroKind _ p refl) (micro_queued (last_registration made))
+    let x : Registration = record { role = OfKind MicroKind; callback = Some f; second_callback = None; timer_id = 0; promise = 0; signal = None; finally = false } in
+    with_change nothing (micro_asked x (last_registration (register_as MicroKind x p)) refl (made_last MicroKind x p))
 
 pub script_promise-changes : (p : Page) → Changes p (script_promise p)
-script_promise-changes p = changes-then (new_promise-changes p) (quietly (new_promise p) (script_promise p) refl refl refl refl refl)
+script_promise-changes p = changes-then (new_promise-changes p) (quietly (new_promise p) (script_promise p) refl refl refl refl refl refl)
+
+-- a promise gets a reaction with handlers that are registered
+then_asked-changes : (n : ℕ) (x : Registration) (p : Page) → x.role ≡ OfKind ThenKind → IsGiven (length p.notices.promises) n
+    → Changes p (promises.subscribe n (record { registration = Some (last_registration (register_as ThenKind x p)); into = last_promise p; state = p.scheduling }) (register_as ThenKind x p))
+then_asked-changes n x p e g =
+    let r : Reaction = record { registration = Some (last_registration (register_as ThenKind x p)); into = last_promise p; state = p.scheduling } in
+    handled-changes n (is_outstanding n p.notices) p (on_notices (subscribe_promise (context p) n r) (register_as ThenKind x p))
+    (with_change nothing (then_asked n x r e g (ap Some (made_last ThenKind x p))))
 
 pub then_made-changes : (n : ℕ) (f g : Value) (p : Page) → IsGiven (length (new_promise p).notices.promises) n → Changes p (then_made n f g p)
 then_made-changes n f g p x =
     let new = new_promise p in
-    let made = register ThenKind (func_in f) (func_in g) new in
-    changes-then (changes-then (new_promise-changes p) (register-changes ThenKind _ new refl)) (subscribe-changes n _ made x)
+    let r : Registration = record { role = OfKind ThenKind; callback = func_in f; second_callback = func_in g; timer_id = 0; promise = 0; signal = None; finally = false } in
+    changes-then (new_promise-changes p) (then_asked-changes n r new refl x)
 
 pub finally_made-changes : (n : ℕ) (f : Value) (p : Page) → IsGiven (length (new_promise p).notices.promises) n → Changes p (finally_made n f p)
 finally_made-changes n f p x =
     let new = new_promise p in
     let r : Registration = record { role = OfKind ThenKind; callback = func_in f; second_callback = func_in f; timer_id = 0; promise = 0; signal = None; finally = true } in
-    let made = register_as ThenKind r new in
-    changes-then (changes-then (new_promise-changes p) (register-changes ThenKind r new refl)) (subscribe-changes n _ made x)
+    changes-then (new_promise-changes p) (then_asked-changes n r new refl x)
 
 pub posted-changes : (port : ℕ) (v : Value) (p : Page) → Changes p (posted port v p)
-posted-changes port v p = lined (Send port (spelled p.names v)) p (posted port v p) refl refl refl refl refl refl
+posted-changes port v p = lined (Send port (spelled p.names v)) p (posted port v p) refl refl refl refl refl refl refl
 
 pub timer_set-changes : (kind : RegKind) (repeats : Bool) (f : Func) (timeout : ℤ) (p : Page) → Changes p (timer_set kind repeats f timeout p)
 timer_set-changes kind repeats f timeout p =
-    let made = timer_registered kind f p in
-    changes-then (register-changes kind _ p refl) (init_timer-changes None (last_registration made) repeats timeout made)
+    let x : Registration = record { role = OfKind kind; callback = Some f; second_callback = None; timer_id = suc p.timers.ids_made; promise = 0; signal = None; finally = false } in
+    let made = register_as kind x p in
+    let r = last_registration made in
+    let a = armed None timeout p.level p.now p.timers in
+    let t : TimerTask = record { registration = r; id = a.id; handle = a.handle; level = a.level; repeats = repeats; timeout = timeout } in
+    let set : Page = record made { timers = with_armed None a made.timers; completions = and_last made.completions (record { start = a.start; completion = QueueTimer t }) } in
+    register_at-changes kind x (Arm r a.due a.level) p set refl refl (at_timer a.start t (made_last kind x p)) (record { notices = refl; performing = refl; events = refl; registrations = refl; frames = refl })
 
 pub frame_requested-changes : (f : Func) (p : Page) → Changes p (frame_requested f p)
 frame_requested-changes f p = with_change nothing (frame_asked f)
 
 pub idle_requested-changes : (f : Func) (ms : ℕ) (p : Page) → Changes p (idle_requested f ms p)
 idle_requested-changes f ms p =
-    let made = register IdleKind (Some f) None p in
-    changes-then (register-changes IdleKind _ p refl) (request_idle-changes ms (last_registration made) made)
+    let x : Registration = record { role = OfKind IdleKind; callback = Some f; second_callback = None; timer_id = 0; promise = 0; signal = None; finally = false } in
+    let made = register_as IdleKind x p in
+    let r = last_registration made in
+    let q : Page = record made { idle = IdleCallbacks.request r made.idle } in
+    let first : Changes p q = with_change nothing (registered IdleKind x refl (at_idle r (made_last IdleKind x p)) (record { notices = refl; performing = refl; events = refl; registrations = refl; frames = refl })) in
+    cond_of-changes (ms == 0) (λ q. q) (idle_timeout ms r) q p first (changes-then first (idle_timeout-changes ms r q))
 
 pub with_signals-changes : (f : AbortGraph.Signals Value → AbortGraph.Signals Value) (p : Page) → Changes p (with_signals f p)
-with_signals-changes f p = quietly p (with_signals f p) refl refl refl refl refl
+with_signals-changes f p = quietly p (with_signals f p) refl refl refl refl refl refl
 
 pub task_signal_made-changes : (priority : Priority) (p : Page) → Changes p (task_signal_made priority p)
 task_signal_made-changes priority p =
@@ -273,107 +302,247 @@ any_made-changes ss priority follows p =
     let made = with_signals (AbortGraph.any ss) p in
     let given_one = give_priority (last_signal made) priority made in
     let first : Changes p given_one = changes-then (with_signals-changes (AbortGraph.any ss) p) (give_priority-changes (last_signal made) priority made) in
-    elim-changes follows p given_one _ first (λ on. changes-then first (quietly given_one (record given_one { prios = TaskSignals.depend (last_signal made) on given_one.prios }) refl refl refl refl refl))
+    elim-changes follows p given_one _ first (λ on. changes-then first (quietly given_one (record given_one { prios = TaskSignals.depend (last_signal made) on given_one.prios }) refl refl refl refl refl refl))
 
 pub timeout_signal_made-changes : (ms : ℕ) (p : Page) → Changes p (timeout_signal_made ms p)
 timeout_signal_made-changes ms p =
     let new = with_signals AbortGraph.make p in
     let made = register SignalKind None None new in
     let told_one = emit (Arm (last_registration made) (made.now + ms * 1000) 0) made in
-    changes-then (with_change {q = made} (changes-then (with_signals-changes AbortGraph.make p) (register-changes SignalKind _ new refl)) (told _ refl)) (run_after-changes ms (QueueSignal (last_registration made) (last_signal made)) told_one)
+    changes-then (with_change {q = made} (changes-then (with_signals-changes AbortGraph.make p) (register-changes SignalKind _ new refl)) (told _ refl))
+    (placed told_one (timeout_signal_made ms p) (signal_armed (suc p.timers.starts_made) (last_registration made) (last_signal made)) refl refl refl refl refl)
 
 pub listener_added-changes : (target : Target) (name : List ℕ) (f : Func) (p : Page) → Changes p (listener_added target name f p)
 listener_added-changes target name f p =
     let made = register ListenerKind (Some f) None p in
-    changes-then (register-changes ListenerKind _ p refl) (quietly made (listener_added target name f p) refl refl refl refl refl)
+    changes-then (register-changes ListenerKind _ p refl) (quietly made (listener_added target name f p) refl refl refl refl refl refl)
 
 pub listener_removed-changes : (r : ℕ) (p : Page) → Changes p (listener_removed r p)
-listener_removed-changes r p = cond-changes (is_listening r p.listeners) p _ p (lined (Drop r) p (emit (Drop r) (record p { listeners = off r p.listeners })) refl refl refl refl refl refl) nothing
+listener_removed-changes r p = cond-changes (is_listening r p.listeners) p _ p (lined (Drop r) p (emit (Drop r) (record p { listeners = off r p.listeners })) refl refl refl refl refl refl refl) nothing
 
-promised-changes : (kind : RegKind) (f : Option Func) (signal : Option ℕ) (p : Page) → Changes p (promised kind f signal p)
-promised-changes kind f signal p =
-    let new = new_promise p in
-    let x : Registration = record { role = OfKind kind; callback = f; second_callback = None; timer_id = 0; promise = last_promise new; signal = signal; finally = false } in
-    let made = register_as kind x new in
-    changes-then (changes-then (new_promise-changes p) (register-changes kind x new refl)) (watch-changes signal (last_registration made) made)
+-- the registration of a task, a delay or a host answer
+abbrev entry : RegKind → Option Func → Option ℕ → Page → Registration
+entry kind f signal p = record { role = OfKind kind; callback = f; second_callback = None; timer_id = 0; promise = last_promise (new_promise p); signal = signal; finally = false }
 
-post_delayed-changes : (ms r : ℕ) (source : PrioSource) (p : Page) → Changes p (post_delayed ms r source p)
-post_delayed-changes ms r source p =
-    let told_one = emit (Arm r (p.now + ms * 1000) 0) p in
-    changes-then (with_change nothing (told (Arm r (p.now + ms * 1000) 0) refl)) (run_after-changes ms (EnqueuePost r source) told_one)
+-- the page before that registration is made: its promise is made, and its abort steps are added to its signal
+abbrev ready : RegKind → Option Func → Option ℕ → Page → Page
+ready kind f signal p = watch signal (length (and_last p.registrations (entry kind f signal p))) (new_promise p)
+
+ready-changes : (kind : RegKind) (f : Option Func) (signal : Option ℕ) (p : Page) → Changes p (ready kind f signal p)
+ready-changes kind f signal p = changes-then (new_promise-changes p) (watch-changes signal (length (and_last p.registrations (entry kind f signal p))) (new_promise p))
+
+-- what the signals are does not matter to a registration
+promised-ready : (kind : RegKind) (f : Option Func) (signal : Option ℕ) (p : Page) → promised kind f signal p ≡ register_as kind (entry kind f signal p) (ready kind f signal p)
+promised-ready kind f None p = refl
+promised-ready kind f (Some s) p = refl
+
+-- a scheduler task of a new registration
+enqueued-changes : (kind : RegKind) (x : Registration) (source : PrioSource) (continuation : Bool) (p : Page) → x.role ≡ OfKind kind → Changes p (enqueue (last_registration (register_as kind x p)) source continuation (register_as kind x p))
+enqueued-changes kind x source continuation p e =
+    let made = register_as kind x p in
+    let r = last_registration made in
+    let t : SchedTask = record { registration = r; source = source; continuation = continuation; order = suc p.tasks_made } in
+    let q : Page = record made { tasks_made = suc p.tasks_made; sched_tasks = and_last made.sched_tasks t } in
+    register_at-changes kind x (Enq r (queue_name source) continuation (suc p.tasks_made)) p q e refl (at_queue t (made_last kind x p)) (record { notices = refl; performing = refl; events = refl; registrations = refl; frames = refl })
+
+-- a delayed post of a new registration
+delayed-changes : (x : Registration) (source : PrioSource) (ms : ℕ) (p : Page) → x.role ≡ OfKind PostKind → Changes p (post_delayed ms (last_registration (register_as PostKind x p)) source (register_as PostKind x p))
+delayed-changes x source ms p e =
+    let made = register_as PostKind x p in
+    let r = last_registration made in
+    let timers = Timers.run_after ms made.now made.timers in
+    let q : Page = record made { timers = timers; completions = and_last made.completions (record { start = timers.starts_made; completion = EnqueuePost r source }) } in
+    register_at-changes PostKind x (Arm r (made.now + ms * 1000) 0) p q e refl (at_delay timers.starts_made r source (made_last PostKind x p)) (record { notices = refl; performing = refl; events = refl; registrations = refl; frames = refl })
 
 pub post_queued-changes : (f : Func) (source : PrioSource) (signal : Option ℕ) (ms : ℕ) (p : Page) → Changes p (post_queued f source signal ms p)
 post_queued-changes f source signal ms p =
-    let made = promised PostKind (Some f) signal p in
-    let first : Changes p made = promised-changes PostKind (Some f) signal p in
-    cond_of-changes (ms == 0) (enqueue (last_registration made) source false) (post_delayed ms (last_registration made) source) made p
-    (changes-then first (enqueue-changes (last_registration made) source false made))
-    (changes-then first (post_delayed-changes ms (last_registration made) source made))
+    let x = entry PostKind (Some f) signal p in
+    let before = ready PostKind (Some f) signal p in
+    subst (λ (made : Page). Changes p (cond (ms == 0) (enqueue (last_registration made) source false) (post_delayed ms (last_registration made) source) made)) (sym (promised-ready PostKind (Some f) signal p))
+    (changes-then (ready-changes PostKind (Some f) signal p)
+    (cond_of-changes (ms == 0) (enqueue (last_registration (register_as PostKind x before)) source false) (post_delayed ms (last_registration (register_as PostKind x before)) source) (register_as PostKind x before) before
+    (enqueued-changes PostKind x source false before refl) (delayed-changes x source ms before refl)))
 
 pub continuation_queued-changes : (s : SchedulingState) (p : Page) → Changes p (continuation_queued s p)
 continuation_queued-changes s p =
-    let made = promised YieldKind None s.abort_source p in
-    changes-then (promised-changes YieldKind None s.abort_source p) (enqueue-changes (last_registration made) s.prio_source true made)
+    subst (λ (made : Page). Changes p (enqueue (last_registration made) s.prio_source true made)) (sym (promised-ready YieldKind None s.abort_source p))
+    (changes-then (ready-changes YieldKind None s.abort_source p) (enqueued-changes YieldKind (entry YieldKind None s.abort_source p) s.prio_source true (ready YieldKind None s.abort_source p) refl))
 
-pub host_queued-changes : (k : ℕ) (c : HostClosure) (x : ℤ) (signal : Option ℕ) (p : Page) → Changes p (host_queued k c x signal p)
-host_queued-changes k c x signal p =
-    let made = promised HostKind None signal p in
-    changes-then (promised-changes HostKind None signal p) (lined _ made (host_queued k c x signal p) refl refl refl refl refl refl)
+-- a closure that was not asked before is asked by a new registration
+abbrev asked : ℕ → HostClosure → ℤ → Page → Page
+asked k c x made =
+    let r = last_registration made in
+    let due = made.now + latency_of made.latencies k in
+    emit (Arm r due 0) (record made { hosts = slice_set made.hosts k (queued_mark c); host_answers = and_last made.host_answers (record { due = due; task = record { registration = r; closure = k; number = x } }) })
+
+asked-changes : (k : ℕ) (c : HostClosure) (x : ℤ) (e : Registration) (p : Page) → e.role ≡ OfKind HostKind → slice_get p.hosts k ≡ Some c → c.mark ≡ Live → Changes p (asked k c x (register_as HostKind e p))
+asked-changes k c x e p role there live =
+    let made = register_as HostKind e p in
+    let r = last_registration made in
+    let due = made.now + latency_of made.latencies k in
+    let a : HostAnswer = record { due = due; task = record { registration = r; closure = k; number = x } } in
+    let q : Page = record made { hosts = slice_set made.hosts k (queued_mark c); host_answers = and_last made.host_answers a } in
+    register_at-changes HostKind e (Arm r due 0) p q role refl (at_host c a (made_last HostKind e p) there live) (record { notices = refl; performing = refl; events = refl; registrations = refl; frames = refl })
+
+ready-hosts : (kind : RegKind) (f : Option Func) (signal : Option ℕ) (p : Page) → (ready kind f signal p).hosts ≡ p.hosts
+ready-hosts kind f None p = refl
+ready-hosts kind f (Some s) p = refl
+
+pub host_queued-changes : (k : ℕ) (c : HostClosure) (x : ℤ) (signal : Option ℕ) (p : Page) → slice_get p.hosts k ≡ Some c → c.mark ≡ Live → Changes p (host_queued k c x signal p)
+host_queued-changes k c x signal p there live =
+    let before = ready HostKind None signal p in
+    subst (λ (made : Page). Changes p (asked k c x made)) (sym (promised-ready HostKind None signal p))
+    (changes-then (ready-changes HostKind None signal p) (asked-changes k c x (entry HostKind None signal p) before refl (ap {A = List HostClosure} {B = Option HostClosure} (λ hs. slice_get hs k) (ready-hosts HostKind None signal p) ∙ there) live))
 
 -- ---- tasks
 
 pub invoke_idle_again-changes : (p : Page) → Changes p (invoke_idle_again p)
-invoke_idle_again-changes p = cond-changes (is_empty p.idle.runnable) p p _ nothing (queue_task-changes IdleSource InvokeIdle p)
+invoke_idle_again-changes p = cond-changes (is_empty p.idle.runnable) p p _ nothing (queue_task-changes IdleSource InvokeIdle p refl)
 
 pub outstanding-changes : (n : ℕ) (p : Page) → Changes p (outstanding_if_unhandled n p)
 outstanding-changes n p = with_change nothing (noted n)
-
-fire_closure-changes : (k : ℕ) (c : Option HostClosure) (p : Page) → Changes p (fire_closure k c p)
-fire_closure-changes k None p = nothing
-fire_closure-changes k (Some c) p = quietly p (fire_closure k (Some c) p) refl refl refl refl refl
 
 settle_answer-changes : (n : ℕ) (answer : Result ℤ ℤ) (p : Page) → IsGiven (length p.notices.promises) n → Changes p (settle_answer n answer p)
 settle_answer-changes n (Ok v) p x = settle-changes n (Fulfilled (IntValue v)) p x
 settle_answer-changes n (Err v) p x = settle-changes n (Failed (IntValue v)) p x
 
-pub answer_host-changes : (t : HostTask) (answer : Result ℤ ℤ) (p : Page) → IsGiven (length p.notices.promises) (the_registration p t.registration).promise → Changes p (answer_host t answer p)
-answer_host-changes t answer p x =
-    let into = (the_registration p t.registration).promise in
-    let told_one = emit (Host t.closure t.number answer) p in
-    by_closure (slice_get p.hosts t.closure) into told_one x (with_change nothing (told (Host t.closure t.number answer) refl))
+-- a host's task is taken, and the host answers
+pub answer_task-changes : (source : Source) (task : Task) (t : HostTask) (answer : Result ℤ ℤ) (p : Page) → first_task source p.tasks ≡ Some task → task.steps ≡ AnswerHost t → IsGiven (length p.notices.promises) (the_registration p t.registration).promise
+    → Changes p (answer_host t answer (without_task task.number p))
+answer_task-changes source task t answer p e e1 x = by_closure (slice_get p.hosts t.closure) refl
   where
-    by_closure : (c : Option HostClosure) (into : ℕ) (q : Page) → IsGiven (length q.notices.promises) into → Changes p q → Changes p (unwatch t.registration (settle_answer into answer (fire_closure t.closure c q)))
-    by_closure None into q x h = changes-then (changes-then h (settle_answer-changes into answer q x)) (unwatch-changes t.registration (settle_answer into answer q))
-    by_closure (Some c) into q x h =
-        let fired = fire_closure t.closure (Some c) q in
-        changes-then (changes-then (changes-then h (fire_closure-changes t.closure (Some c) q)) (settle_answer-changes into answer fired x)) (unwatch-changes t.registration (settle_answer into answer fired))
+    into : ℕ
+    into = (the_registration p t.registration).promise
+
+    told_one : Page
+    told_one = emit (Host t.closure t.number answer) (without_task task.number p)
+
+    rest : (q : Page) → IsGiven (length q.notices.promises) into → Changes p q → Changes p (unwatch t.registration (settle_answer into answer q))
+    rest q x h = changes-then (changes-then h (settle_answer-changes into answer q x)) (unwatch-changes t.registration (settle_answer into answer q))
+
+    by_closure : (c : Option HostClosure) → slice_get p.hosts t.closure ≡ c → Changes p (unwatch t.registration (settle_answer into answer (fire_closure t.closure c told_one)))
+    by_closure None k = rest told_one x (with_change nothing (answered source task t answer e e1 (ap {A = Option HostClosure} {B = Places} (λ o. record (places told_one) { hosts = fired_at t.closure o p.hosts }) (sym k)) (record { notices = refl; performing = refl; events = refl; registrations = refl; frames = refl })))
+    by_closure (Some c) k =
+        let fired = fire_closure t.closure (Some c) told_one in
+        rest fired x (with_change nothing (answered source task t answer e e1 (ap {A = Option HostClosure} {B = Places} (λ o. record (places told_one) { hosts = fired_at t.closure o p.hosts }) (sym k)) (record { notices = refl; performing = refl; events = refl; registrations = refl; frames = refl })))
 
 -- ---- parallel items
 
-complete-changes : (c : Completion) (p : Page) → Changes p (complete c p)
-complete-changes (QueueTimer t) p = lined (Due t.registration) p (complete (QueueTimer t) p) refl refl refl refl refl refl
-complete-changes (EnqueuePost r source) p =
-    let q = emit (Due r) p in
-    let first : Changes p q = with_change nothing (told (Due r) refl) in
-    cond_of-changes (is_aborted_source p (the_registration p r).signal) (λ q. q) (enqueue r source false) q p first (changes-then first (enqueue-changes r source false q))
-complete-changes (QueueSignal r s) p = lined (Due r) p (complete (QueueSignal r s) p) refl refl refl refl refl refl
+-- the steps of an active timer complete, which were found by its start
+complete-changes : (start : ℕ) (c : Completion) (p : Page) → completion_of p.completions start ≡ Some c → Changes p (complete c (without_timer start p))
+complete-changes start (QueueTimer t) p e =
+    lined_placed (Due t.registration) p (complete (QueueTimer t) (without_timer start p)) refl (timer_due start (suc p.tasks_made) Timer t e) refl refl refl refl refl
+complete-changes start (EnqueuePost r source) p e = by_abort (is_aborted_source p (the_registration p r).signal)
+  where
+    told_one : Page
+    told_one = emit (Due r) p
 
-complete_at-changes : (c : Option Completion) (p : Page) → Changes p (complete_at c p)
-complete_at-changes None p = nothing
-complete_at-changes (Some c) p = complete-changes c p
+    t : SchedTask
+    t = record { registration = r; source = source; continuation = false; order = suc p.tasks_made }
 
-take_item-changes : (what : ItemKind) (p : Page) → Changes p (take_item what p)
-take_item-changes (ArrivalItem n a) p = quietly p (take_item (ArrivalItem n a) p) refl refl refl refl refl
-take_item-changes (HostItem a) p = lined (Due a.task.registration) p (take_item (HostItem a) p) refl refl refl refl refl refl
-take_item-changes (TimerItem t) p =
-    let q = without_timer t.start p in
-    changes-then (quietly p q refl refl refl refl refl) (complete_at-changes (completion_of p.completions t.start) q)
-take_item-changes (IdleItem t) p = lined (Due t.registration) p (take_item (IdleItem t) p) refl refl refl refl refl refl
-take_item-changes FrameItem p = quietly p (take_item FrameItem p) refl refl refl refl refl
+    posted_one : Page
+    posted_one = enqueue r source false (emit (Due r) (without_timer start p))
+
+    by_abort : (b : Bool) → Changes p (cond b (λ q. q) (enqueue r source false) (emit (Due r) (without_timer start p)))
+    by_abort true = lined_placed (Due r) p (emit (Due r) (without_timer start p)) refl (completed start) refl refl refl refl refl
+    by_abort false = changes-then {q = told_one} (with_change nothing (told (Due r) refl)) (lined_placed (Enq r (queue_name source) false (suc p.tasks_made)) told_one posted_one refl (post_due start source t e) refl refl refl refl refl)
+complete-changes start (QueueSignal r s) p e =
+    let gone = emit (Due r) (without_timer start p) in
+    changes-then (lined_placed (Due r) p gone refl (completed start) refl refl refl refl refl) (queue_task-changes Timer (TimeOutSignal s) gone refl)
+
+complete_at-changes : (start : ℕ) (c : Option Completion) (p : Page) → completion_of p.completions start ≡ c → Changes p (complete_at c (without_timer start p))
+complete_at-changes start None p e = placed p (without_timer start p) (completed start) refl refl refl refl refl
+complete_at-changes start (Some c) p e = complete-changes start c p e
+
+-- an answer that is pending: the ones before it and behind it
+record Pending (xs : List HostAnswer) (a : HostAnswer) : Type 0 where
+  before : List HostAnswer
+  after : List HostAnswer
+  whole : xs ≡ before ++ a ∷ after
+
+-- a host's item is an answer that is pending
+abbrev Stands : Page → ItemKind → Type 0
+Stands p (HostItem a) = Pending p.host_answers a
+Stands p what = Unit {0}
+
+take_item-changes : (what : ItemKind) (p : Page) → Stands p what → Changes p (take_item what p)
+take_item-changes (ArrivalItem n a) p h =
+    let q : Page = record p { arrivals = without_numbered n p.arrivals } in
+    changes-then (quietly p q refl refl refl refl refl refl) (queue_task-changes a.source (FireAtWindow a.name a.value) q refl)
+take_item-changes (HostItem a) p h = lined_placed (Due a.task.registration) p (take_item (HostItem a) p) refl (answer_due h.before a h.after (suc p.tasks_made) Net h.whole) refl refl refl refl refl
+take_item-changes (TimerItem t) p h = complete_at-changes t.start (completion_of p.completions t.start) p refl
+take_item-changes (IdleItem t) p h =
+    let q : Page = emit (Due t.registration) (record p { idle_timers = without (λ u. u.handle == t.handle) p.idle_timers }) in
+    changes-then (lined (Due t.registration) p q refl refl refl refl refl refl refl) (queue_task-changes IdleSource (IdleTimeout t.handle) q refl)
+take_item-changes FrameItem p h =
+    let q : Page = record p { last_opportunity = p.now } in
+    changes-then (quietly p q refl refl refl refl refl refl) (queue_task-changes Render (RunFrame p.now) q refl)
+
+-- ---- the items that stand in a page
+
+arrivals_stand : (p : Page) (n : ℕ) (xs : List Arrival) → Each (λ (i : Item). Stands p i.what) (arrival_items n xs)
+arrivals_stand p n [] = tt
+arrivals_stand p n (x ∷ xs) = (tt, arrivals_stand p (suc n) xs)
+
+hosts_stand : (p : Page) (before xs : List HostAnswer) → p.host_answers ≡ before ++ xs → Each (λ (i : Item). Stands p i.what) (map (λ a. record { due = a.due; what = HostItem a }) xs)
+hosts_stand p before [] e = tt
+hosts_stand p before (x ∷ xs) e = (record { before = before; after = xs; whole = e }, hosts_stand p (before ++ x ∷ []) xs (e ∙ shifted before))
+  where
+    shifted : (ys : List HostAnswer) → ys ++ x ∷ xs ≡ (ys ++ x ∷ []) ++ xs
+    shifted [] = refl
+    shifted (y ∷ ys) = ap (y ∷◌) (shifted ys)
+
+timers_stand : (p : Page) (xs : List ActiveTimer) → Each (λ (i : Item). Stands p i.what) (map (λ t. record { due = t.due; what = TimerItem t }) xs)
+timers_stand p [] = tt
+timers_stand p (x ∷ xs) = (tt, timers_stand p xs)
+
+idles_stand : (p : Page) (xs : List IdleTimer) → Each (λ (i : Item). Stands p i.what) (map (λ t. record { due = t.due; what = IdleItem t }) xs)
+idles_stand p [] = tt
+idles_stand p (x ∷ xs) = (tt, idles_stand p xs)
+
+frames_stand : (p : Page) (o : Option ℕ) → Each (λ (i : Item). Stands p i.what) (frame_items o)
+frames_stand p None = tt
+frames_stand p (Some t) = (tt, tt)
+
+items_stand : (p : Page) → Each (λ (i : Item). Stands p i.what) (items_in_order p)
+items_stand p =
+    let P : Item → Type 0 = λ i. Stands p i.what in
+    let arrivals : List Item = arrival_items 1 p.arrivals in
+    let hosts : List Item = map (λ a. record { due = a.due; what = HostItem a }) p.host_answers in
+    let timers : List Item = map (λ t. record { due = t.due; what = TimerItem t }) p.timers.active in
+    let idles : List Item = map (λ t. record { due = t.due; what = IdleItem t }) p.idle_timers in
+    Each-append P (arrivals ++ hosts ++ timers ++ idles) (frame_items (next_frame p))
+    (Each-append P (arrivals ++ hosts ++ timers) idles
+    (Each-append P (arrivals ++ hosts) timers
+    (Each-append P arrivals hosts (arrivals_stand p 1 p.arrivals) (hosts_stand p [] p.host_answers refl)) (timers_stand p p.timers.active)) (idles_stand p p.idle_timers)) (frames_stand p (next_frame p))
+
+first_from_stands : (p : Page) (a : Item) (others : List Item) → Stands p a.what → Each (λ (i : Item). Stands p i.what) others → Stands p (first_item_from a others).what
+first_from_stands p a [] h k = h
+first_from_stands p a (b ∷ others) h k = first_from_stands p (cond (nat_lt b.due a.due) b a) others (by_test (nat_lt b.due a.due)) k.1
+  where
+    by_test : (c : Bool) → Stands p (cond c b a).what
+    by_test true = k.0
+    by_test false = h
+
+first_of_stands : (p : Page) (xs : List Item) → Each (λ (i : Item). Stands p i.what) xs → IfThere (λ (i : Item). Stands p i.what) (first_item_of xs)
+first_of_stands p [] k = tt
+first_of_stands p (a ∷ others) k = first_from_stands p a others k.0 k.1
+
+due_stands : (p : Page) (now : ℕ) (o : Option Item) → IfThere (λ (i : Item). Stands p i.what) o → IfThere (λ (i : Item). Stands p i.what) (due_item now o)
+due_stands p now None k = tt
+due_stands p now (Some a) k = by_test (nat_le a.due now)
+  where
+    by_test : (b : Bool) → IfThere (λ (i : Item). Stands p i.what) (cond b (Some a) None)
+    by_test true = k
+    by_test false = tt
 
 take_due-changes : (n : ℕ) (p : Page) → Changes p (take_due n p)
 take_due-changes zero p = nothing
-take_due-changes (suc n) p = elim-changes (due_item p.now (first_item p)) p p _ nothing (λ a. changes-then (take_item-changes a.what p) (take_due-changes n (take_item a.what p)))
+take_due-changes (suc n) p = by_item (due_item p.now (first_item p)) (due_stands p p.now (first_item p) (first_of_stands p (items_in_order p) (items_stand p))) (λ q. take_due-changes n q)
+  where
+    by_item : (o : Option Item) → IfThere (λ (i : Item). Stands p i.what) o → ((q : Page) → Changes q (take_due n q)) → Changes p (elim o [ None ↦ p | Some a ↦ take_due n (take_item a.what p) ])
+    by_item None k rest = nothing
+    by_item (Some a) k rest = changes-then (take_item-changes a.what p k) (rest (take_item a.what p))
 
 pub parallel-changes : (p : Page) → Changes p (parallel p)
 parallel-changes p = take_due-changes (item_count p) p

@@ -1,5 +1,7 @@
 -- No job is run inside a call.
 use Rattle.std.proofs.Common.{◌≡◌, ℕ, Bool, true, false, List, [], ◌∷◌, ◌++◌, Option, Some, None, refl, sym, subst, ap, cond}
+use Rattle.page_types.specs.declared.RegKind.TheVariants as kind
+use Rattle.page_model.specs.Invoke.{register_as}
 use Rattle.page_types.specs.Events.{Event, Run}
 use Rattle.page_parts.specs.Promises.{Settled, Fulfilled, Failed, PromiseJob, Reaction}
 use Rattle.page_parts.specs.Promises as Promises
@@ -11,7 +13,7 @@ use Rattle.page_model.specs.State.{Page, on_notices, context}
 use Rattle.page_model.specs.Numbers.{Each}
 use Rattle.page_laws.specs.History.{History, is_rest}
 use Rattle.page_laws.specs.CallLaws.{keeps_nesting, is_nil}
-use Rattle.page_laws.specs.Moves.{frame_asked, frame_gone, is_aside, is_end, promise_changes, PageChange, elsewhere, told, rested, registered, promised, settled, followed, adopted, subscribed, micro_queued, rejected_taken, noted, Beginning, TheScript, ATimer, AFrame, AnIdle, ALateIdle, AListener, APost, AContinuation, AMicro, AReaction, taken, Waited, Moves, here, changing, calling, ending, flagging, running}
+use Rattle.page_laws.specs.Moves.{frame_asked, frame_gone, is_aside, is_end, promise_changes, PageChange, elsewhere, told, rested, registered, promised, settled, followed, adopted, subscribed, micro_asked, then_asked, answered, AsBefore, rejected_taken, noted, Beginning, TheScript, ATimer, AFrame, AnIdle, ALateIdle, AListener, APost, AContinuation, AMicro, AReaction, taken, Waited, Moves, here, changing, calling, ending, flagging, running}
 use Rattle.page_laws.proofs.Lines.{emit_each-events}
 use Rattle.page_laws.proofs.Scans.{Test, Kept, kept-added}
 
@@ -68,18 +70,20 @@ subscribed-kept n r p k =
     (changed-passes (context p) [] n (Promises.subscribe n (the_promise p.notices.promises n) r) (record p.notices { rejected = without (λ m. m == n) p.notices.rejected; outstanding = without (λ m. m == n) p.notices.outstanding })) k
 
 change-kept : {p q : Page} → PageChange p q → Kept nesting p.events → Kept nesting q.events
-change-kept (elsewhere x y z w v) k = subst (Kept nesting) (sym z) k
+change-kept (elsewhere c b) k = subst (Kept nesting) (sym b.events) k
 change-kept {p = p} (told e h) k = (aside-passes e h p.events, k)
 change-kept {p = p} (rested e h x y) k = (rest-passes e h p.events, k)
-change-kept (registered kind x e) k = (refl, k)
+change-kept (answered source task t answer x y z b) k = subst (Kept nesting) (sym b.events) (refl, k)
+change-kept (registered kind x e u b) k = subst (Kept nesting) (sym b.events) (refl, k)
 change-kept (frame_asked f) k = (refl, k)
 change-kept (frame_gone handle) k = k
 change-kept promised k = k
 change-kept {p = p} (settled n how x y) k = changes-kept n (Promises.settle n (the_promise p.notices.promises n) how) p k
 change-kept {p = p} (followed n how x y) k = changes-kept n (Promises.settle n (the_promise p.notices.promises n) how) p k
 change-kept {p = p} (adopted n from x y) k = changes-kept n (Promises.adopt n (the_promise p.notices.promises n) from) p k
-change-kept {p = p} (subscribed n r x) k = subscribed-kept n r p k
-change-kept {p = p} (micro_queued r) k = notices-kept (queue_micro (context p) r) p (λ older. refl, tt) k
+change-kept {p = p} (subscribed n r x y) k = subscribed-kept n r p k
+change-kept {p = p} (then_asked n x r e g y) k = subscribed-kept n r (register_as kind.Then x p) (refl, k)
+change-kept {p = p} (micro_asked x r e y) k = notices-kept (queue_micro (context p) r) (register_as kind.Micro x p) (λ older. refl, tt) (refl, k)
 change-kept rejected_taken k = k
 change-kept (noted n) k = k
 
@@ -100,5 +104,5 @@ moves-kept here k = k
 moves-kept (changing a c) k = change-kept c (moves-kept a k)
 moves-kept (calling {q = q} a b w i) k = (refl, begins-kept b q w (moves-kept a k))
 moves-kept (ending {q = q} a e h) k = (end-passes e h q.events, moves-kept a k)
-moves-kept (flagging a x y z w) k = subst (Kept nesting) (sym y) (moves-kept a k)
+moves-kept (flagging a x y z w u) k = subst (Kept nesting) (sym y) (moves-kept a k)
 moves-kept (running {q = q} a j others x y) k = (ap is_nil y, moves-kept a k)

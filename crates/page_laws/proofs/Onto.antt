@@ -1,6 +1,6 @@
 -- What a page does, with its numbers given, is rows of changes.
 use Rattle.page_laws.proofs.Evaluating.{Onto}
-use Rattle.page_laws.proofs.Moved.{abort_registration-changes, answer_host-changes, any_made-changes, cancel_frame-changes, cancel_idle-changes, change_begun-changes, change_ended-changes, clear_id-changes, clear_timer-changes, continuation_queued-changes, follow-changes, frame_requested-changes, host_queued-changes, idle_requested-changes, init_timer-changes, listener_added-changes, listener_removed-changes, micro_registered-changes, new_promise-changes, parallel-changes, post_queued-changes, queue_task-changes, quietly, reason_set-changes, script_promise-changes, settle-changes, subscribe-changes, task_signal_made-changes, then_made-changes, timeout_signal_made-changes, timer_set-changes, unwatch-changes, with_signals-changes, with_state-changes, without_frame-changes, without_idle-changes, without_sched-changes, finally_made-changes, posted-changes}
+use Rattle.page_laws.proofs.Moved.{abort_registration-changes, any_made-changes, cancel_frame-changes, cancel_idle-changes, change_begun-changes, change_ended-changes, clear_id-changes, clear_timer-changes, continuation_queued-changes, follow-changes, frame_requested-changes, host_queued-changes, idle_requested-changes, init_again-changes, listener_added-changes, listener_removed-changes, micro_registered-changes, new_promise-changes, parallel-changes, post_queued-changes, quietly, reason_set-changes, script_promise-changes, settle-changes, subscribe-changes, task_signal_made-changes, then_made-changes, timeout_signal_made-changes, timer_set-changes, unwatch-changes, with_signals-changes, with_state-changes, without_frame-changes, without_idle-changes, without_sched-changes, finally_made-changes, posted-changes}
 use Rattle.page_laws.proofs.Moving.{changes-then}
 use Rattle.page_laws.specs.Moves.{Changes, nothing}
 use Rattle.page_model.proofs.NumbersGrow.{Each-more, HasPromise-grows, Held, InSignals, IsKnown-grows, Onward, last-given, promise-grows}
@@ -19,6 +19,7 @@ use Rattle.page_model.specs.State.{OfKind, HostTask, Page, PrioSource, Schedulin
 use Rattle.page_model.specs.Tasks.{answer_host}
 use Rattle.page_parts.specs.AbortGraph.{make_aborted, the_signal, with_algorithms}
 use Rattle.page_parts.specs.HostClosures.{HostClosure}
+use Rattle.page_types.specs.declared.HostMark.TheVariants.{Live}
 use Rattle.page_parts.specs.Kinds.{Func}
 use Rattle.page_parts.specs.Listeners.{Target}
 use Rattle.page_parts.specs.Promises.{Failed, Fulfilled, Reaction, Settled, pending_promise, settled_value}
@@ -26,7 +27,7 @@ use Rattle.page_types.specs.Values.{Value}
 use Rattle.page_types.specs.declared.Priority.{Priority}
 use Rattle.page_types.specs.declared.RegKind.{RegKind}
 use Rattle.page_types.specs.declared.Source.{Source}
-use Rattle.std.proofs.Common.{◌≡◌, Bool, List, Option, Result, Some, [], length, refl, ℕ, ℤ, ◌<◌, ◌∷◌}
+use Rattle.std.proofs.Common.{◌≡◌, Bool, true, List, Option, None, Some, [], slice_get, length, refl, ℕ, ℤ, ◌<◌, ◌∷◌}
 use Rattle.page_model.specs.PagePromises as promises
 use Rattle.page_parts.specs.AbortGraph as AbortGraph
 
@@ -37,9 +38,6 @@ Anew p q = Onward (made_by (new_promise p)) q × Changes p q
 -- how a promise is settled by a value, as `promises.resolve` and `promises.reject`
 abbrev pub SettleGoes : (ℕ → Value → Page → Page) → Type 0
 SettleGoes settle = (k : ℕ) (v : Value) (p : Page) → Held (made_by p) p → IsGiven (length p.notices.promises) k → IsKnown (made_by p) v → Onto p (settle k v p)
-
-pub queue_task-onto : (source : Source) (steps : Steps) (p : Page) → Held (made_by p) p → StepsAreGiven (made_by p) steps → Onto p (queue_task source steps p)
-queue_task-onto source steps p h x = (queue_task-held source steps p h x, queue_task-changes source steps p)
 
 pub settle-onto : (k : ℕ) (how : Settled) (p : Page) → Held (made_by p) p → IsGiven (length p.notices.promises) k → IsKnown (made_by p) (settled_value how) → Onto p (promises.settle k how p)
 settle-onto k how p h x v = (settle-held k how p h x v, settle-changes k how p x)
@@ -53,11 +51,11 @@ reject-onto k v p h x w = (reject-held k v p h x w, settle-changes k (Failed v) 
 pub follow-onto : (k : ℕ) (how : Settled) (p : Page) → Held (made_by p) p → IsGiven (length p.notices.promises) k → IsKnown (made_by p) (settled_value how) → Onto p (promises.follow k how p)
 follow-onto k how p h x v = (follow-held k how p h x v, follow-changes k how p x)
 
-pub subscribe-onto : (k : ℕ) (r : Reaction) (p : Page) → Held (made_by p) p → IsGiven (length p.notices.promises) k → ReactionIsGiven (made_by p) r → Onto p (promises.subscribe k r p)
-subscribe-onto k r p h x y = (subscribe-held k r p h x y, subscribe-changes k r p x)
+pub subscribe-onto : (k : ℕ) (r : Reaction) (p : Page) → Held (made_by p) p → IsGiven (length p.notices.promises) k → ReactionIsGiven (made_by p) r → r.registration ≡ None → Onto p (promises.subscribe k r p)
+subscribe-onto k r p h x y e = (subscribe-held k r p h x y, subscribe-changes k r p x e)
 
-pub init_again-onto : (id r : ℕ) (repeats : Bool) (timeout : ℤ) (p : Page) → Held (made_by p) p → IsGiven p.timers.ids_made id → IsFor (timer_role repeats) (made_by p) r → Onto p (init_timer (Some id) r repeats timeout p)
-init_again-onto id r repeats timeout p h i x = (init_again-held id r repeats timeout p h i x, init_timer-changes (Some id) r repeats timeout p)
+pub init_again-onto : (id r : ℕ) (timeout : ℤ) (p : Page) → Held (made_by p) p → IsGiven p.timers.ids_made id → IsFor (timer_role true) (made_by p) r → Onto p (init_timer (Some id) r true timeout p)
+init_again-onto id r timeout p h i x = (init_again-held id r true timeout p h i x, init_again-changes id r timeout p x.role)
 
 pub clear_id-onto : (id : ℕ) (p : Page) → Held (made_by p) p → Onto p (clear_id id p)
 clear_id-onto id p h = (clear_id-held id p h, clear_id-changes id p)
@@ -140,11 +138,9 @@ post_queued-onto f source signal ms p h x y s = (post_queued-held f source signa
 pub continuation_queued-onto : (s : SchedulingState) (p : Page) → Held (made_by p) p → StateIsGiven (made_by p) s → Anew p (continuation_queued s p)
 continuation_queued-onto s p h x = (continuation_queued-held s p h x, continuation_queued-changes s p)
 
-pub host_queued-onto : (k : ℕ) (c : HostClosure) (x : ℤ) (signal : Option ℕ) (p : Page) → Held (made_by p) p → k < length p.hosts → IfThere (IsGiven (length p.signals)) signal → Anew p (host_queued k c x signal p)
-host_queued-onto k c x signal p h below s = (host_queued-held k c x signal p h below s, host_queued-changes k c x signal p)
+pub host_queued-onto : (k : ℕ) (c : HostClosure) (x : ℤ) (signal : Option ℕ) (p : Page) → Held (made_by p) p → k < length p.hosts → slice_get p.hosts k ≡ Some c → c.mark ≡ Live → IfThere (IsGiven (length p.signals)) signal → Anew p (host_queued k c x signal p)
+host_queued-onto k c x signal p h below there live s = (host_queued-held k c x signal p h below s, host_queued-changes k c x signal p there live)
 
-pub answer_host-onto : (t : HostTask) (answer : Result ℤ ℤ) (p : Page) → Held (made_by p) p → HasPromise (made_by p) t.registration → Onto p (answer_host t answer p)
-answer_host-onto t answer p h x = (answer_host-held t answer p h x, answer_host-changes t answer p x.promise)
 
 pub parallel-onto : (p : Page) → Held (made_by p) p → Onto p (parallel p)
 parallel-onto p h = (parallel-held p h, parallel-changes p)
@@ -183,7 +179,7 @@ run_algorithms-onto s p h =
     let q : Page = record p { signals = with_algorithms s [] p.signals } in
     let next : Onward (made_by p) q = with_algorithms-held s [] p h tt in (
       run_algorithms-held s p h,
-      changes-then (quietly p q refl refl refl refl refl)
+      changes-then (quietly p q refl refl refl refl refl refl)
           (abort_registrations-changes (reason_value p s) (the_signal p.signals s).algorithms q next.1
           (IsKnown-grows (made_by p) (made_by q) next.0 (reason_value p s) (reason_value-known p s h))
           (Each-more (HasPromise (made_by p)) (HasPromise (made_by q)) (HasPromise-grows (made_by p) (made_by q) next.0) (the_signal p.signals s).algorithms (algorithms-given s p h))),

@@ -10,7 +10,7 @@ use Rattle.page_laws.proofs.Evaluating.{Onto, keeping, le-same, on_page-reached,
 use Rattle.page_laws.proofs.Going.{answered-holds, calls-hold, fault-holds, take_unit-holds}
 use Rattle.page_laws.proofs.Moved.{quietly}
 use Rattle.page_laws.proofs.Onto.{Anew, SettleGoes, any-onto, any_made-onto, cancel_frame-onto, cancel_idle-onto, clear_timer-onto, continuation_queued-onto, frame_requested-onto, host_queued-onto, idle_requested-onto, listener_added-onto, listener_removed-onto, make-onto, make_aborted-onto, micro_registered-onto, new_settled-onto, post_queued-onto, reject-onto, resolve-onto, script_promise-onto, task_signal_made-onto, then_made-onto, timeout_signal_made-onto, timer_set-onto, finally_made-onto, posted-onto}
-use Rattle.page_laws.proofs.Runs.{CallsGo, Goes, WaysGo, abort-goes, branch-goes, change-goes, finish-goes, finish_page, in_script-goes, priority_value-known}
+use Rattle.page_laws.proofs.Runs.{CallsGo, Goes, WaysGo, abort-goes, branch-goes, branch_when-goes, change-goes, finish-goes, finish_page, in_script-goes, priority_value-known}
 use Rattle.page_model.proofs.NumbersEvaluation.{Good, Known, each, limited-known, need-known, need_any-known}
 use Rattle.page_model.proofs.NumbersGrow.{Each-append, Each-get, Each-last, Each-numbered, Held, IfThere-more, InPrios, InStates, last-given, stays, unwrapped, IfThere-cond}
 use Rattle.page_model.proofs.NumbersMaking.{after_new, signal_given}
@@ -24,6 +24,8 @@ use Rattle.page_model.specs.PageTime.{cancel_frame, cancel_idle, clear_timer, ti
 use Rattle.page_model.specs.SchedulerTasks.{current_state, no_state}
 use Rattle.page_model.specs.State.{OfKind, OfSignal, Page, SchedulingState, State, emit, last_registration}
 use Rattle.page_parts.specs.HostClosures.{HostClosure}
+use Rattle.page_types.specs.declared.HostMark.{HostMark}
+use Rattle.page_types.specs.declared.HostMark.TheVariants.{Live, Queued as QueuedMark, Fired, Dropped}
 use Rattle.page_parts.specs.Kinds.{Func, a_fault, controller_in, deadline_in, fault_in, func_in, int_in, is_unit, list_in, promise_in, signal_in, text_in, is_sendable, within_limits}
 use Rattle.page_parts.specs.Spelling.{fault_text, spelled}
 use Rattle.page_parts.specs.TaskSignals.{is_changing, priority_of}
@@ -129,17 +131,32 @@ get_below [] k = tt
 get_below (x ∷ xs) zero = omega arith
 get_below {X = X} (x ∷ xs) (suc k) = IfThere-more (λ (y : X). k < length xs) (λ (y : X). suc k < length (x ∷ xs)) (λ y le. omega (arith, le)) (slice_get xs k) (get_below xs k)
 
-closure_below : (p : Page) (k : ℤ) → IfThere (λ (c : HostClosure). not_below_zero k < length p.hosts) (closure_at p k)
-closure_below p (pos k) = get_below p.hosts k
-closure_below p (negsuc k) = tt
+-- a closure stands at its number
+abbrev StandsAt : List HostClosure → ℕ → HostClosure → Type 0
+StandsAt hosts k c = k < length hosts × slice_get hosts k ≡ Some c
 
-fitting_below : (count k : ℕ) (x : ℤ) (o : Option HostClosure) → IfThere (λ (c : HostClosure). k < count) o → IfThere (λ (c : HostClosure). k < count) (fitting o x)
-fitting_below count k x None h = tt
-fitting_below count k x (Some c) h = by_range (int_within c.low c.high x)
+closure_stands : (p : Page) (k : ℤ) → IfThere (StandsAt p.hosts (not_below_zero k)) (closure_at p k)
+closure_stands p (pos k) = by_closure (slice_get p.hosts k) refl (get_below p.hosts k)
   where
-    by_range : (b : Bool) → IfThere (λ (c : HostClosure). k < count) (cond b (Some c) None)
+    by_closure : (o : Option HostClosure) → slice_get p.hosts k ≡ o → IfThere (λ (c : HostClosure). k < length p.hosts) o → IfThere (StandsAt p.hosts k) o
+    by_closure None e h = tt
+    by_closure (Some c) e h = (h, e)
+closure_stands p (negsuc k) = tt
+
+fitting_stands : (P : HostClosure → Type 0) (x : ℤ) (o : Option HostClosure) → IfThere P o → IfThere P (fitting o x)
+fitting_stands P x None h = tt
+fitting_stands P x (Some c) h = by_range (int_within c.low c.high x)
+  where
+    by_range : (b : Bool) → IfThere P (cond b (Some c) None)
     by_range true = h
     by_range false = tt
+
+-- a closure that was never asked is live
+fresh_live : (mark : HostMark) → is_fresh mark ≡ true → mark ≡ Live
+fresh_live Live e = refl
+fresh_live QueuedMark e = Prim.cc
+fresh_live Fired e = Prim.cc
+fresh_live Dropped e = Prim.cc
 
 module _ (program : Program) where
   -- ---- ways to put operations together
@@ -180,7 +197,7 @@ module _ (program : Program) where
   busy-goes v m g =
       take_unit-holds (keeping program) m _ g (λ r le gr. given_any-goes (int_in v) r busy_for gr
       (λ i. branch-goes program (int_within (pos 0) (pos 1000000000) i) r (does (λ p. record p { now = p.now + not_below_zero i })) (throw_fault RangeError)
-      (finish_page program r (λ p. record p { now = p.now + not_below_zero i }) gr (stays r.host gr.0, quietly r.host (record r.host { now = r.host.now + not_below_zero i }) refl refl refl refl refl)) (fault-holds (keeping program) r RangeError gr)))
+      (finish_page program r (λ p. record p { now = p.now + not_below_zero i }) gr (stays r.host gr.0, quietly r.host (record r.host { now = r.host.now + not_below_zero i }) refl refl refl refl refl refl)) (fault-holds (keeping program) r RangeError gr)))
 
   queue_microtask-goes : (f : Value) (m : State) → Good m → IsKnown (made_by m.host) f → Ends m (queue_microtask f m)
   queue_microtask-goes f m g h =
@@ -353,17 +370,17 @@ module _ (program : Program) where
   yield_in-goes : (s : SchedulingState) (m : State) → Good m → StateIsGiven (made_by m.host) s → Ends m (yield_in s m)
   yield_in-goes s m g x = unless_aborted-goes s.abort_source (λ m. continuation_queued s) m g (continuation_queued-onto s m.host g.0 x)
 
-  host_accepted-goes : (k : ℕ) (c : HostClosure) (x : ℤ) (signal : Option ℕ) (m : State) → Good m → k < length m.host.hosts → IfThere (IsGiven (length m.host.signals)) signal → Ends m (host_accepted k c x signal m)
-  host_accepted-goes k c x signal m g below s =
-      branch-goes program (is_fresh c.mark) m _ (rejected_with (a_fault NotAllowedError))
-      (unless_aborted-goes signal (λ m. host_queued k c x signal) m g (host_queued-onto k c x signal m.host g.0 below s)) (rejected_with-goes (a_fault NotAllowedError) m g tt)
+  host_accepted-goes : (k : ℕ) (c : HostClosure) (x : ℤ) (signal : Option ℕ) (m : State) → Good m → StandsAt m.host.hosts k c → IfThere (IsGiven (length m.host.signals)) signal → Ends m (host_accepted k c x signal m)
+  host_accepted-goes k c x signal m g there s =
+      branch_when-goes program (is_fresh c.mark) m _ (rejected_with (a_fault NotAllowedError))
+      (λ fresh. unless_aborted-goes signal (λ m. host_queued k c x signal) m g (host_queued-onto k c x signal m.host g.0 there.0 there.1 (fresh_live c.mark fresh) s)) (λ asked. rejected_with-goes (a_fault NotAllowedError) m g tt)
 
   host_asked-goes : (k x : ℤ) (signal : Option ℕ) (m : State) → Good m → IfThere (IsGiven (length m.host.signals)) signal → Ends m (host_asked k x signal m)
-  host_asked-goes k x signal m g s = by_closure (fitting (closure_at m.host k) x) (fitting_below (length m.host.hosts) (not_below_zero k) x (closure_at m.host k) (closure_below m.host k))
+  host_asked-goes k x signal m g s = by_closure (fitting (closure_at m.host k) x) (fitting_stands (StandsAt m.host.hosts (not_below_zero k)) x (closure_at m.host k) (closure_stands m.host k))
     where
-      by_closure : (o : Option HostClosure) → IfThere (λ (c : HostClosure). not_below_zero k < length m.host.hosts) o → Ends m (elim o [ None ↦ rejected_with (a_fault RangeError) m | Some c ↦ host_accepted (not_below_zero k) c x signal m ])
-      by_closure None below = rejected_with-goes (a_fault RangeError) m g tt
-      by_closure (Some c) below = host_accepted-goes (not_below_zero k) c x signal m g below s
+      by_closure : (o : Option HostClosure) → IfThere (StandsAt m.host.hosts (not_below_zero k)) o → Ends m (elim o [ None ↦ rejected_with (a_fault RangeError) m | Some c ↦ host_accepted (not_below_zero k) c x signal m ])
+      by_closure None there = rejected_with-goes (a_fault RangeError) m g tt
+      by_closure (Some c) there = host_accepted-goes (not_below_zero k) c x signal m g there s
 
   host-goes : (k x signal : Value) (m : State) → Good m → IsKnown (made_by m.host) signal → Ends m (host k x signal m)
   host-goes k x signal m g h =

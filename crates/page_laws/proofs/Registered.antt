@@ -5,7 +5,8 @@ use Rattle.std.proofs.lemmas.Option.{slice_get_past}
 use Rattle.std.specs.Prelude.{◌==◌}
 use Rattle.page_types.specs.declared.RegKind.{RegKind}
 use Rattle.page_types.specs.declared.RegKind.TheVariants as kind
-use Rattle.page_types.specs.Events.{Event, Call, Ret, Throw, Reg, Run, Turn, IdleLine}
+use Rattle.page_model.specs.Invoke.{register_as}
+use Rattle.page_types.specs.Events.{Event, Call, Ret, Throw, Reg, Run, Turn, IdleLine, Host}
 use Rattle.page_types.specs.declared.Source.TheVariants.{Sched}
 use Rattle.page_parts.specs.Words.{and_last, numbered, without}
 use Rattle.page_parts.specs.Promises.{Settled, Fulfilled, Failed, PromiseJob, Reaction}
@@ -18,16 +19,21 @@ use Rattle.page_model.specs.Numbers.{Each, IsFor, made_by, timer_role}
 use Rattle.page_model.proofs.NumbersGrow.{numbered-last, length-last}
 use Rattle.page_laws.specs.History.{History, some_line, is_reg_of, kind_of, kind_in, has_kind, is_some_and, is_rest}
 use Rattle.page_laws.specs.CallLaws.{has_no_callback}
-use Rattle.page_laws.specs.Registering.{keeps_kinds}
-use Rattle.page_laws.specs.Moves.{frame_asked, frame_gone, is_aside, is_end, promise_changes, PageChange, elsewhere, told, rested, registered, promised, settled, followed, adopted, subscribed, micro_queued, rejected_taken, noted, Beginning, TheScript, ATimer, AFrame, AnIdle, ALateIdle, AListener, APost, AContinuation, AMicro, AReaction, called_by, role_of, taken, Moves, here, changing, calling, ending, flagging, running}
+use Rattle.page_laws.specs.Moves.{frame_asked, frame_gone, is_aside, is_end, promise_changes, PageChange, elsewhere, told, rested, registered, promised, settled, followed, adopted, subscribed, micro_asked, then_asked, answered, AsBefore, rejected_taken, noted, Beginning, TheScript, ATimer, AFrame, AnIdle, ALateIdle, AListener, APost, AContinuation, AMicro, AReaction, called_by, role_of, taken, Moves, here, changing, calling, ending, flagging, running}
 use Rattle.page_laws.proofs.Lines.{added, emit_each-events}
 use Rattle.page_laws.proofs.Scans.{Test, Kept}
+
+-- a part of what runs once: a registration is new; what is called is the script, or was registered for something that has a callback
+abbrev keeps_kinds : History → Event → Bool
+keeps_kinds past (Reg r kind by) = not (some_line (is_reg_of r) past)
+keeps_kinds past (Call r) = (r == 1) || (some_line (is_reg_of r) past && not (has_kind has_no_callback past r))
+keeps_kinds past e = true
 
 abbrev pub kinds : Test
 kinds past e = keeps_kinds past e.event
 
 -- the kind of a role in the lines; the script has none
-abbrev kind_in_role : Role → Option RegKind
+abbrev pub kind_in_role : Role → Option RegKind
 kind_in_role ScriptRole = None
 kind_in_role (OfKind k) = Some k
 
@@ -36,33 +42,33 @@ abbrev pub At : List Registration → ℕ → Registration
 At xs r = numbered xs r no_registration
 
 -- the registrations fit the lines: each has the kind by its line
-record KindsFit (xs : List Registration) (past : History) : Type 0 where
-  tie : (r : ℕ) → 1 ≤ r → kind_of past r ≡ kind_in_role (At xs r).role
-  kept : Kept kinds past
+pub record KindsFit (xs : List Registration) (past : History) : Type 0 where
+  pub tie : (r : ℕ) → 1 ≤ r → kind_of past r ≡ kind_in_role (At xs r).role
+  pub kept : Kept kinds past
 
 -- ---- lines
 
-abbrev tells_of_kinds : Event → Bool
+abbrev pub tells_of_kinds : Event → Bool
 tells_of_kinds (Reg r kind by) = true
 tells_of_kinds (Call r) = true
 tells_of_kinds e = false
 
-aside-silent : (e : Event) → is_aside e ≡ true → tells_of_kinds e ≡ false
+pub aside-silent : (e : Event) → is_aside e ≡ true → tells_of_kinds e ≡ false
 aside-silent (Reg r kind by) h = Prim.cc
 aside-silent (Call r) h = Prim.cc
 aside-silent e h = refl
 
-rest-silent : (e : Event) → is_rest e ≡ true → tells_of_kinds e ≡ false
+pub rest-silent : (e : Event) → is_rest e ≡ true → tells_of_kinds e ≡ false
 rest-silent (Reg r kind by) h = Prim.cc
 rest-silent (Call r) h = Prim.cc
 rest-silent e h = refl
 
-end-silent : (e : Event) → is_end e ≡ true → tells_of_kinds e ≡ false
+pub end-silent : (e : Event) → is_end e ≡ true → tells_of_kinds e ≡ false
 end-silent Ret h = refl
 end-silent (Throw bs) h = refl
 end-silent e h = Prim.cc
 
-silent-fits : (e : Event) (now : ℕ) (xs : List Registration) (past : History) → tells_of_kinds e ≡ false → KindsFit xs past → KindsFit xs (record { time = now; event = e } ∷ past)
+pub silent-fits : (e : Event) (now : ℕ) (xs : List Registration) (past : History) → tells_of_kinds e ≡ false → KindsFit xs past → KindsFit xs (record { time = now; event = e } ∷ past)
 silent-fits (Reg r kind by) now xs past h f = Prim.cc
 silent-fits (Call r) now xs past h f = Prim.cc
 silent-fits e now xs past h f = record { tie = f.tie; kept = (refl, f.kept) }
@@ -72,7 +78,7 @@ added-fits now [] xs past h f = f
 added-fits now (e ∷ es) xs past h f = added-fits now es xs (record { time = now; event = e } ∷ past) h.1 (silent-fits e now xs past h.0 f)
 
 -- where no line registers r, r has no kind, and the other way round
-none-line : (past : History) (r : ℕ) → kind_of past r ≡ None → some_line (is_reg_of r) past ≡ false
+pub none-line : (past : History) (r : ℕ) → kind_of past r ≡ None → some_line (is_reg_of r) past ≡ false
 none-line [] r h = refl
 none-line (e ∷ past) r h = by_line e.event (none-line past r) h
   where
@@ -84,7 +90,7 @@ none-line (e ∷ past) r h = by_line e.event (none-line past r) h
     by_line (Reg q k by) rest h = by_test (q == r) k rest h
     by_line e rest h = rest h
 
-some-line : (past : History) (r : ℕ) (k : RegKind) → kind_of past r ≡ Some k → some_line (is_reg_of r) past ≡ true
+pub some-line : (past : History) (r : ℕ) (k : RegKind) → kind_of past r ≡ Some k → some_line (is_reg_of r) past ≡ true
 some-line [] r k h = Prim.cc
 some-line (e ∷ past) r k h = by_line e.event (some-line past r k) h
   where
@@ -101,7 +107,7 @@ some-line (e ∷ past) r k h = by_line e.event (some-line past r k) h
 pub false_true : false ≡ true → ⊥
 false_true h = Prim.cc
 
-at_past : (xs : List Registration) (r : ℕ) → length xs ≤ pred r → At xs r ≡ no_registration
+pub at_past : (xs : List Registration) (r : ℕ) → length xs ≤ pred r → At xs r ≡ no_registration
 at_past xs zero h = refl
 at_past xs (suc r) h = ap {A = Option Registration} {B = Registration} (λ o. unwrap_or o no_registration) (slice_get_past xs r h)
 
@@ -118,7 +124,7 @@ at_number xs x (suc i) one h = at_before xs x i (λ e. h (ap suc e))
 
 -- ---- a registration is made, and something is called
 
-made-fits : (k : RegKind) (by : Option ℕ) (x : Registration) (now : ℕ) (xs : List Registration) (past : History) → x.role ≡ OfKind k → KindsFit xs past → KindsFit (and_last xs x) (record { time = now; event = Reg (suc (length xs)) k by } ∷ past)
+pub made-fits : (k : RegKind) (by : Option ℕ) (x : Registration) (now : ℕ) (xs : List Registration) (past : History) → x.role ≡ OfKind k → KindsFit xs past → KindsFit (and_last xs x) (record { time = now; event = Reg (suc (length xs)) k by } ∷ past)
 made-fits k by x now xs past e f =
     record {
       tie = λ r one. by_number r one (suc (length xs) == r) refl;
@@ -137,11 +143,11 @@ made-fits k by x now xs past e f =
         ∙ (f.tie r one ∙ sym (ap {A = Registration} {B = Option RegKind} (λ y. kind_in_role y.role) (at_number xs x r one (λ same. false_true (sym q ∙ eq-eqb (suc (length xs)) r (sym same))))))
 
 -- what has a callback
-abbrev IsCallable : Role → Type 0
+abbrev pub IsCallable : Role → Type 0
 IsCallable ScriptRole = Unit {0}
 IsCallable (OfKind k) = has_no_callback k ≡ false
 
-callable : (b : Beginning) → IsCallable (role_of b)
+pub callable : (b : Beginning) → IsCallable (role_of b)
 callable (TheScript source task) = tt
 callable (ATimer source task t) = by_repeats t.repeats
   where
@@ -157,7 +163,7 @@ callable (AContinuation t) = refl
 callable (AMicro job others r) = refl
 callable (AReaction job others of x r) = refl
 
-or-true : (b : Bool) → b || true ≡ true
+pub or-true : (b : Bool) → b || true ≡ true
 or-true true = refl
 or-true false = refl
 
@@ -167,7 +173,7 @@ called-passes past r k e h =
     ap {A = Bool} {B = Bool} (λ b. (r == 1) || (b && not (has_kind has_no_callback past r))) (some-line past r k e)
     ∙ (ap {A = Option RegKind} {B = Bool} (λ o. (r == 1) || not (is_some_and has_no_callback o)) e ∙ (ap {A = Bool} {B = Bool} (λ b. (r == 1) || not b) h ∙ or-true (r == 1)))
 
-call-fits : (b : Beginning) (now : ℕ) (p : Page) (past : History) → IsFor (role_of b) (made_by p) (called_by b) → KindsFit p.registrations past → KindsFit p.registrations (record { time = now; event = Call (called_by b) } ∷ past)
+pub call-fits : (b : Beginning) (now : ℕ) (p : Page) (past : History) → IsFor (role_of b) (made_by p) (called_by b) → KindsFit p.registrations past → KindsFit p.registrations (record { time = now; event = Call (called_by b) } ∷ past)
 call-fits b now p past i f = record { tie = f.tie; kept = (by_role b i, f.kept) }
   where
     of_kind : (r : ℕ) (role : Role) → IsFor role (made_by p) r → IsCallable role → (role ≡ ScriptRole → r ≡ 1) → (r == 1) || (some_line (is_reg_of r) past && not (has_kind has_no_callback past r)) ≡ true
@@ -195,7 +201,7 @@ call-fits b now p past i f = record { tie = f.tie; kept = (by_role b i, f.kept) 
 abbrev Fits : Page → Type 0
 Fits p = KindsFit p.registrations p.events
 
-abbrev Silent : Event → Type 0
+abbrev pub Silent : Event → Type 0
 Silent e = tells_of_kinds e ≡ false
 
 Each-append : (xs ys : List Event) → Each Silent xs → Each Silent ys → Each Silent (xs ++ ys)
@@ -215,7 +221,7 @@ queue_jobs-silent : (current : Context) (jobs : List PromiseJob) (s : Notices) �
 queue_jobs-silent current [] s = tt
 queue_jobs-silent current (j ∷ jobs) s = (refl, queue_jobs-silent current jobs _)
 
-changed-silent : (current : Context) (names : List (List ℕ)) (n : ℕ) (c : Promises.Change) (s : Notices) → Each Silent (changed current names n c s).lines
+pub changed-silent : (current : Context) (names : List (List ℕ)) (n : ℕ) (c : Promises.Change) (s : Notices) → Each Silent (changed current names n c s).lines
 changed-silent current names n c s = Each-append (cond c.settled (settle_line names n c.promise.outcome) []) _ (if_settled-silent c.settled _ (settle_line-silent names n c.promise.outcome)) (queue_jobs-silent current c.jobs _)
 
 emit_each-registrations : (es : List Event) (p : Page) → (emit_each es p).registrations ≡ p.registrations
@@ -237,19 +243,24 @@ subscribed-fits n r p f =
     notices-fit (subscribe_promise (context p) n r) p
     (changed-silent (context p) [] n (Promises.subscribe n (the_promise p.notices.promises n) r) (record p.notices { rejected = without (λ m. m == n) p.notices.rejected; outstanding = without (λ m. m == n) p.notices.outstanding })) f
 
+before-fits : {p q : Page} → AsBefore p q → Fits p → Fits q
+before-fits {p = p} {q = q} b f = subst (λ (xs : List Registration). KindsFit xs q.events) (sym b.registrations) (subst (KindsFit p.registrations) (sym b.events) f)
+
 change-fits : {p q : Page} → PageChange p q → Fits p → Fits q
-change-fits {p = p} {q = q} (elsewhere x y z w v) f = subst (λ (xs : List Registration). KindsFit xs q.events) (sym w) (subst (KindsFit p.registrations) (sym z) f)
+change-fits {p = p} {q = q} (elsewhere c b) f = before-fits b f
 change-fits {p = p} (told e h) f = silent-fits e p.now p.registrations p.events (aside-silent e h) f
 change-fits {p = p} (rested e h x y) f = silent-fits e p.now p.registrations p.events (rest-silent e h) f
-change-fits {p = p} (registered k x e) f = made-fits k (caller p) x p.now p.registrations p.events e f
+change-fits {p = p} (answered source task t answer x y z b) f = before-fits b (silent-fits (Host t.closure t.number answer) p.now p.registrations p.events refl f)
+change-fits {p = p} (registered k x e u b) f = before-fits b (made-fits k (caller p) x p.now p.registrations p.events e f)
 change-fits {p = p} (frame_asked g) f = made-fits kind.Frame (caller p) (record { role = OfKind kind.Frame; callback = Some g; second_callback = None; timer_id = 0; promise = 0; signal = None; finally = false }) p.now p.registrations p.events refl f
 change-fits (frame_gone handle) f = f
 change-fits promised f = f
 change-fits {p = p} (settled n how x y) f = changes-fit n (Promises.settle n (the_promise p.notices.promises n) how) p f
 change-fits {p = p} (followed n how x y) f = changes-fit n (Promises.settle n (the_promise p.notices.promises n) how) p f
 change-fits {p = p} (adopted n from x y) f = changes-fit n (Promises.adopt n (the_promise p.notices.promises n) from) p f
-change-fits {p = p} (subscribed n r x) f = subscribed-fits n r p f
-change-fits {p = p} (micro_queued r) f = notices-fit (queue_micro (context p) r) p (refl, tt) f
+change-fits {p = p} (subscribed n r x y) f = subscribed-fits n r p f
+change-fits {p = p} (then_asked n x r e g y) f = subscribed-fits n r (register_as kind.Then x p) (made-fits kind.Then (caller p) x p.now p.registrations p.events e f)
+change-fits {p = p} (micro_asked x r e y) f = notices-fit (queue_micro (context p) r) (register_as kind.Micro x p) (refl, tt) (made-fits kind.Micro (caller p) x p.now p.registrations p.events e f)
 change-fits rejected_taken f = f
 change-fits (noted n) f = f
 
@@ -286,12 +297,12 @@ moves-fit (calling {q = q} a b w i) f =
     subst (λ (xs : List Registration). KindsFit xs (record { time = (taken b q).now; event = Call (called_by b) } ∷ (taken b q).events)) (sym same)
     (call-fits b (taken b q).now q (taken b q).events i (subst (λ (xs : List Registration). KindsFit xs (taken b q).events) same (begins-fit b q (moves-fit a f))))
 moves-fit (ending {q = q} a e h) f = silent-fits e q.now q.registrations q.events (end-silent e h) (moves-fit a f)
-moves-fit (flagging {q = q} {r = r} a x y z w) f = subst (λ (xs : List Registration). KindsFit xs r.events) (sym z) (subst (KindsFit q.registrations) (sym y) (moves-fit a f))
+moves-fit (flagging {q = q} {r = r} a x y z w u) f = subst (λ (xs : List Registration). KindsFit xs r.events) (sym z) (subst (KindsFit q.registrations) (sym y) (moves-fit a f))
 moves-fit (running {q = q} a j others x y) f = silent-fits (Run j.number) q.now q.registrations q.events refl (moves-fit a f)
 
--- from a page with no lines, in which nothing is registered but the script, registrations have the kinds of their lines
-pub kinds_fit : {p q : Page} → Moves p q → (x : Registration) → p.events ≡ [] → p.registrations ≡ x ∷ [] → x.role ≡ ScriptRole → Kept kinds q.events
-kinds_fit {p = p} a x y z w = (moves-fit a (subst (KindsFit p.registrations) (sym y) (subst (λ (xs : List Registration). KindsFit xs []) (sym z) (record { tie = λ r one. first r one; kept = tt })))).kept
+-- before the first line only the script is registered
+pub first_fits : (x : Registration) → x.role ≡ ScriptRole → KindsFit (x ∷ []) []
+first_fits x w = record { tie = λ r one. first r one; kept = tt }
   where
     first : (r : ℕ) → 1 ≤ r → None ≡ kind_in_role (At (x ∷ []) r).role
     first zero one = absurd (omega (arith, one))

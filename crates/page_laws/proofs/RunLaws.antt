@@ -4,33 +4,31 @@ use Rattle.page_laws.proofs.Jobs as jobs
 use Rattle.page_laws.proofs.Nesting as nesting
 use Rattle.page_laws.proofs.Scans.{kept-each}
 use Rattle.page_laws.proofs.Settling as settling
-use Rattle.page_laws.proofs.Registered as registered
-use Rattle.page_laws.proofs.DrawnOnce as drawn
-use Rattle.page_laws.specs.Registering.{Registering, DrawnOnce}
+use Rattle.page_laws.proofs.Once.{called_once}
+use Rattle.page_laws.proofs.Answering.{answered_once, once_test, once-parts}
 use Rattle.page_laws.proofs.Turns.{run_is_moves}
 use Rattle.page_model.specs.Gaps.{Act, run_gaps_by}
 use Rattle.page_laws.specs.Moves.{Moves}
 use Rattle.page_model.specs.Choosing.{Rules}
 use Rattle.page_model.specs.Numbers.{HoldsNoNumbers}
 use Rattle.page_model.specs.State.{Page}
-use Rattle.page_model.specs.Turns.{run_by, state_of, first_page, the_script}
+use Rattle.page_model.specs.Turns.{run_by, state_of, first_page}
 use Rattle.page_parts.specs.HostClosures.{HostClosure}
 use Rattle.page_parts.specs.Setup.{Setup}
 use Rattle.page_types.specs.Tree.{Program}
 use Rattle.std.proofs.Common.{List, [], refl, reverse}
-use Rattle.page_laws.specs.CallLaws.{SettleOnce, JobsInOrder, NoNesting}
+use Rattle.page_laws.specs.CallLaws.{Once, SettleOnce, JobsInOrder, NoNesting}
 
 -- the laws of a row of moves from a first page
 abbrev pub Laws : Page → Type 0
-Laws p = SettleOnce (reverse p.events) × JobsInOrder (reverse p.events) × NoNesting (reverse p.events) × Registering (reverse p.events) × DrawnOnce p
+Laws p = SettleOnce (reverse p.events) × JobsInOrder (reverse p.events) × NoNesting (reverse p.events) × Once (reverse p.events)
 
 pub laws_of_moves : (program : Program) (setup : Setup) (hosts : List HostClosure) (p : Page) → Moves (first_page program setup hosts) p → Laws p
 laws_of_moves program setup hosts p a = (
   kept-each settling.settling p.events (settling.settle_once a refl refl),
   kept-each jobs.in_order p.events (jobs.jobs_in_order a refl refl refl),
   kept-each nesting.nesting p.events (nesting.moves-kept a tt),
-  kept-each registered.kinds p.events (registered.kinds_fit a (the_script program) refl refl refl),
-  drawn.drawn_once a refl refl,
+  kept-each once_test p.events (once-parts p.events (called_once program setup hosts a) (answered_once program setup hosts a)),
 )
 
 pub laws_of_runs : {C : Type 0} (rules : Rules C) (program : Program) (setup : Setup) (hosts : List HostClosure) (c : C) → HoldsNoNumbers setup → Laws (state_of (run_by rules program setup hosts c)).host

@@ -1,5 +1,7 @@
 -- No promise is settled twice, and a reaction's job is queued only when its promise is settled.
 use Rattle.page_types.specs.declared.RegKind.TheVariants as kind
+use Rattle.page_types.specs.declared.RegKind.{RegKind}
+use Rattle.page_model.specs.Invoke.{register_as}
 use Rattle.std.proofs.Common.{◌≡◌, ℕ, zero, suc, pred, ◌≤◌, Bool, true, false, List, [], ◌∷◌, ◌||◌, Option, Some, None, refl, sym, subst, ap, ◌∙◌, cond, length, arith, not, map, unwrap_or, slice_get}
 use Rattle.std.proofs.lemmas.Bool.{eqb-true, eq-eqb}
 use Rattle.std.proofs.lemmas.List.{get_or-set_same, get_or-set_other}
@@ -7,19 +9,19 @@ use Rattle.std.proofs.lemmas.Option.{unwrap_or-slice_get}
 use Rattle.std.specs.Prelude.{◌==◌, slice_set}
 use Rattle.page_types.specs.declared.Source.TheVariants.{Sched}
 use Rattle.page_model.specs.PageTime.{deadline}
-use Rattle.page_types.specs.Events.{Reg, Event, Turn, Call, Ret, Throw, Run, IdleLine, Job, Settle}
+use Rattle.page_types.specs.Events.{Host, Reg, Event, Turn, Call, Ret, Throw, Run, IdleLine, Job, Settle}
 use Rattle.page_parts.specs.Spelling.{spelled}
 use Rattle.page_parts.specs.Words.{and_last, without, numbered, with_numbered, is_there}
 use Rattle.page_parts.specs.Promises.{Settled, Fulfilled, Failed, PromiseRecord, PromiseJob, React, Adopt, Reaction, pending_promise}
 use Rattle.page_parts.specs.Promises as Promises
 use Rattle.page_parts.specs.Notices.{Notices, Noticed, Todo, OfPromise, Micro, changed, queue_job, queue_jobs, queued_as, settle_line, promise_changed, subscribe_promise, queue_micro, note_outstanding, Context}
 use Rattle.page_parts.specs.Promises.{the_promise}
-use Rattle.page_model.specs.State.{Page, emit_each, on_notices, context, caller}
+use Rattle.page_model.specs.State.{Registration, Page, emit_each, on_notices, context, caller}
 use Rattle.page_model.specs.PagePromises.{new_promise}
 use Rattle.page_model.specs.Numbers.{IsGiven, Each}
 use Rattle.page_laws.specs.History.{History, some_line, is_rest}
 use Rattle.page_laws.specs.CallLaws.{keeps_settled, is_settle_of, may_be_queued}
-use Rattle.page_laws.specs.Moves.{frame_asked, frame_gone, registered, is_aside, is_end, promise_changes, PageChange, elsewhere, told, rested, promised, settled, followed, adopted, subscribed, micro_queued, rejected_taken, noted, Beginning, TheScript, ATimer, AFrame, AnIdle, ALateIdle, AListener, APost, AContinuation, AMicro, AReaction, taken, called_by, Moves, here, changing, calling, ending, flagging, running}
+use Rattle.page_laws.specs.Moves.{frame_asked, frame_gone, registered, is_aside, is_end, promise_changes, PageChange, elsewhere, told, rested, promised, settled, followed, adopted, subscribed, micro_asked, then_asked, answered, AsBefore, rejected_taken, noted, Beginning, TheScript, ATimer, AFrame, AnIdle, ALateIdle, AListener, APost, AContinuation, AMicro, AReaction, taken, called_by, Moves, here, changing, calling, ending, flagging, running}
 use Rattle.page_laws.proofs.Lines.{added, added-append, emit_each-events, emit_each-notices}
 use Rattle.page_laws.proofs.Scans.{Test, Kept}
 
@@ -252,19 +254,29 @@ noted-fits n s past f = by_handled (the_promise s.promises n).handled
     by_handled true = f
     by_handled false = f
 
+before-fits : {p q : Page} → AsBefore p q → Fits p → Fits q
+before-fits {p = p} {q = q} b f = subst (λ (s : Notices). SettlesFit s.promises q.events) (sym b.notices) (subst (SettlesFit p.notices.promises) (sym b.events) f)
+
+registered-fits : (k : RegKind) (x : Registration) (p : Page) → Fits p → Fits (register_as k x p)
+registered-fits k x p f = silent-fits (Reg (suc (length p.registrations)) k (caller p)) p.now p.notices.promises p.events refl f
+
 change-fits : {p q : Page} → PageChange p q → Fits p → Fits q
-change-fits {p = p} {q = q} (elsewhere x y z w v) f = subst (λ (s : Notices). SettlesFit s.promises q.events) (sym x) (subst (SettlesFit p.notices.promises) (sym z) f)
+change-fits (elsewhere c b) f = before-fits b f
 change-fits {p = p} (told e h) f = silent-fits e p.now p.notices.promises p.events (aside-silent e h) f
 change-fits {p = p} (rested e h x y) f = silent-fits e p.now p.notices.promises p.events (rest-silent e h) f
-change-fits {p = p} (registered kind x e) f = silent-fits (Reg (suc (length p.registrations)) kind (caller p)) p.now p.notices.promises p.events refl f
+change-fits {p = p} (answered source task t answer x y z b) f = before-fits b (silent-fits (Host t.closure t.number answer) p.now p.notices.promises p.events refl f)
+change-fits {p = p} (registered kind x e u b) f = before-fits b (registered-fits kind x p f)
 change-fits {p = p} (frame_asked g) f = silent-fits (Reg (suc (length p.registrations)) kind.Frame (caller p)) p.now p.notices.promises p.events refl f
 change-fits (frame_gone handle) f = f
 change-fits {p = p} promised f = promised-fits p f
 change-fits {p = p} (settled n how g y) f = settled-fits n how p g (f.unlocked n g.from_one y) f
 change-fits {p = p} (followed n how g y) f = settled-fits n how p g y f
 change-fits {p = p} (adopted n from g y) f = adopted-fits n from p g f
-change-fits {p = p} (subscribed n r g) f = subscribed-fits n r p g f
-change-fits {p = p} (micro_queued r) f = notices-fit (queue_micro (context p) r) p (queue_job-fits (context p) (Micro r) p.now p.notices p.notices.promises p.events refl f)
+change-fits {p = p} (subscribed n r g y) f = subscribed-fits n r p g f
+change-fits {p = p} (then_asked n x r e g y) f = subscribed-fits n r (register_as kind.Then x p) g (registered-fits kind.Then x p f)
+change-fits {p = p} (micro_asked x r e y) f =
+    let made = register_as kind.Micro x p in
+    notices-fit (queue_micro (context p) r) made (queue_job-fits (context p) (Micro r) p.now p.notices p.notices.promises made.events refl (registered-fits kind.Micro x p f))
 change-fits rejected_taken f = f
 change-fits {p = p} (noted n) f = noted-fits n p.notices p.events f
 
@@ -285,7 +297,7 @@ moves-fit here f = f
 moves-fit (changing a c) f = change-fits c (moves-fit a f)
 moves-fit (calling {q = q} a b w i) f = silent-fits (Call (called_by b)) (taken b q).now (taken b q).notices.promises (taken b q).events refl (begins-fit b q (moves-fit a f))
 moves-fit (ending {q = q} a e h) f = silent-fits e q.now q.notices.promises q.events (end-silent e h) (moves-fit a f)
-moves-fit (flagging {q = q} {r = r} a x y z w) f = subst (λ (s : Notices). SettlesFit s.promises r.events) (sym x) (subst (SettlesFit q.notices.promises) (sym y) (moves-fit a f))
+moves-fit (flagging {q = q} {r = r} a x y z w u) f = subst (λ (s : Notices). SettlesFit s.promises r.events) (sym x) (subst (SettlesFit q.notices.promises) (sym y) (moves-fit a f))
 moves-fit (running {q = q} a j others x y) f = silent-fits (Run j.number) q.now q.notices.promises q.events refl (moves-fit a f)
 
 -- from a page with no lines and no promises on, no promise is settled twice

@@ -2,17 +2,17 @@
 use Rattle.page_types.specs.declared.RegKind.TheVariants as kind
 use Rattle.lang_meaning.specs.Machine.{Caller, Done, afterwards, branch, finish}
 use Rattle.page_laws.proofs.Evaluating.{Le, Onto, Reached, entered, le-same, le-then, on_page-reached, told-onto, call_over}
-use Rattle.page_laws.proofs.Moved.{invoke_idle_again-changes, outstanding-changes, quietly, with_state-changes}
+use Rattle.page_laws.proofs.Moved.{invoke_idle_again-changes, outstanding-changes, placed, quietly, with_state-changes}
 use Rattle.page_laws.proofs.Onto.{clear_id-onto, init_again-onto, resolve-onto, unwatch-onto}
 use Rattle.page_laws.proofs.Runs.{AtTop, CallsGo, Goes, WaysGo, abort-goes, afterwards-goes, at_top-later, branch-goes, branch_when-goes, checkpoint-goes, dispatch-goes, each_in_turn-goes, finish-goes, finish_page, invoke-goes, scheduling-onto, settle_derived-goes, then_page, wide}
-use Rattle.page_laws.specs.Moves.{AContinuation, AFrame, ALateIdle, APost, ATimer, AnIdle, TheScript, Waited, sched_begun, taken}
+use Rattle.page_laws.specs.Moves.{task_left, AContinuation, AFrame, ALateIdle, APost, ATimer, AnIdle, TheScript, Waited, sched_begun, taken}
 use Rattle.page_model.proofs.NumbersEvaluation as numbers
 use Rattle.page_model.proofs.NumbersEvaluation.{Good, on_page-good}
 use Rattle.page_model.proofs.NumbersGrow.{Each-append, Each-find, Each-last, Each-without, Held, InFrames, InIdle, InNotices, InTasks, Onward, TimerTask-grows, onward-then, promise-grows, stays, IsFor-grows}
 use Rattle.page_model.proofs.NumbersPages.{cond-onward, put_notices, queue_task-held, the_registration-given, with_state-held, without_frame-held, without_idle-held, without_sched-held, call_begun-held, call_ended-held}
 use Rattle.page_model.proofs.NumbersParts.{the_promise-given}
 use Rattle.page_model.specs.Invoke.{Ways, checkpoint, invoke, settle_derived, call_ended, call_begun}
-use Rattle.page_model.specs.Numbers.{CallbackIsGiven, Each, HasPromise, IdleIsGiven, IfThere, IsFor, IsGiven, IsKnown, Made, NoticesAreGiven, SchedTaskIsGiven, StepsAreGiven, TaskIsGiven, TimerTaskIsGiven, made_by, sched_role}
+use Rattle.page_model.specs.Numbers.{CallbackIsGiven, Each, HasPromise, IdleIsGiven, IfThere, IsFor, IsGiven, IsKnown, Made, NoticesAreGiven, SchedTaskIsGiven, StepsAreGiven, TaskIsGiven, TimerTaskIsGiven, made_by, sched_role, timer_role}
 use Rattle.page_model.specs.PagePromises.{promise_at}
 use Rattle.page_model.specs.PageSignals.{dispatch, unwatch}
 use Rattle.page_model.specs.PageTime.{clear_id, deadline, first_task, idle_callback, init_timer, without_idle}
@@ -33,7 +33,7 @@ use Rattle.page_types.specs.declared.FaultName.TheVariants.{TimeoutError}
 use Rattle.page_types.specs.declared.RegKind.{RegKind}
 use Rattle.page_types.specs.declared.Source.{Source}
 use Rattle.page_types.specs.declared.Source.TheVariants.{Idle, Sched}
-use Rattle.std.proofs.Common.{Bool, List, None, Option, Some, [], cond, false, length, nat_lt, pos, refl, subst, true, ℕ, ◌++◌, ◌∷◌, ◌≡◌}
+use Rattle.std.proofs.Common.{Bool, List, None, Option, Some, [], cond, false, length, nat_lt, pos, refl, subst, sym, true, ℕ, ◌++◌, ◌∷◌, ◌≡◌}
 use Rattle.std.specs.Prelude.{codes, ◌==◌}
 use Rattle.page_laws.specs.History.{open_registrations}
 use Rattle.page_model.specs.PagePromises as promises
@@ -73,7 +73,7 @@ without_task-held k p h =
     stays (without_task k p) (put_tasks (made_by p) p (without (λ t. t.number == k) p.tasks) (Each-without (TaskIsGiven (made_by p)) (λ t. t.number == k) p.tasks (h InTasks)) h)
 
 pub without_task-onto : (k : ℕ) (p : Page) → Held (made_by p) p → Onto p (without_task k p)
-without_task-onto k p h = (without_task-held k p h, quietly p (without_task k p) refl refl refl refl refl)
+without_task-onto k p h = (without_task-held k p h, placed p (without_task k p) (task_left k) refl refl refl refl refl)
 
 outstanding-onto : (k : ℕ) (p : Page) → Held (made_by p) p → IsGiven (length p.notices.promises) k → Onto p (outstanding_if_unhandled k p)
 outstanding-onto k p h x = (outstanding-held k p h x, outstanding-changes k p)
@@ -127,9 +127,11 @@ module _ (program : Program) where
 
   timer_goes_on-goes : (t : TimerTask) (m : State) → Good m → TimerTaskIsGiven (made_by m.host) t → Goes program m (timer_goes_on t m)
   timer_goes_on-goes t m g x =
-      branch-goes program t.repeats m (initialised_again t) (λ m. finish (on_page (clear_id t.id) m))
-      (finish_page program m (init_timer (Some t.id) t.registration t.repeats t.timeout) g (init_again-onto t.id t.registration t.repeats t.timeout m.host g.0 x.id x.registration))
-      (finish_page program m (clear_id t.id) g (clear_id-onto t.id m.host g.0))
+      branch_when-goes program t.repeats m (initialised_again t) (λ m. finish (on_page (clear_id t.id) m))
+      (λ e. subst (λ (b : Bool). Goes program m (finish (on_page (init_timer (Some t.id) t.registration b t.timeout) m))) (sym e)
+      (finish_page program m (init_timer (Some t.id) t.registration true t.timeout) g
+      (init_again-onto t.id t.registration t.timeout m.host g.0 x.id (subst (λ (b : Bool). IsFor (timer_role b) (made_by m.host) t.registration) e x.registration))))
+      (λ e. finish_page program m (clear_id t.id) g (clear_id-onto t.id m.host g.0))
 
   where_live-goes : (t : TimerTask) (next : State → Done Page) (m : State) → Good m → Goes program m (next m) → Goes program m (where_live t next m)
   where_live-goes t next m g q = branch-goes program (is_live t.id t.handle m.host.timers) m next finish q (finish-goes program m g)
@@ -143,7 +145,7 @@ module _ (program : Program) where
       (λ live. afterwards-goes program m (invoke w t.registration false [] begun) (where_live t (timer_goes_on t))
       (invoke-goes program w a (ATimer source task t) false [] m g z (e, e1, live) x.registration o tt)
       (λ r le gr. where_live-goes t (timer_goes_on t) r gr (timer_goes_on-goes t r gr (TimerTask-grows (made_by m.host) (made_by r.host) le.0 t x))))
-      (let b = on_page-reached m (taken (ATimer source task t)) g (o, quietly m.host begun.host refl refl refl refl refl) in (b.0, b.1, tt))
+      (let b = on_page-reached m (taken (ATimer source task t)) g (o, placed m.host begun.host (task_left task.number) refl refl refl refl refl) in (b.0, b.1, tt))
     where
       branch_when-goes_from : (b : Bool) (m n : State) (then else : State → Done Page) → (b ≡ true → Goes program m (then n)) → Goes program m (else n) → Goes program m (branch b n then else)
       branch_when-goes_from true m n then else h k = h refl
@@ -261,4 +263,4 @@ module _ (program : Program) where
   pub after_task-goes : (call : Caller Page) → CallsGo program call → (m : State) → Good m → AtTop m → Goes program m (after_task call m)
   after_task-goes call c m g z =
       let idle_one = on_page (λ p. record p { level = 0; scheduling = None }) m in
-      then_page program m (λ p. record p { level = 0; scheduling = None }) (checkpoint call idle_one) g ((scheduling-onto program None m.host g.0 tt).0, quietly m.host idle_one.host refl refl refl refl refl) (λ b. checkpoint-goes program call c idle_one b.1 (at_top-later m idle_one b.0 z))
+      then_page program m (λ p. record p { level = 0; scheduling = None }) (checkpoint call idle_one) g ((scheduling-onto program None m.host g.0 tt).0, quietly m.host idle_one.host refl refl refl refl refl refl) (λ b. checkpoint-goes program call c idle_one b.1 (at_top-later m idle_one b.0 z))

@@ -2,15 +2,16 @@
 use Rattle.lang_meaning.specs.Evaluation.{call_from_outside}
 use Rattle.lang_meaning.specs.Machine.{Caller, Done, Gives, OutOfFuel, Returns, Throws, finish}
 use Rattle.page_laws.proofs.Evaluating.{Le, Onto, Reached, Stop, le-same, le-then, on_page-reached}
-use Rattle.page_laws.proofs.Moved.{idle_step-changes, quietly}
+use Rattle.page_laws.proofs.Moved.{answer_task-changes, idle_step-changes, quietly}
 use Rattle.page_laws.proofs.Moving.{moves-then}
-use Rattle.page_laws.proofs.Onto.{answer_host-onto, parallel-onto}
+use Rattle.page_laws.proofs.Onto.{parallel-onto}
+use Rattle.page_model.proofs.NumbersTasks.{answer_host-held}
 use Rattle.page_laws.proofs.Operations.{outside-goes}
 use Rattle.page_laws.proofs.Runs.{AtTop, CallsGo, Clears, Goes, at_top-later, checkpoint-clears, finish-goes, finish_page, in_task-goes}
-use Rattle.page_laws.proofs.Tasks.{after_task-goes, sched_task-goes, task-goes, without_task-onto}
-use Rattle.page_laws.specs.Moves.{Moves, changing, elsewhere, here, nothing, rested, sched_begun, told, with_change}
+use Rattle.page_laws.proofs.Tasks.{after_task-goes, sched_task-goes, task-goes, without_task-held, without_task-onto}
+use Rattle.page_laws.specs.Moves.{places_stay, Moves, changing, elsewhere, here, nothing, rested, sched_begun, told, with_change}
 use Rattle.page_model.proofs.NumbersEvaluation.{Good}
-use Rattle.page_model.proofs.NumbersGrow.{Each-find, Grows-same, InSchedTasks, InTasks, stays}
+use Rattle.page_model.proofs.NumbersGrow.{Each-find, Grows-same, InSchedTasks, InTasks, onward-then, stays}
 use Rattle.page_model.proofs.NumbersPages.{idle_step-held}
 use Rattle.page_model.proofs.NumbersTurns.{first_state-good}
 use Rattle.page_model.specs.Choosing.{Chosen, Rules, chosen_answer, chosen_reading, chosen_source}
@@ -38,7 +39,7 @@ use Rattle.page_types.specs.declared.End.{End}
 use Rattle.page_types.specs.declared.End.TheVariants.{Clock as ClockEnd, Done as DoneEnd, Fuel as FuelEnd}
 use Rattle.page_types.specs.declared.Source.{Source}
 use Rattle.page_types.specs.declared.Source.TheVariants.{Dom, Idle, Net, Render, Sched, Timer, User}
-use Rattle.std.proofs.Common.{Bool, List, None, Option, Result, Some, [], ap, cond, false, max, nat_le, nat_lt, refl, slice_get, subst, suc, sym, true, zero, ℕ, ℤ, ◌&&◌, ◌||◌, ◌∙◌, ◌∷◌, ◌≡◌}
+use Rattle.std.proofs.Common.{Bool, List, None, Option, Result, Some, [], ap, cond, false, max, nat_le, nat_lt, refl, slice_get, subst, suc, sym, true, unwrap_or, zero, ℕ, ℤ, ◌&&◌, ◌||◌, ◌∙◌, ◌∷◌, ◌≡◌}
 use Rattle.std.specs.Prelude.{◌==◌}
 use Rattle.page_laws.specs.History.{is_rest}
 
@@ -55,6 +56,19 @@ host_task_of-given n InvokeIdle h = tt
 host_task_of-given n (IdleTimeout handle) h = tt
 host_task_of-given n (NotifyRejected ks) h = tt
 host_task_of-given n (NotifyHandled k) h = tt
+
+-- what a task asks of a host
+asks_host : (steps : Steps) (t : HostTask) → host_task_of steps ≡ Some t → steps ≡ AnswerHost t
+asks_host (AnswerHost u) t e = ap AnswerHost (ap {A = Option HostTask} {B = HostTask} (λ o. unwrap_or o u) e)
+asks_host RunScript t e = Prim.cc
+asks_host (RunTimer u) t e = Prim.cc
+asks_host (TimeOutSignal s) t e = Prim.cc
+asks_host (FireAtWindow name v) t e = Prim.cc
+asks_host (RunFrame u) t e = Prim.cc
+asks_host InvokeIdle t e = Prim.cc
+asks_host (IdleTimeout handle) t e = Prim.cc
+asks_host (NotifyRejected ks) t e = Prim.cc
+asks_host (NotifyHandled k) t e = Prim.cc
 
 sched_from-given : (n : Made) (p : Page) (a : SchedTask) (ts : List SchedTask) → SchedTaskIsGiven n a → Each (SchedTaskIsGiven n) ts → SchedTaskIsGiven n (first_sched_from p a ts)
 sched_from-given n p a [] x h = x
@@ -202,32 +216,36 @@ module _ {C : Type 0} (program : Program) where
     task_done-lands c m (Returns v r) z h = lands-then m r (goes_on c (after_task call r)) h.0 (after_task-lands c r h.1 (at_top-later m r h.0 z))
     task_done-lands c m (OutOfFuel r) z h = changing h (told (EndLine FuelEnd) refl)
 
-    host_answered-lands : (t : HostTask) (a : Option (Chosen (Result ℤ ℤ) C)) (m : State) (c : C) → Good m → AtTop m → HasPromise (made_by m.host) t.registration → Lands m (host_answered call t a m c)
-    host_answered-lands t None m c g z x = here
-    host_answered-lands t (Some a) m c g z x =
-        task_done-lands a.left m (finish (on_page (answer_host t a.choice) m)) z (finish_page program m (answer_host t a.choice) g (answer_host-onto t a.choice m.host g.0 x))
-
-    perform_host-lands : (t : HostTask) (k : Option HostClosure) (m : State) (c : C) → Good m → AtTop m → HasPromise (made_by m.host) t.registration → Lands m (perform_host rules call t k m c)
-    perform_host-lands t None m c g z x = task_done-lands c m (finish m) z (finish-goes program m g)
-    perform_host-lands t (Some k) m c g z x = host_answered-lands t (chosen_answer rules k.kind t.number c) m c g z x
-
     pub turn_line-comes : (source : Option Source) (m : State) → Good m → Rests m → Comes m (turn_line source m)
     turn_line-comes source m g x = comes_by m (λ p. emit (Turn p.turns source) p) g x (rested-onto (Turn m.host.turns source) m refl g x) refl
 
     perform_first-lands : (source : Source) (task : Option Task) (m : State) (c : C) → first_task source m.host.tasks ≡ task → Good m → AtTop m → IfThere (TaskIsGiven (made_by m.host)) task → Lands m (perform_first rules call task m c)
     perform_first-lands source None m c e g z x = here
-    perform_first-lands source (Some task) m c e g z x = by_host (host_task_of task.steps) (host_task_of-given (made_by m.host) task.steps x.steps)
+    perform_first-lands source (Some task) m c e g z x = by_host (host_task_of task.steps) refl (host_task_of-given (made_by m.host) task.steps x.steps)
       where
         left : Reached m (on_page (without_task task.number) m)
         left = on_page-reached m (without_task task.number) g (without_task-onto task.number m.host g.0)
 
-        by_host : (t : Option HostTask) → IfThere (λ (t : HostTask). HasPromise (made_by m.host) t.registration) t → Lands m (perform_task rules call task t (on_page (without_task task.number) m) c)
-        by_host None y =
+        by_host : (t : Option HostTask) → host_task_of task.steps ≡ t → IfThere (λ (t : HostTask). HasPromise (made_by m.host) t.registration) t → Lands m (perform_task rules call task t (on_page (without_task task.number) m) c)
+        by_host None k y =
             task_done-lands c m (perform_steps (in_task call) task.steps (on_page (without_task task.number) m)) z (task-goes program (in_task call) (in_task-goes program call calls_go) source task m g z e x.steps)
-        by_host (Some t) y =
-            let n = on_page (without_task task.number) m in
-            lands-then m n (perform_host rules call t (not_dropped (slice_get m.host.hosts t.closure)) n c) left.0
-            (perform_host-lands t (not_dropped (slice_get m.host.hosts t.closure)) n c left.1 (at_top-later m n left.0 z) y)
+        by_host (Some t) k y = by_closure (not_dropped (slice_get m.host.hosts t.closure))
+          where
+            n : State
+            n = on_page (without_task task.number) m
+
+            answered-onto : (answer : Result ℤ ℤ) → Onto m.host (answer_host t answer n.host)
+            answered-onto answer =
+                let first = without_task-held task.number m.host g.0 in
+                (onward-then (made_by m.host) n.host (answer_host t answer n.host) first (answer_host-held t answer n.host first.1 y), answer_task-changes source task t answer m.host e (asks_host task.steps t k) y.promise)
+
+            by_answer : (a : Option (Chosen (Result ℤ ℤ) C)) → Lands m (host_answered call t a n c)
+            by_answer None = left.0.1
+            by_answer (Some a) = task_done-lands a.left m (finish (on_page (answer_host t a.choice) n)) z (finish_page program m (λ p. answer_host t a.choice (without_task task.number p)) g (answered-onto a.choice))
+
+            by_closure : (closure : Option HostClosure) → Lands m (perform_host rules call t closure n c)
+            by_closure None = lands-then m n (perform_host rules call t None n c) left.0 (task_done-lands c n (finish n) (at_top-later m n left.0 z) (finish-goes program n left.1))
+            by_closure (Some closure) = by_answer (chosen_answer rules closure.kind t.number c)
 
     first_task-lands : (source : Source) (m : State) (c : C) → Good m → AtTop m → Lands m (perform_first rules call (first_task source m.host.tasks) m c)
     first_task-lands source m c g z =
@@ -269,7 +287,7 @@ module _ {C : Type 0} (program : Program) where
     with_turn_fuel-lands zero m c g x = ends-lands FuelEnd c m g x
     with_turn_fuel-lands (suc left) m c g x =
         let counted = counted_turn left m in
-        lands-then m counted (step_four rules call (view m.host) counted c) (Grows-same (made_by m.host), changing here (elsewhere refl refl refl refl refl), (refl, refl)) (step_four-lands (view m.host) counted c g x)
+        lands-then m counted (step_four rules call (view m.host) counted c) (Grows-same (made_by m.host), changing here (elsewhere places_stay (record { notices = refl; performing = refl; events = refl; registrations = refl; frames = refl })), (refl, refl)) (step_four-lands (view m.host) counted c g x)
 
     pub step_three-lands : (until : ℕ) (c : C) (m : State) → Good m → Rests m → Lands m (step_three rules call until c m)
     step_three-lands until c m g x =
@@ -292,7 +310,7 @@ module _ {C : Type 0} (program : Program) where
     LandsNext next = (r : State) → Good r → Rests r → Lands r (next r)
 
     pub at_time-comes : (t : ℕ) (m : State) → Good m → Rests m → Comes m (on_page (λ p. at_time t p) m)
-    at_time-comes t m g x = comes_by m (λ p. at_time t p) g x (stays m.host g.0, quietly m.host (at_time t m.host) refl refl refl refl refl) refl
+    at_time-comes t m g x = comes_by m (λ p. at_time t p) g x (stays m.host g.0, quietly m.host (at_time t m.host) refl refl refl refl refl refl) refl
 
     waited-lands : (t : ℕ) (x : Option (Chosen ℕ C)) (again : State → C → Turned C) (c : C) (m : State) → LandsAgain again → Good m → Rests m → Lands m (waited t x again c m)
     waited-lands t None again c m k g z = here

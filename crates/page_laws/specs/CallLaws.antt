@@ -1,5 +1,5 @@
 -- Laws of every trace: calls, cancels, promises and jobs.
-use Rattle.std.specs.Prelude.{◌≡◌, ℕ, suc, ◌+◌, Bool, true, false, cond, not, ◌&&◌, ◌||◌, List, [], ◌∷◌, filter, length, nat_le, ◌==◌}
+use Rattle.std.specs.Prelude.{◌≡◌, ℕ, suc, ◌+◌, Bool, true, false, not, ◌&&◌, ◌||◌, List, [], ◌∷◌, filter, length, nat_le, ◌==◌}
 use Rattle.page_types.specs.declared.RegKind.{RegKind}
 use Rattle.page_types.specs.declared.RegKind.TheVariants as kind
 use Rattle.page_types.specs.Events.{Queued, MicroJob, ReactJob, AdoptJob, Event, Call, Reg, Due, Job, Run, Settle, Enq, Host, Stamped}
@@ -24,18 +24,27 @@ has_no_callback kind.Host = true
 has_no_callback kind.Signal = true
 has_no_callback k = false
 
--- the script is registration 1, which no line registers
+-- whether a registration was made; the script is registration 1, which no line registers
+abbrev pub was_made : History → ℕ → Bool
+was_made past r = (r == 1) || some_line (is_reg_of r) past
+
+-- whether its callback runs once at most
+abbrev pub runs_once : History → ℕ → Bool
+runs_once past r = (r == 1) || has_kind is_one_shot past r
+
 abbrev pub may_be_called : History → ℕ → Bool
-may_be_called past r =
-    cond (r == 1) (not (was_called past r))
-    (some_line (is_reg_of r) past && not (has_kind has_no_callback past r) && not (has_kind is_one_shot past r && was_called past r))
+may_be_called past r = was_made past r && not (has_kind has_no_callback past r) && not (runs_once past r && was_called past r)
+
+-- a registration is new, and what has no callback was not called
+abbrev pub may_be_registered : History → ℕ → RegKind → Bool
+may_be_registered past r kind = not (some_line (is_reg_of r) past) && not (has_no_callback kind && was_called past r)
 
 abbrev pub is_answer_of : ℕ → Event → Bool
 is_answer_of k (Host j x answer) = j == k
 is_answer_of k e = false
 
 abbrev pub keeps_once : History → Event → Bool
-keeps_once past (Reg r kind by) = not (some_line (is_reg_of r) past)
+keeps_once past (Reg r kind by) = may_be_registered past r kind
 keeps_once past (Call r) = may_be_called past r
 keeps_once past (Host k x answer) = not (some_line (is_answer_of k) past)
 keeps_once past e = true
@@ -43,8 +52,8 @@ keeps_once past e = true
 abbrev pub holds_once : List Stamped → Bool
 holds_once es = each_line (λ past e. keeps_once past e.event) [] es
 
--- No registration is made twice, none but the script is called before it is made, what runs once is called once at
--- most, hosts and timeout signals are never called, and no host closure answers twice.
+-- No registration is made twice, none but the script is called before it is made, the script and what else runs once is
+-- called once at most, hosts and timeout signals are never called, and no host closure answers twice.
 abbrev pub Once : List Stamped → Type 0
 Once es = holds_once es ≡ true
 

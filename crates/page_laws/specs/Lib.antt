@@ -3,4 +3,3 @@ pub mod CallLaws
 pub mod TimerLaws
 pub mod SchedulerLaws
 pub mod Moves
-pub mod Registering

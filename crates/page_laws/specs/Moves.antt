@@ -1,5 +1,5 @@
 -- What happens to a page, move by move: each move changes it once, with its lines.
-use Rattle.std.specs.Prelude.{◌≡◌, ℕ, Bool, true, false, List, [], ◌∷◌, length, nat_lt, Some, None}
+use Rattle.std.specs.Prelude.{◌≡◌, ℕ, suc, ℤ, Bool, true, false, List, [], ◌∷◌, length, nat_lt, Option, Some, None, Result, ◌==◌, ◌++◌, slice_get, slice_set}
 use Rattle.page_types.specs.declared.End.TheVariants.{Fuel}
 use Rattle.page_types.specs.Events.{Event, Ret, Throw, Report, Log, Turn, Arm, Due, Drop, IdleLine, Frame, Enq, Prio, Abort, Host, Unhandled, Handled, EndLine, Send}
 use Rattle.page_types.specs.declared.Source.{Source}
@@ -8,12 +8,17 @@ use Rattle.page_parts.specs.Promises.{Settled, Reaction, React}
 use Rattle.page_parts.specs.Promises as Promises
 use Rattle.page_parts.specs.Notices.{Micro, OfPromise, WaitingJob, changed, subscribe_promise, queue_micro, note_outstanding}
 use Rattle.page_parts.specs.Promises.{the_promise}
-use Rattle.page_model.specs.State.{Role, ScriptRole, OfKind, Registration, Page, Task, TimerTask, RunScript, RunTimer, SchedTask, emit, on_notices, context}
+use Rattle.page_model.specs.State.{Role, ScriptRole, OfKind, Registration, no_registration, Page, Task, TimerTask, HostTask, Steps, RunScript, RunTimer, AnswerHost, PrioSource, SchedTask, Completing, QueueTimer, EnqueuePost, QueueSignal, HostAnswer, emit, on_notices, context}
 use Rattle.page_model.specs.PagePromises.{new_promise}
-use Rattle.page_model.specs.PageTime.{first_task, without_frame, deadline, without_idle, idle_callback}
+use Rattle.page_model.specs.PageTime.{first_task, completion_of, without_frame, deadline, without_idle, idle_callback}
 use Rattle.page_model.specs.SchedulerTasks.{with_state, first_sched, without_sched}
 use Rattle.page_parts.specs.Kinds.{Func}
-use Rattle.page_model.specs.Operations.{frame_requested}
+use Rattle.page_model.specs.Operations.{frame_requested, queued_mark}
+use Rattle.page_model.specs.PageSignals.{drop_closure}
+use Rattle.page_parts.specs.Words.{and_last, without, numbered}
+use Rattle.page_parts.specs.IdleCallbacks.{Idle, request, cancel, started}
+use Rattle.page_parts.specs.HostClosures.{HostClosure, fired}
+use Rattle.page_types.specs.declared.HostMark.TheVariants.{Live}
 use Rattle.page_model.specs.Tasks.{background, post_state}
 use Rattle.page_model.specs.Turns.{without_task}
 use Rattle.page_parts.specs.Timers.{is_live}
@@ -27,7 +32,7 @@ use Rattle.page_laws.specs.History.{open_registrations, is_rest}
 
 -- ---- Ours: kinds of lines
 
--- a line that tells nothing of calls, promises and jobs, and does not stand between turns
+-- a line that tells nothing of calls, promises, jobs and answers of hosts, and does not stand between turns
 abbrev pub is_aside : Event → Bool
 is_aside (Report bs) = true
 is_aside (Log bs) = true
@@ -39,7 +44,6 @@ is_aside (Frame t) = true
 is_aside (Enq r queue continuation n) = true
 is_aside (Prio s priority) = true
 is_aside (Abort s) = true
-is_aside (Host k x answer) = true
 is_aside (Unhandled n) = true
 is_aside (Handled n) = true
 is_aside (Send n bs) = true
@@ -52,6 +56,89 @@ is_end Ret = true
 is_end (Throw bs) = true
 is_end e = false
 
+-- ---- Ours: where registrations wait
+
+-- tasks, completion steps of active timers, idle callbacks, scheduler tasks and pending answers of hosts; and the host closures
+pub record Places : Type 0 where
+  pub tasks : List Task
+  pub completions : List Completing
+  pub idle : Idle
+  pub sched_tasks : List SchedTask
+  pub host_answers : List HostAnswer
+  pub hosts : List HostClosure
+
+-- those of a page
+abbrev pub places : Page → Places
+places p = record { tasks = p.tasks; completions = p.completions; idle = p.idle; sched_tasks = p.sched_tasks; host_answers = p.host_answers; hosts = p.hosts }
+
+-- steps that call nothing that was registered for one call, and answer no host
+abbrev pub is_free : Steps → Bool
+is_free RunScript = false
+is_free (RunTimer t) = false
+is_free (AnswerHost t) = false
+is_free steps = true
+
+-- the completion steps that are left when those of this start are done
+abbrev pub completions_but : ℕ → List Completing → List Completing
+completions_but start cs = without (λ c. c.start == start) cs
+
+-- a change of the places, where these registrations were made
+pub data PlaceChange (made : List Registration) : Places → Places → Type 0 where
+  -- none
+  places_stay : {x : Places} → PlaceChange made x x
+  -- a task is queued that calls nothing by itself; a task leaves its queue
+  task_queued : {x : Places} (t : Task) → is_free t.steps ≡ true → PlaceChange made x (record x { tasks = and_last x.tasks t })
+  task_left : {x : Places} (number : ℕ) → PlaceChange made x (record x { tasks = without (λ t. t.number == number) x.tasks })
+  -- an interval is armed again, and the timer of a signal is armed
+  armed_again : {x : Places} (start : ℕ) (t : TimerTask) → (numbered made t.registration no_registration).role ≡ OfKind kind.Interval
+      → PlaceChange made x (record x { completions = and_last x.completions (record { start = start; completion = QueueTimer t }) })
+  signal_armed : {x : Places} (start r s : ℕ) → PlaceChange made x (record x { completions = and_last x.completions (record { start = start; completion = QueueSignal r s }) })
+  -- an active timer completes: its task is queued, or a delayed post is enqueued, or nothing
+  timer_due : {x : Places} (start number : ℕ) (source : Source) (t : TimerTask) → completion_of x.completions start ≡ Some (QueueTimer t)
+      → PlaceChange made x (record x { completions = completions_but start x.completions; tasks = and_last x.tasks (record { number = number; source = source; steps = RunTimer t }) })
+  post_due : {x : Places} (start : ℕ) (source : PrioSource) (t : SchedTask) → completion_of x.completions start ≡ Some (EnqueuePost t.registration source)
+      → PlaceChange made x (record x { completions = completions_but start x.completions; sched_tasks = and_last x.sched_tasks t })
+  completed : {x : Places} (start : ℕ) → PlaceChange made x (record x { completions = completions_but start x.completions })
+  -- the pending idle callbacks become runnable; an idle callback leaves the lists
+  idle_started : {x : Places} → PlaceChange made x (record x { idle = started x.idle })
+  idle_left : {x : Places} (handle : ℕ) → PlaceChange made x (record x { idle = cancel handle x.idle })
+  -- a registration's scheduler task leaves its queue
+  sched_left : {x : Places} (r : ℕ) → PlaceChange made x (record x { sched_tasks = without (λ t. t.registration == r) x.sched_tasks })
+  -- a pending answer of a host is due, and its task is queued
+  answer_due : {x : Places} (before : List HostAnswer) (a : HostAnswer) (after : List HostAnswer) (number : ℕ) (source : Source) → x.host_answers ≡ before ++ a ∷ after
+      → PlaceChange made x (record x { host_answers = without (λ b. b.task.registration == a.task.registration) x.host_answers; tasks = and_last x.tasks (record { number = number; source = source; steps = AnswerHost a.task }) })
+  -- a pending answer of a host goes, and closures are dropped
+  answer_dropped : {x : Places} (r : ℕ) (pending due : Option HostTask)
+      → PlaceChange made x (record x { sched_tasks = without (λ t. t.registration == r) x.sched_tasks; host_answers = without (λ a. a.task.registration == r) x.host_answers; hosts = drop_closure pending (drop_closure due x.hosts) })
+
+-- where a new registration waits first, from the places before
+pub data FirstPlace (r : ℕ) : Places → Places → Type 0 where
+  -- at none of these: a listener, the timer of a signal
+  nowhere : {x : Places} → FirstPlace r x x
+  -- in the completion steps of its timer: a timer, a delayed post
+  at_timer : {x : Places} (start : ℕ) (t : TimerTask) → t.registration ≡ r → FirstPlace r x (record x { completions = and_last x.completions (record { start = start; completion = QueueTimer t }) })
+  at_delay : {x : Places} (start q : ℕ) (source : PrioSource) → q ≡ r → FirstPlace r x (record x { completions = and_last x.completions (record { start = start; completion = EnqueuePost q source }) })
+  -- among the idle callbacks
+  at_idle : {x : Places} (q : ℕ) → q ≡ r → FirstPlace r x (record x { idle = request q x.idle })
+  -- in the queue of the scheduler
+  at_queue : {x : Places} (t : SchedTask) → t.registration ≡ r → FirstPlace r x (record x { sched_tasks = and_last x.sched_tasks t })
+  -- among the pending answers of hosts, where the closure was not asked before
+  at_host : {x : Places} (c : HostClosure) (a : HostAnswer) → a.task.registration ≡ r → slice_get x.hosts a.task.closure ≡ Some c → c.mark ≡ Live
+      → FirstPlace r x (record x { hosts = slice_set x.hosts a.task.closure (queued_mark c); host_answers = and_last x.host_answers a })
+
+-- promises, jobs, the flag of the checkpoint, lines, registrations and frame callbacks are as in p
+pub record AsBefore (p q : Page) : Type 0 where
+  pub notices : q.notices ≡ p.notices
+  pub performing : q.performing ≡ p.performing
+  pub events : q.events ≡ p.events
+  pub registrations : q.registrations ≡ p.registrations
+  pub frames : q.frames ≡ p.frames
+
+-- the closures, where number k was fired
+abbrev pub fired_at : ℕ → Option HostClosure → List HostClosure → List HostClosure
+fired_at k None hosts = hosts
+fired_at k (Some c) hosts = slice_set hosts k (fired c)
+
 -- ---- Ours: a change, with which no call begins or ends
 
 -- promise number n is changed so, with its lines and jobs
@@ -59,14 +146,18 @@ abbrev pub promise_changes : ℕ → Promises.Change → Page → Page
 promise_changes n c p = on_notices (λ s. changed (context p) p.names n c s) p
 
 pub data PageChange : Page → Page → Type 0 where
-  -- something else than promises, jobs, lines, registrations, frame callbacks and the checkpoint is changed
-  elsewhere : {p q : Page} → q.notices ≡ p.notices → q.performing ≡ p.performing → q.events ≡ p.events → q.registrations ≡ p.registrations → q.frames ≡ p.frames → PageChange p q
+  -- something else than promises, jobs, lines, registrations, frame callbacks and the checkpoint is changed, and the places so
+  elsewhere : {p q : Page} → PlaceChange p.registrations (places p) (places q) → AsBefore p q → PageChange p q
   -- a line that tells nothing of promises and jobs
   told : {p : Page} (e : Event) → is_aside e ≡ true → PageChange p (emit e p)
   -- a line between turns, where no call is open and no job waits
   rested : {p : Page} (e : Event) → is_rest e ≡ true → open_registrations p.events ≡ [] → p.notices.jobs ≡ [] → PageChange p (emit e p)
-  -- a registration of this kind is made
-  registered : {p : Page} (kind : RegKind) (x : Registration) → x.role ≡ OfKind kind → PageChange p (register_as kind x p)
+  -- a host's task is taken, and the host answers
+  answered : {p q : Page} (source : Source) (task : Task) (t : HostTask) (answer : Result ℤ ℤ) → first_task source p.tasks ≡ Some task → task.steps ≡ AnswerHost t
+      → places q ≡ record (places p) { tasks = without (λ t. t.number == task.number) p.tasks; hosts = fired_at t.closure (slice_get p.hosts t.closure) p.hosts }
+      → AsBefore (emit (Host t.closure t.number answer) p) q → PageChange p q
+  -- a registration is made, and waits at its first place
+  registered : {p q : Page} (kind : RegKind) (x : Registration) → x.role ≡ OfKind kind → FirstPlace (suc (length p.registrations)) (places p) (places q) → AsBefore (register_as kind x p) q → PageChange p q
   -- a frame callback is registered and requested, and one leaves the map
   frame_asked : {p : Page} (f : Func) → PageChange p (frame_requested f p)
   frame_gone : {p : Page} (handle : ℕ) → PageChange p (without_frame handle p)
@@ -78,10 +169,13 @@ pub data PageChange : Page → Page → Type 0 where
   followed : {p : Page} (n : ℕ) (how : Settled) → IsGiven (length p.notices.promises) n → (the_promise p.notices.promises n).outcome ≡ None → PageChange p (promise_changes n (Promises.settle n (the_promise p.notices.promises n) how) p)
   -- a promise that was never resolved is to become what another one becomes
   adopted : {p : Page} (n from : ℕ) → IsGiven (length p.notices.promises) n → (the_promise p.notices.promises n).locked ≡ false → PageChange p (promise_changes n (Promises.adopt n (the_promise p.notices.promises n) from) p)
-  -- a promise gets a reaction
-  subscribed : {p : Page} (n : ℕ) (r : Reaction) → IsGiven (length p.notices.promises) n → PageChange p (on_notices (subscribe_promise (context p) n r) p)
-  -- a microtask callback is queued
-  micro_queued : {p : Page} (r : ℕ) → PageChange p (on_notices (queue_micro (context p) r) p)
+  -- a promise gets a reaction without a callback
+  subscribed : {p : Page} (n : ℕ) (r : Reaction) → IsGiven (length p.notices.promises) n → r.registration ≡ None → PageChange p (on_notices (subscribe_promise (context p) n r) p)
+  -- handlers are registered, and a promise gets a reaction with them
+  then_asked : {p : Page} (n : ℕ) (x : Registration) (r : Reaction) → x.role ≡ OfKind kind.Then → IsGiven (length p.notices.promises) n → r.registration ≡ Some (suc (length p.registrations))
+      → PageChange p (on_notices (subscribe_promise (context p) n r) (register_as kind.Then x p))
+  -- a microtask callback is registered and queued
+  micro_asked : {p : Page} (x : Registration) (r : ℕ) → x.role ≡ OfKind kind.Micro → r ≡ suc (length p.registrations) → PageChange p (on_notices (queue_micro (context p) r) (register_as kind.Micro x p))
   -- the promises about to be notified about are taken
   rejected_taken : {p : Page} → PageChange p (record p { notices = record p.notices { rejected = [] } })
   -- a promise joins the outstanding ones
@@ -173,5 +267,5 @@ pub data Moves : Page → Page → Type 0 where
   calling : {p q : Page} → Moves p q → (b : Beginning) → Waited b q → IsFor (role_of b) (made_by q) (called_by b) → Moves p (call_begun (called_by b) (taken b q))
   ending : {p q : Page} → Moves p q → (e : Event) → is_end e ≡ true → Moves p (call_ended e q)
   -- the flag of the checkpoint
-  flagging : {p q r : Page} → Moves p q → r.notices ≡ q.notices → r.events ≡ q.events → r.registrations ≡ q.registrations → r.frames ≡ q.frames → Moves p r
+  flagging : {p q r : Page} → Moves p q → r.notices ≡ q.notices → r.events ≡ q.events → r.registrations ≡ q.registrations → r.frames ≡ q.frames → places r ≡ places q → Moves p r
   running : {p q : Page} → Moves p q → (job : WaitingJob) (others : List WaitingJob) → q.notices.jobs ≡ job ∷ others → open_registrations q.events ≡ [] → Moves p (job_begun job others q)

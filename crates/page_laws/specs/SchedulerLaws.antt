@@ -1,5 +1,5 @@
 -- Laws of every trace: priorities, and how a run ends.
-use Rattle.std.specs.Prelude.{◌≡◌, ℕ, ◌+◌, ◌*◌, Bool, true, false, cond, not, ◌&&◌, ◌||◌, List, [], ◌∷◌, filter, length, Option, Some, None, nat_lt, nat_le, ◌==◌, option_map}
+use Rattle.std.specs.Prelude.{◌≡◌, ℕ, ◌+◌, ◌*◌, Bool, true, false, cond, not, ◌&&◌, ◌||◌, List, [], ◌∷◌, filter, length, Option, Some, None, nat_lt, nat_le, ◌==◌, option_map, if◌then◌else◌}
 use Rattle.std.specs.List.{list_all}
 use Rattle.page_types.specs.declared.Priority.{Priority}
 use Rattle.page_types.specs.declared.Priority.TheVariants.{Background, UserVisible, UserBlocking}
@@ -108,9 +108,16 @@ abbrev pub is_over_as : History → ℕ → Option RegKind → Bool
 is_over_as past r None = true
 is_over_as past r (Some kind) = is_over kind past r
 
+-- Each `arm` line of a registration has its `due` line: of those that follow it the first that arms the registration or
+-- tells that it was due is a `due`. The lines go back from the last one; `due` holds where the one that follows is a `due`.
+abbrev pub arms_were_due : (r : ℕ) → (due : Bool) → History → Bool
+arms_were_due r due [] = true
+arms_were_due r due (e ∷ past) =
+    if is_arm_of r e.event then due && arms_were_due r false past else arms_were_due r (due || is_due_of r e.event) past
+
 -- every time a registration was armed it was due as well, but for a host that was dropped
 abbrev pub was_each_due : History → ℕ → Bool
-was_each_due past r = (count_lines (is_arm_of r) past == count_lines (is_due_of r) past) || (has_kind is_host past r && was_dropped past r)
+was_each_due past r = arms_were_due r false past || (has_kind is_host past r && was_dropped past r)
 
 abbrev pub armed_in_line : Event → List ℕ → List ℕ
 armed_in_line (Arm r due level) more = r ∷ more

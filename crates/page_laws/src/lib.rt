@@ -10,10 +10,9 @@ ghost use Rattle.lang_meaning.specs.Evaluation.{call_from_outside};
 ghost use Rattle.page_model.specs.Operations.{page_operations};
 ghost use Rattle.page_model.specs.Turns.{turns, run_by, state_of, first_state, first_page, events_of_run};
 ghost use Rattle.page_model.specs.Numbers.{HoldsNoNumbers};
-ghost use Rattle.page_laws.specs.CallLaws.{SettleOnce, JobsInOrder, NoNesting};
+ghost use Rattle.page_laws.specs.CallLaws.{Once, SettleOnce, JobsInOrder, NoNesting};
 ghost use Rattle.page_laws.specs.Moves.{Moves};
 ghost use Rattle.page_model.specs.Gaps.{Act, run_gaps_by};
-ghost use Rattle.page_laws.specs.Registering.{Registering, DrawnOnce};
 
 use page_model::Choosing;
 
@@ -38,10 +37,10 @@ pub fn jobs_run_in_no_call<R: Choosing>()
     ensures { (program : Program) (setup : Setup) (hosts : List HostClosure) (c : R.Held) → HoldsNoNumbers setup → NoNesting (events_of_run (run_by R.rules program setup hosts c)) }
 {}
 
-/// No registration is made twice, and what is called was registered before; a frame callback is called once at most.
-pub fn calls_are_registered<R: Choosing>()
-    ensures before { (program : Program) (setup : Setup) (hosts : List HostClosure) (c : R.Held) → HoldsNoNumbers setup → Registering (events_of_run (run_by R.rules program setup hosts c)) }
-    ensures once { (program : Program) (setup : Setup) (hosts : List HostClosure) (c : R.Held) → HoldsNoNumbers setup → DrawnOnce (state_of (run_by R.rules program setup hosts c)).host }
+/// Nothing is registered twice, and nothing but the script is called before it is registered; what runs once is called once at most,
+/// hosts and timeout signals are never called, and no host closure answers twice.
+pub fn callbacks_run_once<R: Choosing>()
+    ensures { (program : Program) (setup : Setup) (hosts : List HostClosure) (c : R.Held) → HoldsNoNumbers setup → Once (events_of_run (run_by R.rules program setup hosts c)) }
 {}
 
 /// The same of a run in pieces, in which another loop says when time passes, when a task is served and when the page rests.
@@ -50,6 +49,5 @@ pub fn acts_keep_the_laws<R: Choosing>()
     ensures settling { (program : Program) (setup : Setup) (c : R.Held) (list : List Act) → HoldsNoNumbers setup → SettleOnce (events_of_run (run_gaps_by R.rules program setup list c)) }
     ensures jobs { (program : Program) (setup : Setup) (c : R.Held) (list : List Act) → HoldsNoNumbers setup → JobsInOrder (events_of_run (run_gaps_by R.rules program setup list c)) }
     ensures nesting { (program : Program) (setup : Setup) (c : R.Held) (list : List Act) → HoldsNoNumbers setup → NoNesting (events_of_run (run_gaps_by R.rules program setup list c)) }
-    ensures before { (program : Program) (setup : Setup) (c : R.Held) (list : List Act) → HoldsNoNumbers setup → Registering (events_of_run (run_gaps_by R.rules program setup list c)) }
-    ensures once { (program : Program) (setup : Setup) (c : R.Held) (list : List Act) → HoldsNoNumbers setup → DrawnOnce (state_of (run_gaps_by R.rules program setup list c)).host }
+    ensures once { (program : Program) (setup : Setup) (c : R.Held) (list : List Act) → HoldsNoNumbers setup → Once (events_of_run (run_gaps_by R.rules program setup list c)) }
 {}

@@ -14,8 +14,5 @@ returns-clause-jobs g c = λ program setup choices list h. (laws_of_gaps g.R.Cho
 pub returns-clause-nesting : goal.returns-clause-nesting
 returns-clause-nesting g c = λ program setup choices list h. (laws_of_gaps g.R.Choosing.rules program setup choices list h).2
 
-pub returns-clause-before : goal.returns-clause-before
-returns-clause-before g c = λ program setup choices list h. (laws_of_gaps g.R.Choosing.rules program setup choices list h).3
-
 pub returns-clause-once : goal.returns-clause-once
-returns-clause-once g c = λ program setup choices list h. (laws_of_gaps g.R.Choosing.rules program setup choices list h).4
+returns-clause-once g c = λ program setup choices list h. (laws_of_gaps g.R.Choosing.rules program setup choices list h).3
