@@ -2,41 +2,32 @@ ghost use Rattle.std.specs.Prelude.{◌≡◌, ◌+◌, ◌^◌, ◌<◌, [], If
 ghost use Rattle.std.specs.Option.{option_map};
 ghost use Rattle.page_parts.specs.Words.{is_empty as has_none};
 ghost use Rattle.page_parts.specs.Frames.{no_frames, callback_in, request as requested, cancel as cancelled, keys as handles};
-ghost use Rattle.indexmap.specs.IndexMap.{keys};
 ghost use Rattle.raf_frames.specs.FrameInProgress.{next_callback, after_next};
 
 use crate::MemoryFault;
-use indexmap::IndexMap;
-use std::alloc::{AllocError, Global};
+use crate::callback_map::CallbackMap;
+use std::alloc::Global;
 use std::collections::VecDeque;
 use std::marker::Model;
 
 /// The map of animation frame callbacks, in the order of the requests, and the handles of the frame in progress that were
 /// not looked at yet (HTML, "Animation frames").
 ///
-/// A callback is a registration, which is any number. Handles are counted from 1.
+/// A callback is a registration, which is any number. Handles are counted from 1. A frame costs one look-up for each callback
+/// that was in the map at its start. Every other call costs one look-up, and once in a while a pass over the map, when more
+/// callbacks left it since the last one than are in it.
 #[derive(Drop)]
 pub struct Frames {
-    callbacks: IndexMap<u32, u32>,
-    last_handle: u32,
+    map: CallbackMap,
     left: VecDeque<u32>,
 }
 
 impl Model for Frames {
-    ghost use Rattle.std.specs.Prelude.{◌≤◌, All};
-    ghost use Rattle.indexmap.specs.IndexMap.{keys};
     ghost use Rattle.raf_frames.specs.FrameInProgress.{FrameInProgress};
 
     ghost Value = { FrameInProgress };
 
-    ghost use Rattle.raf_frames.specs.Entries.{callbacks_of};
-
-    ghost view = { λ frames. record {
-      map = record { callbacks = callbacks_of frames.callbacks.entries; made = frames.last_handle };
-      left = frames.left.items;
-    } };
-
-    ghost invariant = { λ frames. All (λ handle. handle ≤ frames.last_handle) (keys frames.callbacks) };
+    ghost view = { λ frames. record { map = frames.map; left = frames.left.items } };
 }
 
 impl Frames {
@@ -45,8 +36,7 @@ impl Frames {
         ensures { result ≡ record { map = no_frames; left = [] } }
     {
         Frames {
-            callbacks: IndexMap::new(alloc),
-            last_handle: 0,
+            map: CallbackMap::new(alloc),
             left: VecDeque::new(alloc),
         }
     }
@@ -60,10 +50,7 @@ impl Frames {
         ensures stored { OnOk result (self.new ≡ record self.old { map = requested registration self.old.map }) }
         ensures err { OnErr result (self.new ≡ self.old) }
     {
-        let handle = self.last_handle + 1;
-        self.callbacks.insert(handle, registration)?;
-        self.last_handle = handle;
-        Ok(handle)
+        self.map.request(registration)
     }
 
     /// Takes the callback with this handle out of the map, and answers its registration. A frame in progress does not call
@@ -74,7 +61,7 @@ impl Frames {
         ensures registration { result ≡ option_map (λ callback. callback.registration) (callback_in self.old.map.callbacks handle) }
         ensures gone { self.new ≡ record self.old { map = cancelled handle self.old.map } }
     {
-        self.callbacks.shift_remove(&handle)
+        self.map.cancel(handle)
     }
 
     /// Begins a frame: it calls the callbacks whose handles are in the map now. A frame that was in progress is over.
@@ -84,7 +71,7 @@ impl Frames {
         ensures begun { OnOk result (self.new ≡ record self.old { left = handles self.old.map }) }
         ensures err { OnErr result (self.new ≡ self.old) }
     {
-        self.left = handles_in(&self.callbacks)?;
+        self.left = self.map.handles()?;
         Ok(())
     }
 
@@ -97,7 +84,7 @@ impl Frames {
         ensures after { self.new ≡ after_next self.old }
     {
         while let Some(next) = self.left.pop_front() {
-            if let Some(registration) = self.callbacks.shift_remove(&next) {
+            if let Some(registration) = self.map.cancel(next) {
                 return Some(registration);
             }
         }
@@ -108,16 +95,15 @@ impl Frames {
     pub fn is_empty(&self) -> bool
         ensures { result ≡ has_none self.now.map.callbacks }
     {
-        self.callbacks.is_empty()
+        self.map.is_empty()
     }
-}
 
-// The handles in the map, in order.
-fn handles_in(callbacks: &IndexMap<u32, u32>) -> Result<VecDeque<u32>, AllocError>
-    ensures { IfOk result (λ queue. queue.items ≡ keys callbacks.now) }
-{
-    let handles: Vec<u32> = callbacks.keys().copied().collect(*callbacks.allocator())?;
-    Ok(VecDeque::from_vec(handles))
+    /// How many handles were ever given. Takes no memory.
+    pub fn made(&self) -> u32
+        ensures { result ≡ self.now.map.made }
+    {
+        self.map.made()
+    }
 }
 
 #[cfg(test)]
@@ -144,6 +130,27 @@ mod tests {
         assert_eq!(rt; frames.next_in_frame(), Some(4));
         assert_eq!(rt; frames.next_in_frame(), None);
         assert!(rt; frames.is_empty());
+        Ok(())
+    }
+
+    #[test]
+    fn callbacks_stay_where_many_others_left(rt: HostRuntime) -> Result<(), Fail> {
+        let mut frames = Frames::new(rt.alloc());
+        assert_eq!(rt; frames.request(10)?, 1);
+        assert_eq!(rt; frames.request(20)?, 2);
+        assert_eq!(rt; frames.request(30)?, 3);
+        assert_eq!(rt; frames.request(40)?, 4);
+        assert_eq!(rt; frames.cancel(1), Some(10));
+        assert_eq!(rt; frames.cancel(3), Some(30));
+        assert_eq!(rt; frames.cancel(4), Some(40));
+        assert_eq!(rt; frames.request(50)?, 5);
+        assert_eq!(rt; frames.cancel(3), None);
+
+        frames.begin_frame()?;
+        assert_eq!(rt; frames.next_in_frame(), Some(20));
+        assert_eq!(rt; frames.next_in_frame(), Some(50));
+        assert_eq!(rt; frames.next_in_frame(), None);
+        assert_eq!(rt; frames.made(), 5);
         Ok(())
     }
 }

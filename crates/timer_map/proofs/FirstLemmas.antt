@@ -1,11 +1,10 @@
 -- The active timer that is first by due time and start.
-use Rattle.std.proofs.Common.{◌≡◌, ℕ, zero, suc, ◌<◌, ◌≤◌, Bool, true, false, cond, ◌&&◌, ◌||◌, ◌⊎◌, inl, inr, List, [], ◌∷◌, ◌++◌, Option, Some, None, eqb, nat_lt, nat_eq, refl, sym, subst, ◌∙◌, ap, arith}
-use Rattle.std.proofs.lemmas.Bool.{eqb-true, eq-eqb}
+use Rattle.std.proofs.Common.{◌≡◌, ℕ, zero, suc, ◌<◌, ◌≤◌, Bool, true, false, cond, ◌&&◌, ◌||◌, ◌⊎◌, inl, inr, List, [], ◌∷◌, Some, nat_lt, nat_eq, refl, ◌∙◌, ap, arith}
+use Rattle.std.proofs.lemmas.Bool.{eq-eqb}
 use Rattle.std.specs.List.{AllByRecursion}
-use Rattle.std.specs.Option.{option_to_list}
 use Rattle.page_parts.specs.Timers.{ActiveTimer, first_from, first_of}
-use Rattle.timer_map.specs.InOrder.{started_as, in_order}
-use Rattle.timer_map.proofs.OrderLemmas.{found_has}
+use Rattle.timer_map.specs.InOrder.{numbered_as, in_order}
+use Rattle.timer_map.proofs.OrderLemmas.{Member, member_in_order, each_in_order}
 
 -- whether b completes before a
 abbrev pub before : ActiveTimer → ActiveTimer → Bool
@@ -14,11 +13,6 @@ before b a = nat_lt b.due a.due || (nat_eq b.due a.due && nat_lt b.start a.start
 -- a timer is x, or completes after it
 abbrev pub FromOn : ActiveTimer → ActiveTimer → Type 0
 FromOn x y = (y ≡ x) ⊎ (before x y ≡ true)
-
--- x is one of the timers
-abbrev pub Member : ActiveTimer → List ActiveTimer → Type 0
-Member x [] = ⊥
-Member x (y ∷ ys) = (y ≡ x) ⊎ Member x ys
 
 one_way : (x y : ActiveTimer) → before x y ≡ true → before y x ≡ false
 one_way x y h = grind (arith, h)
@@ -63,46 +57,16 @@ first_is x (t ∷ ts) each (inr member) = ap Some (first_reached x t ts each.0 e
 
 -- ---- in the order of start
 
-member_left : (x : ActiveTimer) (xs ys : List ActiveTimer) → Member x xs → Member x (xs ++ ys)
-member_left x [] ys member = absurd member
-member_left x (t ∷ xs) ys (inl e) = inl e
-member_left x (t ∷ xs) ys (inr member) = inr (member_left x xs ys member)
-
-member_last : (x : ActiveTimer) (xs : List ActiveTimer) → Member x (xs ++ x ∷ [])
-member_last x [] = inl refl
-member_last x (t ∷ xs) = inr (member_last x xs)
-
-each_append : (P : ActiveTimer → Type 0) (xs ys : List ActiveTimer) → AllByRecursion P xs → AllByRecursion P ys → AllByRecursion P (xs ++ ys)
-each_append P [] ys p q = q
-each_append P (x ∷ xs) ys p q = (p.0, each_append P xs ys p.1 q)
-
-member_in_order : (x : ActiveTimer) (last : ℕ) (ts : List ActiveTimer) → started_as x.start ts ≡ Some x → 0 < x.start → x.start ≤ last → Member x (in_order last ts)
-member_in_order x zero ts found above le = absurd (omega arith)
-member_in_order x (suc last) ts found above le = by (eqb x.start (suc last)) refl (λ less. member_in_order x last ts found above less)
-  where
-    by : (b : Bool) → eqb x.start (suc last) ≡ b → (x.start ≤ last → Member x (in_order last ts)) → Member x (in_order last ts ++ option_to_list (started_as (suc last) ts))
-    by true e rest =
-        let here : started_as (suc last) ts ≡ Some x = subst (λ n. started_as n ts ≡ Some x) (eqb-true x.start (suc last) e) found in
-        subst (λ r. Member x (in_order last ts ++ option_to_list r)) (sym here) (member_last x (in_order last ts))
-    by false e rest = let less : x.start ≤ last = grind (arith, e, le) in member_left x (in_order last ts) (option_to_list (started_as (suc last) ts)) (rest less)
-
-each_in_order : (P : ActiveTimer → Type 0) (last : ℕ) (ts : List ActiveTimer) → AllByRecursion P ts → AllByRecursion P (in_order last ts)
-each_in_order P zero ts each = tt
-each_in_order P (suc last) ts each = each_append P (in_order last ts) (option_to_list (started_as (suc last) ts)) (each_in_order P last ts each) (by (started_as (suc last) ts) refl)
-  where
-    by : (r : Option ActiveTimer) → started_as (suc last) ts ≡ r → AllByRecursion P (option_to_list r)
-    by None e = tt
-    by (Some a) e = (found_has P (suc last) ts a each e, tt)
-
 -- the first of the timers in the order of start
 pub first_in_order : (last : ℕ) (x : ActiveTimer) (rest : List ActiveTimer) → 0 < x.start → x.start ≤ last → AllByRecursion (FromOn x) (x ∷ rest)
-    → first_of (in_order last (x ∷ rest)) ≡ Some x
+    → first_of (in_order (λ t. t.start) last (x ∷ rest)) ≡ Some x
 first_in_order last x rest above le each =
     let itself = eq-eqb x.start x.start refl in
-    let found : started_as x.start (x ∷ rest) ≡ Some x = rw itself in
-    first_is x (in_order last (x ∷ rest)) (each_in_order (FromOn x) last (x ∷ rest) each) (member_in_order x last (x ∷ rest) found above le)
+    let found : numbered_as (λ (t : ActiveTimer). t.start) x.start (x ∷ rest) ≡ Some x = rw itself in
+    let member = member_in_order (λ (t : ActiveTimer). t.start) x last (x ∷ rest) found above le in
+    first_is x (in_order (λ t. t.start) last (x ∷ rest)) (each_in_order (λ (t : ActiveTimer). t.start) (FromOn x) last (x ∷ rest) each) member
 
 -- there is none among no timers
-pub none_in_order : (last : ℕ) → in_order last [] ≡ []
+pub none_in_order : (last : ℕ) → in_order (λ (t : ActiveTimer). t.start) last [] ≡ []
 none_in_order zero = refl
 none_in_order (suc last) = rw (none_in_order last)

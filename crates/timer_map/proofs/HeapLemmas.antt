@@ -1,31 +1,24 @@
 -- The heap of active timers.
-use Rattle.std.proofs.Common.{◌≡◌, ℕ, ◌+◌, ◌<◌, ◌≤◌, Bool, true, false, inl, inr, List, [], ◌∷◌, ◌++◌, length, slice_index_or, Option, Some, None, All, eqb, ltb, leb, nat_eq, refl, sym, subst, ◌∙◌, ap, true≢false, arith}
-use Rattle.std.proofs.lemmas.List.Elements.{All-cons, All-tail, All-weaker, recursion_from_All}
-use Rattle.std.proofs.lemmas.List.Sorted.{IsPermutation-map, All-permutation}
-use Rattle.std.proofs.lemmas.Map.Keys.{IsDistinct-cons, IsDistinct-tail}
+use Rattle.std.proofs.Common.{◌≡◌, ℕ, ◌+◌, ◌<◌, ◌≤◌, Bool, true, false, inl, inr, List, [], ◌∷◌, ◌++◌, length, slice_index_or, Option, Some, None, eqb, ltb, leb, refl, sym, subst, ◌∙◌, ap, true≢false, arith}
+use Rattle.std.proofs.lemmas.List.Elements.{recursion_from_All}
+use Rattle.std.proofs.lemmas.List.Sorted.{IsPermutation-map}
 use Rattle.std.specs.BinaryHeap.{IsHeap, IsUpperBound}
-use Rattle.std.specs.List.{AllByRecursion, IsDistinct}
+use Rattle.std.specs.List.{AllByRecursion}
 use Rattle.std.specs.List.Sorted.{IsPermutation}
+use Rattle.std.specs.Option.{option_map}
 use Rattle.std.specs.Ordering.{nat_cmp, ordering_then, is_lt}
 use Rattle.std.specs.declared.cmp.Reverse.{Reverse}
 use Rattle.page_parts.specs.Timers.{Timers, ActiveTimer, first_of, first_timer, next_due, completed}
-use Rattle.std.specs.Option.{option_map}
-use Rattle.timer_map.specs.Due.{where_due, due_timer, after_due}
 use Rattle.page_parts.specs.Words.{without}
+use Rattle.timer_map.specs.Due.{where_due, due_timer, after_due}
 use Rattle.timer_map.specs.declared.waiting.ActiveTimer as waiting
-use Rattle.timer_map.specs.InOrder.{in_order}
 use Rattle.timer_map.specs.Kept.{earlier, Given, IsKept}
-use Rattle.timer_map.specs.Seen.{seen_timer, timers_of}
+use Rattle.timer_map.specs.Seen.{seen_timer, timers_of, timers_in_order}
 use Rattle.timer_map.proofs.FirstLemmas.{FromOn, first_in_order, none_in_order}
-use Rattle.timer_map.proofs.OrderLemmas.{starts, distinct_permuted, order_pushed, order_popped}
+use Rattle.timer_map.proofs.OrderLemmas.{order_pushed, order_popped, distinct_pushed, numbered_pushed, numbered_popped}
 
--- the next start number is new
-differs : (last : ℕ) (ts : List ActiveTimer) → AllByRecursion (Given last) ts → AllByRecursion (λ y. nat_eq (last + 1) y ≡ false) (starts ts)
-differs last [] given = tt
-differs last (t ∷ ts) given = let le : t.start ≤ last = given.0.1 in (grind (arith, le), differs last ts given.1)
-
-distinct_pushed : (last : ℕ) (ts : List ActiveTimer) → IsDistinct nat_eq (starts ts) → All (Given last) ts → IsDistinct nat_eq ((last + 1) ∷ starts ts)
-distinct_pushed last ts distinct given = IsDistinct-cons nat_eq (last + 1) (starts ts) (differs last ts (recursion_from_All (Given last) ts given)) distinct
+abbrev start_of : ActiveTimer → ℕ
+start_of timer = timer.start
 
 module _ (last due : ℕ) (old new : List (Reverse waiting.ActiveTimer)) (kept : IsKept last old)
     (p : let item : Reverse waiting.ActiveTimer = record { 0 = record { due = record { 0 = due }; start = last + 1 } } in IsPermutation (item ∷ old) new) where
@@ -33,30 +26,28 @@ module _ (last due : ℕ) (old new : List (Reverse waiting.ActiveTimer)) (kept :
   pub kept_pushed : (IsHeap earlier old → IsHeap earlier new) → IsKept (last + 1) new
   kept_pushed keeps =
       let started : ActiveTimer = record { start = last + 1; due = due } in
-      let q = IsPermutation-map seen_timer _ new p in
-      let more = All-weaker (Given last) (Given (last + 1)) (λ t given. (given.0, omega (arith, given.1))) (timers_of old) kept.given in
       record {
         heap = keeps kept.heap;
-        distinct = distinct_permuted (started ∷ timers_of old) (timers_of new) q (distinct_pushed last (timers_of old) kept.distinct kept.given);
-        given = All-permutation (Given (last + 1)) (started ∷ timers_of old) (timers_of new) q (All-cons (Given (last + 1)) started (timers_of old) (omega arith, omega arith) more);
+        numbered = numbered_pushed start_of last started (timers_of old) (timers_of new) refl (IsPermutation-map seen_timer _ new p) kept.numbered;
       }
 
-  pub timers_pushed : in_order (last + 1) (timers_of new) ≡ in_order last (timers_of old) ++ record { start = last + 1; due = due } ∷ []
-  timers_pushed = order_pushed last due (timers_of old) (timers_of new) (IsPermutation-map seen_timer _ new p) (distinct_pushed last (timers_of old) kept.distinct kept.given)
+  pub timers_pushed : timers_in_order (last + 1) new ≡ timers_in_order last old ++ record { start = last + 1; due = due } ∷ []
+  timers_pushed =
+      let started : ActiveTimer = record { start = last + 1; due = due } in
+      order_pushed start_of last started (timers_of old) (timers_of new) refl (IsPermutation-map seen_timer _ new p)
+      (distinct_pushed start_of last started (timers_of old) refl kept.numbered)
 
 module _ (last : ℕ) (x : Reverse waiting.ActiveTimer) (old new : List (Reverse waiting.ActiveTimer)) (kept : IsKept last old) (p : IsPermutation old (x ∷ new)) where
   -- a timer leaves
   pub kept_popped : IsHeap earlier new → IsKept last new
   kept_popped heap =
-      let q = IsPermutation-map seen_timer old (x ∷ new) p in
       record {
         heap = heap;
-        distinct = IsDistinct-tail nat_eq x.0.start (starts (timers_of new)) (distinct_permuted (timers_of old) (timers_of (x ∷ new)) q kept.distinct);
-        given = All-tail (Given last) (seen_timer x) (timers_of new) (All-permutation (Given last) (timers_of old) (timers_of (x ∷ new)) q kept.given);
+        numbered = numbered_popped start_of last (seen_timer x) (timers_of old) (timers_of new) (IsPermutation-map seen_timer old (x ∷ new) p) kept.numbered;
       }
 
-  pub timers_popped : in_order last (timers_of new) ≡ without (λ t. eqb t.start x.0.start) (in_order last (timers_of old))
-  timers_popped = order_popped last (seen_timer x) (timers_of old) (timers_of new) (IsPermutation-map seen_timer old (x ∷ new) p) kept.distinct
+  pub timers_popped : timers_in_order last new ≡ without (λ t. eqb t.start x.0.start) (timers_in_order last old)
+  timers_popped = order_popped start_of last (seen_timer x) (timers_of old) (timers_of new) (IsPermutation-map seen_timer old (x ∷ new) p) kept.numbered.distinct
 
 -- one that is not earlier than x is x or completes after it
 from_on : (xd xs yd ys : ℕ) → is_lt (ordering_then (nat_cmp yd xd) (nat_cmp ys xs)) ≡ false
@@ -80,16 +71,16 @@ each_from_on x (y ∷ items) bound = (from_on x.0.due.0 x.0.start y.0.due.0 y.0.
 
 -- the top of the heap is the first of the timers
 pub first_at_top : (last : ℕ) (x : Reverse waiting.ActiveTimer) (items : List (Reverse waiting.ActiveTimer)) → IsKept last items → 0 < length items
-    → x ≡ slice_index_or items 0 x → IsUpperBound earlier x items → first_of (in_order last (timers_of items)) ≡ Some (seen_timer x)
+    → x ≡ slice_index_or items 0 x → IsUpperBound earlier x items → first_of (timers_in_order last items) ≡ Some (seen_timer x)
 first_at_top last x [] kept some top bound = absurd (omega arith)
 first_at_top last x (y ∷ items) kept some top bound =
-    let given = recursion_from_All (Given last) (timers_of (y ∷ items)) kept.given in
+    let given = recursion_from_All (λ (t : ActiveTimer). Given last t.start) (timers_of (y ∷ items)) kept.numbered.given in
     let same : y ≡ x = sym top in
     let first = first_in_order last (seen_timer y) (timers_of items) given.0.0 given.0.1 (each_from_on y (y ∷ items) (subst (λ z. IsUpperBound earlier z (y ∷ items)) (sym same) bound)) in
     first ∙ ap (λ z. Some (seen_timer z)) same
 
 -- an empty heap has none
-pub none_at_top : (last : ℕ) (items : List (Reverse waiting.ActiveTimer)) → length items ≡ 0 → first_of (in_order last (timers_of items)) ≡ None
+pub none_at_top : (last : ℕ) (items : List (Reverse waiting.ActiveTimer)) → length items ≡ 0 → first_of (timers_in_order last items) ≡ None
 none_at_top last [] e = ap first_of (none_in_order last)
 none_at_top last (y ∷ items) e = let never : ⊥ = omega (arith, e) in absurd never
 

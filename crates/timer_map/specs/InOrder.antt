@@ -1,13 +1,12 @@
--- Timers in the order of start.
+-- Items in the order of numbers that they have.
 use Rattle.std.specs.Prelude.{ℕ, zero, suc, List, [], ◌++◌, ◌==◌, find, Option}
 use Rattle.std.specs.Option.{option_to_list}
-use Rattle.page_parts.specs.Timers.{ActiveTimer}
 
--- the timer with a start number
-abbrev pub started_as : ℕ → List ActiveTimer → Option ActiveTimer
-started_as start timers = find (λ timer. timer.start == start) timers
+-- the item with a number
+abbrev pub numbered_as : {X : Type 0} → (X → ℕ) → ℕ → List X → Option X
+numbered_as number n items = find (λ item. number item == n) items
 
--- the timers with the start numbers from 1 to the last one, in this order
-abbrev pub in_order : ℕ → List ActiveTimer → List ActiveTimer
-in_order zero timers = []
-in_order (suc last) timers = in_order last timers ++ option_to_list (started_as (suc last) timers)
+-- the items with the numbers from 1 to the last one, in this order
+abbrev pub in_order : {X : Type 0} → (X → ℕ) → ℕ → List X → List X
+in_order number zero items = []
+in_order number (suc last) items = in_order number last items ++ option_to_list (numbered_as number (suc last) items)

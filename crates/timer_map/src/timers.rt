@@ -8,19 +8,20 @@ use crate::MemoryFault;
 use crate::armed::{Armed, clamped, milliseconds};
 use crate::ids::{id_and_last, set_handle};
 use crate::waiting::{ActiveTimer, Waiting};
-use indexmap::IndexMap;
 use page_base::Micros;
 use std::alloc::Global;
 use std::cmp::Reverse;
-use std::collections::BinaryHeap;
+use std::collections::{BinaryHeap, HashMap};
 use std::marker::Model;
 
 /// The map of setTimeout and setInterval ids, and the active timers (HTML, "Timers").
 ///
 /// Ids, unique handles and start numbers are counted from 1. An active timer stays where its id is cleared.
+///
+/// Each call costs at most the logarithm of the number of active timers, but for the growth of the map of ids.
 #[derive(Drop)]
 pub struct Timers {
-    ids: IndexMap<u32, u64>,
+    ids: HashMap<u32, u64>,
     active: Waiting,
     ids_made: u32,
     handles_made: u64,
@@ -33,19 +34,18 @@ impl Model for Timers {
     ghost Value = { TimerMap };
 
     ghost use Rattle.std.specs.BinaryHeap.{heap_items};
-    ghost use Rattle.timer_map.specs.Seen.{ids_of, timers_of};
-    ghost use Rattle.timer_map.specs.InOrder.{in_order};
-    ghost use Rattle.timer_map.specs.Kept.{IsKept};
+    ghost use Rattle.timer_map.specs.Seen.{ids_in_order, timers_in_order};
+    ghost use Rattle.timer_map.specs.Kept.{AreKept};
 
     ghost view = { λ timers. record {
-      ids = ids_of timers.ids.entries;
-      active = in_order timers.starts_made (timers_of (heap_items timers.active));
+      ids = ids_in_order timers.handles_made timers.ids.entries;
+      active = timers_in_order timers.starts_made (heap_items timers.active);
       ids_made = timers.ids_made;
       handles_made = timers.handles_made;
       starts_made = timers.starts_made;
     } };
 
-    ghost invariant = { λ timers. IsKept timers.starts_made (heap_items timers.active) };
+    ghost invariant = { λ timers. AreKept timers.handles_made timers.ids.entries timers.starts_made (heap_items timers.active) };
 }
 
 impl Timers {
@@ -54,7 +54,7 @@ impl Timers {
         ensures { result ≡ no_timers }
     {
         Timers {
-            ids: IndexMap::new(alloc),
+            ids: HashMap::new(alloc),
             active: BinaryHeap::new(alloc),
             ids_made: 0,
             handles_made: 0,
@@ -131,7 +131,7 @@ impl Timers {
         ensures was { result ≡ has_id id self.old }
         ensures gone { self.new ≡ cleared id self.old }
     {
-        self.ids.shift_remove(&id).is_some()
+        self.ids.remove(&id).is_some()
     }
 
     /// Whether the id is in the map with this handle. Takes no memory.
@@ -162,6 +162,13 @@ impl Timers {
         }
         let completed = self.active.pop()?;
         Some(completed.0.start)
+    }
+
+    /// How many ids were ever given. Takes no memory.
+    pub fn made(&self) -> u32
+        ensures { result ≡ self.now.ids_made }
+    {
+        self.ids_made
     }
 }
 

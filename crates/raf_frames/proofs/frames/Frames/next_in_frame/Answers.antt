@@ -1,40 +1,32 @@
-use Rattle.std.proofs.Common.{◌≤◌, nat_eq, ap, sym, ◌∙◌}
-use Rattle.std.proofs.lemmas.Map.Views.{All-map-remove_entry}
-use Rattle.std.specs.Map.{lookup, remove_entry}
+use Rattle.std.proofs.Common.{◌∙◌, sym, ap}
+use Rattle.page_parts.specs.Frames.{cancel}
 use Rattle.raf_frames.specs.FrameInProgress.{after_next}
-use Rattle.raf_frames.proofs.NextLemmas.{first_found, behind_found, first_passed, behind_passed, taken}
+use Rattle.raf_frames.proofs.NextLemmas.{registration_in, first_found, first_passed, taken}
 use Rattle.raf_frames.proofs.frames.Frames.next_in_frame.Goals as goal
 
-pub invariant_of-self : goal.invariant_of-self
-invariant_of-self c =
-    let e = c.shift_remove.ensures.entries ∙ ap (remove_entry (nat_eq c.in-Some.next)) c.loop-next.invariant.0 in
-    rw (e, c.loop-next.invariant.3) (All-map-remove_entry (nat_eq c.in-Some.next) (λ e. e.0) (λ handle. handle ≤ c.self.inside.last_handle) c.self.inside.callbacks.entries c.self.invariant)
-
-pub returns-in-Some-shift_remove-clause-registration : goal.returns-in-Some-shift_remove-clause-registration
-returns-in-Some-shift_remove-clause-registration c =
-    let es = c.self.inside.callbacks.entries in
-    let has = sym (ap (lookup (nat_eq c.in-Some.next)) c.loop-next.invariant.0) ∙ sym c.shift_remove.ensures.value ∙ c.in-Some-shift_remove.is in
-    let first = sym c.loop-next.invariant.1 ∙ first_found es c.in-Some.next _ _ _ has c.in-Some.ensures.items in
-    rw (← c.self.view_is, first)
-
-pub returns-in-Some-shift_remove-clause-after : goal.returns-in-Some-shift_remove-clause-after
-returns-in-Some-shift_remove-clause-after c =
-    let es = c.self.inside.callbacks.entries in
+pub returns-in-Some-cancel-clause-registration : goal.returns-in-Some-cancel-clause-registration
+returns-in-Some-cancel-clause-registration c =
     let same = c.loop-next.invariant in
-    let has = sym (ap (lookup (nat_eq c.in-Some.next)) same.0) ∙ sym c.shift_remove.ensures.value ∙ c.in-Some-shift_remove.is in
-    let first = sym same.1 ∙ first_found es c.in-Some.next _ _ _ has c.in-Some.ensures.items in
-    let behind = sym same.2 ∙ behind_found es c.in-Some.next _ _ _ has c.in-Some.ensures.items in
-    let removed = c.shift_remove.ensures.entries ∙ ap (remove_entry (nat_eq c.in-Some.next)) same.0 in
-    let after = taken es _ c.self.inside.last_handle c.in-Some.next _ c.self.inside.left.items _ removed c.shift_remove.ensures.updates.1 first behind in
-    rw same.3 (after ∙ ap after_next c.self.view_is)
+    let found = c.in-Some-cancel.ensures.registration ∙ ap (λ f. registration_in f c.in-Some.next) same.0 in
+    let f = first_found c.self.inside.map.callbacks c.in-Some.next _ _ _ c.in-Some.ensures.items found in
+    let first = sym same.1 ∙ f.1 in
+    rw (← c.self.view_is, first, f.3)
+
+pub returns-in-Some-cancel-clause-after : goal.returns-in-Some-cancel-clause-after
+returns-in-Some-cancel-clause-after c =
+    let same = c.loop-next.invariant in
+    let found = c.in-Some-cancel.ensures.registration ∙ ap (λ f. registration_in f c.in-Some.next) same.0 in
+    let f = first_found c.self.inside.map.callbacks c.in-Some.next _ _ _ c.in-Some.ensures.items found in
+    let first = sym same.1 ∙ f.1 in
+    let behind = sym same.2 ∙ f.4 in
+    let gone = c.in-Some-cancel.ensures.gone ∙ ap (cancel c.in-Some.next) same.0 in
+    rw gone (taken _ f.0 c.in-Some.next _ first f.2 behind ∙ ap after_next c.self.view_is)
 
 pub loop-next-preserved : goal.loop-next-preserved
 loop-next-preserved c =
-    let es = c.self.inside.callbacks.entries in
     let same = c.loop-next.invariant in
-    let none = sym (ap (lookup (nat_eq c.in-Some.next)) same.0) ∙ sym c.shift_remove.ensures.value ∙ c.in_default-shift_remove.is in (
-      c.in_default-shift_remove.ensures.unchanged ∙ same.0,
-      first_passed es c.in-Some.next _ _ none c.in-Some.ensures.items ∙ same.1,
-      behind_passed es c.in-Some.next _ _ none c.in-Some.ensures.items ∙ same.2,
-      same.3,
-    )
+    let map = c.self.inside.map in
+    let none = c.in_default-cancel.ensures.registration ∙ ap (λ f. registration_in f c.in-Some.next) same.0 in
+    let passed = first_passed map.callbacks c.in-Some.next _ _ c.in-Some.ensures.items none in
+    let gone = c.in_default-cancel.ensures.gone ∙ ap (cancel c.in-Some.next) same.0 ∙ ap (λ cs. record map { callbacks = cs }) passed.0 in
+    (gone, passed.1 ∙ same.1, passed.2 ∙ same.2)

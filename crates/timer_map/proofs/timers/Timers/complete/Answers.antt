@@ -22,14 +22,15 @@ returns-in_err-completed-clause-gone c =
 pub invariant_of-self-2 : goal.invariant_of-self-2
 invariant_of-self-2 c =
     let e = c.in_ok-completed.ensures in
-    kept_popped c.self.inside.starts_made c.in_ok-completed.completed _ _ c.self.invariant e.permutation (e.heap_order c.self.invariant.heap).0
+    let active = kept_popped c.self.inside.starts_made c.in_ok-completed.completed _ _ c.self.invariant.active e.permutation (e.heap_order c.self.invariant.active.heap).0 in
+    record { ids = c.self.invariant.ids; active = active }
 
 pub returns-clause-start : goal.returns-clause-start
 returns-clause-start c =
     let e = c.in_ok-completed.ensures in
     let x = c.in_ok-completed.completed in
     let some : 0 < length (heap_items c.self.inside.active) = omega (arith, length_permutation _ _ e.permutation) in
-    let top = first_at_top c.self.inside.starts_made x _ c.self.invariant some e.top (e.heap_order c.self.invariant.heap).1 in
+    let top = first_at_top c.self.inside.starts_made x _ c.self.invariant.active some e.top (e.heap_order c.self.invariant.active.heap).1 in
     let first = ap first_timer (sym c.self.view_is) ∙ top in
     let due = due_of_first _ c.args.self.now (seen_timer x) first c.in_ok-next_due.ensures in
     let le = subst (λ n. n ≤ c.args.now.0) due (le_from_not_gt _ _ (sym c.gt.ensures ∙ c.if-gt.false)) in
@@ -40,10 +41,10 @@ returns-clause-gone c =
     let e = c.in_ok-completed.ensures in
     let x = c.in_ok-completed.completed in
     let some : 0 < length (heap_items c.self.inside.active) = omega (arith, length_permutation _ _ e.permutation) in
-    let top = first_at_top c.self.inside.starts_made x _ c.self.invariant some e.top (e.heap_order c.self.invariant.heap).1 in
+    let top = first_at_top c.self.inside.starts_made x _ c.self.invariant.active some e.top (e.heap_order c.self.invariant.active.heap).1 in
     let first = ap first_timer (sym c.self.view_is) ∙ top in
     let due = due_of_first _ c.args.self.now (seen_timer x) first c.in_ok-next_due.ensures in
     let le = subst (λ n. n ≤ c.args.now.0) due (le_from_not_gt _ _ (sym c.gt.ensures ∙ c.if-gt.false)) in
     let after = after_first c.args.now.0 c.args.self.now (seen_timer x) (due_first c.args.now.0 c.args.self.now (seen_timer x) first le) in
-    let popped = timers_popped c.self.inside.starts_made x _ _ c.self.invariant e.permutation in
+    let popped = timers_popped c.self.inside.starts_made x _ _ c.self.invariant.active e.permutation in
     rw popped (ap (completed x.0.start) c.self.view_is ∙ sym after)

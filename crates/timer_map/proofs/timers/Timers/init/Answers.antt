@@ -1,20 +1,47 @@
-use Rattle.std.proofs.Common.{◌+◌, ◌*◌, ◌∙◌, ap, suc, unwrap_or, add-one, refl, w64}
+use Rattle.std.proofs.Common.{◌≡◌, List, ◌+◌, ◌*◌, ◌∙◌, ap, sym, subst, suc, unwrap_or, add-one, Result, Ok, Err, OnErr, refl, w64}
 use Rattle.std.proofs.lemmas.Int.{to_z-of_z}
-use Rattle.page_parts.specs.Timers.{with_id, with_armed, armed, milliseconds}
-use Rattle.timer_map.specs.Seen.{ids_of}
+use Rattle.page_parts.specs.Timers.{Timers, TimerId, ActiveTimer, with_id, with_armed, armed, milliseconds}
+use Rattle.timer_map.specs.Kept.{IsKept}
+use Rattle.timer_map.specs.Seen.{timers_in_order}
 use Rattle.timer_map.proofs.HeapLemmas.{kept_pushed, timers_pushed}
-use Rattle.timer_map.proofs.IdLemmas.{last_given}
+use Rattle.timer_map.proofs.IdLemmas.{kept_reordered, ids_reordered, kept_put, ids_put, last_given}
 use Rattle.timer_map.proofs.timers.Timers.init.Goals as goal
+
+on_err : {T E P : Type 0} (r : Result T E) → P → OnErr r P
+on_err (Ok x) p = tt
+on_err (Err e) p = p
+
+same_timers : (t : Timers) (ids : List TimerId) (active : List ActiveTimer) → ids ≡ t.ids → active ≡ t.active → record t { ids = ids; active = active } ≡ t
+same_timers t ids active e f = rw (e, f)
+
+pub invariant_of-self-in_err-push : goal.invariant_of-self-in_err-push
+invariant_of-self-in_err-push c =
+    let e = c.in_ok-reserve.ensures in
+    let active = subst (IsKept c.self.inside.starts_made) (sym c.in_err-push.ensures.unchanged.0) c.self.invariant.active in
+    record { ids = kept_reordered _ _ _ c.self.invariant.ids e.entries.0 e.unique; active = active }
+
+pub returns-in_err-push-clause-err : goal.returns-in_err-push-clause-err
+returns-in_err-push-clause-err c =
+    let ids = ids_reordered c.self.inside.handles_made _ _ c.self.invariant.ids c.in_ok-reserve.ensures.entries.0 in
+    let active = ap (timers_in_order c.self.inside.starts_made) c.in_err-push.ensures.unchanged.0 in
+    on_err _ (same_timers _ _ _ ids active ∙ c.self.view_is)
 
 pub invariant_of-self-2 : goal.invariant_of-self-2
 invariant_of-self-2 c =
-    kept_pushed c.self.inside.starts_made (c.args.now.0 + c.clamped.result * 1000) _ _ c.self.invariant c.in_ok-push.ensures.permutation c.in_ok-push.ensures.heap_order
+    let e = c.in_ok-reserve.ensures in
+    let room = kept_reordered c.self.inside.handles_made _ _ c.self.invariant.ids e.entries.0 e.unique in
+    let active = kept_pushed c.self.inside.starts_made (c.args.now.0 + c.clamped.result * 1000) _ _ c.self.invariant.active c.in_ok-push.ensures.permutation c.in_ok-push.ensures.heap_order in
+    record { ids = kept_put c.id_and_last-id.result.0 _ _ _ room c.set_handle.ensures.set c.set_handle.ensures.unique; active = active }
 
 pub returns-clause-set : goal.returns-clause-set
 returns-clause-set c =
-    let pushed = timers_pushed c.self.inside.starts_made (c.args.now.0 + c.clamped.result * 1000) _ _ c.self.invariant c.in_ok-push.ensures.permutation in
+    let pushed = timers_pushed c.self.inside.starts_made (c.args.now.0 + c.clamped.result * 1000) _ _ c.self.invariant.active c.in_ok-push.ensures.permutation in
     let id = c.id_and_last-id.ensures.id ∙ ap (unwrap_or c.args.again) (add-one c.self.inside.ids_made) in
     let last = c.id_and_last-id.ensures.last ∙ last_given c.args.again c.self.inside.ids_made (unwrap_or c.args.again (suc c.self.inside.ids_made)) refl in
-    let ids = c.set_handle.ensures ∙ ap (λ es. with_id c.id_and_last-id.result.0 (c.self.inside.handles_made + 1) (ids_of es)) c.in_ok-reserve.ensures.entries in
+    let e = c.in_ok-reserve.ensures in
+    let room = kept_reordered c.self.inside.handles_made _ _ c.self.invariant.ids e.entries.0 e.unique in
+    let same = ids_reordered c.self.inside.handles_made _ _ c.self.invariant.ids e.entries.0 in
+    let put = ids_put c.id_and_last-id.result.0 c.self.inside.handles_made _ _ room c.set_handle.ensures.set in
+    let ids = put ∙ ap (with_id c.id_and_last-id.result.0 (c.self.inside.handles_made + 1)) same in
     let ms = c.milliseconds.ensures.value ∙ ap milliseconds (to_z-of_z w64 c.args.timeout c.ranges.timeout) in
     rw (ids, pushed, last, id, c.clamped.ensures.value, ms, add-one, add-one) (ap (λ t. with_armed c.args.again (armed c.args.again c.args.timeout c.args.nesting c.args.now.0 t) t) c.self.view_is)

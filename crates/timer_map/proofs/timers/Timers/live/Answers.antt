@@ -1,9 +1,9 @@
 use Rattle.std.proofs.Common.{ap, nat_eq, Some, ◌∙◌}
 use Rattle.std.specs.Option.{option_eq}
-use Rattle.timer_map.proofs.IdLemmas.{live_found}
+use Rattle.timer_map.proofs.IdLemmas.{live_in_order}
 use Rattle.timer_map.proofs.timers.Timers.live.Goals as goal
 
 pub returns : goal.returns
 returns c =
     let copied = c.copied.ensures ∙ c.get.ensures.value in
-    rw (← c.self.view_is) (c.eq.ensures ∙ ap (λ r. option_eq nat_eq r (Some c.args.handle)) copied ∙ live_found c.args.id c.args.handle c.self.inside.ids.entries)
+    rw (← c.self.view_is) (c.eq.ensures ∙ ap (λ r. option_eq nat_eq r (Some c.args.handle)) copied ∙ live_in_order c.args.id c.args.handle _ _ c.self.invariant.ids)

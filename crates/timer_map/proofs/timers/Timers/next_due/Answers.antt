@@ -13,5 +13,5 @@ returns-in_err-first c =
 pub returns : goal.returns
 returns c =
     let e = c.in_ok-first.ensures in
-    let first = first_at_top c.self.inside.starts_made c.in_ok-first.first.now (heap_items c.self.inside.active) c.self.invariant e.item.3.0 e.lookup (e.greatest c.self.invariant.heap) in
+    let first = first_at_top c.self.inside.starts_made c.in_ok-first.first.now (heap_items c.self.inside.active) c.self.invariant.active e.item.3.0 e.lookup (e.greatest c.self.invariant.active.heap) in
     sym (ap (option_map (λ (a : ActiveTimer). a.due)) first) ∙ ap next_due c.self.view_is
