@@ -1,3 +1,4 @@
 pub mod Dispatching
-pub mod Live
+pub mod Indexed
+pub mod Removed
 pub mod Seen

@@ -5,6 +5,8 @@
 
 mod dispatch;
 mod fault;
+mod index;
+mod listener;
 mod listeners;
 mod target;
 

@@ -86,20 +86,40 @@ fn the_order_is_that_of_adding_whatever_the_numbers(rt: HostRuntime) -> Result<(
 }
 
 #[test]
-fn a_hundred_thousand_listeners_come_and_go(rt: HostRuntime) -> Result<(), Fail> {
+fn a_number_that_was_added_twice_is_removed_once_for_all(rt: HostRuntime) -> Result<(), Fail> {
     let click = text(rt.alloc(), b"click")?;
+    let abort = text(rt.alloc(), b"abort")?;
+    let mut listeners = Listeners::new(rt.alloc());
+    listeners.add(Target::Window, &click, 2)?;
+    listeners.add(Target::Signal(0), &abort, 2)?;
+    listeners.add(Target::Window, &click, 3)?;
+    let mut dispatch = listeners.begin(Target::Signal(0), &abort)?;
+    assert!(rt; listeners.off(2));
+    assert!(rt; !listeners.off(2));
+    expect_called(&rt, &listeners, &mut dispatch, &[]);
+    let mut dispatch = listeners.begin(Target::Window, &click)?;
+    expect_called(&rt, &listeners, &mut dispatch, &[3]);
+    Ok(())
+}
+
+#[test]
+fn a_hundred_thousand_signals_have_a_listener_that_is_removed_and_added_again(
+    rt: HostRuntime,
+) -> Result<(), Fail> {
+    let abort = text(rt.alloc(), b"abort")?;
     let mut listeners = Listeners::new(rt.alloc());
     for added in 0..100_000u32 {
-        listeners.add(Target::Window, &click, added)?;
+        listeners.add(Target::Signal(added), &abort, added)?;
     }
-    let mut dispatch = listeners.begin(Target::Window, &click)?;
-    for registration in 0..50_000u32 {
-        assert_eq!(rt; listeners.next(&mut dispatch), Some(registration));
-        assert!(rt; listeners.off(registration));
+    for number in 0..100_000u32 {
+        assert!(rt; listeners.off(number));
+        listeners.add(Target::Signal(number / 2), &abort, number)?;
     }
-    for registration in 50_000..99_999u32 {
-        assert!(rt; listeners.off(registration));
+    for number in 0..50_000u32 {
+        let mut dispatch = listeners.begin(Target::Signal(number), &abort)?;
+        assert_eq!(rt; listeners.next(&mut dispatch), Some(number * 2));
+        assert_eq!(rt; listeners.next(&mut dispatch), Some(number * 2 + 1));
+        assert_eq!(rt; listeners.next(&mut dispatch), None);
     }
-    expect_called(&rt, &listeners, &mut dispatch, &[99_999]);
     Ok(())
 }

@@ -1,12 +1,11 @@
-use Rattle.std.proofs.Common.{◌≡◌, length, nat_cmp}
-use Rattle.std.specs.BTreeMap.{get}
-use Rattle.page_events.specs.Live.{listeners_of, listed}
+use Rattle.std.proofs.Common.{◌≡◌, length}
+use Rattle.page_events.specs.Seen.{listeners_of}
 use Rattle.page_events.specs.Dispatching.{next_listening, behind_next}
 use Rattle.page_events.proofs.listeners.Listeners.next.Given as goal
 
 abbrev pub invariant-loop-registration : goal.invariant-loop-registration
 invariant-loop-registration l =
-    let now = listed (get nat_cmp l.self-inside.live) (listeners_of l.self-inside.order.items) in
+    let now = listeners_of l.self-inside.listed.entries in
     (next_listening now l.dispatch-inside.left.items ≡ next_listening now l.initial.dispatch-inside.left.items)
     × (behind_next now l.dispatch-inside.left.items ≡ behind_next now l.initial.dispatch-inside.left.items)
 
