@@ -12,6 +12,7 @@ use Rattle.page_parts.specs.TaskSignals.{same_priority}
 use Rattle.cell_room.specs.declared.room.Cell.{Cell}
 use Rattle.task_pool.specs.Lists.{Entry, Lists, list_of, without, numbered, first_entry}
 use Rattle.task_pool.specs.declared.pool.Ticket.{Ticket}
+use Rattle.task_pool.proofs.Changes.{set_here, set_elsewhere, set_length}
 use Rattle.post_task.specs.declared.heads.Head.{Head}
 use Rattle.post_task.specs.declared.level.Level.{Level}
 use Rattle.post_task.specs.declared.level.PrioSource.{PrioSource}
@@ -77,15 +78,6 @@ found_level [] source level h = absurd (no_level level h)
 found_level (l ∷ ls) source level h = found_step l ls source level (same_source l.source source) refl h (λ x. found_level ls source level x)
 
 module _ {T : Type 0} where
-  set_here : (old new : Lists T) (l : ℕ) (es : List (Entry T)) → l < length old.lists → new.lists ≡ set old.lists l es → list_of new l ≡ es
-  set_here old new l es h is = ap (λ (ls : List (List (Entry T))). get_or ls l []) is ∙ get_or-set_same old.lists l es [] h
-
-  set_elsewhere : (old new : Lists T) (l : ℕ) (es : List (Entry T)) → new.lists ≡ set old.lists l es → (k : ℕ) → k ≢ l → list_of new k ≡ list_of old k
-  set_elsewhere old new l es is k h = ap (λ (ls : List (List (Entry T))). get_or ls k []) is ∙ get_or-set_other old.lists l k es [] h
-
-  set_length : (old new : Lists T) (l : ℕ) (es : List (Entry T)) → new.lists ≡ set old.lists l es → length new.lists ≡ length old.lists
-  set_length old new l es is = ap length is ∙ length-set old.lists l es
-
   set_kept : (old new : Lists T) (qs : List Queue) (l : ℕ) (es : List (Entry T)) → AreKept old qs → l < length old.lists → new.lists ≡ set old.lists l es → Rises es → AreKept new qs
   set_kept old new qs l es k h is r =
       kept_each old new qs (omega (arith, set_length old new l es is))

@@ -109,6 +109,9 @@ not_last ls l source none other =
     ∙ ap (λ (o : Option Level). option_or o (find (has_source source) (l ∷ []))) none
     ∙ ap (λ (b : Bool). cond b (Some l) None) other
 
+pub still_lone : (s : ℕ) (p : Priority) (levels : List Level) (l : ℕ) → Lone l (all_queues levels) → Lone l (all_queues (map (moved_level s p) levels))
+still_lone s p levels l lone = subst (λ (qs : List Queue). Lone l qs) (sym (all_moved s p levels)) (lone_moved s p l (all_queues levels) lone)
+
 each_priority : (levels : List Level) (f : Priority) → priority_in levels (Fixed Background) ≡ Some Background → priority_in levels (Fixed UserVisible) ≡ Some UserVisible → priority_in levels (Fixed UserBlocking) ≡ Some UserBlocking → priority_in levels (Fixed f) ≡ Some f
 each_priority levels Background a b c = a
 each_priority levels UserVisible a b c = b
@@ -226,6 +229,25 @@ module _ {T : Type 0} where
       ∙ ap (λ (w : List (Waiting T)). waiting_in after (all_queues old) ++ (w ++ [])) second_none
       ∙ append-nil (waiting_in after (all_queues old))
       ∙ same_waiting_in before after (all_queues old) same
+
+  -- no list that was there before is one of the new ones
+  pub added_lone : (old new : List Level) (before after : Lists T) (source : PrioSource) (priority : Priority) → Added old new before after source priority → (l : ℕ) → l < length before.lists → Lone l (all_queues old) → Lone l (all_queues new)
+  added_lone old new before after source priority a l h lone =
+      let second : a.level.continuations.0 ≡ length before.lists + 1 = a.continuations ∙ length-append before.lists ([] ∷ []) in
+      let plain : Queue = record { source = a.level.source; priority = a.level.priority; continuation = false; list = a.level.plain.0 } in
+      let more : Queue = record { source = a.level.source; priority = a.level.priority; continuation = true; list = a.level.continuations.0 } in
+      let one : Lone l (all_queues old ++ plain ∷ []) = lone_push l (all_queues old) plain lone (λ e. absurd (omega (arith, a.plain, e, h))) in
+      let two : Lone l ((all_queues old ++ plain ∷ []) ++ more ∷ []) = lone_push l (all_queues old ++ plain ∷ []) more one (λ e. absurd (omega (arith, second, e, h))) in
+      let lists_are : all_queues new ≡ (all_queues old ++ plain ∷ []) ++ more ∷ [] = ap all_queues a.is ∙ all-append old a.level ∙ sym (append_assoc (all_queues old) (plain ∷ []) (more ∷ [])) in
+      subst (λ (qs : List Queue). Lone l qs) (sym lists_are) two
+
+  pub three_lone : (l0 l1 l2 l3 : List Level) (p0 p1 p2 p3 : Lists T) → l0 ≡ [] → Added l0 l1 p0 p1 (Fixed Background) Background → Added l1 l2 p1 p2 (Fixed UserVisible) UserVisible → Added l2 l3 p2 p3 (Fixed UserBlocking) UserBlocking
+      → length p0.lists ≤ length p1.lists → length p1.lists ≤ length p2.lists → (l : ℕ) → l < length p0.lists → Lone l (all_queues l3)
+  three_lone l0 l1 l2 l3 p0 p1 p2 p3 none a b c m1 m2 l h =
+      let k0 : Lone l (all_queues l0) = subst (λ (ls : List Level). Lone l (all_queues ls)) (sym none) tt in
+      let k1 = added_lone l0 l1 p0 p1 (Fixed Background) Background a l h k0 in
+      let k2 = added_lone l1 l2 p1 p2 (Fixed UserVisible) UserVisible b l (omega (arith, h, m1)) k1 in
+      added_lone l2 l3 p2 p3 (Fixed UserBlocking) UserBlocking c l (omega (arith, h, m1, m2)) k2
 
   -- ---- the three fixed priorities
 

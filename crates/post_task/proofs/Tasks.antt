@@ -7,6 +7,9 @@ use Rattle.std.proofs.lemmas.List.Elements.{filter-append}
 use Rattle.std.proofs.lemmas.List.Folds.{find-append}
 use Rattle.cell_room.specs.declared.room.Cell.{Cell}
 use Rattle.task_pool.specs.Lists.{Entry, Lists, list_of, in_cell, without, numbered, entry_of}
+use Rattle.task_pool.specs.Taken.{taken, taken_from, Leaves}
+use Rattle.task_pool.specs.declared.pool.Unlinked.{Unlinked}
+use Rattle.task_pool.proofs.Changes.{set_elsewhere}
 use Rattle.post_task.specs.Waiting.{Waiting, Among, Inserted, ordered, has_cell, lacks_cell}
 use Rattle.post_task.specs.Levels.{Queue, in_queue, of_queue, waiting_in, Above, Rises, Lone, AreKept}
 use Rattle.post_task.proofs.Best.{InQueues, among_queue}
@@ -132,8 +135,9 @@ module _ {T : Type 0} where
       ∙ sym (filter-append (lacks_cell c) (of_queue old q) (waiting_in old qs))
 
   -- the queue of a task that is found
-  record InQueue (c : Cell) (pool : Lists T) (w : Waiting T) : Type 0 where
+  pub record InQueue (c : Cell) (pool : Lists T) (qs : List Queue) (w : Waiting T) : Type 0 where
     queue : Queue
+    queued : InQueues queue qs
     entry : Entry T
     found : find (in_cell c) (list_of pool queue.list) ≡ Some entry
     is : in_queue queue entry ≡ w
@@ -150,24 +154,48 @@ module _ {T : Type 0} where
   no_task : (w : Waiting T) → None ≡ Some w → ⊥
   no_task w h = cc
 
-  from_either : (c : Cell) (pool : Lists T) (q : Queue) (o : Option (Entry T)) (rest : Option (Waiting T)) (w : Waiting T) → find (in_cell c) (list_of pool q.list) ≡ o → option_or (option_map (in_queue q) o) rest ≡ Some w → InQueue c pool w ⊎ (rest ≡ Some w)
-  from_either c pool q None rest w is h = inr h
-  from_either c pool q (Some e) rest w is h = inl (record { queue = q; entry = e; found = is; is = task_is (in_queue q e) w h })
+  from_either : (c : Cell) (pool : Lists T) (q : Queue) (qs : List Queue) (o : Option (Entry T)) (rest : Option (Waiting T)) (w : Waiting T) → find (in_cell c) (list_of pool q.list) ≡ o → option_or (option_map (in_queue q) o) rest ≡ Some w → InQueue c pool (q ∷ qs) w ⊎ (rest ≡ Some w)
+  from_either c pool q qs None rest w is h = inr h
+  from_either c pool q qs (Some e) rest w is h = inl (record { queue = q; queued = inl refl; entry = e; found = is; is = task_is (in_queue q e) w h })
 
-  find_waiting : (c : Cell) (pool : Lists T) (qs : List Queue) (w : Waiting T) → find (has_cell c) (waiting_in pool qs) ≡ Some w → InQueue c pool w
+  find_waiting : (c : Cell) (pool : Lists T) (qs : List Queue) (w : Waiting T) → find (has_cell c) (waiting_in pool qs) ≡ Some w → InQueue c pool qs w
   find_waiting c pool [] w h = absurd (no_task w h)
   find_waiting c pool (q ∷ qs) w h =
       let split : option_or (option_map (in_queue q) (find (in_cell c) (list_of pool q.list))) (find (has_cell c) (waiting_in pool qs)) ≡ Some w =
       ap (λ (o : Option (Waiting T)). option_or o (find (has_cell c) (waiting_in pool qs))) (sym (map_find c q (list_of pool q.list))) ∙ sym (find-append (has_cell c) (of_queue pool q) (waiting_in pool qs)) ∙ h in
-      elim (from_either c pool q (find (in_cell c) (list_of pool q.list)) (find (has_cell c) (waiting_in pool qs)) w refl split) [ inl f ↦ f | inr r ↦ find_waiting c pool qs w r ]
+      elim (from_either c pool q qs (find (in_cell c) (list_of pool q.list)) (find (has_cell c) (waiting_in pool qs)) w refl split) [
+        | inl f ↦ f
+        | inr r ↦ let f = find_waiting c pool qs w r in record { queue = f.queue; queued = inr f.queued; entry = f.entry; found = f.found; is = f.is }
+      ]
 
   none_then : (o : Option (Entry T)) (result : Option (ℕ × T)) → result ≡ option_map numbered o → (o ≢ None → ⊥) → result ≡ None
   none_then None result is h = is
   none_then (Some e) result is h = absurd (h (λ x. cc))
 
-  pub removed : (c : Cell) (pool : Lists T) (qs : List Queue) (result : Option (ℕ × T)) (o : Option (Waiting T)) → find (has_cell c) (waiting_in pool qs) ≡ o → result ≡ option_map numbered (entry_of pool c)
-      → ((l : ℕ) (e : Entry T) → find (in_cell c) (list_of pool l) ≡ Some e → result ≡ Some (numbered e)) → (entry_of pool c ≢ None → find (has_cell c) (waiting_in pool qs) ≢ None) → result ≡ option_map ordered o
-  removed c pool qs result None at is there ours = none_then (entry_of pool c) result is (λ live. ours live at)
-  removed c pool qs result (Some w) at is there ours =
+  pub removed : (c : Cell) (pool : Lists T) (qs : List Queue) (out : Option (Unlinked T)) (o : Option (Waiting T)) → find (has_cell c) (waiting_in pool qs) ≡ o → option_map taken out ≡ option_map numbered (entry_of pool c)
+      → ((l : ℕ) (e : Entry T) → find (in_cell c) (list_of pool l) ≡ Some e → out ≡ Some (taken_from l e)) → (entry_of pool c ≢ None → find (has_cell c) (waiting_in pool qs) ≢ None) → option_map taken out ≡ option_map ordered o
+  removed c pool qs out None at is there ours = none_then (entry_of pool c) (option_map taken out) is (λ live. ours live at)
+  removed c pool qs out (Some w) at is there ours =
       let f = find_waiting c pool qs w at in
-      there f.queue.list f.entry f.found ∙ ap (λ (v : Waiting T). Some (ordered v)) f.is
+      ap (option_map taken) (there f.queue.list f.entry f.found) ∙ ap (λ (v : Waiting T). Some (ordered v)) f.is
+
+  no_numbers : (out : Unlinked T) → Some (taken out) ≡ None → ⊥
+  no_numbers out h = cc
+
+  unlinked_is : (a b : Unlinked T) → Some a ≡ Some b → a ≡ b
+  unlinked_is a b h = cc
+
+  -- the list that a task was taken out of is that of a queue
+  pub removed_from : (c : Cell) (pool : Lists T) (qs : List Queue) (out : Unlinked T) (o : Option (Waiting T)) → find (has_cell c) (waiting_in pool qs) ≡ o → Some (taken out) ≡ option_map numbered (entry_of pool c)
+      → ((l : ℕ) (e : Entry T) → find (in_cell c) (list_of pool l) ≡ Some e → Some out ≡ Some (taken_from l e)) → (entry_of pool c ≢ None → find (has_cell c) (waiting_in pool qs) ≢ None) → (q : Queue) × InQueues q qs × (out.list.0 ≡ q.list)
+  removed_from c pool qs out None at is there ours = absurd (no_numbers out (removed c pool qs (Some out) None at is there ours))
+  removed_from c pool qs out (Some w) at is there ours =
+      let f = find_waiting c pool qs w at in
+      (f.queue, f.queued, ap (λ (u : Unlinked T). u.list.0) (unlinked_is out (taken_from f.queue.list f.entry) (there f.queue.list f.entry f.found)))
+
+  pub removed_others : (c : Cell) (old new : Lists T) (qs : List Queue) (out : Unlinked T) → Some (taken out) ≡ option_map numbered (entry_of old c)
+      → ((l : ℕ) (e : Entry T) → find (in_cell c) (list_of old l) ≡ Some e → Some out ≡ Some (taken_from l e)) → (entry_of old c ≢ None → find (has_cell c) (waiting_in old qs) ≢ None) → Leaves c out.list.0 old new
+      → (l : ℕ) → Lone l qs → list_of new l ≡ list_of old l
+  removed_others c old new qs out is there ours leaves l lone =
+      let from = removed_from c old qs out (find (has_cell c) (waiting_in old qs)) refl is there ours in
+      set_elsewhere old new out.list.0 (without c (list_of old out.list.0)) leaves.lists l (λ same. lone_in l qs from.0 lone from.1 (sym (same ∙ from.2)))

@@ -15,7 +15,7 @@ use crate::level::Level;
 use std::alloc::Global;
 use std::marker::PhantomData;
 use std::sync::ledger::Ledger;
-use task_pool::{MemoryFault, Pool, Steps, Ticket};
+use task_pool::{MemoryFault, Pool, Steps, Ticket, Unlinked};
 use task_signal::Priority;
 
 /// The queues of scheduler tasks: two lists for each priority source, one of them for continuations.
@@ -53,11 +53,13 @@ fn add<T>(
 }
 
 impl<T> SchedQueues<T> {
-    /// The lists of the three fixed priorities, all empty. Every other list of the pool is as it was, after an error too; then
-    /// the pool may have further empty lists, which nothing names.
+    /// The lists of the three fixed priorities, all empty and new in the pool. Every other list of the pool is as it was, after an
+    /// error too; then the pool may have further empty lists, which nothing names.
     pub fn new(alloc: Global, pool: &mut Pool<T>) -> Result<SchedQueues<T>, MemoryFault>
         ensures kept { IfOk result (λ queues. Kept queues.levels.items pool.new) }
         ensures empty { IfOk result (λ queues. waiting queues.levels.items pool.new ≡ []) }
+        ensures made { IfOk result (λ queues. (l : ℕ) → l < length pool.old.lists → Lone l (all_queues queues.levels.items)) }
+        ensures more { length pool.old.lists ≤ length pool.new.lists }
         ensures lists { (l : ℕ) → list_of pool.new l ≡ list_of pool.old l }
         ensures spare { pool.new.spare ≡ pool.old.spare }
         ensures inserts { pool.new.inserts ≡ pool.old.inserts }
@@ -87,7 +89,8 @@ impl<T> SchedQueues<T> {
         })
     }
 
-    /// Makes the two lists of a signal that has this priority; where it has them already, this is its priority from now on.
+    /// Makes the two lists of a signal that has this priority, which are new in the pool; where it has them already, this is its
+    /// priority from now on.
     ///
     /// An error leaves the queues as they were. Every other list of the pool is as it was, after an error too; then the pool
     /// may have further empty lists, which nothing names.
@@ -102,6 +105,8 @@ impl<T> SchedQueues<T> {
         ensures room { OnOk result (priority_in self.new.levels.items (PrioSource.Signal s) ≡ Some p) }
         ensures waiting { OnOk result (waiting self.new.levels.items pool.new ≡ map (moved s p) (waiting self.old.levels.items pool.old)) }
         ensures err { OnErr result (self.new.levels.items ≡ self.old.levels.items) }
+        ensures made { (l : ℕ) → l < length pool.old.lists → Lone l (all_queues self.old.levels.items) → Lone l (all_queues self.new.levels.items) }
+        ensures more { length pool.old.lists ≤ length pool.new.lists }
         ensures waiting_still { OnErr result (waiting self.new.levels.items pool.new ≡ waiting self.old.levels.items pool.old) }
         ensures lists { (l : ℕ) → list_of pool.new l ≡ list_of pool.old l }
         ensures spare { pool.new.spare ≡ pool.old.spare }
@@ -137,6 +142,7 @@ impl<T> SchedQueues<T> {
         ensures kept { Kept self.new.levels.items pool.new }
         ensures waits { IfOk result (λ ticket. Inserted (new_task self.old.levels.items ticket.0 source continuation order item) (waiting self.old.levels.items pool.old) (waiting self.new.levels.items pool.new)) }
         ensures others { (l : ℕ) → Lone l (all_queues self.old.levels.items) → list_of pool.new l ≡ list_of pool.old l }
+        ensures count { length pool.new.lists ≡ length pool.old.lists }
         ensures fresh { IfOk result (λ ticket. entry_of pool.old ticket.0 ≡ None) }
         ensures generation { IfOk result (λ ticket. ticket.0.generation ≡ pool.old.inserts) }
         ensures inserts { OnOk result (pool.new.inserts ≡ pool.old.inserts + 1) }
@@ -170,6 +176,7 @@ impl<T> SchedQueues<T> {
         ensures kept { Kept self.new.levels.items pool.new }
         ensures first { MatchOption result (waiting self.old.levels.items pool.old ≡ []) (TakesFirst (waiting self.old.levels.items pool.old) (waiting self.new.levels.items pool.new)) }
         ensures others { (l : ℕ) → Lone l (all_queues self.old.levels.items) → list_of pool.new l ≡ list_of pool.old l }
+        ensures count { length pool.new.lists ≡ length pool.old.lists }
         ensures spare { OnSome result (pool.new.spare ≡ pool.old.spare + 1) }
         ensures inserts { pool.new.inserts ≡ pool.old.inserts }
         ensures none { IfNone result (pool.new ≡ pool.old) }
@@ -196,18 +203,26 @@ impl<T> SchedQueues<T> {
         ensures item { result ≡ option_map ordered (find (has_cell t.0) (waiting self.old.levels.items pool.old)) }
         ensures gone { waiting self.new.levels.items pool.new ≡ filter (lacks_cell t.0) (waiting self.old.levels.items pool.old) }
         ensures lists { pool.new.lists ≡ map (without t.0) pool.old.lists }
+        ensures others { (l : ℕ) → Lone l (all_queues self.old.levels.items) → list_of pool.new l ≡ list_of pool.old l }
+        ensures count { length pool.new.lists ≡ length pool.old.lists }
         ensures spare { OnSome result (pool.new.spare ≡ pool.old.spare + 1) }
         ensures inserts { pool.new.inserts ≡ pool.old.inserts }
         ensures none { IfNone result (pool.new ≡ pool.old) }
         ensures accesses { steps.new ≤ steps.old + 3 }
     {
-        pool.unlink(t, steps)
+        let Unlinked {
+            list: _,
+            number,
+            item,
+        } = pool.unlink_listed(t, steps)?;
+        Some((number, item))
     }
 
     /// All tasks of a signal have this priority from now on. Takes no memory.
     pub fn move_priority(&mut self, s: u32, p: Priority)
         ensures levels { self.new.levels.items ≡ map (moved_level s p) self.old.levels.items }
         ensures kept { (pool : Lists T) → Kept self.old.levels.items pool → Kept self.new.levels.items pool }
+        ensures others { (l : ℕ) → Lone l (all_queues self.old.levels.items) → Lone l (all_queues self.new.levels.items) }
         ensures waiting { (pool : Lists T) → waiting self.new.levels.items pool ≡ map (moved s p) (waiting self.old.levels.items pool) }
     {
         self.set_priority(s, p);

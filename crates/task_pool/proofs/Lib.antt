@@ -2,3 +2,4 @@ pub mod CellTests
 pub mod Places
 pub mod Linked
 pub mod Pools
+pub mod Changes

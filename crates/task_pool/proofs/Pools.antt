@@ -43,7 +43,7 @@ module _ {T : Type 0} where
   pub sound : (look : Cell → Option (Node T)) (ends : List Ends) (lists : List (List (Entry T))) (inserts : ℕ) → IsPoolOf look ends lists inserts → IsPoolOf look ends (map (read look inserts) ends) inserts
   sound look ends lists inserts p = let P : List (List (Entry T)) → Type 0 = λ ls. IsPoolOf look ends ls inserts in subst P (sym (reads look ends lists inserts p)) p
 
-  inside_list : (lists : List (List (Entry T))) (l : ℕ) (c : Cell) → IsIn c (get_or lists l []) → l < length lists
+  pub inside_list : (lists : List (List (Entry T))) (l : ℕ) (c : Cell) → IsIn c (get_or lists l []) → l < length lists
   inside_list [] l c i = absurd i
   inside_list (x ∷ rest) zero c i = omega arith
   inside_list (x ∷ rest) (suc l) c i = omega (arith, inside_list rest l c i)
@@ -110,6 +110,8 @@ module _ {T : Type 0} where
     pub pool : IsPoolOf look3 ends' (map (without t) lists) inserts
     pub found : find (in_cell t) (all_of lists) ≡ Some (record { cell = t; number = node.number; item = node.item })
     pub there : (k : ℕ) (entry : Entry T) → find (in_cell t) (get_or lists k []) ≡ Some entry → entry ≡ record { cell = t; number = node.number; item = node.item }
+    pub only : (k : ℕ) (entry : Entry T) → find (in_cell t) (get_or lists k []) ≡ Some entry → k ≡ node.list
+    pub changed : map (without t) lists ≡ set lists node.list (without t (get_or lists node.list []))
     pub one : length (all_of (map (without t) lists)) + 1 ≡ length (all_of lists)
 
   left_at : (look look1 look2 look3 : Cell → Option (Node T)) (ends ends' : List Ends) (lists : List (List (Entry T))) (inserts l : ℕ) (a : List (Entry T)) (e : Entry T) (b : List (Entry T)) (d : Ends)
@@ -172,6 +174,12 @@ module _ {T : Type 0} where
               | inl same ↦ same_entry entry e (sym is ∙ ap (λ (n : ℕ). find (in_cell e.cell) (get_or lists n [])) same ∙ ap (find (in_cell e.cell)) split ∙ find_one a e b apart_a)
               | inr differs ↦ absurd (no_entry entry (sym is ∙ find-apart e.cell (get_or lists k []) (elsewhere k differs)))
             ];
+        only = λ k entry is.
+            elim (cases_eq k l) [
+              | inl same ↦ same
+              | inr differs ↦ absurd (no_entry entry (sym is ∙ find-apart e.cell (get_or lists k []) (elsewhere k differs)))
+            ];
+        changed = lists_are ∙ ap (set lists l) (sym here);
         one =
             let sizes : length (get_or lists l []) ≡ length (a ++ e ∷ b) = ap length split in
             let after : length (all_of (map (without e.cell) lists)) ≡ length (all_of (set lists l (a ++ b))) = ap (λ (ls : List (List (Entry T))). length (all_of ls)) lists_are in
@@ -352,6 +360,8 @@ module _ {T : Type 0} where
     pub lists : reading room3 ends' ≡ map (without t) (reading room ends)
     pub found : find (in_cell t) (all_of (reading room ends)) ≡ Some (record { cell = t; number = node.number; item = node.item })
     pub there : (k : ℕ) (entry : Entry T) → find (in_cell t) (get_or (reading room ends) k []) ≡ Some entry → entry ≡ record { cell = t; number = node.number; item = node.item }
+    pub only : (k : ℕ) (entry : Entry T) → find (in_cell t) (get_or (reading room ends) k []) ≡ Some entry → k ≡ node.list
+    pub changed : reading room3 ends' ≡ set (reading room ends) node.list (without t (get_or (reading room ends) node.list []))
     pub one : length (all_of (reading room3 ends')) + 1 ≡ length (all_of (reading room ends))
 
   pub unlinked : (room room1 room2 room3 : Cells (Node T)) (ends : List Ends) (t : Cell) (node : Node T) (x joins : Ends) (first : Option First)
@@ -373,6 +383,8 @@ module _ {T : Type 0} where
         lists = lists_are;
         found = done.found;
         there = done.there;
+        only = done.only;
+        changed = lists_are ∙ done.changed;
         one = ap (λ (ls : List (List (Entry T))). length (all_of ls) + 1) lists_are ∙ done.one;
       }
 

@@ -7,4 +7,4 @@ mod links;
 mod pool;
 
 pub use cell_room::{Cell, MemoryFault, Steps};
-pub use pool::{ListId, Pool, Ticket};
+pub use pool::{ListId, Pool, Ticket, Unlinked};

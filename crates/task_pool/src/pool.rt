@@ -1,7 +1,8 @@
-ghost use Rattle.std.specs.Prelude.{◌≡◌, ℕ, ◌+◌, ◌^◌, ◌<◌, ◌≤◌, [], ◌∷◌, ◌++◌, length, map, drop, slice_set, None, Some, IfOk, IfErr, OnOk, OnErr, OnSome, IfNone, IsOk};
+ghost use Rattle.std.specs.Prelude.{◌≡◌, ℕ, ◌+◌, ◌^◌, ◌<◌, ◌≤◌, [], ◌∷◌, ◌++◌, length, map, drop, slice_set, None, Some, IfOk, IfErr, OnOk, OnErr, OnSome, IfSome, IfNone, IsOk};
 ghost use Rattle.std.specs.Option.{option_map};
 ghost use Rattle.std.specs.List.{find};
 ghost use Rattle.task_pool.specs.Lists.{Entry, in_cell, list_of, entry_of, without, numbered, first_entry, count};
+ghost use Rattle.task_pool.specs.Taken.{taken, taken_from, Leaves};
 
 #[cfg(test)]
 mod tests;
@@ -19,6 +20,14 @@ pub struct ListId(pub u64);
 /// The name of an item in a pool: its cell. No other item of that pool ever has it.
 #[derive(Clone, Copy, Debug, PartialEq, Eq)]
 pub struct Ticket(pub Cell);
+
+/// An item that was taken out of a list, with its number and that list.
+#[derive(Drop)]
+pub struct Unlinked<T> {
+    pub list: ListId,
+    pub number: u64,
+    pub item: T,
+}
 
 /// Lists of numbered items, seen as what is read along the links from the first cell of each list to its last one.
 #[derive(Drop)]
@@ -178,6 +187,27 @@ impl<T> Pool<T> {
         ensures none { IfNone result (self.new ≡ self.old) }
         ensures accesses { steps.new ≤ steps.old + 3 }
     {
+        let Unlinked {
+            list: _,
+            number,
+            item,
+        } = self.unlink_listed(t, steps)?;
+        Some((number, item))
+    }
+
+    /// Takes an item out as [`Pool::unlink`] does, and tells the list that it stood in. Three accesses at most. Takes no
+    /// memory.
+    pub fn unlink_listed<L: Ledger>(&mut self, t: Ticket, steps: &mut Steps<L>) -> Option<Unlinked<T>>
+        ensures item { option_map taken result ≡ option_map numbered (entry_of self.old t.0) }
+        ensures there { (l : ℕ) (entry : Entry T) → find (in_cell t.0) (list_of self.old l) ≡ Some entry → result ≡ Some (taken_from l entry) }
+        ensures list { IfSome result (λ unlinked. Leaves t.0 unlinked.list.0 self.old self.new) }
+        ensures gone { self.new.lists ≡ map (without t.0) self.old.lists }
+        ensures one { OnSome result (count self.new.lists + 1 ≡ count self.old.lists) }
+        ensures spare { OnSome result (self.new.spare ≡ self.old.spare + 1) }
+        ensures inserts { self.new.inserts ≡ self.old.inserts }
+        ensures none { IfNone result (self.new ≡ self.old) }
+        ensures accesses { steps.new ≤ steps.old + 3 }
+    {
         let Node {
             list,
             number,
@@ -189,6 +219,10 @@ impl<T> Pool<T> {
         set_after(&mut self.room, before, after, steps);
         let ends = self.ends[list as usize];
         self.ends[list as usize] = ends.joined(before, first, after);
-        Some((number, item))
+        Some(Unlinked {
+            list: ListId(list),
+            number,
+            item,
+        })
     }
 }

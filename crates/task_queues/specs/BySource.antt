@@ -26,6 +26,10 @@ module _ {T : Type 0} where
   abbrev pub StandIn : Queues T → Lists T → Type 0
   StandIn queues pool = queues.idle.0 < length pool.lists
 
+  -- a list of the pool that is no source's
+  abbrev pub IsApart : Queues T → ℕ → Type 0
+  IsApart queues l = (s : Source) → s ≢ Sched → l ≢ list_number queues s
+
   -- the number of a source's first task
   abbrev pub head : Queues T → Lists T → Source → Option ℕ
   head queues pool s = option_map (λ (entry : Entry T). entry.number) (first_entry (tasks_of queues pool s))

@@ -1,4 +1,4 @@
-ghost use Rattle.std.specs.Prelude.{◌≡◌, ◌≢◌, ℕ, ◌+◌, ◌^◌, ◌<◌, ◌≤◌, [], ◌∷◌, ◌++◌, map, drop, slice_set, None, IfOk, IfErr, OnOk, OnErr, OnSome, IfNone, IsOk};
+ghost use Rattle.std.specs.Prelude.{◌≡◌, ◌≢◌, ℕ, ◌+◌, ◌^◌, ◌<◌, ◌≤◌, [], ◌∷◌, ◌++◌, length, map, drop, slice_set, None, IfOk, IfErr, OnOk, OnErr, OnSome, IfNone, IsOk};
 ghost use Rattle.std.specs.Option.{option_map};
 ghost use Rattle.page_types.specs.declared.Source.{Source as TaskSource};
 ghost use Rattle.page_types.specs.declared.Source.TheVariants.{Sched};
@@ -29,12 +29,14 @@ pub struct Queues<T> {
 }
 
 impl<T> Queues<T> {
-    ghost use Rattle.task_queues.specs.BySource.{tasks_of, list_number, StandIn, Queued, head};
+    ghost use Rattle.task_queues.specs.BySource.{tasks_of, list_number, StandIn, IsApart, Queued, head};
 
-    /// Six empty lists. Every other list of the pool is as it was, after an error too; then the pool may have further empty
-    /// lists, which nothing names.
+    /// Six empty lists, which are new in the pool. Every other list of the pool is as it was, after an error too; then the pool
+    /// may have further empty lists, which nothing names.
     pub fn new(pool: &mut Pool<T>) -> Result<Queues<T>, MemoryFault>
         ensures stand { IfOk result (λ queues. StandIn queues pool.new) }
+        ensures made { IfOk result (λ queues. (l : ℕ) → l < length pool.old.lists → IsApart queues l) }
+        ensures more { length pool.old.lists ≤ length pool.new.lists }
         ensures empty { IfOk result (λ queues. (s : TaskSource) → tasks_of queues pool.new s ≡ []) }
         ensures lists { (l : ℕ) → list_of pool.new l ≡ list_of pool.old l }
         ensures spare { pool.new.spare ≡ pool.old.spare }
@@ -67,6 +69,9 @@ impl<T> Queues<T> {
         requires inserts { pool.old.inserts + 1 < 2 ^ 64 }
         ensures same { self.new ≡ self.old }
         ensures queued { IfOk result (λ ticket. Queued self.old pool.old pool.new s (tasks_of self.old pool.old s ++ record { cell = ticket.0; number = number; item = item } ∷ [])) }
+        ensures others { (l : ℕ) → IsApart self.old l → list_of pool.new l ≡ list_of pool.old l }
+        ensures stand { StandIn self.new pool.new }
+        ensures count { length pool.new.lists ≡ length pool.old.lists }
         ensures fresh { IfOk result (λ ticket. entry_of pool.old ticket.0 ≡ None) }
         ensures generation { IfOk result (λ ticket. ticket.0.generation ≡ pool.old.inserts) }
         ensures inserts { OnOk result (pool.new.inserts ≡ pool.old.inserts + 1) }
@@ -93,6 +98,9 @@ impl<T> Queues<T> {
         ensures same { self.new ≡ self.old }
         ensures item { result ≡ option_map numbered (first_entry (tasks_of self.old pool.old s)) }
         ensures taken { Queued self.old pool.old pool.new s (drop 1 (tasks_of self.old pool.old s)) }
+        ensures others { (l : ℕ) → IsApart self.old l → list_of pool.new l ≡ list_of pool.old l }
+        ensures stand { StandIn self.new pool.new }
+        ensures count { length pool.new.lists ≡ length pool.old.lists }
         ensures spare { OnSome result (pool.new.spare ≡ pool.old.spare + 1) }
         ensures inserts { pool.new.inserts ≡ pool.old.inserts }
         ensures none { IfNone result (pool.new ≡ pool.old) }
