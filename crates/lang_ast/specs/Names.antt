@@ -1,5 +1,5 @@
 -- The names in a script: each place where one stands, in the order of the text.
-use Rattle.std.specs.Prelude.{ℕ, suc, List, [], ◌∷◌, ◌++◌, map, Option, Some, None}
+use Rattle.std.specs.Prelude.{◌≡◌, ◌<◌, ℕ, suc, List, [], ◌∷◌, ◌++◌, map, Option, Some, None, slice_get}
 use Rattle.page_types.specs.Tree.{Named, Expr, Or, And, Compare, Sum, Product, Unary, Post, Number, TextLiteral, TrueLiteral, FalseLiteral, UnitLiteral, Name, Call, Paren, ListLiteral, Exprs, no_exprs, with_expr, SumParts, no_terms, with_term, ProductParts, no_factors, with_factor, Stmt, VarStmt, AssignStmt, ExprStmt, IfStmt, WhileStmt, ReturnStmt, ThrowStmt, TryStmt, Block, no_stmts, with_stmt, ElseIfs, no_else_ifs, with_else_if, ElsePart, no_else, else_block, Item, FnItem, StmtItem}
 use Rattle.lang_ast.specs.declared.role.Role.{Role}
 use Rattle.lang_ast.specs.declared.role.Role.TheVariants as role
@@ -102,3 +102,7 @@ in_items n (StmtItem s ∷ items) = inside None (in_stmt s) ++ in_items n items
 -- all names of a script
 abbrev pub occurrences : List Item → List Occurrence
 occurrences items = in_items 0 items
+
+-- names stand at rising bytes, as they do in a text
+abbrev pub Rise : List Occurrence → Type 0
+Rise all = (i j : ℕ) (a b : Occurrence) → i < j → slice_get all i ≡ Some a → slice_get all j ≡ Some b → a.mention.at < b.mention.at

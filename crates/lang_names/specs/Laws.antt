@@ -1,10 +1,10 @@
 -- What the rules of names come to: each name that is used is known, and in a text the first fault is the one at the least byte.
-use Rattle.std.specs.Prelude.{◌≡◌, ◌<◌, ◌≤◌, ℕ, Bool, true, ◌||◌, List, Option, Some, slice_get}
+use Rattle.std.specs.Prelude.{◌≡◌, ◌≤◌, ℕ, Bool, true, ◌||◌, List, Option, Some, slice_get}
 use Rattle.page_types.specs.Tree.{Item}
 use Rattle.lang_ast.specs.declared.role.Role.{Role}
 use Rattle.lang_ast.specs.declared.role.Role.TheVariants as role
 use Rattle.lang_ast.specs.Calls.{CallFits}
-use Rattle.lang_ast.specs.Names.{Occurrence, occurrences}
+use Rattle.lang_ast.specs.Names.{Occurrence, occurrences, Rise}
 use Rattle.lang_ast.specs.NameFaults.{Fault, UnknownAt, TwiceAt, ArityAt, fault_at, IsFirstFault, IsResolved, knows_variable, names_function, is_operation}
 
 -- ---- Ours: the rules of names in the script language
@@ -27,10 +27,6 @@ byte_of (UnknownAt at) = at
 byte_of (TwiceAt at) = at
 byte_of (ArityAt at) = at
 
--- the names stand at rising bytes, as they do in a text
-abbrev pub Rise : List Occurrence → Type 0
-Rise all = (i j : ℕ) (a b : Occurrence) → i < j → slice_get all i ≡ Some a → slice_get all j ≡ Some b → a.mention.at < b.mention.at
-
--- then no fault stands before the first one
+-- where the names stand at rising bytes, no fault stands before the first one
 abbrev pub FirstIsLeast : Type 0
 FirstIsLeast = (all : List Occurrence) (first other : Fault) (place : ℕ) → Rise all → IsFirstFault all first → fault_at all place ≡ Some other → byte_of first ≤ byte_of other

@@ -22,3 +22,4 @@ pub mod NameLists
 pub mod NameSteps
 pub mod Trees
 pub mod NamedTexts
+pub mod NamePlaces

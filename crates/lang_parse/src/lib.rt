@@ -27,4 +27,4 @@ mod toplevel;
 pub use fault::{NoParse, ParseFault};
 pub use log_parser::parse_log_script;
 pub use log_script::{LogScript, LogStatement, Logged};
-pub use parser::{MOST_FUNCTIONS, MOST_GLOBALS, one_tree, parse};
+pub use parser::{MOST_FUNCTIONS, MOST_GLOBALS, names_rise, one_tree, parse};

@@ -1,8 +1,11 @@
 //! The tree of a script.
 
-ghost use Rattle.std.specs.Prelude.{◌≡◌, List, IfOk, IfErr};
+ghost use Rattle.std.specs.Prelude.{◌≡◌, ℕ, List, IfOk, IfErr};
 ghost use Rattle.page_types.specs.Tree.{Item};
+ghost use Rattle.lang_tokens.specs.Seen.{TokenSeen};
+ghost use Rattle.lang_tokens.specs.Tokens.{InOrder};
 ghost use Rattle.lang_ast.specs.Seen.{seen_tree};
+ghost use Rattle.lang_ast.specs.Names.{occurrences, Rise};
 ghost use Rattle.lang_parse.specs.Symbols.{Symbol, symbols_of};
 ghost use Rattle.lang_parse.specs.Grammar.{HasTree};
 ghost use Rattle.lang_parse.specs.LogSeen.{IsNoParse};
@@ -45,4 +48,10 @@ pub fn parse(alloc: Global, tokens: &Tokens) -> Result<Tree, ParseFault>
 /// The law that a text has at most one tree.
 pub fn one_tree()
     ensures { (ks : List Symbol) (one other : List Item) → HasTree ks one → HasTree ks other → one ≡ other }
+{}
+
+/// The law that the names of a script's tree stand in it in the order of the text. So the first fault of its names is
+/// the one at the least byte.
+pub fn names_rise()
+    ensures { (end : ℕ) (tokens : List TokenSeen) (tree : List Item) → InOrder 0 end tokens → HasTree (symbols_of tokens) tree → Rise (occurrences tree) }
 {}

@@ -16,7 +16,7 @@ use Rattle.lang_tokens.proofs.PieceLemmas.{Within, piece_within, either}
 use Rattle.lang_tokens.proofs.CutLemmas.{cut_enough}
 use Rattle.lang_tokens.proofs.MeaningLemmas.{by_test}
 
-abbrev size_of : Piece → ℕ
+abbrev pub size_of : Piece → ℕ
 size_of (Gap size) = size
 size_of (Token kind size) = size
 size_of (Bad size) = size
@@ -48,7 +48,7 @@ mutual
   escape_least v n (b ∷ bs) = either (AtLeast n) (is_escaped b) _ _ (let h = text_least (v + 1) (n + 1) bs in omega arith) (omega arith)
 
 -- where the first is shorter than m, the second is the same
-abbrev Local : ℕ → Piece → Piece → Type 0
+abbrev pub Local : ℕ → Piece → Piece → Type 0
 Local m p q = size_of p < m → q ≡ p
 
 local_if : (m : ℕ) (b : Bool) (p q p' q' : Piece) → Local m p p' → Local m q q' → Local m (if b then p else q) (if b then p' else q')
@@ -120,7 +120,7 @@ lexed_local b x y = local_if 1 (is_letter b) _ _ _ _ (λ h. name_local (b ∷ []
     (local_if 1 (is_ascii_digit b) _ _ _ _ (λ h. number_local (b - 48) 1 [] x y (omega arith))
     (local_if 1 (b == 34) _ _ _ _ (λ h. text_local 0 1 [] x y (omega arith)) (sign_local b x y)))
 
-piece_local : (c x y : List ℕ) → Local (length c) (piece_at (c ++ x)) (piece_at (c ++ y))
+pub piece_local : (c x y : List ℕ) → Local (length c) (piece_at (c ++ x)) (piece_at (c ++ y))
 piece_local [] x y = λ h. absurd (omega arith)
 piece_local (b ∷ []) x y = local_if 1 (is_blank b) _ _ _ _ (λ _. refl) (by_test (b == 47)
     (λ e h. absurd (let l = subst (λ z. AtLeast 1 (solid_at z x)) (sym (eqb-true b 47 e)) (slash_least x) in omega arith))
@@ -131,11 +131,11 @@ piece_local (b ∷ d ∷ c) x y = local_if (length (b ∷ d ∷ c)) (is_blank b)
     (local_if (length (b ∷ d ∷ c)) (is_ascii_digit b) _ _ _ _ (λ h. number_local (b - 48) 1 (d ∷ c) x y (omega arith))
     (local_if (length (b ∷ d ∷ c)) (b == 34) _ _ _ _ (λ h. text_local 0 1 (d ∷ c) x y (omega arith)) (λ _. refl)))))
 
-front_bad : (front : List TokenSeen) (r : Lexed) (place : ℕ) → with_front front r ≡ Err place → r ≡ Err place
+pub front_bad : (front : List TokenSeen) (r : Lexed) (place : ℕ) → with_front front r ≡ Err place → r ≡ Err place
 front_bad front (Ok ts) place e = absurd (cc)
 front_bad front (Err n) place e = e
 
-bad_same : (n m : ℕ) → ◌≡◌ {A = Lexed} (Err n) (Err m) → n ≡ m
+pub bad_same : (n m : ℕ) → ◌≡◌ {A = Lexed} (Err n) (Err m) → n ≡ m
 bad_same n m e = cc
 
 piece_bad_later : (after : ℕ → List ℕ → Lexed) (at : ℕ) (bs : List ℕ) (place : ℕ) → ((at : ℕ) (cs : List ℕ) → after at cs ≡ Err place → at ≤ place) → (p : Piece) → with_piece after at bs p ≡ Err place → at ≤ place
@@ -143,14 +143,14 @@ piece_bad_later after at bs place others (Gap size) e = let l = others (at + siz
 piece_bad_later after at bs place others (Token kind size) e = let l = others (at + size) (drop size bs) (front_bad (token_at at bs kind size ∷ []) (after (at + size) (drop size bs)) place e) in omega arith
 piece_bad_later after at bs place others (Bad size) e = let l = bad_same (at + size) place e in omega arith
 
-cut_least : (n at : ℕ) (bs : List ℕ) (place : ℕ) → cut n at bs ≡ Err place → at ≤ place
+pub cut_least : (n at : ℕ) (bs : List ℕ) (place : ℕ) → cut n at bs ≡ Err place → at ≤ place
 cut_least zero at [] place e = absurd (cc)
 cut_least (suc n) at [] place e = absurd (cc)
 cut_least zero at (b ∷ bs) place e = absurd (cc)
 cut_least (suc n) at (b ∷ bs) place e = piece_bad_later (cut n) at (b ∷ bs) place (λ at' cs f. cut_least n at' cs place f) (piece_at (b ∷ bs)) e
 
 -- a bad byte among the first bytes is bad also where others follow these
-abbrev BadStays : ℕ → Type 0
+abbrev pub BadStays : ℕ → Type 0
 BadStays n = (at : ℕ) (c x y : List ℕ) (place : ℕ) → length (c ++ x) ≤ n → length (c ++ y) ≤ n → cut n at (c ++ x) ≡ Err place → place < at + length c → cut n at (c ++ y) ≡ Err place
 
 stay : (n : ℕ) → BadStays n → (at b : ℕ) (c x y : List ℕ) (place : ℕ) → length (b ∷ (c ++ x)) ≤ suc n → length (b ∷ (c ++ y)) ≤ suc n → (p : Piece) → Within 1 (length (b ∷ (c ++ x))) p →
@@ -182,7 +182,7 @@ stay n others at b c x y place lx ly (Token kind size) w e less =
     )
 stay n others at b c x y place lx ly (Bad size) w e less = (e, let l = bad_same (at + size) place e in omega arith)
 
-bad_stays : (n : ℕ) → BadStays n
+pub bad_stays : (n : ℕ) → BadStays n
 bad_stays zero at [] x y place lx ly e less = absurd (let l = cut_least zero at x place e in omega arith)
 bad_stays (suc n) at [] x y place lx ly e less = absurd (let l = cut_least (suc n) at x place e in omega arith)
 bad_stays zero at (b ∷ c) x y place lx ly e less = absurd (omega arith)

@@ -41,7 +41,7 @@ append_nil : (ts : List TokenSeen) → ts ++ [] ≡ ts
 append_nil [] = refl
 append_nil (t ∷ ts) = ap (λ z. t ∷ z) (append_nil ts)
 
-nothing_left : (n at : ℕ) (bs : List ℕ) → length bs ≡ 0 → cut n at bs ≡ Ok []
+pub nothing_left : (n at : ℕ) (bs : List ℕ) → length bs ≡ 0 → cut n at bs ≡ Ok []
 nothing_left zero at [] e = refl
 nothing_left (suc n) at [] e = refl
 nothing_left n at (b ∷ bs) e = absurd (omega (arith, e))

@@ -5,3 +5,4 @@ pub mod ReadingLemmas
 pub mod HeldLemmas
 pub mod CutLemmas
 pub mod BadLemmas
+pub mod EndLemmas

@@ -97,3 +97,8 @@ pub data Reading : ℕ → List ℕ → List TokenSeen → Type 0 where
 -- no script that begins with the bytes up to this one, it too, has tokens
 abbrev pub NoneGoesOn : ℕ → List ℕ → Type 0
 NoneGoesOn at bs = at < length bs → (more : List ℕ) (ts : List TokenSeen) → tokens_of (take (at + 1) bs ++ more) ≡ Ok ts → ⊥
+
+-- the byte stands in the script or is its end, and some script that begins with the bytes before it has tokens
+pub record GoesOnBefore (at : ℕ) (bs : List ℕ) : Type 0 where
+  pub within : at ≤ length bs
+  pub goes_on : (more : List ℕ) × (ts : List TokenSeen) × (tokens_of (take at bs ++ more) ≡ Ok ts)

@@ -2,7 +2,7 @@
 
 ghost use Rattle.std.specs.Prelude.{◌≡◌, ℕ, List, Ok, Err};
 ghost use Rattle.lang_tokens.specs.Seen.{TokenSeen};
-ghost use Rattle.lang_tokens.specs.Meaning.{Reading, NoneGoesOn};
+ghost use Rattle.lang_tokens.specs.Meaning.{Reading, NoneGoesOn, GoesOnBefore};
 ghost use Rattle.lang_tokens.specs.Tokens.{tokens_of};
 
 /// A law: a script with tokens is these, with blanks and comments between them. Each token is the longest that stands
@@ -14,4 +14,10 @@ pub fn tokens_are_read()
 /// A law: no script that begins with the bytes up to a bad byte, it too, has tokens.
 pub fn bad_byte_stays()
     ensures { (bytes : List ℕ) (at : ℕ) → tokens_of bytes ≡ Err at → NoneGoesOn at bytes }
+{}
+
+/// A law: some script that begins with the bytes before a bad byte has tokens. So a bad byte is the first at which no
+/// token goes on.
+pub fn bad_byte_is_first()
+    ensures { (bytes : List ℕ) (at : ℕ) → tokens_of bytes ≡ Err at → GoesOnBefore at bytes }
 {}

@@ -13,6 +13,6 @@ mod tests;
 pub mod token;
 
 pub use fault::{BadByte, TokensFault};
-pub use laws::{bad_byte_stays, tokens_are_read};
+pub use laws::{bad_byte_is_first, bad_byte_stays, tokens_are_read};
 pub use lexing::tokens;
 pub use token::{Token, TokenKind, Tokens};
