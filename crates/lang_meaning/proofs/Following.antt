@@ -79,7 +79,7 @@ assigned-hosted φ m x v =
 named_value-same : {H K : Type 0} (φ : H → K) (program : Program) (m : Machine H) (x : List ℕ) → named_value program (hosted φ m) x ≡ named_value program m x
 named_value-same φ program m x = refl
 
-called-follows : {H K : Type 0} (φ : H → K) (call : Caller H) (call' : Caller K) → CallsFollow φ call call' → (v : Value) (args : List Value) → Follows φ (called call v args) (called call' v args)
+pub called-follows : {H K : Type 0} (φ : H → K) (call : Caller H) (call' : Caller K) → CallsFollow φ call call' → (v : Value) (args : List Value) → Follows φ (called call v args) (called call' v args)
 called-follows φ call call' c v args = given-follows φ (func_in v) TypeError _ _ (λ f. c f.function (items_of f.bound ++ args))
 
 abbrev pub around_of : {H : Type 0} → Program → Caller H → (Op → List Value → Machine H → Done H) → Around H

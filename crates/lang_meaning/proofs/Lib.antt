@@ -1,2 +1,4 @@
 pub mod Following
+pub mod Unlimited
+pub mod AskOrder
 mod FuelFalls

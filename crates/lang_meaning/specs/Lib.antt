@@ -4,3 +4,4 @@ pub mod Evaluation
 pub mod PureOperations
 pub mod HostSteps
 pub mod Following
+pub mod Asks
