@@ -13,7 +13,7 @@ use Rattle.page_model.specs.PageTime.{completion_of}
 use Rattle.page_model.specs.SchedulerTasks.{first_of, first_sched_from, goes_before}
 use Rattle.page_model.specs.Numbers.{IsGiven}
 use Rattle.page_laws.specs.Moves.{Places, FirstPlace, nowhere, at_timer, at_delay, at_idle, at_queue, at_host, completions_but, is_free}
-use Rattle.page_laws.proofs.Totals.{one_if, total, total-append, total-last, total-map, total-without, IsLess, less-first, less-more, less-second, less-found, total-set, without-append}
+use Rattle.page_laws.proofs.Totals.{one_if, total, total-append, total-last, total-map, total-without, IsLess, less-first, less-more, less-second, less-found, total-put, without-append}
 
 -- ---- what each item counts for
 
@@ -152,7 +152,7 @@ changed-claims : (r : ℕ) (current : Context) (names : List (List ℕ)) (n : �
 changed-claims r current names n c s g =
     let one = g.from_one in
     let last = g.to_last in
-    let e = total-set (promise_claims r) s.promises (pred n) c.promise pending_promise (omega (arith, one, last)) in
+    let e = total-put (promise_claims r) s.promises n c.promise pending_promise one last in
     let e1 = queue_jobs-claims r current c.jobs (promise_changed names n c s).notices in
     omega (arith, e, e1)
 

@@ -27,7 +27,7 @@ use Rattle.page_model.specs.Turns.{first_page, the_script}
 use Rattle.page_laws.proofs.Claims.{steps_claim, todo_claims, handler_claims, task_claims, completing_claims, callback_claims, sched_claims, reaction_claims, promise_claims, job_claims, place_claims, notice_claims, free-claims, completed-less, sched-less, idle-less, first-claims, settled-claims, adopted-claims, subscribed-claims, micro-claims, promised-claims, noted-claims}
 use Rattle.page_laws.proofs.Lines.{added, emit_each-events}
 use Rattle.page_laws.proofs.Registered as registered
-use Rattle.page_laws.proofs.Registered.{At, KindsFit, IsCallable, Silent, tells_of_kinds, kind_in_role, at_past, at_before, false_true, or-true, none-line, some-line, changed-silent, aside-silent, rest-silent, end-silent}
+use Rattle.page_laws.proofs.Registered.{At, KindsFit, IsCallable, Silent, tells_of_kinds, kind_in_role, at_past, at_number, false_true, or-true, none-line, some-line, changed-silent, aside-silent, rest-silent, end-silent}
 use Rattle.page_laws.proofs.Scans.{Test, Kept}
 use Rattle.page_laws.proofs.Totals.{one_if, total, total-append, total-last, total-without, IsLess, less-found, less-within}
 
@@ -138,7 +138,7 @@ again-fits q xs c d past role h f =
 -- ---- registrations
 
 at_older : (xs : List Registration) (x : Registration) (r : ℕ) → 1 ≤ r → r ≤ length xs → At (and_last xs x) r ≡ At xs r
-at_older xs x r one le = at_before xs x (pred r) (λ e. absurd (omega (arith, one, le, e)))
+at_older xs x r one le = at_number xs x r one (λ e. absurd (omega (arith, le, e)))
 
 new-passes : (a b c : Bool) → a ≡ true → c ≡ false → a && not (b && c) ≡ true
 new-passes true true c x y = ap not y

@@ -1,7 +1,7 @@
 -- Sums over lists: what is taken out of a list is less in its sum.
 use Rattle.std.proofs.Common.{◌≡◌, ℕ, zero, suc, ◌≤◌, ◌<◌, ◌+◌, Bool, true, false, List, [], ◌∷◌, ◌++◌, Option, Some, None, refl, sym, subst, ap, cond, length, arith, map, unwrap_or, slice_get}
 use Rattle.std.specs.Prelude.{find, slice_set}
-use Rattle.page_parts.specs.Words.{and_last, without}
+use Rattle.page_parts.specs.Words.{numbered, with_numbered, and_last, without}
 
 -- one where the test holds
 abbrev pub one_if : Bool → ℕ
@@ -81,6 +81,11 @@ pub total-set : {X : Type 0} (w : X → ℕ) (xs : List X) (i : ℕ) (y d : X) �
 total-set w [] i y d le = absurd (omega (arith, le))
 total-set w (x ∷ xs) zero y d le = omega arith
 total-set w (x ∷ xs) (suc i) y d le = let e = total-set w xs i y d (omega (arith, le)) in omega (arith, e)
+
+-- the same of an item by its number
+pub total-put : {X : Type 0} (w : X → ℕ) (xs : List X) (n : ℕ) (y d : X) → 1 ≤ n → n ≤ length xs → total w (with_numbered xs n y) + w (numbered xs n d) ≡ total w xs + w y
+total-put w xs zero y d one le = absurd (omega (arith, one))
+total-put w xs (suc n) y d one le = total-set w xs n y d (omega (arith, le))
 
 pub without-append : {X : Type 0} (gone : X → Bool) (xs ys : List X) → without gone (xs ++ ys) ≡ without gone xs ++ without gone ys
 without-append gone [] ys = refl
