@@ -8,7 +8,8 @@ use Rattle.std.proofs.lemmas.Bool.Decides.{nat_tests}
 use Rattle.std.proofs.Math.Nat.{pow-succ'}
 use Rattle.page_types.specs.declared.FaultName.{FaultName}
 use Rattle.page_types.specs.declared.FaultName.TheVariants.{Error, TypeError, RangeError, AbortError, TimeoutError, NotAllowedError}
-use Rattle.page_parts.specs.Words.{digits, decimal_of, int_decimal}
+use Rattle.page_parts.proofs.Decimals.{below-own_power}
+use Rattle.page_parts.specs.Words.{digit_or_more, digits, decimal_of, int_decimal}
 use Rattle.page_parts.specs.Spelling.{fault_text}
 use Rattle.page_values.specs.Names.{is_letter, is_name_byte, is_name}
 use Rattle.page_values.specs.Texts.{is_text as is_text_of, is_text_byte}
@@ -40,7 +41,7 @@ power most = ap (λ k. 10 ^ k) (add-one (suc most)) ∙ pow-succ' 10 (suc most) 
 tenth : (n p q : ℕ) → q ≡ 10 * p → n < q → n / 10 < p
 tenth n p q e h = omega arith
 
-digits_step : (small : Bool) (most n : ℕ) → nat_lt n 10 ≡ small → (n / 10 < 10 ^ (most + 1) → IsTrue (is_text_of (digits most (n / 10)))) → n < 10 ^ (suc most + 1) → IsTrue (is_text_of (cond small ((48 + n) ∷ []) (digits most (n / 10) ++ (48 + n % 10) ∷ [])))
+digits_step : (small : Bool) (most n : ℕ) → nat_lt n 10 ≡ small → (n / 10 < 10 ^ (most + 1) → IsTrue (is_text_of (digits most (n / 10)))) → n < 10 ^ (suc most + 1) → IsTrue (is_text_of (digit_or_more small (digits most) n))
 digits_step true most n e more h = last_digit n (grind (arith, nat_tests))
 digits_step false most n e more h =
     is_text-append (digits most (n / 10)) ((48 + n % 10) ∷ []) (more (tenth n (10 ^ (most + 1)) (10 ^ (suc most + 1)) (power most) h)) (last_digit (n % 10) (omega arith))
@@ -50,7 +51,7 @@ digits_text zero n h = last_digit n (omega (arith, h))
 digits_text (suc most) n h = digits_step (nat_lt n 10) most n refl (digits_text most (n / 10)) h
 
 decimal_text : (n : ℕ) → n < 2 ^ 64 → IsTrue (is_text_of (decimal_of n))
-decimal_text n h = digits_text 40 n (omega (arith, h))
+decimal_text n h = digits_text n n (below-own_power n)
 
 int_text : (z : ℤ) → FitsSigned w64 z → IsTrue (is_text_of (int_decimal z))
 int_text (pos n) h = decimal_text n (omega (arith, h))

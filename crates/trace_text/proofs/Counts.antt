@@ -7,36 +7,17 @@ use Rattle.std.specs.List.{list_all}
 use Rattle.std.specs.Option.{option_map}
 use Rattle.std.proofs.lemmas.Bool.{eq-eqb}
 use Rattle.std.proofs.lemmas.Bool.Decides.{nat_tests}
-use Rattle.std.proofs.lemmas.Fmt.{digits_decimal, decimal-digits_value, decimal_from_appends, length-decimal-le, AppendsLastDigit}
+use Rattle.std.proofs.lemmas.Fmt.{digits_decimal, decimal-digits_value}
 use Rattle.std.proofs.lemmas.List.Sums.{take_while-cons}
 use Rattle.page_base.proofs.Numbers.{list_all-take_while, list_all_first, list_all_behind}
 use Rattle.page_base.proofs.Printed.{numerals, number_at-decimal, after_digits-append}
 use Rattle.page_base.specs.Decimals.{is_digit, digits_of, after_digits, number_of, number_at, is_canonical}
-use Rattle.page_parts.specs.Words.{digits, decimal_of, int_decimal, is_empty}
+use Rattle.page_parts.specs.Words.{decimal_of, int_decimal, is_empty}
 use Rattle.page_base.specs.Fields.{◌>>=◌, where_true, behind}
 use Rattle.trace_text.specs.LineReading.{number_in, count_at, int_at, negative}
 use Rattle.trace_text.specs.Trace.{IsCount}
+use Rattle.trace_text.proofs.OneDecimal.{decimal_is}
 use Rattle.trace_text.proofs.Cutting.{lacks, some_then, map_then, or_then}
-
--- ---- the one decimal
-
-small_digits : (most n : ℕ) → n < 10 → digits (suc most) n ≡ (48 + n) ∷ []
-small_digits most n h = let small : nat_lt n 10 ≡ true = grind (arith, nat_tests) in rw small refl
-
-more_digits : (most n : ℕ) → 10 ≤ n → digits (suc most) n ≡ digits most (n / 10) ++ (48 + n % 10) ∷ []
-more_digits most n h = let large : nat_lt n 10 ≡ false = grind (arith, nat_tests) in rw large refl
-
-appends : AppendsLastDigit digits
-appends = record { one = small_digits; more = more_digits }
-
-decimal_by : (most n : ℕ) → n < 2 ^ 64 → length (decimal n) ≤ most → digits most n ≡ decimal n
-decimal_by most n h k = decimal_from_appends digits appends most n h k
-
-short : (n : ℕ) → n < 2 ^ 64 → length (decimal n) ≤ 40
-short n h = length-decimal-le 40 n (omega arith) (omega (arith, h)) h
-
-decimal_is : (n : ℕ) → IsCount n → decimal_of n ≡ decimal n
-decimal_is n h = decimal_by 40 n h (short n h)
 
 all_digits : (n : ℕ) → IsCount n → list_all is_digit (decimal_of n) ≡ true
 all_digits n h = ap (list_all is_digit) (decimal_is n h) ∙ digits_decimal numerals n h

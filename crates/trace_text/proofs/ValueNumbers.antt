@@ -6,29 +6,18 @@ use Rattle.std.specs.Int.{w64}
 use Rattle.std.specs.List.{list_all, prefix_len}
 use Rattle.std.proofs.lemmas.Bool.{false≢true}
 use Rattle.std.proofs.lemmas.Bool.Decides.{nat_tests}
-use Rattle.std.proofs.lemmas.Fmt.{AppendsLastDigit, decimal_from_appends, decimal-digits_value, decimal_nonempty, digits_decimal, length-decimal-le}
+use Rattle.std.proofs.lemmas.Fmt.{decimal-digits_value, decimal_nonempty, digits_decimal}
 use Rattle.std.proofs.lemmas.List.{take-append-drop}
 use Rattle.std.proofs.lemmas.List.Folds.{length-prefix_len}
 use Rattle.std.proofs.lemmas.List.Sums.{take_while-cons}
-use Rattle.page_parts.specs.Words.{digits, decimal_of, int_decimal}
+use Rattle.page_parts.specs.Words.{decimal_of, int_decimal}
 use Rattle.page_base.specs.Decimals.{is_digit, digits_of, after_digits, number_of, number_at, is_canonical}
 use Rattle.page_base.proofs.Numbers.{list_all-take_while, list_all_first}
 use Rattle.page_base.proofs.Printed.{numerals, after_digits-append, number_at-decimal}
-use Rattle.page_values.proofs.Digits.{digits-small}
+use Rattle.trace_text.proofs.OneDecimal.{decimal_is}
 use Rattle.page_base.specs.Fields.{◌>>=◌, read_or, behind}
 use Rattle.trace_text.specs.ValueEnds.{after_number, after_negative, after_int, begins_number, may_follow}
 use Rattle.trace_text.proofs.Cutting.{behind_whole}
-
--- ---- two words for one decimal
-
-last_digit : (k n : ℕ) → 10 ≤ n → digits (suc k) n ≡ digits k (n / 10) ++ (48 + n % 10) ∷ []
-last_digit k n h = let large : nat_lt n 10 ≡ false = grind (arith, nat_tests) in rw large refl
-
-appends : AppendsLastDigit digits
-appends = record { one = λ k n h. digits-small (suc k) n h; more = last_digit }
-
-decimal_is : (n : ℕ) → n < 2 ^ 64 → decimal_of n ≡ decimal n
-decimal_is n h = decimal_from_appends digits appends 40 n h (omega (arith, length-decimal-le 20 n (omega arith) (omega (arith, h)) h))
 
 -- ---- what is spelled is read
 
