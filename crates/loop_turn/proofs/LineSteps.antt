@@ -13,7 +13,7 @@ use Rattle.lang_parse.specs.declared.log_script.LogStatement.{LogStatement}
 use Rattle.lang_parse.specs.LogScript.{log_tree}
 use Rattle.lang_parse.specs.LogScript as spec
 use Rattle.lang_parse.specs.LogSeen.{logged_seen, statements_seen}
-use Rattle.loop_turn.specs.LogRuns.{default_run, lines_of_run}
+use Rattle.loop_turn.specs.LogRuns.{default_lines}
 use Rattle.loop_turn.specs.LogEvents.{at_start, range_error, logged_value, value_events, statement_events, script_events}
 use Rattle.loop_turn.proofs.LogLaw.{run-events}
 
@@ -65,5 +65,5 @@ ends_next ss i h = ap lines_left (drop_all i ss h)
 
 -- ---- the lines of a run
 
-pub run-lines : (ss : List spec.LogStatement) → lines_of_run (default_run (log_tree ss)) ≡ Head ∷ map Of (script_events ss)
-run-lines ss = ap (λ es. Head ∷ map Of es) (run-events [] ss)
+pub run-lines : (ss : List spec.LogStatement) → default_lines (log_tree ss) ≡ Head 1 ∷ map Of (script_events ss)
+run-lines ss = ap (λ es. Head 1 ∷ map Of es) (run-events [] ss)

@@ -22,7 +22,7 @@ use Rattle.lang_meaning.specs.Evaluation.{Around, Function, around, fits, answer
 use Rattle.page_model.specs.State.{Page, State}
 use Rattle.page_model.specs.Operations.{page_operations}
 use Rattle.page_model.specs.Choosing.{choice_rules}
-use Rattle.page_model.specs.Turns.{Turned, first_page, turns, next_turn, goes_on, step_five, run, run_by, state_of, events_of_run}
+use Rattle.page_model.specs.Turns.{Turned, GoesOn, first_page, turns, next_turn, goes_on, step_five, run, run_by, state_of, events_of_run}
 use Rattle.lang_parse.specs.LogScript.{Logged, LogText, LogSum, LogStatement, plus_each, sum_tree, log_tree, program_of}
 use Rattle.lang_parse.proofs.LogForms.{functions-none}
 use Rattle.arrivals_text.specs.Arrivals.{default_setup}
@@ -113,7 +113,7 @@ module _ (hosts : List HostClosure) where
 
   -- the page in its first turn, with these events (the last one first)
   abbrev page_with : List Stamped → Page
-  page_with es = record the_page { turns = 1; tasks = []; events = es }
+  page_with es = record the_page { turns = 1; calls = 1 ∷ []; tasks = []; events = es }
 
   -- the state in the script's call
   abbrev in_call : List Variable → List Stamped → State
@@ -183,7 +183,9 @@ module _ (hosts : List HostClosure) where
 
   -- what comes behind the script's call
   abbrev behind : Caller Page → Ends Page → Turned Choices
-  behind call d = next_turn (goes_on choices_left step_five (afterwards (end_of_callback (checkpoint call) BeforeCheckpoint d) (after_task call))) (turns choice_rules call 10000000 1000000)
+  behind call d =
+      let step_three = goes_on choices_left (afterwards (end_of_callback (checkpoint call) BeforeCheckpoint d) (after_task call)) in
+      next_turn (next_turn step_three (λ m c. GoesOn (step_five m) c)) (turns choice_rules call 10000000 1000000)
 
   first_turn : (call : Caller Page) (globals : List Variable) →
       turns choice_rules call 10000000 1000001 (record { globals = globals; open_calls = []; fuel = 1000000; host = the_page }) (written default_setup []) ≡ behind call (call 0 [] (before_call globals start_events))

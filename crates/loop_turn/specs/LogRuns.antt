@@ -17,9 +17,9 @@ hosted_run hosts tree = run (program_of tree) default_setup hosts (written defau
 abbrev pub default_run : List Item → Turned Choices
 default_run tree = hosted_run [] tree
 
--- the lines of a run
-abbrev pub lines_of_run : {C : Type 0} → Turned C → List Line
-lines_of_run t = Head ∷ map Of (events_of_run t)
+-- the lines of the run under the default setup, with the head of that setup's form of a trace
+abbrev pub default_lines : List Item → List Line
+default_lines tree = Head default_setup.trace ∷ map Of (events_of_run (default_run tree))
 
 -- a run has ended so
 abbrev pub EndsAs : {C : Type 0} → End → Turned C → Type 0

@@ -10,7 +10,7 @@ ghost use Rattle.trace_text.specs.Given.{Gives};
 ghost use Rattle.trace_text.specs.EventSeen.{event_seen};
 ghost use Rattle.lang_parse.specs.LogScript.{log_tree};
 ghost use Rattle.lang_parse.specs.LogSeen.{script_seen, statements_seen, logged_seen};
-ghost use Rattle.loop_turn.specs.LogRuns.{default_run, lines_of_run, EndsAs};
+ghost use Rattle.loop_turn.specs.LogRuns.{default_run, default_lines, EndsAs};
 ghost use Rattle.loop_turn.specs.LogEvents.{at_start, logged_value, range_error, statement_events};
 ghost use Rattle.loop_turn.specs.Stops.{line_fault};
 
@@ -107,9 +107,9 @@ fn run_statements<L: Lines>(
 
 /// The whole run: its one turn performs the script.
 fn run_script<L: Lines>(alloc: Global, script: &LogScript, lines: &mut L) -> Result<(), NoLine>
-    ensures { Gives L.keeping (L.seen lines.old) (lines_of_run (default_run (log_tree (script_seen script.now)))) (result_err result) (L.seen lines.new) }
+    ensures { Gives L.keeping (L.seen lines.old) (default_lines (log_tree (script_seen script.now))) (result_err result) (L.seen lines.new) }
 {
-    lines.head()?;
+    lines.head(1)?;
     emit(
         lines,
         Event::Turn {
@@ -126,7 +126,7 @@ fn run_script<L: Lines>(alloc: Global, script: &LogScript, lines: &mut L) -> Res
 /// With an end all lines were given, and the run ends so. With a stop the lines before the one that was at fault were
 /// given, and no more.
 pub fn run_page<L: Lines>(alloc: Global, script: &LogScript, lines: L) -> Ended<L>
-    ensures lines { Gives L.keeping (L.seen lines) (lines_of_run (default_run (log_tree (script_seen script.now)))) (line_fault result.outcome) (L.seen result.lines) }
+    ensures lines { Gives L.keeping (L.seen lines) (default_lines (log_tree (script_seen script.now))) (line_fault result.outcome) (L.seen result.lines) }
     ensures ends { IfOk result.outcome (λ end. EndsAs end (default_run (log_tree (script_seen script.now)))) }
 {
     let mut lines = lines;

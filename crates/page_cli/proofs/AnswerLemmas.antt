@@ -29,7 +29,7 @@ use Rattle.lang_ast.specs.NameFaults.{fault_of, fault_in, fault_at, IsResolved}
 use Rattle.lang_parse.specs.LogScript.{IsScript, IsLogTree, Logged, LogText, LogSum, LogStatement, plus_each, logged_tree, log_stmt, log_tree, program_of}
 use Rattle.loop_turn.specs.declared.stop.RunStop.{RunStop}
 use Rattle.loop_turn.specs.declared.stop.RunStop.TheVariants as stop
-use Rattle.loop_turn.specs.LogRuns.{default_run, lines_of_run}
+use Rattle.loop_turn.specs.LogRuns.{default_run, default_lines}
 use Rattle.loop_turn.specs.Stops.{line_fault}
 use Rattle.loop_turn.proofs.LogLaw.{run-events, run-ends}
 use Rattle.page_model.specs.Turns.{events_of_run}
@@ -92,28 +92,28 @@ no_tokens bytes at e tree is = ok_is_no_err (sym is.tokens_are ∙ e)
 
 -- ---- the run
 
-pub run-answers : (ss : List LogStatement) (outcome : Result End RunStop) {old new : Seen (List ℕ)} → Gives sink_keeping old (lines_of_run (default_run (log_tree ss))) (line_fault outcome) new → AnswersRun (log_tree ss) (answer_to outcome) old.told new.told
-run-answers ss (Ok end) h = (run-ends [] ss, Gives-sink_trace (events_of_run (default_run (log_tree ss))) h)
-run-answers ss (Err stop.WriteFault) h = Gives-sink_trace_stop (events_of_run (default_run (log_tree ss))) h
-run-answers ss (Err stop.Differs) h = Gives-sink_trace_stop (events_of_run (default_run (log_tree ss))) h
-run-answers ss (Err stop.OutOfMemory) h = Gives-sink_trace_stop (events_of_run (default_run (log_tree ss))) h
+pub run-answers : (ss : List LogStatement) (outcome : Result End RunStop) {old new : Seen (List ℕ)} → Gives sink_keeping old (default_lines (log_tree ss)) (line_fault outcome) new → AnswersRun (log_tree ss) (answer_to outcome) old.told new.told
+run-answers ss (Ok end) h = (run-ends [] ss, Gives-sink_trace default_setup.trace (events_of_run (default_run (log_tree ss))) h)
+run-answers ss (Err stop.WriteFault) h = Gives-sink_trace_stop default_setup.trace (events_of_run (default_run (log_tree ss))) h
+run-answers ss (Err stop.Differs) h = Gives-sink_trace_stop default_setup.trace (events_of_run (default_run (log_tree ss))) h
+run-answers ss (Err stop.OutOfMemory) h = Gives-sink_trace_stop default_setup.trace (events_of_run (default_run (log_tree ss))) h
 
 -- a sink of lines compares nothing
-pub can_stop : (ss : List LogStatement) (outcome : Result End RunStop) {old new : Seen (List ℕ)} → old.refusals ≡ 0 → new.refusals ≡ 0 → Gives sink_keeping old (lines_of_run (default_run (log_tree ss))) (line_fault outcome) new → CanStop outcome
+pub can_stop : (ss : List LogStatement) (outcome : Result End RunStop) {old new : Seen (List ℕ)} → old.refusals ≡ 0 → new.refusals ≡ 0 → Gives sink_keeping old (default_lines (log_tree ss)) (line_fault outcome) new → CanStop outcome
 can_stop ss (Ok end) o n h = tt
 can_stop ss (Err stop.WriteFault) o n h = tt
 can_stop ss (Err stop.Differs) o n h = let d = h.differs in omega (arith, o, n, d)
 can_stop ss (Err stop.OutOfMemory) o n h = tt
 
 -- the text of the run is the same whatever the host closures
-any_hosts : (ss : List LogStatement) (hosts : List HostClosure) → text_of (events_of_run (default_run (log_tree ss))) ≡ page_trace (program_of (log_tree ss)) default_setup hosts []
+any_hosts : (ss : List LogStatement) (hosts : List HostClosure) → text_of default_setup.trace (events_of_run (default_run (log_tree ss))) ≡ page_trace (program_of (log_tree ss)) default_setup hosts []
 unfolding page_trace
-any_hosts ss hosts = ap text_of (run-events [] ss ∙ sym (run-events hosts ss))
+any_hosts ss hosts = ap (text_of default_setup.trace) (run-events [] ss ∙ sym (run-events hosts ss))
 
-any_trace : (ss : List LogStatement) (old new : Option (List ℕ)) → new ≡ appended old (text_of (events_of_run (default_run (log_tree ss)))) → (hosts : List HostClosure) → new ≡ appended old (page_trace (program_of (log_tree ss)) default_setup hosts [])
+any_trace : (ss : List LogStatement) (old new : Option (List ℕ)) → new ≡ appended old (text_of default_setup.trace (events_of_run (default_run (log_tree ss)))) → (hosts : List HostClosure) → new ≡ appended old (page_trace (program_of (log_tree ss)) default_setup hosts [])
 any_trace ss old new h hosts = h ∙ ap (appended old) (any_hosts ss hosts)
 
-any_start : (ss : List LogStatement) (old new : Option (List ℕ)) → AppendsStartOf old new (text_of (events_of_run (default_run (log_tree ss)))) → (hosts : List HostClosure) → AppendsStartOf old new (page_trace (program_of (log_tree ss)) default_setup hosts [])
+any_start : (ss : List LogStatement) (old new : Option (List ℕ)) → AppendsStartOf old new (text_of default_setup.trace (events_of_run (default_run (log_tree ss)))) → (hosts : List HostClosure) → AppendsStartOf old new (page_trace (program_of (log_tree ss)) default_setup hosts [])
 any_start ss old new h hosts = subst (AppendsStartOf old new) (any_hosts ss hosts) h
 
 log-run : (ss : List LogStatement) (script arrivals : List ℕ) → IsScript script (log_tree ss) → Fits arrivals → setup_of arrivals ≡ Ok default_setup → IsRun script arrivals (log_tree ss) default_setup

@@ -10,6 +10,7 @@ use Rattle.page_types.specs.declared.End.{End}
 use Rattle.page_parts.specs.TraceText.{text_of}
 use Rattle.page_model.specs.Turns.{run, events_of_run}
 use Rattle.page_model.specs.PageTrace.{page_trace}
+use Rattle.arrivals_text.specs.Arrivals.{default_setup}
 use Rattle.arrivals_text.specs.FirstPage.{setup_of}
 use Rattle.lang_parse.specs.LogScript.{IsScript, IsLogTree, program_of}
 use Rattle.loop_turn.specs.declared.stop.RunStop.{RunStop}
@@ -126,14 +127,18 @@ answer_to (Err stop.WriteFault) = WriteFault
 answer_to (Err stop.Differs) = OutOfMemory
 answer_to (Err stop.OutOfMemory) = OutOfMemory
 
+-- the text of the run of a tree under the setup of all defaults, in the form of a trace that it sets
+abbrev pub default_text : List Item → List ℕ
+default_text tree = text_of default_setup.trace (events_of_run (default_run tree))
+
 -- the answers to the run of a tree under the setup of all defaults
 abbrev pub AnswersRun : List Item → Answer → Option (List ℕ) → Option (List ℕ) → Type 0
-AnswersRun tree Done old new = EndsAs end.Done (default_run tree) × (new ≡ appended old (text_of (events_of_run (default_run tree))))
+AnswersRun tree Done old new = EndsAs end.Done (default_run tree) × (new ≡ appended old (default_text tree))
 AnswersRun tree Usage old new = ⊥
 AnswersRun tree NoParse old new = ⊥
 AnswersRun tree (BadName fault) old new = ⊥
 AnswersRun tree (BadArrivals line) old new = ⊥
 AnswersRun tree (TooLong file) old new = ⊥
 AnswersRun tree (ReadFault file) old new = ⊥
-AnswersRun tree WriteFault old new = AppendsStartOf old new (text_of (events_of_run (default_run tree)))
-AnswersRun tree OutOfMemory old new = AppendsStartOf old new (text_of (events_of_run (default_run tree)))
+AnswersRun tree WriteFault old new = AppendsStartOf old new (default_text tree)
+AnswersRun tree OutOfMemory old new = AppendsStartOf old new (default_text tree)
