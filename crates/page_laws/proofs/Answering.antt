@@ -4,7 +4,7 @@ use Rattle.std.proofs.lemmas.Bool.{eqb-true, eq-eqb}
 use Rattle.std.specs.Prelude.{◌==◌, filter, find, slice_set}
 use Rattle.page_types.specs.declared.HostMark.{HostMark}
 use Rattle.page_types.specs.declared.HostMark.TheVariants.{Live, Queued as QueuedMark, Fired, Dropped}
-use Rattle.page_types.specs.Events.{Queued, Event, Ret, Throw, Call, Reg, Host, Settle, Job}
+use Rattle.page_types.specs.Events.{Queued, Event, Ret, Throw, Call, Drop, Reg, Host, Settle, Job}
 use Rattle.page_types.specs.Tree.{Program}
 use Rattle.page_parts.specs.HostClosures.{HostClosure, fired}
 use Rattle.page_parts.specs.Promises.{Settled, Fulfilled, Failed, Reaction, PromiseJob, the_promise}
@@ -22,7 +22,7 @@ use Rattle.page_model.specs.State.{Registration, Page, Task, HostTask, Steps, An
 use Rattle.page_model.specs.Turns.{first_page}
 use Rattle.page_laws.specs.CallLaws.{is_answer_of, keeps_once}
 use Rattle.page_laws.specs.History.{History, count_lines, some_line, is_rest}
-use Rattle.page_laws.specs.Moves.{is_aside, is_end, is_free, fired_at, promise_changes, Places, places, PlaceChange, places_stay, task_queued, task_left, armed_again, signal_armed, timer_due, post_due, completed, idle_started, idle_left, sched_left, answer_due, answer_dropped, FirstPlace, nowhere, at_timer, at_delay, at_idle, at_queue, at_host, AsBefore, PageChange, elsewhere, told, rested, answered, registered, frame_asked, frame_gone, promised, settled, followed, adopted, subscribed, then_asked, micro_asked, rejected_taken, noted, Beginning, TheScript, ATimer, AFrame, AnIdle, ALateIdle, AListener, APost, AContinuation, AMicro, AReaction, called_by, taken, Moves, here, changing, calling, ending, flagging, running}
+use Rattle.page_laws.specs.Moves.{is_aside, is_end, is_free, fired_at, promise_changes, Places, places, PlaceChange, places_stay, task_queued, task_left, armed_again, signal_armed, timer_due, post_due, completed, idle_started, idle_left, sched_left, answer_due, id_cleared, idle_armed, idle_due, Dropping, timer_dropped, idle_dropped, listener_dropped, task_dropped, FirstPlace, nowhere, at_listener, at_timer, at_delay, at_idle, at_queue, at_host, AsBefore, PageChange, elsewhere, told, rested, answered, dropped, frame_dropped, registered, frame_asked, frame_gone, promised, settled, followed, adopted, subscribed, then_asked, micro_asked, rejected_taken, noted, Beginning, TheScript, ATimer, AFrame, AnIdle, ALateIdle, AListener, APost, AContinuation, AMicro, AReaction, called_by, taken, Moves, here, changing, calling, ending, flagging, running}
 use Rattle.page_laws.proofs.Lines.{added, emit_each-events}
 use Rattle.page_laws.proofs.Once.{keeps_calls, once_calls}
 use Rattle.page_laws.proofs.Scans.{Test, Kept}
@@ -202,10 +202,13 @@ place-fits {x = x} {y = y} (task_queued t h) past f =
     lessen-fits x (record x { tasks = and_last x.tasks t }) past (λ k. let a = total-last (net_claims k) x.tasks t in let b = free-claims k t.steps h in omega (arith, a, b)) (same-live x.hosts) f
 place-fits {x = x} (task_left number) past f =
     lessen-fits x (record x { tasks = without (λ t. t.number == number) x.tasks }) past (λ k. let a = total-without (net_claims k) (λ t. t.number == number) x.tasks in omega (arith, a)) (same-live x.hosts) f
-place-fits (armed_again start t role) past f = record { once = f.once; live = f.live; kept = f.kept }
-place-fits (signal_armed start q signal) past f = record { once = f.once; live = f.live; kept = f.kept }
-place-fits {x = x} (timer_due start number source t e) past f =
-    lessen-fits x (record x { completions = without (λ c. c.start == start) x.completions; tasks = and_last x.tasks (record { number = number; source = source; steps = RunTimer t }) }) past
+place-fits (armed_again a t role there) past f = record { once = f.once; live = f.live; kept = f.kept }
+place-fits (signal_armed ms now q signal) past f = record { once = f.once; live = f.live; kept = f.kept }
+place-fits (id_cleared id) past f = record { once = f.once; live = f.live; kept = f.kept }
+place-fits (idle_armed t) past f = record { once = f.once; live = f.live; kept = f.kept }
+place-fits (idle_due handle) past f = record { once = f.once; live = f.live; kept = f.kept }
+place-fits {x = x} {y = y} (timer_due start number source t e) past f =
+    lessen-fits x y past
     (λ k. let a = total-last (net_claims k) x.tasks (record { number = number; source = source; steps = RunTimer t }) in omega (arith, a)) (same-live x.hosts) f
 place-fits (post_due start source t e) past f = record { once = f.once; live = f.live; kept = f.kept }
 place-fits (completed start) past f = record { once = f.once; live = f.live; kept = f.kept }
@@ -220,14 +223,20 @@ place-fits {x = x} (answer_due before a after number source e) past f =
     let c : IsLess (answer_claims k) gone x.host_answers a =
     subst (λ (xs : List HostAnswer). IsLess (answer_claims k) gone xs a) (sym e) (less-within (answer_claims k) gone before a after (eq-eqb a.task.registration a.task.registration refl)) in
     omega (arith, b, c)) (same-live x.hosts) f
-place-fits {x = x} {y = y} (answer_dropped q pending due) past f =
-    lessen-fits x y past (λ k. let a = total-without (answer_claims k) (λ a. a.task.registration == q) x.host_answers in omega (arith, a))
+
+drop-fits : {made : List Registration} {r : ℕ} {x y : Places} → Dropping made r x y → (past : History) → HostsFit x past → HostsFit y past
+drop-fits (timer_dropped id there e) past f = record { once = f.once; live = f.live; kept = f.kept }
+drop-fits (idle_dropped handle c e e1) past f = record { once = f.once; live = f.live; kept = f.kept }
+drop-fits (listener_dropped there) past f = record { once = f.once; live = f.live; kept = f.kept }
+drop-fits {r = r} {x = x} {y = y} (task_dropped pending due) past f =
+    lessen-fits x y past (λ k. let a = total-without (answer_claims k) (λ a. a.task.registration == r) x.host_answers in omega (arith, a))
     (λ k c e l. drop-live due x.hosts k c (drop-live pending (drop_closure due x.hosts) k c e l) l) f
 
 first-fits : {r : ℕ} {x y : Places} → FirstPlace r x y → (past : History) → HostsFit x past → HostsFit y past
 first-fits nowhere past f = f
-first-fits (at_timer start t e) past f = record { once = f.once; live = f.live; kept = f.kept }
-first-fits (at_delay start q source e) past f = record { once = f.once; live = f.live; kept = f.kept }
+first-fits (at_listener target name q e) past f = record { once = f.once; live = f.live; kept = f.kept }
+first-fits (at_timer a t e) past f = record { once = f.once; live = f.live; kept = f.kept }
+first-fits (at_delay ms now q source e) past f = record { once = f.once; live = f.live; kept = f.kept }
 first-fits (at_idle q e) past f = record { once = f.once; live = f.live; kept = f.kept }
 first-fits (at_queue t e) past f = record { once = f.once; live = f.live; kept = f.kept }
 first-fits {x = x} {y = y} (at_host c a e there live) past f =
@@ -314,6 +323,8 @@ change-fits {p = p} (told e h) f = silent-fits e p.now (places p) p.events (asid
 change-fits {p = p} (rested e h x y) f = silent-fits e p.now (places p) p.events (rest-silent e h) f
 change-fits {p = p} {q = q} (answered source task t answer x y z b) f = before-fits b (answered-fits (places p) (places q) (λ t. same_source t.source source) task t answer p.now p.events x y z f)
 change-fits {p = p} {q = q} (registered k x e u b) f = before-fits b (first-fits u (register_as k x p).events (record { once = f.once; live = f.live; kept = (refl, f.kept) }))
+change-fits {p = p} (dropped r d b) f = before-fits b (drop-fits d (emit (Drop r) p).events (record { once = f.once; live = f.live; kept = (refl, f.kept) }))
+change-fits (frame_dropped handle c e) f = record { once = f.once; live = f.live; kept = (refl, f.kept) }
 change-fits (frame_asked g) f = record { once = f.once; live = f.live; kept = (refl, f.kept) }
 change-fits (frame_gone handle) f = f
 change-fits promised f = f

@@ -12,7 +12,7 @@ use Rattle.page_model.specs.State.{Page, Task, Steps, RunScript, RunTimer, Sched
 use Rattle.page_model.specs.PageTime.{completion_of}
 use Rattle.page_model.specs.SchedulerTasks.{first_of, first_sched_from, goes_before}
 use Rattle.page_model.specs.Numbers.{IsGiven}
-use Rattle.page_laws.specs.Moves.{Places, FirstPlace, nowhere, at_timer, at_delay, at_idle, at_queue, at_host, completions_but, is_free}
+use Rattle.page_laws.specs.Moves.{Places, FirstPlace, nowhere, at_listener, at_timer, at_delay, at_idle, at_queue, at_host, completions_but, is_free}
 use Rattle.page_laws.proofs.Totals.{one_if, total, total-append, total-last, total-map, total-without, IsLess, less-first, less-more, less-second, less-found, total-put, without-append}
 
 -- ---- what each item counts for
@@ -119,12 +119,13 @@ idle-less r handle i c e =
 -- where a new registration waits first, it waits once
 pub first-claims : {n : ℕ} {x y : Places} → FirstPlace n x y → (r : ℕ) → place_claims r y ≤ place_claims r x + one_if (n == r)
 first-claims nowhere r = omega arith
-first-claims {n = n} {x = x} (at_timer start t e) r =
-    let more = total-last (completing_claims r) x.completions (record { start = start; completion = QueueTimer t }) in
+first-claims (at_listener target name q e) r = omega arith
+first-claims {n = n} {x = x} (at_timer a t e) r =
+    let more = total-last (completing_claims r) x.completions (record { start = a.start; completion = QueueTimer t }) in
     let same : one_if (t.registration == r) ≡ one_if (n == r) = ap (λ q. one_if (q == r)) e in
     omega (arith, more, same)
-first-claims {n = n} {x = x} (at_delay start q source e) r =
-    let more = total-last (completing_claims r) x.completions (record { start = start; completion = EnqueuePost q source }) in
+first-claims {n = n} {x = x} (at_delay ms now q source e) r =
+    let more = total-last (completing_claims r) x.completions (record { start = suc x.timers.starts_made; completion = EnqueuePost q source }) in
     let same : one_if (q == r) ≡ one_if (n == r) = ap (λ q. one_if (q == r)) e in
     omega (arith, more, same)
 first-claims {n = n} {x = x} (at_idle q e) r =

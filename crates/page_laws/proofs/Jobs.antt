@@ -8,7 +8,7 @@ use Rattle.std.specs.Prelude.{◌==◌}
 use Rattle.page_types.specs.declared.End.TheVariants.{Done as DoneEnd, Clock as ClockEnd}
 use Rattle.page_types.specs.declared.Source.TheVariants.{Sched}
 use Rattle.page_model.specs.PageTime.{deadline}
-use Rattle.page_types.specs.Events.{Host, Reg, Event, Turn, Call, Ret, Throw, Run, Job, Settle, Period, IdleLine, Wait, EndLine}
+use Rattle.page_types.specs.Events.{Drop, Host, Reg, Event, Turn, Call, Ret, Throw, Run, Job, Settle, Period, IdleLine, Wait, EndLine}
 use Rattle.page_parts.specs.Words.{and_last, without}
 use Rattle.page_parts.specs.Promises.{Settled, Fulfilled, Failed, PromiseJob, Reaction}
 use Rattle.page_parts.specs.Promises as Promises
@@ -17,7 +17,7 @@ use Rattle.page_parts.specs.Promises.{the_promise}
 use Rattle.page_model.specs.State.{Registration, Page, emit_each, on_notices, context, caller}
 use Rattle.page_laws.specs.History.{History, count_lines, some_line, is_job, is_run, is_rest}
 use Rattle.page_laws.specs.CallLaws.{keeps_jobs, is_job_number}
-use Rattle.page_laws.specs.Moves.{frame_asked, frame_gone, registered, is_aside, is_end, promise_changes, PageChange, elsewhere, told, rested, promised, settled, followed, adopted, subscribed, micro_asked, then_asked, answered, AsBefore, rejected_taken, noted, Beginning, TheScript, ATimer, AFrame, AnIdle, ALateIdle, AListener, APost, AContinuation, AMicro, AReaction, taken, called_by, Waited, Moves, here, changing, calling, ending, flagging, running}
+use Rattle.page_laws.specs.Moves.{frame_asked, frame_gone, registered, is_aside, is_end, promise_changes, PageChange, elsewhere, told, rested, promised, settled, followed, adopted, subscribed, micro_asked, then_asked, answered, dropped, frame_dropped, AsBefore, rejected_taken, noted, Beginning, TheScript, ATimer, AFrame, AnIdle, ALateIdle, AListener, APost, AContinuation, AMicro, AReaction, taken, called_by, Waited, Moves, here, changing, calling, ending, flagging, running}
 use Rattle.page_laws.proofs.Lines.{added, added-append, emit_each-events, emit_each-notices}
 use Rattle.page_laws.proofs.Scans.{Test, Kept}
 
@@ -197,6 +197,8 @@ change-fits {p = p} (rested e h x y) f = rest-fits e p.now p.notices p.events h 
 change-fits {p = p} (answered source task t answer x y z b) f = before-fits b (silent-fits (Host t.closure t.number answer) p.now p.notices p.events refl f)
 change-fits {p = p} (registered kind x e u b) f = before-fits b (registered-fits kind x p f)
 change-fits {p = p} (frame_asked g) f = silent-fits (Reg (suc (length p.registrations)) kind.Frame (caller p)) p.now p.notices p.events refl f
+change-fits {p = p} (dropped r d b) f = before-fits b (silent-fits (Drop r) p.now p.notices p.events refl f)
+change-fits {p = p} (frame_dropped handle c e) f = silent-fits (Drop c.registration) p.now p.notices p.events refl f
 change-fits (frame_gone handle) f = f
 change-fits {p = p} promised f = again-fits p.notices _ p.events refl refl f
 change-fits {p = p} (settled n how x y) f = changes-fit n (Promises.settle n (the_promise p.notices.promises n) how) p f

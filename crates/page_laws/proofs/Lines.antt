@@ -12,7 +12,7 @@ use Rattle.page_parts.specs.Promises.{the_promise}
 use Rattle.page_model.specs.State.{Page, emit, emit_each, on_notices, context}
 use Rattle.page_model.specs.Numbers.{Each}
 use Rattle.page_laws.specs.History.{History, open_after, open_registrations, is_rest}
-use Rattle.page_laws.specs.Moves.{frame_asked, frame_gone, is_aside, promise_changes, PageChange, elsewhere, told, rested, registered, promised, settled, followed, adopted, subscribed, micro_asked, then_asked, answered, AsBefore, rejected_taken, noted, Changes, nothing, with_change, Beginning, TheScript, ATimer, AFrame, AnIdle, ALateIdle, AListener, APost, AContinuation, AMicro, AReaction, taken}
+use Rattle.page_laws.specs.Moves.{frame_asked, frame_gone, is_aside, promise_changes, PageChange, elsewhere, told, rested, registered, promised, settled, followed, adopted, subscribed, micro_asked, then_asked, answered, dropped, frame_dropped, AsBefore, rejected_taken, noted, Changes, nothing, with_change, Beginning, TheScript, ATimer, AFrame, AnIdle, ALateIdle, AListener, APost, AContinuation, AMicro, AReaction, taken}
 
 -- ---- lines
 
@@ -106,6 +106,8 @@ change-same {p = p} (told e h) = (aside-open e h (open_registrations p.events), 
 change-same {p = p} (rested e h x y) = (rest-open e h (open_registrations p.events), refl)
 change-same (answered source task t answer x y z b) = before-same b
 change-same (registered kind x e u b) = before-same b
+change-same (dropped r d b) = before-same b
+change-same (frame_dropped handle c e) = (refl, refl)
 change-same (frame_asked f) = (refl, refl)
 change-same (frame_gone handle) = (refl, refl)
 change-same promised = (refl, refl)

@@ -21,7 +21,7 @@ use Rattle.page_parts.specs.Promises.{the_promise}
 use Rattle.page_parts.specs.Timers as Timers
 use Rattle.page_parts.specs.Timers.{armed, with_armed, ActiveTimer}
 use Rattle.page_parts.specs.Setup.{Arrival}
-use Rattle.page_parts.specs.Frames.{callback_in}
+use Rattle.page_parts.specs.Frames.{Callback, callback_in}
 use Rattle.page_parts.specs.IdleCallbacks as IdleCallbacks
 use Rattle.page_parts.specs.IdleCallbacks.{waits}
 use Rattle.page_parts.specs.AbortGraph as AbortGraph
@@ -43,7 +43,7 @@ use Rattle.page_model.specs.Tasks.{invoke_idle_again, outstanding_if_unhandled, 
 use Rattle.page_model.specs.Parallel.{ItemKind, ArrivalItem, HostItem, TimerItem, IdleItem, FrameItem, Item, arrival_items, frame_items, items_in_order, first_item_from, first_item_of, complete, complete_at, take_item, due_item, first_item, take_due, item_count, parallel}
 use Rattle.page_model.specs.Numbers.{IsGiven, Each, IfThere}
 use Rattle.page_laws.specs.History.{open_registrations}
-use Rattle.page_laws.specs.Moves.{is_aside, promise_changes, Places, places, is_free, PlaceChange, places_stay, task_queued, armed_again, signal_armed, timer_due, post_due, completed, idle_started, idle_left, sched_left, answer_due, answer_dropped, FirstPlace, nowhere, at_timer, at_delay, at_idle, at_queue, at_host, AsBefore, fired_at, PageChange, elsewhere, frame_asked, frame_gone, registered, answered, then_asked, micro_asked, told, rested, settled, followed, adopted, subscribed, rejected_taken, noted, Changes, nothing, with_change}
+use Rattle.page_laws.specs.Moves.{is_aside, promise_changes, Places, places, is_free, PlaceChange, places_stay, task_queued, armed_again, signal_armed, timer_due, post_due, completed, idle_started, idle_left, sched_left, answer_due, id_cleared, idle_armed, idle_due, Dropping, timer_dropped, idle_dropped, listener_dropped, task_dropped, FirstPlace, nowhere, at_listener, at_timer, at_delay, at_idle, at_queue, at_host, AsBefore, fired_at, PageChange, elsewhere, frame_asked, frame_gone, registered, answered, dropped, frame_dropped, then_asked, micro_asked, told, rested, settled, followed, adopted, subscribed, rejected_taken, noted, Changes, nothing, with_change}
 use Rattle.page_laws.specs.Moves as moves
 use Rattle.page_laws.proofs.Moving.{changes-then}
 
@@ -152,26 +152,35 @@ register_at-changes kind x e p q role h u b = with_change {q = q} (with_change n
 
 -- ---- time
 
--- an interval is armed again
-pub init_again-changes : (id r : ℕ) (timeout : ℤ) (p : Page) → (numbered p.registrations r no_registration).role ≡ OfKind IntervalKind → Changes p (init_timer (Some id) r true timeout p)
-init_again-changes id r timeout p e =
+-- an interval whose id is in the map is armed again
+pub init_again-changes : (id r : ℕ) (timeout : ℤ) (p : Page) → (numbered p.registrations r no_registration).role ≡ OfKind IntervalKind → Timers.has_id id p.timers ≡ true → Changes p (init_timer (Some id) r true timeout p)
+init_again-changes id r timeout p e there =
     let a = armed (Some id) timeout p.level p.now p.timers in
     let t : TimerTask = record { registration = r; id = a.id; handle = a.handle; level = a.level; repeats = true; timeout = timeout } in
-    lined_placed (Arm r a.due a.level) p (init_timer (Some id) r true timeout p) refl (armed_again a.start t e) refl refl refl refl refl
+    lined_placed (Arm r a.due a.level) p (init_timer (Some id) r true timeout p) refl (armed_again a t e there) refl refl refl refl refl
 
 pub clear_id-changes : (id : ℕ) (p : Page) → Changes p (clear_id id p)
-clear_id-changes id p = quietly p (clear_id id p) refl refl refl refl refl refl
+clear_id-changes id p = placed p (clear_id id p) (id_cleared id) refl refl refl refl refl
 
 pub clear_timer-changes : (id : ℕ) (p : Page) → Changes p (clear_timer id p)
-clear_timer-changes id p =
-    let r = registration_with_id id 1 p.registrations in
-    cond-changes (Timers.has_id id p.timers) p _ p (lined (Drop r) p (emit (Drop r) (clear_id id p)) refl refl refl refl refl refl refl) nothing
+clear_timer-changes id p = by_id (Timers.has_id id p.timers) refl
+  where
+    r : ℕ
+    r = registration_with_id id 1 p.registrations
+
+    by_id : (b : Bool) → Timers.has_id id p.timers ≡ b → Changes p (cond b (emit (Drop r) (clear_id id p)) p)
+    by_id true e = with_change nothing (dropped r (timer_dropped id e refl) (record { notices = refl; performing = refl; events = refl; registrations = refl; frames = refl }))
+    by_id false e = nothing
 
 pub without_frame-changes : (handle : ℕ) (p : Page) → Changes p (without_frame handle p)
 without_frame-changes handle p = with_change nothing (frame_gone handle)
 
 pub cancel_frame-changes : (handle : ℕ) (p : Page) → Changes p (cancel_frame handle p)
-cancel_frame-changes handle p = elim-changes (callback_in p.frames.callbacks handle) p p _ nothing (λ c. with_change {q = without_frame handle p} (with_change nothing (frame_gone handle)) (told (Drop c.registration) refl))
+cancel_frame-changes handle p = by_callback (callback_in p.frames.callbacks handle) refl
+  where
+    by_callback : (o : Option Callback) → callback_in p.frames.callbacks handle ≡ o → Changes p (elim o [ None ↦ p | Some c ↦ emit (Drop c.registration) (without_frame handle p) ])
+    by_callback None e = nothing
+    by_callback (Some c) e = with_change nothing (frame_dropped handle c e)
 
 pub idle_step-changes : (p : Page) → open_registrations p.events ≡ [] → p.notices.jobs ≡ [] → Changes p (idle_step p)
 idle_step-changes p x y =
@@ -184,13 +193,17 @@ idle_step-changes p x y =
     (changes-then (changes-then begun (placed told_one started idle_started refl refl refl refl refl)) (queue_task-changes IdleSource InvokeIdle started refl)) (quietly p here refl refl refl refl refl refl)
 
 pub idle_timeout-changes : (ms r : ℕ) (p : Page) → Changes p (idle_timeout ms r p)
-idle_timeout-changes ms r p = lined (Arm r (p.now + ms * 1000) 0) p (idle_timeout ms r p) refl refl refl refl refl refl refl
+idle_timeout-changes ms r p = lined_placed (Arm r (p.now + ms * 1000) 0) p (idle_timeout ms r p) refl (idle_armed (record { due = p.now + ms * 1000; handle = p.idle.made; registration = r })) refl refl refl refl refl
 
 pub without_idle-changes : (handle : ℕ) (p : Page) → Changes p (without_idle handle p)
 without_idle-changes handle p = placed p (without_idle handle p) (idle_left handle) refl refl refl refl refl
 
 pub cancel_idle-changes : (handle : ℕ) (p : Page) → Changes p (cancel_idle handle p)
-cancel_idle-changes handle p = elim-changes (idle_callback handle p) p p _ nothing (λ c. lined_placed (Drop c.registration) p (emit (Drop c.registration) (without_idle handle p)) refl (idle_left handle) refl refl refl refl refl)
+cancel_idle-changes handle p = by_callback (idle_callback handle p) refl
+  where
+    by_callback : (o : Option Callback) → idle_callback handle p ≡ o → Changes p (elim o [ None ↦ p | Some c ↦ emit (Drop c.registration) (without_idle handle p) ])
+    by_callback None e = nothing
+    by_callback (Some c) e = with_change nothing (dropped c.registration (idle_dropped handle c e refl) (record { notices = refl; performing = refl; events = refl; registrations = refl; frames = refl }))
 
 -- ---- scheduler tasks, signals, hosts
 
@@ -208,7 +221,7 @@ pub unwatch-changes : (r : ℕ) (p : Page) → Changes p (unwatch r p)
 unwatch-changes r p = elim-changes (the_registration p r).signal p p _ nothing (λ s. quietly p (record p { signals = AbortGraph.remove_algorithm s r p.signals }) refl refl refl refl refl refl)
 
 pub drop-changes : (r : ℕ) (p : Page) → Changes p (drop_registration r p)
-drop-changes r p = lined_placed (Drop r) p (drop_registration r p) refl (answer_dropped r (task_in_answer (waiting_answer r p)) (task_in_net (waiting_net_task r p))) refl refl refl refl refl
+drop-changes r p = with_change nothing (dropped r (task_dropped (task_in_answer (waiting_answer r p)) (task_in_net (waiting_net_task r p))) (record { notices = refl; performing = refl; events = refl; registrations = refl; frames = refl }))
 
 pub abort_registration-changes : (reason : Value) (r : ℕ) (p : Page) → IsGiven (length p.notices.promises) (the_registration p r).promise → Changes p (abort_registration reason r p)
 abort_registration-changes reason r p x =
@@ -275,7 +288,7 @@ timer_set-changes kind repeats f timeout p =
     let a = armed None timeout p.level p.now p.timers in
     let t : TimerTask = record { registration = r; id = a.id; handle = a.handle; level = a.level; repeats = repeats; timeout = timeout } in
     let set : Page = record made { timers = with_armed None a made.timers; completions = and_last made.completions (record { start = a.start; completion = QueueTimer t }) } in
-    register_at-changes kind x (Arm r a.due a.level) p set refl refl (at_timer a.start t (made_last kind x p)) (record { notices = refl; performing = refl; events = refl; registrations = refl; frames = refl })
+    register_at-changes kind x (Arm r a.due a.level) p set refl refl (at_timer a t (made_last kind x p)) (record { notices = refl; performing = refl; events = refl; registrations = refl; frames = refl })
 
 pub frame_requested-changes : (f : Func) (p : Page) → Changes p (frame_requested f p)
 frame_requested-changes f p = with_change nothing (frame_asked f)
@@ -310,15 +323,20 @@ timeout_signal_made-changes ms p =
     let made = register SignalKind None None new in
     let told_one = emit (Arm (last_registration made) (made.now + ms * 1000) 0) made in
     changes-then (with_change {q = made} (changes-then (with_signals-changes AbortGraph.make p) (register-changes SignalKind _ new refl)) (told _ refl))
-    (placed told_one (timeout_signal_made ms p) (signal_armed (suc p.timers.starts_made) (last_registration made) (last_signal made)) refl refl refl refl refl)
+    (placed told_one (timeout_signal_made ms p) (signal_armed ms made.now (last_registration made) (last_signal made)) refl refl refl refl refl)
 
 pub listener_added-changes : (target : Target) (name : List ℕ) (f : Func) (p : Page) → Changes p (listener_added target name f p)
 listener_added-changes target name f p =
-    let made = register ListenerKind (Some f) None p in
-    changes-then (register-changes ListenerKind _ p refl) (quietly made (listener_added target name f p) refl refl refl refl refl refl)
+    let x : Registration = record { role = OfKind ListenerKind; callback = Some f; second_callback = None; timer_id = 0; promise = 0; signal = None; finally = false } in
+    let made = register_as ListenerKind x p in
+    with_change nothing (registered ListenerKind x refl (at_listener target name (last_registration made) (made_last ListenerKind x p)) (record { notices = refl; performing = refl; events = refl; registrations = refl; frames = refl }))
 
 pub listener_removed-changes : (r : ℕ) (p : Page) → Changes p (listener_removed r p)
-listener_removed-changes r p = cond-changes (is_listening r p.listeners) p _ p (lined (Drop r) p (emit (Drop r) (record p { listeners = off r p.listeners })) refl refl refl refl refl refl refl) nothing
+listener_removed-changes r p = by_there (is_listening r p.listeners) refl
+  where
+    by_there : (b : Bool) → is_listening r p.listeners ≡ b → Changes p (cond b (emit (Drop r) (record p { listeners = off r p.listeners })) p)
+    by_there true e = with_change nothing (dropped r (listener_dropped e) (record { notices = refl; performing = refl; events = refl; registrations = refl; frames = refl }))
+    by_there false e = nothing
 
 -- the registration of a task, a delay or a host answer
 abbrev entry : RegKind → Option Func → Option ℕ → Page → Registration
@@ -352,7 +370,7 @@ delayed-changes x source ms p e =
     let r = last_registration made in
     let timers = Timers.run_after ms made.now made.timers in
     let q : Page = record made { timers = timers; completions = and_last made.completions (record { start = timers.starts_made; completion = EnqueuePost r source }) } in
-    register_at-changes PostKind x (Arm r (made.now + ms * 1000) 0) p q e refl (at_delay timers.starts_made r source (made_last PostKind x p)) (record { notices = refl; performing = refl; events = refl; registrations = refl; frames = refl })
+    register_at-changes PostKind x (Arm r (made.now + ms * 1000) 0) p q e refl (at_delay ms made.now r source (made_last PostKind x p)) (record { notices = refl; performing = refl; events = refl; registrations = refl; frames = refl })
 
 pub post_queued-changes : (f : Func) (source : PrioSource) (signal : Option ℕ) (ms : ℕ) (p : Page) → Changes p (post_queued f source signal ms p)
 post_queued-changes f source signal ms p =
@@ -473,7 +491,7 @@ take_item-changes (HostItem a) p h = lined_placed (Due a.task.registration) p (t
 take_item-changes (TimerItem t) p h = complete_at-changes t.start (completion_of p.completions t.start) p refl
 take_item-changes (IdleItem t) p h =
     let q : Page = emit (Due t.registration) (record p { idle_timers = without (λ u. u.handle == t.handle) p.idle_timers }) in
-    changes-then (lined (Due t.registration) p q refl refl refl refl refl refl refl) (queue_task-changes IdleSource (IdleTimeout t.handle) q refl)
+    changes-then (lined_placed (Due t.registration) p q refl (idle_due t.handle) refl refl refl refl refl) (queue_task-changes IdleSource (IdleTimeout t.handle) q refl)
 take_item-changes FrameItem p h =
     let q : Page = record p { last_opportunity = p.now } in
     changes-then (quietly p q refl refl refl refl refl refl) (queue_task-changes Render (RunFrame p.now) q refl)

@@ -5,7 +5,7 @@ use Rattle.std.specs.Prelude.{◌==◌, filter, find}
 use Rattle.page_types.specs.declared.RegKind.{RegKind}
 use Rattle.page_types.specs.declared.RegKind.TheVariants as kind
 use Rattle.page_types.specs.declared.Source.TheVariants.{Sched}
-use Rattle.page_types.specs.Events.{Event, Call, Ret, Throw, Reg, Run, Turn, IdleLine, Host, Stamped}
+use Rattle.page_types.specs.Events.{Event, Call, Ret, Throw, Reg, Run, Turn, IdleLine, Host, Drop, Stamped}
 use Rattle.page_parts.specs.Words.{and_last, without}
 use Rattle.page_parts.specs.Frames.{Frames, Callback, without_handle}
 use Rattle.page_parts.specs.Promises.{Settled, Reaction, the_promise, pending_promise}
@@ -19,7 +19,7 @@ use Rattle.page_model.specs.Numbers.{Each, IsFor, IsGiven, made_by, timer_role}
 use Rattle.page_model.proofs.NumbersGrow.{length-last}
 use Rattle.page_laws.specs.History.{History, count_lines, some_line, has_kind, is_some_and, is_call_of, is_reg_of, is_rest, kind_of, was_called}
 use Rattle.page_laws.specs.CallLaws.{is_one_shot, has_no_callback, was_made, runs_once, may_be_called, may_be_registered}
-use Rattle.page_laws.specs.Moves.{is_aside, is_end, promise_changes, Places, places, PlaceChange, places_stay, task_queued, task_left, armed_again, signal_armed, timer_due, post_due, completed, idle_started, idle_left, sched_left, answer_due, answer_dropped, AsBefore, PageChange, elsewhere, told, rested, answered, registered, frame_asked, frame_gone, promised, settled, followed, adopted, subscribed, then_asked, micro_asked, rejected_taken, noted, Beginning, TheScript, ATimer, AFrame, AnIdle, ALateIdle, AListener, APost, AContinuation, AMicro, AReaction, called_by, role_of, taken, Waited, Moves, here, changing, calling, ending, flagging, running}
+use Rattle.page_laws.specs.Moves.{is_aside, is_end, promise_changes, Places, places, PlaceChange, places_stay, task_queued, task_left, armed_again, signal_armed, timer_due, post_due, completed, idle_started, idle_left, sched_left, answer_due, id_cleared, idle_armed, idle_due, Dropping, timer_dropped, idle_dropped, listener_dropped, task_dropped, AsBefore, PageChange, elsewhere, told, rested, answered, dropped, frame_dropped, registered, frame_asked, frame_gone, promised, settled, followed, adopted, subscribed, then_asked, micro_asked, rejected_taken, noted, Beginning, TheScript, ATimer, AFrame, AnIdle, ALateIdle, AListener, APost, AContinuation, AMicro, AReaction, called_by, role_of, taken, Waited, Moves, here, changing, calling, ending, flagging, running}
 use Rattle.page_types.specs.Tree.{Program}
 use Rattle.page_parts.specs.Setup.{Setup}
 use Rattle.page_parts.specs.HostClosures.{HostClosure}
@@ -331,30 +331,28 @@ place-fits {xs = xs} {x = x} (task_queued t h) s cs past f =
 place-fits {xs = xs} {x = x} (task_left number) s cs past f =
     let y : Places = record x { tasks = without (λ t. t.number == number) x.tasks } in
     lessen-fits xs (claims_of x s cs) (claims_of y s cs) past (λ r. let a = total-without (task_claims r) (λ t. t.number == number) x.tasks in omega (arith, a)) f
-place-fits {xs = xs} {x = x} (armed_again start t role) s cs past f =
-    let y : Places = record x { completions = and_last x.completions (record { start = start; completion = QueueTimer t }) } in
+place-fits {xs = xs} {x = x} {y = y} (armed_again armed t role there) s cs past f =
     again-fits t.registration xs (claims_of x s cs) (claims_of y s cs) past role
-    (λ r. let a = total-last (completing_claims r) x.completions (record { start = start; completion = QueueTimer t }) in omega (arith, a)) f
-place-fits {xs = xs} {x = x} (signal_armed start q signal) s cs past f =
-    let y : Places = record x { completions = and_last x.completions (record { start = start; completion = QueueSignal q signal }) } in
+    (λ r. let a = total-last (completing_claims r) x.completions (record { start = armed.start; completion = QueueTimer t }) in omega (arith, a)) f
+place-fits {xs = xs} {x = x} {y = y} (signal_armed ms now q signal) s cs past f =
     lessen-fits xs (claims_of x s cs) (claims_of y s cs) past
-    (λ r. let a = total-last (completing_claims r) x.completions (record { start = start; completion = QueueSignal q signal }) in omega (arith, a)) f
-place-fits {xs = xs} {x = x} (timer_due start number source t e) s cs past f =
-    let y : Places = record x { completions = without (λ c. c.start == start) x.completions; tasks = and_last x.tasks (record { number = number; source = source; steps = RunTimer t }) } in
+    (λ r. let a = total-last (completing_claims r) x.completions (record { start = suc x.timers.starts_made; completion = QueueSignal q signal }) in omega (arith, a)) f
+place-fits {xs = xs} {x = x} {y = y} (id_cleared id) s cs past f = lessen-fits xs (claims_of x s cs) (claims_of y s cs) past (λ r. omega arith) f
+place-fits {xs = xs} {x = x} {y = y} (idle_armed t) s cs past f = lessen-fits xs (claims_of x s cs) (claims_of y s cs) past (λ r. omega arith) f
+place-fits {xs = xs} {x = x} {y = y} (idle_due handle) s cs past f = lessen-fits xs (claims_of x s cs) (claims_of y s cs) past (λ r. omega arith) f
+place-fits {xs = xs} {x = x} {y = y} (timer_due start number source t e) s cs past f =
     lessen-fits xs (claims_of x s cs) (claims_of y s cs) past
     (λ r.
     let a = total-last (task_claims r) x.tasks (record { number = number; source = source; steps = RunTimer t }) in
     let b = completed-less r start x.completions (QueueTimer t) e in
     omega (arith, a, b)) f
-place-fits {xs = xs} {x = x} (post_due start source t e) s cs past f =
-    let y : Places = record x { completions = without (λ c. c.start == start) x.completions; sched_tasks = and_last x.sched_tasks t } in
+place-fits {xs = xs} {x = x} {y = y} (post_due start source t e) s cs past f =
     lessen-fits xs (claims_of x s cs) (claims_of y s cs) past
     (λ r.
     let a = total-last (sched_claims r) x.sched_tasks t in
     let b = completed-less r start x.completions (EnqueuePost t.registration source) e in
     omega (arith, a, b)) f
-place-fits {xs = xs} {x = x} (completed start) s cs past f =
-    let y : Places = record x { completions = without (λ c. c.start == start) x.completions } in
+place-fits {xs = xs} {x = x} {y = y} (completed start) s cs past f =
     lessen-fits xs (claims_of x s cs) (claims_of y s cs) past (λ r. let a = total-without (completing_claims r) (λ c. c.start == start) x.completions in omega (arith, a)) f
 place-fits {xs = xs} {x = x} idle_started s cs past f =
     let y : Places = record x { idle = record x.idle { runnable = x.idle.runnable ++ x.idle.pending; pending = [] } } in
@@ -372,7 +370,18 @@ place-fits {xs = xs} {x = x} (sched_left q) s cs past f =
 place-fits {xs = xs} {x = x} (answer_due before a after number source e) s cs past f =
     let y : Places = record x { host_answers = without (λ b. b.task.registration == a.task.registration) x.host_answers; tasks = and_last x.tasks (record { number = number; source = source; steps = AnswerHost a.task }) } in
     lessen-fits xs (claims_of x s cs) (claims_of y s cs) past (λ r. let b = total-last (task_claims r) x.tasks (record { number = number; source = source; steps = AnswerHost a.task }) in omega (arith, b)) f
-place-fits {xs = xs} {x = x} {y = y} (answer_dropped q asked due) s cs past f =
+
+-- a cancel
+drop-fits : {xs : List Registration} {q : ℕ} {x y : Places} → Dropping xs q x y → (s : Notices) (cs : List Callback) (past : History) → FitsBy xs x s cs past → FitsBy xs y s cs past
+drop-fits {xs = xs} {x = x} {y = y} (timer_dropped id there e) s cs past f = lessen-fits xs (claims_of x s cs) (claims_of y s cs) past (λ r. omega arith) f
+drop-fits {xs = xs} {x = x} {y = y} (idle_dropped handle c e e1) s cs past f =
+    lessen-fits xs (claims_of x s cs) (claims_of y s cs) past
+    (λ r.
+    let a = total-without (callback_claims r) (λ c. c.handle == handle) x.idle.pending in
+    let b = total-without (callback_claims r) (λ c. c.handle == handle) x.idle.runnable in
+    omega (arith, a, b)) f
+drop-fits {xs = xs} {x = x} {y = y} (listener_dropped there) s cs past f = lessen-fits xs (claims_of x s cs) (claims_of y s cs) past (λ r. omega arith) f
+drop-fits {xs = xs} {q = q} {x = x} {y = y} (task_dropped pending due) s cs past f =
     lessen-fits xs (claims_of x s cs) (claims_of y s cs) past (λ r. let a = total-without (sched_claims r) (λ t. t.registration == q) x.sched_tasks in omega (arith, a)) f
 
 -- ---- changes
@@ -398,6 +407,12 @@ change-fits {p = p} {q = q} (answered source task t answer x y z b) f =
     (silent-fits (Host t.closure t.number answer) p.now p.registrations (claims_of (places p) p.notices p.frames.callbacks) p.events refl f))
 change-fits {p = p} {q = q} (registered k x e u b) f =
     before-fits b (registered-fits k x p (places q) p.notices p.frames.callbacks e (λ r. let a = first-claims u r in omega (arith, a)) f)
+change-fits {p = p} {q = q} (dropped r d b) f =
+    before-fits b (drop-fits d p.notices p.frames.callbacks (emit (Drop r) p).events (silent-fits (Drop r) p.now p.registrations (claims_of (places p) p.notices p.frames.callbacks) p.events refl f))
+change-fits {p = p} (frame_dropped handle c e) f =
+    silent-fits (Drop c.registration) p.now p.registrations (claims_of (places p) p.notices (without_handle handle p.frames.callbacks)) p.events refl
+    (lessen-fits p.registrations (claims_of (places p) p.notices p.frames.callbacks) (claims_of (places p) p.notices (without_handle handle p.frames.callbacks)) p.events
+    (λ r. let a = total-without (callback_claims r) (λ c. c.handle == handle) p.frames.callbacks in omega (arith, a)) f)
 change-fits {p = p} {q = q} (frame_asked g) f =
     let x : Registration = record { role = OfKind kind.Frame; callback = Some g; second_callback = None; timer_id = 0; promise = 0; signal = None; finally = false } in
     let d : Callback = record { handle = suc p.frames.made; registration = length (and_last p.registrations x) } in

@@ -21,6 +21,7 @@ use Rattle.page_parts.specs.AbortGraph.{make_aborted, the_signal, with_algorithm
 use Rattle.page_parts.specs.HostClosures.{HostClosure}
 use Rattle.page_types.specs.declared.HostMark.TheVariants.{Live}
 use Rattle.page_parts.specs.Kinds.{Func}
+use Rattle.page_parts.specs.Timers.{has_id}
 use Rattle.page_parts.specs.Listeners.{Target}
 use Rattle.page_parts.specs.Promises.{Failed, Fulfilled, Reaction, Settled, pending_promise, settled_value}
 use Rattle.page_types.specs.Values.{Value}
@@ -54,8 +55,8 @@ follow-onto k how p h x v = (follow-held k how p h x v, follow-changes k how p x
 pub subscribe-onto : (k : ℕ) (r : Reaction) (p : Page) → Held (made_by p) p → IsGiven (length p.notices.promises) k → ReactionIsGiven (made_by p) r → r.registration ≡ None → Onto p (promises.subscribe k r p)
 subscribe-onto k r p h x y e = (subscribe-held k r p h x y, subscribe-changes k r p x e)
 
-pub init_again-onto : (id r : ℕ) (timeout : ℤ) (p : Page) → Held (made_by p) p → IsGiven p.timers.ids_made id → IsFor (timer_role true) (made_by p) r → Onto p (init_timer (Some id) r true timeout p)
-init_again-onto id r timeout p h i x = (init_again-held id r true timeout p h i x, init_again-changes id r timeout p x.role)
+pub init_again-onto : (id r : ℕ) (timeout : ℤ) (p : Page) → Held (made_by p) p → IsGiven p.timers.ids_made id → IsFor (timer_role true) (made_by p) r → has_id id p.timers ≡ true → Onto p (init_timer (Some id) r true timeout p)
+init_again-onto id r timeout p h i x there = (init_again-held id r true timeout p h i x, init_again-changes id r timeout p x.role there)
 
 pub clear_id-onto : (id : ℕ) (p : Page) → Held (made_by p) p → Onto p (clear_id id p)
 clear_id-onto id p h = (clear_id-held id p h, clear_id-changes id p)

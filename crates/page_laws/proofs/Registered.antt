@@ -6,7 +6,7 @@ use Rattle.std.specs.Prelude.{◌==◌}
 use Rattle.page_types.specs.declared.RegKind.{RegKind}
 use Rattle.page_types.specs.declared.RegKind.TheVariants as kind
 use Rattle.page_model.specs.Invoke.{register_as}
-use Rattle.page_types.specs.Events.{Event, Call, Ret, Throw, Reg, Run, Turn, IdleLine, Host}
+use Rattle.page_types.specs.Events.{Drop, Event, Call, Ret, Throw, Reg, Run, Turn, IdleLine, Host}
 use Rattle.page_types.specs.declared.Source.TheVariants.{Sched}
 use Rattle.page_parts.specs.Words.{and_last, numbered, without}
 use Rattle.page_parts.specs.Promises.{Settled, Fulfilled, Failed, PromiseJob, Reaction}
@@ -19,7 +19,7 @@ use Rattle.page_model.specs.Numbers.{Each, IsFor, made_by, timer_role}
 use Rattle.page_model.proofs.NumbersGrow.{numbered-last, length-last}
 use Rattle.page_laws.specs.History.{History, some_line, is_reg_of, kind_of, kind_in, has_kind, is_some_and, is_rest}
 use Rattle.page_laws.specs.CallLaws.{has_no_callback}
-use Rattle.page_laws.specs.Moves.{frame_asked, frame_gone, is_aside, is_end, promise_changes, PageChange, elsewhere, told, rested, registered, promised, settled, followed, adopted, subscribed, micro_asked, then_asked, answered, AsBefore, rejected_taken, noted, Beginning, TheScript, ATimer, AFrame, AnIdle, ALateIdle, AListener, APost, AContinuation, AMicro, AReaction, called_by, role_of, taken, Moves, here, changing, calling, ending, flagging, running}
+use Rattle.page_laws.specs.Moves.{frame_asked, frame_gone, is_aside, is_end, promise_changes, PageChange, elsewhere, told, rested, registered, promised, settled, followed, adopted, subscribed, micro_asked, then_asked, answered, dropped, frame_dropped, AsBefore, rejected_taken, noted, Beginning, TheScript, ATimer, AFrame, AnIdle, ALateIdle, AListener, APost, AContinuation, AMicro, AReaction, called_by, role_of, taken, Moves, here, changing, calling, ending, flagging, running}
 use Rattle.page_laws.proofs.Lines.{added, emit_each-events}
 use Rattle.page_laws.proofs.Scans.{Test, Kept}
 
@@ -253,6 +253,8 @@ change-fits {p = p} (rested e h x y) f = silent-fits e p.now p.registrations p.e
 change-fits {p = p} (answered source task t answer x y z b) f = before-fits b (silent-fits (Host t.closure t.number answer) p.now p.registrations p.events refl f)
 change-fits {p = p} (registered k x e u b) f = before-fits b (made-fits k (caller p) x p.now p.registrations p.events e f)
 change-fits {p = p} (frame_asked g) f = made-fits kind.Frame (caller p) (record { role = OfKind kind.Frame; callback = Some g; second_callback = None; timer_id = 0; promise = 0; signal = None; finally = false }) p.now p.registrations p.events refl f
+change-fits {p = p} (dropped r d b) f = before-fits b (silent-fits (Drop r) p.now p.registrations p.events refl f)
+change-fits {p = p} (frame_dropped handle c e) f = silent-fits (Drop c.registration) p.now p.registrations p.events refl f
 change-fits (frame_gone handle) f = f
 change-fits promised f = f
 change-fits {p = p} (settled n how x y) f = changes-fit n (Promises.settle n (the_promise p.notices.promises n) how) p f

@@ -9,7 +9,7 @@ use Rattle.std.proofs.lemmas.Option.{unwrap_or-slice_get}
 use Rattle.std.specs.Prelude.{◌==◌, slice_set}
 use Rattle.page_types.specs.declared.Source.TheVariants.{Sched}
 use Rattle.page_model.specs.PageTime.{deadline}
-use Rattle.page_types.specs.Events.{Host, Reg, Event, Turn, Call, Ret, Throw, Run, IdleLine, Job, Settle}
+use Rattle.page_types.specs.Events.{Drop, Host, Reg, Event, Turn, Call, Ret, Throw, Run, IdleLine, Job, Settle}
 use Rattle.page_parts.specs.Spelling.{spelled}
 use Rattle.page_parts.specs.Words.{and_last, without, numbered, with_numbered, is_there}
 use Rattle.page_parts.specs.Promises.{Settled, Fulfilled, Failed, PromiseRecord, PromiseJob, React, Adopt, Reaction, pending_promise}
@@ -21,7 +21,7 @@ use Rattle.page_model.specs.PagePromises.{new_promise}
 use Rattle.page_model.specs.Numbers.{IsGiven, Each}
 use Rattle.page_laws.specs.History.{History, some_line, is_rest}
 use Rattle.page_laws.specs.CallLaws.{keeps_settled, is_settle_of, may_be_queued}
-use Rattle.page_laws.specs.Moves.{frame_asked, frame_gone, registered, is_aside, is_end, promise_changes, PageChange, elsewhere, told, rested, promised, settled, followed, adopted, subscribed, micro_asked, then_asked, answered, AsBefore, rejected_taken, noted, Beginning, TheScript, ATimer, AFrame, AnIdle, ALateIdle, AListener, APost, AContinuation, AMicro, AReaction, taken, called_by, Moves, here, changing, calling, ending, flagging, running}
+use Rattle.page_laws.specs.Moves.{frame_asked, frame_gone, registered, is_aside, is_end, promise_changes, PageChange, elsewhere, told, rested, promised, settled, followed, adopted, subscribed, micro_asked, then_asked, answered, dropped, frame_dropped, AsBefore, rejected_taken, noted, Beginning, TheScript, ATimer, AFrame, AnIdle, ALateIdle, AListener, APost, AContinuation, AMicro, AReaction, taken, called_by, Moves, here, changing, calling, ending, flagging, running}
 use Rattle.page_laws.proofs.Lines.{added, added-append, emit_each-events, emit_each-notices}
 use Rattle.page_laws.proofs.Scans.{Test, Kept}
 
@@ -267,6 +267,8 @@ change-fits {p = p} (rested e h x y) f = silent-fits e p.now p.notices.promises 
 change-fits {p = p} (answered source task t answer x y z b) f = before-fits b (silent-fits (Host t.closure t.number answer) p.now p.notices.promises p.events refl f)
 change-fits {p = p} (registered kind x e u b) f = before-fits b (registered-fits kind x p f)
 change-fits {p = p} (frame_asked g) f = silent-fits (Reg (suc (length p.registrations)) kind.Frame (caller p)) p.now p.notices.promises p.events refl f
+change-fits {p = p} (dropped r d b) f = before-fits b (silent-fits (Drop r) p.now p.notices.promises p.events refl f)
+change-fits {p = p} (frame_dropped handle c e) f = silent-fits (Drop c.registration) p.now p.notices.promises p.events refl f
 change-fits (frame_gone handle) f = f
 change-fits {p = p} promised f = promised-fits p f
 change-fits {p = p} (settled n how g y) f = settled-fits n how p g (f.unlocked n g.from_one y) f

@@ -24,8 +24,8 @@ use Rattle.page_parts.specs.Frames.{Callback, callback_in, keys}
 use Rattle.page_parts.specs.Kinds.{a_fault}
 use Rattle.page_parts.specs.Listeners.{Window}
 use Rattle.page_parts.specs.Promises.{Settled, settled_value}
-use Rattle.page_parts.specs.Timers.{is_live}
-use Rattle.page_parts.specs.Words.{and_last, is_empty, without}
+use Rattle.page_parts.specs.Timers.{Timers, TimerId, id_entry, has_id, is_live}
+use Rattle.page_parts.specs.Words.{and_last, is_empty, is_there, without}
 use Rattle.page_types.specs.Events.{Frame, Handled, IdleLine, Ret, Turn, Unhandled}
 use Rattle.page_types.specs.Tree.{Program}
 use Rattle.page_types.specs.Values.{DeadlineValue, IntValue, PromiseValue, UnitValue}
@@ -122,19 +122,27 @@ continued-reached t m g w i x =
     let last : Reached ended (on_page (continued r) n) = on_page-reached ended (unwatch r) good (unwatch-onto r ended.host good.0) in
     (le-then m ended (on_page (continued r) n) le last.0, last.1)
 
+-- an id that is in the map with some handle is there
+live_there : (id handle : ℕ) (t : Timers) → is_live id handle t ≡ true → has_id id t ≡ true
+live_there id handle t h = by_entry (id_entry id t) h
+  where
+    by_entry : (o : Option TimerId) → elim o [ None ↦ false | Some e ↦ e.handle == handle ] ≡ true → is_there o ≡ true
+    by_entry None h = Prim.cc
+    by_entry (Some e) h = refl
+
 module _ (program : Program) where
   -- ---- timers
 
-  timer_goes_on-goes : (t : TimerTask) (m : State) → Good m → TimerTaskIsGiven (made_by m.host) t → Goes program m (timer_goes_on t m)
-  timer_goes_on-goes t m g x =
+  timer_goes_on-goes : (t : TimerTask) (m : State) → Good m → is_live t.id t.handle m.host.timers ≡ true → TimerTaskIsGiven (made_by m.host) t → Goes program m (timer_goes_on t m)
+  timer_goes_on-goes t m g live x =
       branch_when-goes program t.repeats m (initialised_again t) (λ m. finish (on_page (clear_id t.id) m))
       (λ e. subst (λ (b : Bool). Goes program m (finish (on_page (init_timer (Some t.id) t.registration b t.timeout) m))) (sym e)
       (finish_page program m (init_timer (Some t.id) t.registration true t.timeout) g
-      (init_again-onto t.id t.registration t.timeout m.host g.0 x.id (subst (λ (b : Bool). IsFor (timer_role b) (made_by m.host) t.registration) e x.registration))))
+      (init_again-onto t.id t.registration t.timeout m.host g.0 x.id (subst (λ (b : Bool). IsFor (timer_role b) (made_by m.host) t.registration) e x.registration) (live_there t.id t.handle m.host.timers live))))
       (λ e. finish_page program m (clear_id t.id) g (clear_id-onto t.id m.host g.0))
 
-  where_live-goes : (t : TimerTask) (next : State → Done Page) (m : State) → Good m → Goes program m (next m) → Goes program m (where_live t next m)
-  where_live-goes t next m g q = branch-goes program (is_live t.id t.handle m.host.timers) m next finish q (finish-goes program m g)
+  where_live-goes : (t : TimerTask) (next : State → Done Page) (m : State) → Good m → (is_live t.id t.handle m.host.timers ≡ true → Goes program m (next m)) → Goes program m (where_live t next m)
+  where_live-goes t next m g q = branch_when-goes program (is_live t.id t.handle m.host.timers) m next finish q (λ gone. finish-goes program m g)
 
   -- the task of a timer, from before it leaves its queue
   timer_task-goes : (w : Ways) (a : WaysGo program w) → (source : Source) (task : Task) (t : TimerTask) (m : State) → Good m → a.Here m → first_task source m.host.tasks ≡ Some task → task.steps ≡ RunTimer t → TimerTaskIsGiven (made_by m.host) t → Goes program m (run_timer w t (on_page (without_task task.number) m))
@@ -144,7 +152,7 @@ module _ (program : Program) where
       branch_when-goes_from (is_live t.id t.handle m.host.timers) m begun (λ m. afterwards (invoke w t.registration false [] m) (where_live t (timer_goes_on t))) finish
       (λ live. afterwards-goes program m (invoke w t.registration false [] begun) (where_live t (timer_goes_on t))
       (invoke-goes program w a (ATimer source task t) false [] m g z (e, e1, live) x.registration o tt)
-      (λ r le gr. where_live-goes t (timer_goes_on t) r gr (timer_goes_on-goes t r gr (TimerTask-grows (made_by m.host) (made_by r.host) le.0 t x))))
+      (λ r le gr. where_live-goes t (timer_goes_on t) r gr (λ live. timer_goes_on-goes t r gr live (TimerTask-grows (made_by m.host) (made_by r.host) le.0 t x))))
       (let b = on_page-reached m (taken (ATimer source task t)) g (o, placed m.host begun.host (task_left task.number) refl refl refl refl refl) in (b.0, b.1, tt))
     where
       branch_when-goes_from : (b : Bool) (m n : State) (then else : State → Done Page) → (b ≡ true → Goes program m (then n)) → Goes program m (else n) → Goes program m (branch b n then else)

@@ -8,22 +8,23 @@ use Rattle.page_parts.specs.Promises.{Settled, Reaction, React}
 use Rattle.page_parts.specs.Promises as Promises
 use Rattle.page_parts.specs.Notices.{Micro, OfPromise, WaitingJob, changed, subscribe_promise, queue_micro, note_outstanding}
 use Rattle.page_parts.specs.Promises.{the_promise}
-use Rattle.page_model.specs.State.{Role, ScriptRole, OfKind, Registration, no_registration, Page, Task, TimerTask, HostTask, Steps, RunScript, RunTimer, AnswerHost, PrioSource, SchedTask, Completing, QueueTimer, EnqueuePost, QueueSignal, HostAnswer, emit, on_notices, context}
+use Rattle.page_model.specs.State.{Role, ScriptRole, OfKind, Registration, no_registration, Page, Task, TimerTask, HostTask, Steps, RunScript, RunTimer, AnswerHost, PrioSource, SchedTask, Completing, QueueTimer, EnqueuePost, QueueSignal, HostAnswer, IdleTimer, emit, on_notices, context}
 use Rattle.page_model.specs.PagePromises.{new_promise}
-use Rattle.page_model.specs.PageTime.{first_task, completion_of, without_frame, deadline, without_idle, idle_callback}
+use Rattle.page_model.specs.PageTime.{first_task, registration_with_id, completion_of, without_frame, deadline, without_idle, idle_callback}
 use Rattle.page_model.specs.SchedulerTasks.{with_state, first_sched, without_sched}
 use Rattle.page_parts.specs.Kinds.{Func}
 use Rattle.page_model.specs.Operations.{frame_requested, queued_mark}
 use Rattle.page_model.specs.PageSignals.{drop_closure}
 use Rattle.page_parts.specs.Words.{and_last, without, numbered}
-use Rattle.page_parts.specs.IdleCallbacks.{Idle, request, cancel, started}
+use Rattle.page_parts.specs.IdleCallbacks.{Idle, request, cancel, started, waiting_callback}
 use Rattle.page_parts.specs.HostClosures.{HostClosure, fired}
 use Rattle.page_types.specs.declared.HostMark.TheVariants.{Live}
 use Rattle.page_model.specs.Tasks.{background, post_state}
 use Rattle.page_model.specs.Turns.{without_task}
-use Rattle.page_parts.specs.Timers.{is_live}
+use Rattle.page_parts.specs.Timers as Timers
+use Rattle.page_parts.specs.Timers.{Timers, Armed, with_armed, run_after, clear, has_id, is_live}
 use Rattle.page_parts.specs.Frames.{Callback, callback_in}
-use Rattle.page_parts.specs.Listeners.{is_listening}
+use Rattle.page_parts.specs.Listeners.{Target, Listener, add, off, is_listening}
 use Rattle.page_model.specs.Numbers.{IsGiven, IsFor, made_by, timer_role}
 use Rattle.page_model.specs.Invoke.{register_as, call_begun, call_ended, job_begun}
 use Rattle.page_types.specs.declared.RegKind.{RegKind}
@@ -32,13 +33,12 @@ use Rattle.page_laws.specs.History.{open_registrations, is_rest}
 
 -- ---- Ours: kinds of lines
 
--- a line that tells nothing of calls, promises, jobs and answers of hosts, and does not stand between turns
+-- a line that tells nothing of calls, promises, jobs, cancels and answers of hosts, and does not stand between turns
 abbrev pub is_aside : Event → Bool
 is_aside (Report bs) = true
 is_aside (Log bs) = true
 is_aside (Arm r due level) = true
 is_aside (Due r) = true
-is_aside (Drop r) = true
 is_aside (IdleLine d) = true
 is_aside (Frame t) = true
 is_aside (Enq r queue continuation n) = true
@@ -58,18 +58,21 @@ is_end e = false
 
 -- ---- Ours: where registrations wait
 
--- tasks, completion steps of active timers, idle callbacks, scheduler tasks and pending answers of hosts; and the host closures
+-- tasks, timers with their completion steps, idle callbacks and idle timeouts, listeners, scheduler tasks and pending answers of hosts; and the host closures
 pub record Places : Type 0 where
   pub tasks : List Task
+  pub timers : Timers
   pub completions : List Completing
   pub idle : Idle
+  pub idle_timers : List IdleTimer
+  pub listeners : List Listener
   pub sched_tasks : List SchedTask
   pub host_answers : List HostAnswer
   pub hosts : List HostClosure
 
 -- those of a page
 abbrev pub places : Page → Places
-places p = record { tasks = p.tasks; completions = p.completions; idle = p.idle; sched_tasks = p.sched_tasks; host_answers = p.host_answers; hosts = p.hosts }
+places p = record { tasks = p.tasks; timers = p.timers; completions = p.completions; idle = p.idle; idle_timers = p.idle_timers; listeners = p.listeners; sched_tasks = p.sched_tasks; host_answers = p.host_answers; hosts = p.hosts }
 
 -- steps that call nothing that was registered for one call, and answer no host
 abbrev pub is_free : Steps → Bool
@@ -89,16 +92,21 @@ pub data PlaceChange (made : List Registration) : Places → Places → Type 0 w
   -- a task is queued that calls nothing by itself; a task leaves its queue
   task_queued : {x : Places} (t : Task) → is_free t.steps ≡ true → PlaceChange made x (record x { tasks = and_last x.tasks t })
   task_left : {x : Places} (number : ℕ) → PlaceChange made x (record x { tasks = without (λ t. t.number == number) x.tasks })
-  -- an interval is armed again, and the timer of a signal is armed
-  armed_again : {x : Places} (start : ℕ) (t : TimerTask) → (numbered made t.registration no_registration).role ≡ OfKind kind.Interval
-      → PlaceChange made x (record x { completions = and_last x.completions (record { start = start; completion = QueueTimer t }) })
-  signal_armed : {x : Places} (start r s : ℕ) → PlaceChange made x (record x { completions = and_last x.completions (record { start = start; completion = QueueSignal r s }) })
+  -- an interval whose id is in the map is armed again, and the timer of a signal is armed
+  armed_again : {x : Places} (a : Armed) (t : TimerTask) → (numbered made t.registration no_registration).role ≡ OfKind kind.Interval → has_id t.id x.timers ≡ true
+      → PlaceChange made x (record x { timers = with_armed (Some t.id) a x.timers; completions = and_last x.completions (record { start = a.start; completion = QueueTimer t }) })
+  signal_armed : {x : Places} (ms now r s : ℕ) → PlaceChange made x (record x { timers = run_after ms now x.timers; completions = and_last x.completions (record { start = suc x.timers.starts_made; completion = QueueSignal r s }) })
+  -- a timer's id leaves the map
+  id_cleared : {x : Places} (id : ℕ) → PlaceChange made x (record x { timers = clear id x.timers })
+  -- an idle timeout is started, and one is due
+  idle_armed : {x : Places} (t : IdleTimer) → PlaceChange made x (record x { idle_timers = and_last x.idle_timers t })
+  idle_due : {x : Places} (handle : ℕ) → PlaceChange made x (record x { idle_timers = without (λ u. u.handle == handle) x.idle_timers })
   -- an active timer completes: its task is queued, or a delayed post is enqueued, or nothing
   timer_due : {x : Places} (start number : ℕ) (source : Source) (t : TimerTask) → completion_of x.completions start ≡ Some (QueueTimer t)
-      → PlaceChange made x (record x { completions = completions_but start x.completions; tasks = and_last x.tasks (record { number = number; source = source; steps = RunTimer t }) })
+      → PlaceChange made x (record x { timers = Timers.completed start x.timers; completions = completions_but start x.completions; tasks = and_last x.tasks (record { number = number; source = source; steps = RunTimer t }) })
   post_due : {x : Places} (start : ℕ) (source : PrioSource) (t : SchedTask) → completion_of x.completions start ≡ Some (EnqueuePost t.registration source)
-      → PlaceChange made x (record x { completions = completions_but start x.completions; sched_tasks = and_last x.sched_tasks t })
-  completed : {x : Places} (start : ℕ) → PlaceChange made x (record x { completions = completions_but start x.completions })
+      → PlaceChange made x (record x { timers = Timers.completed start x.timers; completions = completions_but start x.completions; sched_tasks = and_last x.sched_tasks t })
+  completed : {x : Places} (start : ℕ) → PlaceChange made x (record x { timers = Timers.completed start x.timers; completions = completions_but start x.completions })
   -- the pending idle callbacks become runnable; an idle callback leaves the lists
   idle_started : {x : Places} → PlaceChange made x (record x { idle = started x.idle })
   idle_left : {x : Places} (handle : ℕ) → PlaceChange made x (record x { idle = cancel handle x.idle })
@@ -107,17 +115,27 @@ pub data PlaceChange (made : List Registration) : Places → Places → Type 0 w
   -- a pending answer of a host is due, and its task is queued
   answer_due : {x : Places} (before : List HostAnswer) (a : HostAnswer) (after : List HostAnswer) (number : ℕ) (source : Source) → x.host_answers ≡ before ++ a ∷ after
       → PlaceChange made x (record x { host_answers = without (λ b. b.task.registration == a.task.registration) x.host_answers; tasks = and_last x.tasks (record { number = number; source = source; steps = AnswerHost a.task }) })
-  -- a pending answer of a host goes, and closures are dropped
-  answer_dropped : {x : Places} (r : ℕ) (pending due : Option HostTask)
-      → PlaceChange made x (record x { sched_tasks = without (λ t. t.registration == r) x.sched_tasks; host_answers = without (λ a. a.task.registration == r) x.host_answers; hosts = drop_closure pending (drop_closure due x.hosts) })
+
+-- how registration r leaves its place by a cancel
+pub data Dropping (made : List Registration) (r : ℕ) : Places → Places → Type 0 where
+  -- a timer: its id leaves the map
+  timer_dropped : {x : Places} (id : ℕ) → has_id id x.timers ≡ true → r ≡ registration_with_id id 1 made → Dropping made r x (record x { timers = clear id x.timers })
+  -- an idle callback leaves the lists, and a listener its list
+  idle_dropped : {x : Places} (handle : ℕ) (c : Callback) → waiting_callback handle x.idle ≡ Some c → r ≡ c.registration → Dropping made r x (record x { idle = cancel handle x.idle })
+  listener_dropped : {x : Places} → is_listening r x.listeners ≡ true → Dropping made r x (record x { listeners = off r x.listeners })
+  -- what was posted, continues or waits for a host: its scheduler task and its pending answer go, and closures are dropped
+  task_dropped : {x : Places} (pending due : Option HostTask)
+      → Dropping made r x (record x { sched_tasks = without (λ t. t.registration == r) x.sched_tasks; host_answers = without (λ a. a.task.registration == r) x.host_answers; hosts = drop_closure pending (drop_closure due x.hosts) })
 
 -- where a new registration waits first, from the places before
 pub data FirstPlace (r : ℕ) : Places → Places → Type 0 where
-  -- at none of these: a listener, the timer of a signal
+  -- at none of these: the timer of a signal, which is armed next
   nowhere : {x : Places} → FirstPlace r x x
+  -- among the listeners
+  at_listener : {x : Places} (target : Target) (name : List ℕ) (q : ℕ) → q ≡ r → FirstPlace r x (record x { listeners = add target name q x.listeners })
   -- in the completion steps of its timer: a timer, a delayed post
-  at_timer : {x : Places} (start : ℕ) (t : TimerTask) → t.registration ≡ r → FirstPlace r x (record x { completions = and_last x.completions (record { start = start; completion = QueueTimer t }) })
-  at_delay : {x : Places} (start q : ℕ) (source : PrioSource) → q ≡ r → FirstPlace r x (record x { completions = and_last x.completions (record { start = start; completion = EnqueuePost q source }) })
+  at_timer : {x : Places} (a : Armed) (t : TimerTask) → t.registration ≡ r → FirstPlace r x (record x { timers = with_armed None a x.timers; completions = and_last x.completions (record { start = a.start; completion = QueueTimer t }) })
+  at_delay : {x : Places} (ms now q : ℕ) (source : PrioSource) → q ≡ r → FirstPlace r x (record x { timers = run_after ms now x.timers; completions = and_last x.completions (record { start = suc x.timers.starts_made; completion = EnqueuePost q source }) })
   -- among the idle callbacks
   at_idle : {x : Places} (q : ℕ) → q ≡ r → FirstPlace r x (record x { idle = request q x.idle })
   -- in the queue of the scheduler
@@ -158,6 +176,9 @@ pub data PageChange : Page → Page → Type 0 where
       → AsBefore (emit (Host t.closure t.number answer) p) q → PageChange p q
   -- a registration is made, and waits at its first place
   registered : {p q : Page} (kind : RegKind) (x : Registration) → x.role ≡ OfKind kind → FirstPlace (suc (length p.registrations)) (places p) (places q) → AsBefore (register_as kind x p) q → PageChange p q
+  -- a registration is cancelled, with its line, and a frame callback so
+  dropped : {p q : Page} (r : ℕ) → Dropping p.registrations r (places p) (places q) → AsBefore (emit (Drop r) p) q → PageChange p q
+  frame_dropped : {p : Page} (handle : ℕ) (c : Callback) → callback_in p.frames.callbacks handle ≡ Some c → PageChange p (emit (Drop c.registration) (without_frame handle p))
   -- a frame callback is registered and requested, and one leaves the map
   frame_asked : {p : Page} (f : Func) → PageChange p (frame_requested f p)
   frame_gone : {p : Page} (handle : ℕ) → PageChange p (without_frame handle p)
