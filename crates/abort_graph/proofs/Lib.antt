@@ -1,2 +1,3 @@
-pub mod LiveLemmas
+pub mod IndexLemmas
+pub mod NumberLemmas
 pub mod SignalLemmas
