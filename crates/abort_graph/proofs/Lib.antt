@@ -1,3 +1,4 @@
+pub mod ByValueLemmas
 pub mod IndexLemmas
 pub mod NumberLemmas
 pub mod SignalLemmas
