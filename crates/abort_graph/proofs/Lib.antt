@@ -1,2 +1,4 @@
-pub mod LiveLemmas
+pub mod ByValueLemmas
+pub mod IndexLemmas
+pub mod NumberLemmas
 pub mod SignalLemmas

@@ -1,2 +1,3 @@
-pub mod Live
+pub mod ByValue
+pub mod Indexed
 pub mod Seen

@@ -1,8 +1,8 @@
-ghost use Rattle.std.specs.Prelude.{◌≡◌, ℕ, nat_eq, [], true, false, cond, is_some, OnOk, OnErr, IsTrue, unwrap_or, Some};
-ghost use Rattle.std.specs.BTreeMap.{get, is_at};
-ghost use Rattle.std.specs.Ordering.{nat_cmp};
-ghost use Rattle.page_parts.specs.Words.{and_last, without, has_number};
-ghost use Rattle.abort_graph.specs.Live.{is_live as live_in, listed, IsKept};
+ghost use Rattle.std.specs.Prelude.{◌≡◌, ◌++◌, ◌≤◌, ◌+◌, nat_eq, [], not, length, OnOk, OnErr};
+ghost use Rattle.std.specs.BTreeMap.{values, btree_map_len};
+ghost use Rattle.std.specs.Vec.{vec_len, vec_capacity};
+ghost use Rattle.page_parts.specs.Words.{and_last, without, has_number, is_empty};
+ghost use Rattle.abort_graph.specs.Indexed.{serials_of, AreOrdered, AddsSerial, SameSerials, remove_each};
 
 use crate::MemoryFault;
 use std::alloc::Global;
@@ -12,29 +12,31 @@ use std::mem;
 
 // The abort algorithms of a signal, seen as their list in the order in which they were added.
 //
-// One that is removed stays in `order` until as many are removed as there are others, so that a removal moves none of the
-// others: it costs a look-up, and once in a while a pass over all.
+// Each has a serial number here, by which it is found. So a call costs look-ups, whatever was added or removed before.
 #[derive(Drop)]
 pub(crate) struct Algorithms {
     alloc: Global,
-    order: Vec<u64>,
-    // Of each algorithm in `order` whether it is there still.
-    live: BTreeMap<u64, bool>,
-    // How many were removed since the last pass.
-    removed: usize,
+    // The algorithms by their serial numbers.
+    listed: BTreeMap<u64, u64>,
+    // The serial numbers of each algorithm.
+    serials: BTreeMap<u64, Vec<u64>>,
+    // The next serial number.
+    next: u64,
+    // An empty list with room for all algorithms, which are handed over in it.
+    room: Vec<u64>,
 }
 
 impl Model for Algorithms {
-    ghost use Rattle.std.specs.Prelude.{List, ℕ};
-    ghost use Rattle.std.specs.BTreeMap.{get};
-    ghost use Rattle.std.specs.Ordering.{nat_cmp};
-    ghost use Rattle.abort_graph.specs.Live.{listed, IsKept};
+    ghost use Rattle.std.specs.Prelude.{◌≡◌, ◌≤◌, List, ℕ, []};
+    ghost use Rattle.std.specs.BTreeMap.{values, btree_map_len};
+    ghost use Rattle.std.specs.Vec.{vec_capacity};
+    ghost use Rattle.abort_graph.specs.Indexed.{IsIndexed};
 
     ghost Value = { List ℕ };
 
-    ghost view = { λ algorithms. listed (get nat_cmp algorithms.live) algorithms.order.items };
+    ghost view = { λ algorithms. values algorithms.listed };
 
-    ghost invariant = { λ algorithms. IsKept (get nat_cmp algorithms.live) algorithms.order.items };
+    ghost invariant = { λ algorithms. IsIndexed algorithms.listed.entries algorithms.serials algorithms.next × (algorithms.room.items ≡ []) × (btree_map_len algorithms.listed ≤ vec_capacity algorithms.room) };
 }
 
 impl Algorithms {
@@ -44,21 +46,29 @@ impl Algorithms {
     {
         Algorithms {
             alloc,
-            order: Vec::new(alloc),
-            live: BTreeMap::new(alloc),
-            removed: 0,
+            listed: BTreeMap::new(alloc),
+            serials: BTreeMap::new(alloc),
+            next: 0,
+            room: Vec::new(alloc),
         }
     }
 
-    // Adds an algorithm at the end.
+    // Adds an algorithm at the end. Want of memory is also told where 2^64 - 1 algorithms were added before.
     pub(crate) fn add(&mut self, a: u64) -> Result<(), MemoryFault>
         ensures ok { OnOk result (self.new ≡ and_last self.old a) }
         ensures err { OnErr result (self.new ≡ self.old) }
     {
-        renew(&mut self.order, &mut self.live, a);
-        self.order.reserve(1)?;
-        self.live.insert(a, true)?;
-        self.order.push(a).unwrap();
+        let serial = self.next;
+        let Some(next) = serial.checked_add(1) else {
+            return Err(MemoryFault::OutOfMemory);
+        };
+        self.room.reserve(self.listed.len() + 1)?;
+        self.listed.insert(serial, a)?;
+        if let Err(fault) = note(self.alloc, &mut self.serials, a, serial) {
+            self.listed.remove(&serial);
+            return Err(fault);
+        }
+        self.next = next;
         Ok(())
     }
 
@@ -67,23 +77,11 @@ impl Algorithms {
         ensures was { result ≡ has_number self.old a }
         ensures gone { self.new ≡ without (λ b. nat_eq b a) self.old }
     {
-        if !is_live(&self.live, a) {
+        let Some(serials) = self.serials.remove(&a) else {
             return false;
-        }
-        mark_removed(&mut self.live, a);
-        self.removed = self.removed.saturating_add(1);
-        self.forget_where_many();
-        true
-    }
-
-    // Forgets those that were removed, where they are more than half of all.
-    fn forget_where_many(&mut self)
-        ensures { self.new ≡ self.old }
-    {
-        if self.removed > self.order.len() / 2 {
-            forget(&mut self.order, &mut self.live);
-            self.removed = 0;
-        }
+        };
+        take_out(&mut self.listed, &serials);
+        !serials.is_empty()
     }
 
     // Hands over all algorithms, in order, and keeps none. Takes no memory.
@@ -91,57 +89,53 @@ impl Algorithms {
         ensures all { result.items ≡ self.old }
         ensures none { self.new ≡ [] }
     {
-        let order = mem::replace(&mut self.order, Vec::new(self.alloc));
-        let live = mem::replace(&mut self.live, BTreeMap::new(self.alloc));
-        self.removed = 0;
-        live_of(&live, order)
+        let listed = mem::replace(&mut self.listed, BTreeMap::new(self.alloc));
+        let mut taken = mem::replace(&mut self.room, Vec::new(self.alloc));
+        self.serials.clear();
+        self.next = 0;
+        fill(&mut taken, &listed);
+        taken
     }
 }
 
-// Whether an algorithm is there still.
-fn is_live(live: &BTreeMap<u64, bool>, a: u64) -> bool
-    ensures { result ≡ live_in (get nat_cmp live.now) a }
+// Notes the serial number of an algorithm that was added.
+fn note(
+    alloc: Global,
+    serials: &mut BTreeMap<u64, Vec<u64>>,
+    a: u64,
+    serial: u64,
+) -> Result<(), MemoryFault>
+    ensures noted { OnOk result (AddsSerial a serial serials.old serials.new) }
+    ensures err { OnErr result (SameSerials serials.old serials.new) }
 {
-    live.get(&a).copied().unwrap_or(false)
+    if let Some(own) = serials.get_mut(&a) {
+        own.push(serial)?;
+        return Ok(());
+    }
+    let mut own = Vec::new(alloc);
+    own.push(serial)?;
+    serials.insert(a, own)?;
+    Ok(())
 }
 
-// The algorithms that are there still.
-fn live_of(live: &BTreeMap<u64, bool>, mut order: Vec<u64>) -> Vec<u64>
-    ensures { result.items ≡ listed (get nat_cmp live.now) order.items }
+// Takes the algorithms with these serial numbers out.
+fn take_out(listed: &mut BTreeMap<u64, u64>, serials: &[u64])
+    requires { AreOrdered listed.old.entries }
+    ensures gone { listed.new.entries ≡ remove_each serials.now listed.old.entries }
+    ensures ordered { AreOrdered listed.new.entries }
+    ensures len { btree_map_len listed.new ≤ btree_map_len listed.old }
 {
-    order.retain(|a| is_live(live, *a));
-    order
-}
-
-// An algorithm is there no longer.
-fn mark_removed(live: &mut BTreeMap<u64, bool>, a: u64)
-    requires { IsTrue (is_some (get nat_cmp live.old a)) }
-    ensures { (b : ℕ) → get nat_cmp live.new b ≡ cond (is_at (nat_cmp a) b) (Some false) (get nat_cmp live.old b) }
-{
-    if let Some(live) = live.get_mut(&a) {
-        *live = false;
+    for serial in serials {
+        listed.remove(serial);
     }
 }
 
-// Forgets the algorithms that were removed.
-fn forget(order: &mut Vec<u64>, live: &mut BTreeMap<u64, bool>)
-    requires { IsKept (get nat_cmp live.old) order.old.items }
-    ensures kept { IsKept (get nat_cmp live.new) order.new.items }
-    ensures same { listed (get nat_cmp live.new) order.new.items ≡ listed (get nat_cmp live.old) order.old.items }
-    ensures none { (b : ℕ) → IsTrue (unwrap_or (get nat_cmp live.new b) true) }
+// Puts algorithms into a list that has room for them.
+fn fill(into: &mut Vec<u64>, listed: &BTreeMap<u64, u64>)
+    requires { vec_len into.old + btree_map_len listed.now ≤ vec_capacity into.old }
+    ensures { into.new.items ≡ into.old.items ++ values listed.now }
 {
-    order.retain(|a| is_live(live, *a));
-    live.retain(|_, live| *live);
-}
-
-// Forgets the algorithms that were removed, where this is one of them.
-fn renew(order: &mut Vec<u64>, live: &mut BTreeMap<u64, bool>, a: u64)
-    requires { IsKept (get nat_cmp live.old) order.old.items }
-    ensures kept { IsKept (get nat_cmp live.new) order.new.items }
-    ensures same { listed (get nat_cmp live.new) order.new.items ≡ listed (get nat_cmp live.old) order.old.items }
-    ensures renewed { IsTrue (unwrap_or (get nat_cmp live.new a) true) }
-{
-    if !live.get(&a).copied().unwrap_or(true) {
-        forget(order, live);
+    for a in listed.values() {
+        into.push_reserved(*a);
     }
 }

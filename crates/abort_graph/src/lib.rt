@@ -5,12 +5,14 @@
 #![tactic(auto)]
 
 mod algorithms;
+mod by_value;
 mod fault;
 mod marked;
 mod numbers;
 mod signal;
 mod signals;
 
+pub use by_value::reasons_by_number_are_reasons_by_value;
 pub use fault::MemoryFault;
 pub use marked::Marked;
 pub use signals::Signals;

@@ -32,6 +32,11 @@ impl<R> Model for Signals<R> {
     ghost use Rattle.abort_graph.specs.Seen.{signals_of};
 
     ghost view = { λ signals. signals_of signals.signals.items };
+
+    ghost use Rattle.std.specs.Prelude.{◌<◌, ◌^◌};
+    ghost use Rattle.std.specs.Vec.{vec_len};
+
+    ghost invariant = { λ signals. vec_len signals.signals < 2 ^ 32 };
 }
 
 impl<R: Copy> Signals<R> {
@@ -43,6 +48,13 @@ impl<R: Copy> Signals<R> {
             alloc,
             signals: Vec::new(alloc),
         }
+    }
+
+    /// How many signals were made, which is the number of the last one. Takes no memory.
+    pub fn made(&self) -> u32
+        ensures { result ≡ length self.now }
+    {
+        self.signals.len() as u32
     }
 
     /// Makes a signal and answers its number, which has to be below 2^32. For want of memory nothing changes.
@@ -100,7 +112,8 @@ impl<R: Copy> Signals<R> {
 
     /// Adds an abort algorithm to a signal, behind its others. For want of memory nothing changes.
     ///
-    /// It costs a look-up, and a pass over the signal's algorithms where the same one was removed shortly before.
+    /// It costs look-ups, whatever was added or removed before. Want of memory is also told where 2^64 - 1 algorithms were added
+    /// to this signal since they were taken.
     pub fn add_algorithm(&mut self, s: u32, a: u64) -> Result<(), MemoryFault>
         ensures added { OnOk result (self.new ≡ parts.add_algorithm s a self.old) }
         ensures err { OnErr result (self.new ≡ self.old) }
@@ -114,8 +127,7 @@ impl<R: Copy> Signals<R> {
 
     /// Removes an abort algorithm of a signal. The others stay in their order.
     ///
-    /// True exactly where it was among them, and else nothing changes. Takes no memory. It costs a look-up, and a pass over
-    /// the signal's algorithms each time that half of them were removed.
+    /// True exactly where it was among them, and else nothing changes. Takes no memory. It costs look-ups.
     pub fn remove_algorithm(&mut self, s: u32, a: u64) -> bool
         ensures was { result ≡ has_number (the_signal self.old s).algorithms a }
         ensures gone { self.new ≡ parts.remove_algorithm s a self.old }
@@ -156,7 +168,7 @@ impl<R: Copy> Signals<R> {
         ensures made { OnOk result (self.new ≡ and_last self.old (record { reason = reason; sources = sources.items; dependents = []; algorithms = [] })) }
         ensures err { OnErr result (self.new ≡ self.old) }
     {
-        let number = self.signals.len() as u32 + 1;
+        let number = self.made() + 1;
         self.signals.push(Signal {
             reason,
             sources,

@@ -166,6 +166,7 @@ impl Prios {
     {
         self.places.get(&s).copied()
     }
+
     // Where the record of a signal is that was given a priority.
     fn given_place(&self, s: u32) -> usize
         requires { HasPriority s self.now }

@@ -1,7 +1,7 @@
 use Rattle.std.proofs.Common.{◌≡◌, ◌++◌, ◌∷◌, [], true, cond, is_ok, eqb, nat_cmp, ap, sym, ◌∙◌}
 use Rattle.std.specs.BTreeSet.{contains}
 use Rattle.page_parts.specs.Words.{has_number}
-use Rattle.abort_graph.proofs.LiveLemmas.{at_same, has_last, either}
+use Rattle.abort_graph.proofs.NumberLemmas.{at_same, has_last, either}
 use Rattle.abort_graph.proofs.numbers.Numbers.add.Goals as goal
 
 pub invariant_of-self-2 : goal.invariant_of-self-2
