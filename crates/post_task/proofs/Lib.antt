@@ -3,3 +3,4 @@ pub mod Tasks
 pub mod Moves
 pub mod Calls
 pub mod Waits
+pub mod Sharing

@@ -197,7 +197,11 @@ impl<T> Pool<T> {
 
     /// Takes an item out as [`Pool::unlink`] does, and tells the list that it stood in. Three accesses at most. Takes no
     /// memory.
-    pub fn unlink_listed<L: Ledger>(&mut self, t: Ticket, steps: &mut Steps<L>) -> Option<Unlinked<T>>
+    pub fn unlink_listed<L: Ledger>(
+        &mut self,
+        t: Ticket,
+        steps: &mut Steps<L>,
+    ) -> Option<Unlinked<T>>
         ensures item { option_map taken result ≡ option_map numbered (entry_of self.old t.0) }
         ensures there { (l : ℕ) (entry : Entry T) → find (in_cell t.0) (list_of self.old l) ≡ Some entry → result ≡ Some (taken_from l entry) }
         ensures list { IfSome result (λ unlinked. Leaves t.0 unlinked.list.0 self.old self.new) }
