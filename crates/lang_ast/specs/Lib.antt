@@ -7,3 +7,4 @@ pub mod NameFaults
 pub mod Calls
 pub mod Programs
 pub mod SeenProgram
+pub mod Hosts

@@ -29,73 +29,65 @@ pub enum Outcome {
 
 /// What answers a script's operations.
 ///
-/// Its calls take no allocator: a host that needs one keeps it. A function that a value names has a number below
-/// `function_count`, in what is handed in and in what is answered.
+/// Its calls take no allocator: a host that needs one keeps it. A function that a value names has a number below the count
+/// of functions that the host tells, in what is handed in and in what is answered.
 pub trait Host {
-    ghost use Rattle.lang_meaning.specs.HostSteps.{HostRules, is_busy};
+    ghost use Rattle.lang_meaning.specs.HostSteps.{HostRules, Ask, AskOp, AskResume, on_ask, is_busy};
     ghost use Rattle.lang_ast.specs.Operations.{count_of};
+    ghost use Rattle.lang_ast.specs.Hosts.{HostNow};
     ghost use Rattle.lang_ast.specs.Steps.{seen_step, seen_outcome, tickets_after, Falls, AreFew, AllNumbered, StepIsNumbered, EndIsNumbered, room_taken};
 
     /// Why a host refuses to go on.
     type Stop: Drop;
 
-    /// What the host tells of itself.
+    /// What the host tells of what it does.
     ghost Told: { Type 0 };
 
-    ghost told: { Self → Told };
+    /// All that it tells. The count of its functions stays, and that of its refusals never falls, and stays at the end of a `u64`.
+    ghost now: { Self → HostNow Told Self.Stop };
 
     /// What it does at an operation and after a callback.
     ghost rules: { HostRules Told };
 
-    /// The tickets that were handed out and not yet resumed, the last one first.
-    ghost tickets: { Told → List ℕ };
+    /// What an ask that it refuses may leave of what it told before.
+    ghost leaves: { Ask → Told → Told → Type 0 };
 
     /// How many callbacks may still come under a ticket, where none of them takes fuel.
     ghost left: { Told → ℕ → ℕ };
-
-    /// How many calls of `busy` it has room for.
-    ghost busy_room: { Told → ℕ };
-
-    /// How many functions its program has. It stays.
-    ghost function_count: { Self → ℕ };
-
-    /// How often it refused. It never falls, and stays at the end of a `u64`.
-    ghost refusals: { Self → ℕ };
-
-    /// With what it refused last.
-    ghost last_stop: { Self → Option Self.Stop };
 
     /// Does an operation with its arguments, as many as it has. For `busy` there is room for one call.
     ///
     /// It refuses exactly where the count of refusals rises, with the last stop that is told.
     fn op(&mut self, op: Op, args: Vec<Value>) -> Result<HostStep, Self::Stop>
         requires count { length args.items ≡ count_of op }
-        requires numbered { AllNumbered (function_count self.old) (map seen args.items) }
-        requires room { room_taken (is_busy op) ≤ busy_room (told self.old) }
-        ensures rule { IfOk result (λ step. rules.op op (map seen args.items) (told self.old) ≡ record { step = seen_step step; host = told self.new }) }
-        ensures open_tickets { IfOk result (λ step. tickets (told self.new) ≡ tickets_after (seen_step step) (tickets (told self.old))) }
-        ensures few { IfOk result (λ step. AreFew (left (told self.new)) (seen_step step)) }
-        ensures numbered { IfOk result (λ step. StepIsNumbered (function_count self.old) (seen_step step)) }
-        ensures functions { function_count self.new ≡ function_count self.old }
-        ensures room { busy_room (told self.old) ≤ busy_room (told self.new) + room_taken (is_busy op) }
-        ensures cause { HasCause (refusals self.old) (refusals self.new) result }
-        ensures no_refusal { IfOk result (λ _. refusals self.new ≡ refusals self.old) }
-        ensures refused { IfErr result (λ stop. last_stop self.new ≡ Some stop) };
+        requires numbered { AllNumbered (now self.old).functions (map seen args.items) }
+        requires room { room_taken (is_busy op) ≤ (now self.old).room }
+        ensures rule { IfOk result (λ step. on_ask rules (AskOp op (map seen args.items)) (now self.old).told ≡ record { step = seen_step step; host = (now self.new).told }) }
+        ensures open_tickets { IfOk result (λ step. (now self.new).tickets ≡ tickets_after (seen_step step) (now self.old).tickets) }
+        ensures few { IfOk result (λ step. AreFew (left (now self.new).told) (seen_step step)) }
+        ensures numbered { IfOk result (λ step. StepIsNumbered (now self.old).functions (seen_step step)) }
+        ensures functions { (now self.new).functions ≡ (now self.old).functions }
+        ensures room { (now self.old).room ≤ (now self.new).room + room_taken (is_busy op) }
+        ensures cause { HasCause (now self.old).refusals (now self.new).refusals result }
+        ensures no_refusal { IfOk result (λ _. (now self.new).refusals ≡ (now self.old).refusals) }
+        ensures refused { IfErr result (λ stop. (now self.new).last_stop ≡ Some stop) }
+        ensures leaves { IfErr result (λ _. leaves (AskOp op (map seen args.items)) (now self.old).told (now self.new).told) };
 
     /// Goes on after the callback of the last ticket that was not yet resumed.
     ///
     /// It refuses exactly where the count of refusals rises, with the last stop that is told.
     fn resume(&mut self, ticket: u64, outcome: Outcome) -> Result<HostStep, Self::Stop>
-        requires open_ticket { (rest : List ℕ) × (tickets (told self.old) ≡ ticket ∷ rest) }
-        requires numbered { EndIsNumbered (function_count self.old) (seen_outcome outcome) }
-        ensures rule { IfOk result (λ step. rules.resume ticket (seen_outcome outcome) (told self.old) ≡ record { step = seen_step step; host = told self.new }) }
-        ensures open_tickets { IfOk result (λ step. (rest : List ℕ) → tickets (told self.old) ≡ ticket ∷ rest → tickets (told self.new) ≡ tickets_after (seen_step step) rest) }
-        ensures falls { IfOk result (λ step. Falls (left (told self.new)) (left (told self.old) ticket) (seen_step step)) }
-        ensures few { IfOk result (λ step. AreFew (left (told self.new)) (seen_step step)) }
-        ensures numbered { IfOk result (λ step. StepIsNumbered (function_count self.old) (seen_step step)) }
-        ensures functions { function_count self.new ≡ function_count self.old }
-        ensures room { busy_room (told self.old) ≤ busy_room (told self.new) }
-        ensures cause { HasCause (refusals self.old) (refusals self.new) result }
-        ensures no_refusal { IfOk result (λ _. refusals self.new ≡ refusals self.old) }
-        ensures refused { IfErr result (λ stop. last_stop self.new ≡ Some stop) };
+        requires open_ticket { (rest : List ℕ) × ((now self.old).tickets ≡ ticket ∷ rest) }
+        requires numbered { EndIsNumbered (now self.old).functions (seen_outcome outcome) }
+        ensures rule { IfOk result (λ step. on_ask rules (AskResume ticket (seen_outcome outcome)) (now self.old).told ≡ record { step = seen_step step; host = (now self.new).told }) }
+        ensures open_tickets { IfOk result (λ step. (rest : List ℕ) → (now self.old).tickets ≡ ticket ∷ rest → (now self.new).tickets ≡ tickets_after (seen_step step) rest) }
+        ensures falls { IfOk result (λ step. Falls (left (now self.new).told) (left (now self.old).told ticket) (seen_step step)) }
+        ensures few { IfOk result (λ step. AreFew (left (now self.new).told) (seen_step step)) }
+        ensures numbered { IfOk result (λ step. StepIsNumbered (now self.old).functions (seen_step step)) }
+        ensures functions { (now self.new).functions ≡ (now self.old).functions }
+        ensures room { (now self.old).room ≤ (now self.new).room }
+        ensures cause { HasCause (now self.old).refusals (now self.new).refusals result }
+        ensures no_refusal { IfOk result (λ _. (now self.new).refusals ≡ (now self.old).refusals) }
+        ensures refused { IfErr result (λ stop. (now self.new).last_stop ≡ Some stop) }
+        ensures leaves { IfErr result (λ _. leaves (AskResume ticket (seen_outcome outcome)) (now self.old).told (now self.new).told) };
 }

@@ -27,7 +27,7 @@ struct OneCall {
 }
 
 impl Host for OneCall {
-    ghost use Rattle.std.specs.Prelude.{Bool, true, false, cond, [], ◌∷◌};
+    ghost use Rattle.std.specs.Prelude.{◌≡◌, Bool, true, false, cond, [], ◌∷◌};
     ghost use Rattle.page_types.specs.Values.{UnitValue};
     ghost use Rattle.lang_meaning.specs.HostSteps.{StepValue, StepThrow, StepInvoke};
 
@@ -35,24 +35,23 @@ impl Host for OneCall {
 
     ghost Told = { Bool };
 
-    ghost told = { λ host. host.is_open };
+    ghost now = { λ host. record {
+      told = host.is_open;
+      tickets = cond host.is_open (7 ∷ []) [];
+      room = 0;
+      functions = 0;
+      refusals = host.refusals;
+      last_stop = host.last;
+    } };
 
     ghost rules = { record {
       op = λ op args told. record { step = cond told (StepThrow UnitValue) (StepInvoke UnitValue [] 7); host = true };
       resume = λ ticket end told. record { step = StepValue UnitValue; host = false };
     } };
 
-    ghost tickets = { λ told. cond told (7 ∷ []) [] };
+    ghost leaves = { λ ask before after. after ≡ false };
 
     ghost left = { λ told ticket. 0 };
-
-    ghost busy_room = { λ told. 0 };
-
-    ghost function_count = { λ host. 0 };
-
-    ghost refusals = { λ host. host.refusals };
-
-    ghost last_stop = { λ host. host.last };
 
     fn op(&mut self, _op: Op, _args: Vec<Value>) -> Result<HostStep, Refused> {
         if self.is_open {

@@ -1,5 +1,8 @@
 -- What a machine is seen as, and how its calls end.
-use Rattle.std.specs.Prelude.{ℕ, List, [], Result, Ok, Err}
+use Rattle.std.specs.Prelude.{ℕ, List, [], ◌++◌, map, Result, Ok, Err}
+use Rattle.page_types.specs.Values as Model
+use Rattle.page_types.specs.Values.{Values, items_of}
+use Rattle.page_values.specs.declared.Value.{Value}
 use Rattle.page_types.specs.Tree.{Program}
 use Rattle.page_values.specs.Seen.{seen}
 use Rattle.lang_ast.specs.SeenProgram.{seen_program}
@@ -22,6 +25,10 @@ globals_in m = variables_of (global_names (program_in m)) m.store.globals.items
 -- the state of the script machine with these global variables, where no call is open
 abbrev pub machine_with : {T : Type 0} → List M.Variable → ℕ → T → M.Machine T
 machine_with globals fuel host = record { globals = globals; open_calls = []; fuel = fuel; host = host }
+
+-- the arguments that are bound to a function, and then the given ones
+abbrev pub bound_args : Values → List Value → List Model.Value
+bound_args bound args = items_of bound ++ map seen args
 
 -- how a call is left
 abbrev pub ran_left : {S : Type 0} → Result Ran (Stopped S) → Left S

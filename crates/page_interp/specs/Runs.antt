@@ -1,5 +1,5 @@
 -- What a run of the machine is, by the meaning of the script.
-use Rattle.std.specs.Prelude.{◌≡◌, ℕ, suc, ◌-◌, ◌≤◌, Bool, true, false, List, [], ◌∷◌, ◌++◌, Option, Some, None, Result, Ok, Err, ⊤, map, length}
+use Rattle.std.specs.Prelude.{◌≡◌, ℕ, zero, suc, ◌-◌, ◌≤◌, Bool, true, false, List, [], ◌∷◌, ◌++◌, Option, Some, None, Result, Ok, Err, ⊤, map, length}
 use Rattle.page_types.specs.Counts.{Rose}
 use Rattle.page_types.specs.Values as Model
 use Rattle.page_types.specs.Values.{UnitValue, FaultValue, items_of}
@@ -10,11 +10,13 @@ use Rattle.page_values.specs.declared.Value.{Value}
 use Rattle.page_values.specs.Seen.{seen}
 use Rattle.page_values.specs.Written.{IsNumbered}
 use Rattle.lang_ast.specs.Steps.{AllNumbered}
+use Rattle.lang_ast.specs.Hosts.{HostNow}
 use Rattle.lang_meaning.specs.Machine as M
 use Rattle.lang_meaning.specs.Machine.{Machine, Done, Gives, Throws, Returns, OutOfFuel, Caller, given, locals}
 use Rattle.lang_meaning.specs.Evaluation.{Around, around, calls, Answer, eval_all, call_of, loop_turns, called, names_in, functions_of, own_body}
 use Rattle.lang_meaning.specs.Evaluation as E
-use Rattle.lang_meaning.specs.HostSteps.{HostRules, host_operations, CallbackEnd, CallbackValue, CallbackThrow}
+use Rattle.lang_meaning.specs.HostSteps.{HostRules, Ask, CallbackEnd, CallbackValue, CallbackThrow}
+use Rattle.lang_meaning.specs.Asks.{Limited, limited, limited_operations, IsPassed, IsRefused}
 use Rattle.page_interp.specs.declared.exit.Exit.{Exit}
 use Rattle.page_interp.specs.declared.exit.Exit.TheVariants.{Throw, Return, Fuel, Host, OutOfMemory}
 use Rattle.page_interp.specs.declared.exit.Store.{Store}
@@ -63,6 +65,37 @@ abbrev pub Is : {H S : Type 0} → Done H → Left S → Machine H → Type 0
 Is d (ends e) m = d ≡ done e m
 Is d (refused stop) m = ⊤
 Is d no_memory m = ⊤
+
+-- so many asks more
+abbrev pub more : ℕ → Option ℕ → Option ℕ
+more zero asks = asks
+more (suc n) asks = elim (more n asks) [ None ↦ None | Some k ↦ Some (suc k) ]
+
+-- From one state to the other the host is asked so often, whatever number of asks is left, and what f does ends so.
+pub record Ends {H : Type 0} (f : Machine (Limited H) → Done (Limited H)) (a : Machine H) (e : Ended) (b : Machine H) : Type 0 where
+  pub asks : ℕ
+  pub ends : (left : Option ℕ) → f (limited (more asks left) a) ≡ done e (limited left b)
+
+-- what f does around a limited host ends as this is left
+abbrev pub Comes : {H S : Type 0} → (Machine (Limited H) → Done (Limited H)) → Machine H → Left S → Machine H → Type 0
+Comes f a (ends e) b = Ends f a e b
+Comes f a (refused stop) b = ⊤
+Comes f a no_memory b = ⊤
+
+-- where f leaves the host: as a refused ask may leave it, or as it was after the asks so far
+abbrev pub Stands : {H S : Type 0} → HostRules H → (Ask → H → H → Type 0) → Left S → (Machine (Limited H) → Done (Limited H)) → Machine H → H → Type 0
+Stands rules leaves (ends e) f m told = IsPassed rules f m told
+Stands rules leaves (refused stop) f m told = IsRefused leaves f m told
+Stands rules leaves no_memory f m told = IsPassed rules f m told
+
+-- no unit of fuel is left, where this is left for want of one
+abbrev pub IsDry : {S : Type 0} → Left S → ℕ → Type 0
+IsDry (ends (gives v)) fuel = ⊤
+IsDry (ends (throws v)) fuel = ⊤
+IsDry (ends (returns v)) fuel = ⊤
+IsDry (ends no_fuel) fuel = fuel ≡ 0
+IsDry (refused stop) fuel = ⊤
+IsDry no_memory fuel = ⊤
 
 -- P, where the script goes on after this
 abbrev pub WhereSettled : {S : Type 0} → Left S → Type 0 → Type 0
@@ -141,18 +174,6 @@ global_names p = names_in (own_body p.items)
 abbrev pub count_of_functions : Program → ℕ
 count_of_functions p = length (functions_of p.items)
 
--- what a host tells of itself at one moment
-pub record HostNow (T S : Type 0) : Type 0 where
-  pub told : T
-  pub tickets : List ℕ
-  pub room : ℕ
-  pub functions : ℕ
-  pub refusals : ℕ
-  pub last_stop : Option S
-
-abbrev pub host_now : {T S : Type 0} → T → List ℕ → ℕ → ℕ → ℕ → Option S → HostNow T S
-host_now told tickets room functions refusals last_stop = record { told = told; tickets = tickets; room = room; functions = functions; refusals = refusals; last_stop = last_stop }
-
 -- what is known between two steps: the machine's state, and what the host tells
 pub record Moment (T S : Type 0) : Type 0 where
   pub machine : Machine T
@@ -165,16 +186,19 @@ machine_of p told store frames = record { globals = variables_of (global_names p
 unfoldable pub moment_of : {T S : Type 0} → Program → HostNow T S → Store → List (List M.Variable) → Moment T S
 moment_of p h store frames = record { machine = machine_of p h.told store frames; now = h }
 
--- where the machine is: in a script with so many functions, and inside one of its calls or not
-pub record Scope : Type 0 where
+-- where the machine is: around a host with these rules, and what a refused ask of it may leave; in a script with so many
+-- functions; and inside one of its calls or not
+pub record Scope (T : Type 0) : Type 1 where
+  pub rules : HostRules T
+  pub leaves : Ask → T → T → Type 0
   pub count : ℕ
   pub inside : Bool
 
-abbrev pub outside : Program → Scope
-outside p = record { count = count_of_functions p; inside = false }
+abbrev pub outside : {T : Type 0} → HostRules T → (Ask → T → T → Type 0) → Program → Scope T
+outside rules leaves p = record { rules = rules; leaves = leaves; count = count_of_functions p; inside = false }
 
-abbrev pub inside : Program → Scope
-inside p = record { count = count_of_functions p; inside = true }
+abbrev pub inside : {T : Type 0} → HostRules T → (Ask → T → T → Type 0) → Program → Scope T
+inside rules leaves p = record { rules = rules; leaves = leaves; count = count_of_functions p; inside = true }
 
 -- the variables are numbered, where it matters
 abbrev pub AreHeld : ℕ → Bool → List M.Variable → Type 0
@@ -184,38 +208,40 @@ AreHeld count false xs = ⊤
 module _ {T S : Type 0} where
   -- what the host may rely on: its functions are the script's, there is room for a call of `busy` for each unit of fuel,
   -- and values name functions that are there
-  pub record IsReady (w : Scope) (a : Moment T S) : Type 0 where
+  pub record IsReady (w : Scope T) (a : Moment T S) : Type 0 where
     pub functions : a.now.functions ≡ w.count
     pub room : a.machine.fuel ≤ a.now.room
     pub globals : AreNumberedIn w.count a.machine.globals
     pub held : AreHeld w.count w.inside (locals a.machine.open_calls)
 
   -- A run from one moment to another, with the meaning f.
-  pub record Runs (w : Scope) (f : Machine T → Done T) (a : Moment T S) (l : Left S) (b : Moment T S) : Type 0 where
-    pub meaning : Is (f a.machine) l b.machine
+  pub record Runs (w : Scope T) (f : Machine (Limited T) → Done (Limited T)) (a : Moment T S) (l : Left S) (b : Moment T S) : Type 0 where
+    pub meaning : Comes f a.machine l b.machine
+    pub stands : Stands w.rules w.leaves l f a.machine b.machine.host
     pub fuel : b.machine.fuel ≤ a.machine.fuel
+    pub dry : IsDry l b.machine.fuel
     pub tickets : WhereSettled l (b.now.tickets ≡ a.now.tickets)
     pub refusals : Refuses l a.now.refusals b.now.refusals b.now.last_stop
     pub ready : IsReady w b
     pub numbered : LeftIsNumbered w.count l
 
   -- What g comes to from the second moment on, f comes to from the first.
-  pub record Leads (w : Scope) (f : Machine T → Done T) (a : Moment T S) (g : Machine T → Done T) (b : Moment T S) : Type 0 where
+  pub record Leads (w : Scope T) (f : Machine (Limited T) → Done (Limited T)) (a : Moment T S) (g : Machine (Limited T) → Done (Limited T)) (b : Moment T S) : Type 0 where
     pub runs : (l : Left S) (c : Moment T S) → Runs w g b l c → Runs w f a l c
     pub ready : IsReady w b
 
   -- These are the values of so many expressions: what is done with them from the second moment on comes of the whole from the first.
-  pub record AreValues (w : Scope) (whole : (List Model.Value → Machine T → Done T) → Machine T → Done T) (a : List (List M.Variable) → Moment T S) (vs : List Model.Value) (b : List (List M.Variable) → Moment T S) (n : ℕ) : Type 0 where
-    pub leads : (outer : List (List M.Variable)) (next : List Model.Value → Machine T → Done T) → Leads w (whole next) (a outer) (next vs) (b outer)
+  pub record AreValues (w : Scope T) (whole : (List Model.Value → Machine (Limited T) → Done (Limited T)) → Machine (Limited T) → Done (Limited T)) (a : List (List M.Variable) → Moment T S) (vs : List Model.Value) (b : List (List M.Variable) → Moment T S) (n : ℕ) : Type 0 where
+    pub leads : (outer : List (List M.Variable)) (next : List Model.Value → Machine (Limited T) → Done (Limited T)) → Leads w (whole next) (a outer) (next vs) (b outer)
     pub numbered : AllNumbered w.count vs
     pub counted : length vs ≡ n
 
 -- how functions are called where so many calls are open, and what is around an expression there
-unfoldable pub caller_of : {T : Type 0} → HostRules T → Program → ℕ → Caller T
-caller_of rules program depth = calls program (host_operations rules) (256 - depth)
+unfoldable pub caller_of : {T : Type 0} → HostRules T → Program → ℕ → Caller (Limited T)
+caller_of rules program depth = calls program (limited_operations rules) (256 - depth)
 
-unfoldable pub around_of : {T : Type 0} → HostRules T → Program → ℕ → Around T
-around_of rules program depth = around program (host_operations rules) (caller_of rules program depth)
+unfoldable pub around_of : {T : Type 0} → HostRules T → Program → ℕ → Around (Limited T)
+around_of rules program depth = around program (limited_operations rules) (caller_of rules program depth)
 
 -- a call by name: what the name stands for is taken before the arguments
 abbrev pub called_by_name : {T : Type 0} → Around T → List ℕ → Exprs → Machine T → Done T

@@ -20,10 +20,11 @@ use std::alloc::Global;
 impl<'p> Machine<'p> {
     ghost use Rattle.page_values.specs.Written.{AreNumbered};
     ghost use Rattle.lang_ast.specs.Steps.{AllNumbered};
-    ghost use Rattle.lang_meaning.specs.Evaluation.{calls, first_globals};
+    ghost use Rattle.lang_meaning.specs.Evaluation.{call_from_outside, first_globals};
     ghost use Rattle.lang_meaning.specs.HostSteps.{host_operations};
-    ghost use Rattle.page_interp.specs.Runs.{Is, Refuses, WhereSettled, LeftIsNumbered};
-    ghost use Rattle.page_interp.specs.Machines.{program_in, globals_in, machine_with};
+    ghost use Rattle.lang_meaning.specs.Asks.{limited_operations};
+    ghost use Rattle.page_interp.specs.Runs.{Is, Stands, IsDry, Refuses, WhereSettled, LeftIsNumbered};
+    ghost use Rattle.page_interp.specs.Machines.{program_in, globals_in, machine_with, bound_args};
 
     /// The machine of a script. Its global variables are unit.
     pub fn new(alloc: Global, program: &'p Program) -> Result<Machine<'p>, MemoryFault>
@@ -41,7 +42,11 @@ impl<'p> Machine<'p> {
     /// what comes of it.
     ///
     /// `fuel` is what is left of it before and after. The host has the script's functions, and room for as many calls of
-    /// `busy` as there are units. A call that would be the 257th open one throws RangeError and takes no unit.
+    /// `busy` as there are units. A call that would be the 257th open one throws RangeError and takes no unit. `Fuel` comes
+    /// only where no unit is left.
+    ///
+    /// After an `Err` the host has been asked what the script asks of it, in order, up to one of its asks: that ask was
+    /// refused, or it was the last one before memory was wanting.
     pub fn call<H: Host>(
         &mut self,
         host: &mut H,
@@ -49,18 +54,24 @@ impl<'p> Machine<'p> {
         args: Vec<Value>,
         fuel: &mut u64,
     ) -> Result<Ran, Stopped<H::Stop>>
-        requires functions { H.function_count host.old ≡ count_of_functions (program_in self.old) }
-        requires room { fuel.old ≤ H.busy_room (H.told host.old) }
+        requires functions { (H.now host.old).functions ≡ count_of_functions (program_in self.old) }
+        requires room { fuel.old ≤ (H.now host.old).room }
         requires bound { AreNumbered (count_of_functions (program_in self.old)) fun.now.bound }
         requires args { AllNumbered (count_of_functions (program_in self.old)) (map seen args.items) }
-        ensures meaning { Is (calls (program_in self.old) (host_operations H.rules) 256 fun.now.function (items_of fun.now.bound ++ map seen args.items) (machine_with (globals_in self.old) fuel.old (H.told host.old))) (ran_left result) (machine_with (globals_in self.new) fuel.new (H.told host.new)) }
-        ensures refusals { Refuses (ran_left result) (H.refusals host.old) (H.refusals host.new) (H.last_stop host.new) }
-        ensures tickets { WhereSettled (ran_left result) (H.tickets (H.told host.new) ≡ H.tickets (H.told host.old)) }
+        ensures meaning { Is (call_from_outside (program_in self.old) (host_operations H.rules) fun.now.function (bound_args fun.now.bound args.items)
+            (machine_with (globals_in self.old) fuel.old (H.now host.old).told)) (ran_left result)
+            (machine_with (globals_in self.new) fuel.new (H.now host.new).told) }
+        ensures stands { Stands H.rules H.leaves (ran_left result)
+            (call_from_outside (program_in self.old) (limited_operations H.rules) fun.now.function (bound_args fun.now.bound args.items))
+            (machine_with (globals_in self.old) fuel.old (H.now host.old).told) (H.now host.new).told }
+        ensures refusals { Refuses (ran_left result) (H.now host.old).refusals (H.now host.new).refusals (H.now host.new).last_stop }
+        ensures tickets { WhereSettled (ran_left result) ((H.now host.new).tickets ≡ (H.now host.old).tickets) }
         ensures numbered { LeftIsNumbered (count_of_functions (program_in self.old)) (ran_left result) }
         ensures program { program_in self.new ≡ program_in self.old }
-        ensures functions { H.function_count host.new ≡ H.function_count host.old }
+        ensures functions { (H.now host.new).functions ≡ (H.now host.old).functions }
         ensures fuel { fuel.new ≤ fuel.old }
-        ensures room { fuel.new ≤ H.busy_room (H.told host.new) }
+        ensures no_fuel { IsDry (ran_left result) fuel.new }
+        ensures room { fuel.new ≤ (H.now host.new).room }
     {
         let all = match bound_first(self.code.alloc, fun, args) {
             Ok(all) => all,

@@ -8,7 +8,8 @@ ghost use Rattle.page_values.specs.Written.{IsNumbered};
 ghost use Rattle.lang_meaning.specs.Machine as M;
 ghost use Rattle.lang_meaning.specs.Machine.{Machine, Done};
 ghost use Rattle.lang_meaning.specs.Evaluation.{eval, eval_or, eval_and, eval_all, eval_sum, eval_product, eval_places, exec, exec_block, exec_others, exec_else, own_body};
-ghost use Rattle.lang_meaning.specs.HostSteps.{asked, host_operations, is_busy};
+ghost use Rattle.lang_meaning.specs.HostSteps.{asked_by, is_busy};
+ghost use Rattle.lang_meaning.specs.Asks.{Limited, ask_limited, limited_operations};
 ghost use Rattle.lang_meaning.specs.OpNames.{op_named};
 ghost use Rattle.lang_ast.specs.Seen.{seen_expr, seen_exprs, seen_terms, seen_factors, seen_stmt, seen_block, seen_others, seen_else, seen_items};
 ghost use Rattle.lang_ast.specs.SeenProgram.{seen_program};
@@ -16,7 +17,7 @@ ghost use Rattle.lang_ast.specs.Names.{in_expr, in_exprs, in_terms, in_factors, 
 ghost use Rattle.lang_ast.specs.Calls.{CallsFit, HasCount};
 ghost use Rattle.lang_ast.specs.Operations.{count_of};
 ghost use Rattle.lang_ast.specs.Steps.{AllNumbered, room_taken};
-ghost use Rattle.page_interp.specs.Runs.{Runs, IsReady, AreValues, inside, outside, count_of_functions, SomeIsNumbered, value_left, unit_left, exit_left, host_now, moment_of, caller_of, around_of, called_by_name, call_given, all_turns, variables_of};
+ghost use Rattle.page_interp.specs.Runs.{Runs, IsReady, AreValues, inside, outside, count_of_functions, SomeIsNumbered, value_left, unit_left, exit_left, moment_of, caller_of, around_of, called_by_name, call_given, all_turns, variables_of};
 
 use crate::catching::caught;
 use crate::code::Code;
@@ -45,9 +46,9 @@ pub(crate) fn eval<H: Host>(
     expr: &Expr,
 ) -> Result<Value, Exit<H::Stop>>
     requires depth { depth ≤ 256 }
-    requires ready { IsReady (inside (seen_program code.now.program.now)) (moment_of (seen_program code.now.program.now) (host_now (H.told host.old) (H.tickets (H.told host.old)) (H.busy_room (H.told host.old)) (H.function_count host.old) (H.refusals host.old) (H.last_stop host.old)) store.old (variables_of names.now locals.old.items ∷ [])) }
+    requires ready { IsReady (inside H.rules H.leaves (seen_program code.now.program.now)) (moment_of (seen_program code.now.program.now) (H.now host.old) store.old (variables_of names.now locals.old.items ∷ [])) }
     requires fits { CallsFit (in_expr (seen_expr expr.now)) }
-    ensures { (outer : List (List M.Variable)) → Runs (inside (seen_program code.now.program.now)) (eval (around_of H.rules (seen_program code.now.program.now) depth) (seen_expr expr.now)) (moment_of (seen_program code.now.program.now) (host_now (H.told host.old) (H.tickets (H.told host.old)) (H.busy_room (H.told host.old)) (H.function_count host.old) (H.refusals host.old) (H.last_stop host.old)) store.old (variables_of names.now locals.old.items ∷ outer)) (value_left result) (moment_of (seen_program code.now.program.now) (host_now (H.told host.new) (H.tickets (H.told host.new)) (H.busy_room (H.told host.new)) (H.function_count host.new) (H.refusals host.new) (H.last_stop host.new)) store.new (variables_of names.now locals.new.items ∷ outer)) }
+    ensures { (outer : List (List M.Variable)) → Runs (inside H.rules H.leaves (seen_program code.now.program.now)) (eval (around_of H.rules (seen_program code.now.program.now) depth) (seen_expr expr.now)) (moment_of (seen_program code.now.program.now) (H.now host.old) store.old (variables_of names.now locals.old.items ∷ outer)) (value_left result) (moment_of (seen_program code.now.program.now) (H.now host.new) store.new (variables_of names.now locals.new.items ∷ outer)) }
 {
     match expr {
         Expr::Or(first, rest) => {
@@ -114,9 +115,9 @@ fn eval_or<H: Host>(
     operands: &Vec<Expr>,
 ) -> Result<Value, Exit<H::Stop>>
     requires depth { depth ≤ 256 }
-    requires ready { IsReady (inside (seen_program code.now.program.now)) (moment_of (seen_program code.now.program.now) (host_now (H.told host.old) (H.tickets (H.told host.old)) (H.busy_room (H.told host.old)) (H.function_count host.old) (H.refusals host.old) (H.last_stop host.old)) store.old (variables_of names.now locals.old.items ∷ [])) }
+    requires ready { IsReady (inside H.rules H.leaves (seen_program code.now.program.now)) (moment_of (seen_program code.now.program.now) (H.now host.old) store.old (variables_of names.now locals.old.items ∷ [])) }
     requires fits { CallsFit (in_exprs (seen_exprs operands.now.items)) }
-    ensures { (outer : List (List M.Variable)) → Runs (inside (seen_program code.now.program.now)) (eval_or (around_of H.rules (seen_program code.now.program.now) depth) (seen_exprs operands.now.items)) (moment_of (seen_program code.now.program.now) (host_now (H.told host.old) (H.tickets (H.told host.old)) (H.busy_room (H.told host.old)) (H.function_count host.old) (H.refusals host.old) (H.last_stop host.old)) store.old (variables_of names.now locals.old.items ∷ outer)) (value_left result) (moment_of (seen_program code.now.program.now) (host_now (H.told host.new) (H.tickets (H.told host.new)) (H.busy_room (H.told host.new)) (H.function_count host.new) (H.refusals host.new) (H.last_stop host.new)) store.new (variables_of names.now locals.new.items ∷ outer)) }
+    ensures { (outer : List (List M.Variable)) → Runs (inside H.rules H.leaves (seen_program code.now.program.now)) (eval_or (around_of H.rules (seen_program code.now.program.now) depth) (seen_exprs operands.now.items)) (moment_of (seen_program code.now.program.now) (H.now host.old) store.old (variables_of names.now locals.old.items ∷ outer)) (value_left result) (moment_of (seen_program code.now.program.now) (H.now host.new) store.new (variables_of names.now locals.new.items ∷ outer)) }
 {
     for operand in operands {
         let v = eval(code, host, store, depth, names, locals, operand)?;
@@ -139,9 +140,9 @@ fn eval_and<H: Host>(
     operands: &Vec<Expr>,
 ) -> Result<Value, Exit<H::Stop>>
     requires depth { depth ≤ 256 }
-    requires ready { IsReady (inside (seen_program code.now.program.now)) (moment_of (seen_program code.now.program.now) (host_now (H.told host.old) (H.tickets (H.told host.old)) (H.busy_room (H.told host.old)) (H.function_count host.old) (H.refusals host.old) (H.last_stop host.old)) store.old (variables_of names.now locals.old.items ∷ [])) }
+    requires ready { IsReady (inside H.rules H.leaves (seen_program code.now.program.now)) (moment_of (seen_program code.now.program.now) (H.now host.old) store.old (variables_of names.now locals.old.items ∷ [])) }
     requires fits { CallsFit (in_exprs (seen_exprs operands.now.items)) }
-    ensures { (outer : List (List M.Variable)) → Runs (inside (seen_program code.now.program.now)) (eval_and (around_of H.rules (seen_program code.now.program.now) depth) (seen_exprs operands.now.items)) (moment_of (seen_program code.now.program.now) (host_now (H.told host.old) (H.tickets (H.told host.old)) (H.busy_room (H.told host.old)) (H.function_count host.old) (H.refusals host.old) (H.last_stop host.old)) store.old (variables_of names.now locals.old.items ∷ outer)) (value_left result) (moment_of (seen_program code.now.program.now) (host_now (H.told host.new) (H.tickets (H.told host.new)) (H.busy_room (H.told host.new)) (H.function_count host.new) (H.refusals host.new) (H.last_stop host.new)) store.new (variables_of names.now locals.new.items ∷ outer)) }
+    ensures { (outer : List (List M.Variable)) → Runs (inside H.rules H.leaves (seen_program code.now.program.now)) (eval_and (around_of H.rules (seen_program code.now.program.now) depth) (seen_exprs operands.now.items)) (moment_of (seen_program code.now.program.now) (H.now host.old) store.old (variables_of names.now locals.old.items ∷ outer)) (value_left result) (moment_of (seen_program code.now.program.now) (H.now host.new) store.new (variables_of names.now locals.new.items ∷ outer)) }
 {
     for operand in operands {
         let v = eval(code, host, store, depth, names, locals, operand)?;
@@ -166,10 +167,10 @@ fn eval_sum<H: Host>(
     terms: &Vec<(SumSign, Expr)>,
 ) -> Result<Value, Exit<H::Stop>>
     requires depth { depth ≤ 256 }
-    requires ready { IsReady (inside (seen_program code.now.program.now)) (moment_of (seen_program code.now.program.now) (host_now (H.told host.old) (H.tickets (H.told host.old)) (H.busy_room (H.told host.old)) (H.function_count host.old) (H.refusals host.old) (H.last_stop host.old)) store.old (variables_of names.now locals.old.items ∷ [])) }
+    requires ready { IsReady (inside H.rules H.leaves (seen_program code.now.program.now)) (moment_of (seen_program code.now.program.now) (H.now host.old) store.old (variables_of names.now locals.old.items ∷ [])) }
     requires fits { CallsFit (in_terms (seen_terms terms.now.items)) }
     requires first { IsNumbered (count_of_functions (seen_program code.now.program.now)) (seen first) }
-    ensures { (outer : List (List M.Variable)) → Runs (inside (seen_program code.now.program.now)) (eval_sum (around_of H.rules (seen_program code.now.program.now) depth) (seen_terms terms.now.items) (seen first)) (moment_of (seen_program code.now.program.now) (host_now (H.told host.old) (H.tickets (H.told host.old)) (H.busy_room (H.told host.old)) (H.function_count host.old) (H.refusals host.old) (H.last_stop host.old)) store.old (variables_of names.now locals.old.items ∷ outer)) (value_left result) (moment_of (seen_program code.now.program.now) (host_now (H.told host.new) (H.tickets (H.told host.new)) (H.busy_room (H.told host.new)) (H.function_count host.new) (H.refusals host.new) (H.last_stop host.new)) store.new (variables_of names.now locals.new.items ∷ outer)) }
+    ensures { (outer : List (List M.Variable)) → Runs (inside H.rules H.leaves (seen_program code.now.program.now)) (eval_sum (around_of H.rules (seen_program code.now.program.now) depth) (seen_terms terms.now.items) (seen first)) (moment_of (seen_program code.now.program.now) (H.now host.old) store.old (variables_of names.now locals.old.items ∷ outer)) (value_left result) (moment_of (seen_program code.now.program.now) (H.now host.new) store.new (variables_of names.now locals.new.items ∷ outer)) }
 {
     let mut value = first;
     for term in terms {
@@ -192,10 +193,10 @@ fn eval_product<H: Host>(
     factors: &Vec<(ProductSign, Expr)>,
 ) -> Result<Value, Exit<H::Stop>>
     requires depth { depth ≤ 256 }
-    requires ready { IsReady (inside (seen_program code.now.program.now)) (moment_of (seen_program code.now.program.now) (host_now (H.told host.old) (H.tickets (H.told host.old)) (H.busy_room (H.told host.old)) (H.function_count host.old) (H.refusals host.old) (H.last_stop host.old)) store.old (variables_of names.now locals.old.items ∷ [])) }
+    requires ready { IsReady (inside H.rules H.leaves (seen_program code.now.program.now)) (moment_of (seen_program code.now.program.now) (H.now host.old) store.old (variables_of names.now locals.old.items ∷ [])) }
     requires fits { CallsFit (in_factors (seen_factors factors.now.items)) }
     requires first { IsNumbered (count_of_functions (seen_program code.now.program.now)) (seen first) }
-    ensures { (outer : List (List M.Variable)) → Runs (inside (seen_program code.now.program.now)) (eval_product (around_of H.rules (seen_program code.now.program.now) depth) (seen_factors factors.now.items) (seen first)) (moment_of (seen_program code.now.program.now) (host_now (H.told host.old) (H.tickets (H.told host.old)) (H.busy_room (H.told host.old)) (H.function_count host.old) (H.refusals host.old) (H.last_stop host.old)) store.old (variables_of names.now locals.old.items ∷ outer)) (value_left result) (moment_of (seen_program code.now.program.now) (host_now (H.told host.new) (H.tickets (H.told host.new)) (H.busy_room (H.told host.new)) (H.function_count host.new) (H.refusals host.new) (H.last_stop host.new)) store.new (variables_of names.now locals.new.items ∷ outer)) }
+    ensures { (outer : List (List M.Variable)) → Runs (inside H.rules H.leaves (seen_program code.now.program.now)) (eval_product (around_of H.rules (seen_program code.now.program.now) depth) (seen_factors factors.now.items) (seen first)) (moment_of (seen_program code.now.program.now) (H.now host.old) store.old (variables_of names.now locals.old.items ∷ outer)) (value_left result) (moment_of (seen_program code.now.program.now) (H.now host.new) store.new (variables_of names.now locals.new.items ∷ outer)) }
 {
     let mut value = first;
     for factor in factors {
@@ -218,10 +219,10 @@ fn eval_places<H: Host>(
     places: &Vec<Expr>,
 ) -> Result<Value, Exit<H::Stop>>
     requires depth { depth ≤ 256 }
-    requires ready { IsReady (inside (seen_program code.now.program.now)) (moment_of (seen_program code.now.program.now) (host_now (H.told host.old) (H.tickets (H.told host.old)) (H.busy_room (H.told host.old)) (H.function_count host.old) (H.refusals host.old) (H.last_stop host.old)) store.old (variables_of names.now locals.old.items ∷ [])) }
+    requires ready { IsReady (inside H.rules H.leaves (seen_program code.now.program.now)) (moment_of (seen_program code.now.program.now) (H.now host.old) store.old (variables_of names.now locals.old.items ∷ [])) }
     requires fits { CallsFit (in_exprs (seen_exprs places.now.items)) }
     requires first { IsNumbered (count_of_functions (seen_program code.now.program.now)) (seen first) }
-    ensures { (outer : List (List M.Variable)) → Runs (inside (seen_program code.now.program.now)) (eval_places (around_of H.rules (seen_program code.now.program.now) depth) (seen_exprs places.now.items) (seen first)) (moment_of (seen_program code.now.program.now) (host_now (H.told host.old) (H.tickets (H.told host.old)) (H.busy_room (H.told host.old)) (H.function_count host.old) (H.refusals host.old) (H.last_stop host.old)) store.old (variables_of names.now locals.old.items ∷ outer)) (value_left result) (moment_of (seen_program code.now.program.now) (host_now (H.told host.new) (H.tickets (H.told host.new)) (H.busy_room (H.told host.new)) (H.function_count host.new) (H.refusals host.new) (H.last_stop host.new)) store.new (variables_of names.now locals.new.items ∷ outer)) }
+    ensures { (outer : List (List M.Variable)) → Runs (inside H.rules H.leaves (seen_program code.now.program.now)) (eval_places (around_of H.rules (seen_program code.now.program.now) depth) (seen_exprs places.now.items) (seen first)) (moment_of (seen_program code.now.program.now) (H.now host.old) store.old (variables_of names.now locals.old.items ∷ outer)) (value_left result) (moment_of (seen_program code.now.program.now) (H.now host.new) store.new (variables_of names.now locals.new.items ∷ outer)) }
 {
     let mut value = first;
     for place in places {
@@ -243,10 +244,10 @@ fn eval_all<H: Host>(
     exprs: &Vec<Expr>,
 ) -> Result<Vec<Value>, Exit<H::Stop>>
     requires depth { depth ≤ 256 }
-    requires ready { IsReady (inside (seen_program code.now.program.now)) (moment_of (seen_program code.now.program.now) (host_now (H.told host.old) (H.tickets (H.told host.old)) (H.busy_room (H.told host.old)) (H.function_count host.old) (H.refusals host.old) (H.last_stop host.old)) store.old (variables_of names.now locals.old.items ∷ [])) }
+    requires ready { IsReady (inside H.rules H.leaves (seen_program code.now.program.now)) (moment_of (seen_program code.now.program.now) (H.now host.old) store.old (variables_of names.now locals.old.items ∷ [])) }
     requires fits { CallsFit (in_exprs (seen_exprs exprs.now.items)) }
-    ensures values { IfOk result (λ vs. AreValues (inside (seen_program code.now.program.now)) (λ next. eval_all (around_of H.rules (seen_program code.now.program.now) depth) (seen_exprs exprs.now.items) [] next) (λ outer. (moment_of (seen_program code.now.program.now) (host_now (H.told host.old) (H.tickets (H.told host.old)) (H.busy_room (H.told host.old)) (H.function_count host.old) (H.refusals host.old) (H.last_stop host.old)) store.old (variables_of names.now locals.old.items ∷ outer))) (map seen vs.items) (λ outer. (moment_of (seen_program code.now.program.now) (host_now (H.told host.new) (H.tickets (H.told host.new)) (H.busy_room (H.told host.new)) (H.function_count host.new) (H.refusals host.new) (H.last_stop host.new)) store.new (variables_of names.now locals.new.items ∷ outer))) (length exprs.now.items)) }
-    ensures exit { IfErr result (λ x. (outer : List (List M.Variable)) (next : List Model.Value → Machine H.Told → Done H.Told) → Runs (inside (seen_program code.now.program.now)) (eval_all (around_of H.rules (seen_program code.now.program.now) depth) (seen_exprs exprs.now.items) [] next) (moment_of (seen_program code.now.program.now) (host_now (H.told host.old) (H.tickets (H.told host.old)) (H.busy_room (H.told host.old)) (H.function_count host.old) (H.refusals host.old) (H.last_stop host.old)) store.old (variables_of names.now locals.old.items ∷ outer)) (exit_left x) (moment_of (seen_program code.now.program.now) (host_now (H.told host.new) (H.tickets (H.told host.new)) (H.busy_room (H.told host.new)) (H.function_count host.new) (H.refusals host.new) (H.last_stop host.new)) store.new (variables_of names.now locals.new.items ∷ outer))) }
+    ensures values { IfOk result (λ vs. AreValues (inside H.rules H.leaves (seen_program code.now.program.now)) (λ next. eval_all (around_of H.rules (seen_program code.now.program.now) depth) (seen_exprs exprs.now.items) [] next) (λ outer. (moment_of (seen_program code.now.program.now) (H.now host.old) store.old (variables_of names.now locals.old.items ∷ outer))) (map seen vs.items) (λ outer. (moment_of (seen_program code.now.program.now) (H.now host.new) store.new (variables_of names.now locals.new.items ∷ outer))) (length exprs.now.items)) }
+    ensures exit { IfErr result (λ x. (outer : List (List M.Variable)) (next : List Model.Value → Machine (Limited H.Told) → Done (Limited H.Told)) → Runs (inside H.rules H.leaves (seen_program code.now.program.now)) (eval_all (around_of H.rules (seen_program code.now.program.now) depth) (seen_exprs exprs.now.items) [] next) (moment_of (seen_program code.now.program.now) (H.now host.old) store.old (variables_of names.now locals.old.items ∷ outer)) (exit_left x) (moment_of (seen_program code.now.program.now) (H.now host.new) store.new (variables_of names.now locals.new.items ∷ outer))) }
 {
     let mut values = Vec::new(code.alloc);
     for expr in exprs {
@@ -269,10 +270,10 @@ fn eval_call<H: Host>(
     args: &Vec<Expr>,
 ) -> Result<Value, Exit<H::Stop>>
     requires depth { depth ≤ 256 }
-    requires ready { IsReady (inside (seen_program code.now.program.now)) (moment_of (seen_program code.now.program.now) (host_now (H.told host.old) (H.tickets (H.told host.old)) (H.busy_room (H.told host.old)) (H.function_count host.old) (H.refusals host.old) (H.last_stop host.old)) store.old (variables_of names.now locals.old.items ∷ [])) }
+    requires ready { IsReady (inside H.rules H.leaves (seen_program code.now.program.now)) (moment_of (seen_program code.now.program.now) (H.now host.old) store.old (variables_of names.now locals.old.items ∷ [])) }
     requires fits { CallsFit (in_exprs (seen_exprs args.now.items)) }
     requires count { HasCount (op_named name.now.name) (count_exprs (seen_exprs args.now.items)) }
-    ensures { (outer : List (List M.Variable)) → Runs (inside (seen_program code.now.program.now)) (called_by_name (around_of H.rules (seen_program code.now.program.now) depth) name.now.name (seen_exprs args.now.items)) (moment_of (seen_program code.now.program.now) (host_now (H.told host.old) (H.tickets (H.told host.old)) (H.busy_room (H.told host.old)) (H.function_count host.old) (H.refusals host.old) (H.last_stop host.old)) store.old (variables_of names.now locals.old.items ∷ outer)) (value_left result) (moment_of (seen_program code.now.program.now) (host_now (H.told host.new) (H.tickets (H.told host.new)) (H.busy_room (H.told host.new)) (H.function_count host.new) (H.refusals host.new) (H.last_stop host.new)) store.new (variables_of names.now locals.new.items ∷ outer)) }
+    ensures { (outer : List (List M.Variable)) → Runs (inside H.rules H.leaves (seen_program code.now.program.now)) (called_by_name (around_of H.rules (seen_program code.now.program.now) depth) name.now.name (seen_exprs args.now.items)) (moment_of (seen_program code.now.program.now) (H.now host.old) store.old (variables_of names.now locals.old.items ∷ outer)) (value_left result) (moment_of (seen_program code.now.program.now) (H.now host.new) store.new (variables_of names.now locals.new.items ∷ outer)) }
 {
     match operation_named(&name.name) {
         Some(op) => {
@@ -299,9 +300,9 @@ fn exec<H: Host>(
     stmt: &Stmt,
 ) -> Result<(), Exit<H::Stop>>
     requires depth { depth ≤ 256 }
-    requires ready { IsReady (inside (seen_program code.now.program.now)) (moment_of (seen_program code.now.program.now) (host_now (H.told host.old) (H.tickets (H.told host.old)) (H.busy_room (H.told host.old)) (H.function_count host.old) (H.refusals host.old) (H.last_stop host.old)) store.old (variables_of names.now locals.old.items ∷ [])) }
+    requires ready { IsReady (inside H.rules H.leaves (seen_program code.now.program.now)) (moment_of (seen_program code.now.program.now) (H.now host.old) store.old (variables_of names.now locals.old.items ∷ [])) }
     requires fits { CallsFit (in_stmt (seen_stmt stmt.now)) }
-    ensures { (outer : List (List M.Variable)) → Runs (inside (seen_program code.now.program.now)) (exec (around_of H.rules (seen_program code.now.program.now) depth) (seen_stmt stmt.now)) (moment_of (seen_program code.now.program.now) (host_now (H.told host.old) (H.tickets (H.told host.old)) (H.busy_room (H.told host.old)) (H.function_count host.old) (H.refusals host.old) (H.last_stop host.old)) store.old (variables_of names.now locals.old.items ∷ outer)) (unit_left result) (moment_of (seen_program code.now.program.now) (host_now (H.told host.new) (H.tickets (H.told host.new)) (H.busy_room (H.told host.new)) (H.function_count host.new) (H.refusals host.new) (H.last_stop host.new)) store.new (variables_of names.now locals.new.items ∷ outer)) }
+    ensures { (outer : List (List M.Variable)) → Runs (inside H.rules H.leaves (seen_program code.now.program.now)) (exec (around_of H.rules (seen_program code.now.program.now) depth) (seen_stmt stmt.now)) (moment_of (seen_program code.now.program.now) (H.now host.old) store.old (variables_of names.now locals.old.items ∷ outer)) (unit_left result) (moment_of (seen_program code.now.program.now) (H.now host.new) store.new (variables_of names.now locals.new.items ∷ outer)) }
 {
     match stmt {
         Stmt::Var(x, e) => {
@@ -363,9 +364,9 @@ fn exec_all<H: Host>(
     block: &Vec<Stmt>,
 ) -> Result<(), Exit<H::Stop>>
     requires depth { depth ≤ 256 }
-    requires ready { IsReady (inside (seen_program code.now.program.now)) (moment_of (seen_program code.now.program.now) (host_now (H.told host.old) (H.tickets (H.told host.old)) (H.busy_room (H.told host.old)) (H.function_count host.old) (H.refusals host.old) (H.last_stop host.old)) store.old (variables_of names.now locals.old.items ∷ [])) }
+    requires ready { IsReady (inside H.rules H.leaves (seen_program code.now.program.now)) (moment_of (seen_program code.now.program.now) (H.now host.old) store.old (variables_of names.now locals.old.items ∷ [])) }
     requires fits { CallsFit (in_block (seen_block block.now.items)) }
-    ensures { (outer : List (List M.Variable)) → Runs (inside (seen_program code.now.program.now)) (exec_block (around_of H.rules (seen_program code.now.program.now) depth) (seen_block block.now.items)) (moment_of (seen_program code.now.program.now) (host_now (H.told host.old) (H.tickets (H.told host.old)) (H.busy_room (H.told host.old)) (H.function_count host.old) (H.refusals host.old) (H.last_stop host.old)) store.old (variables_of names.now locals.old.items ∷ outer)) (unit_left result) (moment_of (seen_program code.now.program.now) (host_now (H.told host.new) (H.tickets (H.told host.new)) (H.busy_room (H.told host.new)) (H.function_count host.new) (H.refusals host.new) (H.last_stop host.new)) store.new (variables_of names.now locals.new.items ∷ outer)) }
+    ensures { (outer : List (List M.Variable)) → Runs (inside H.rules H.leaves (seen_program code.now.program.now)) (exec_block (around_of H.rules (seen_program code.now.program.now) depth) (seen_block block.now.items)) (moment_of (seen_program code.now.program.now) (H.now host.old) store.old (variables_of names.now locals.old.items ∷ outer)) (unit_left result) (moment_of (seen_program code.now.program.now) (H.now host.new) store.new (variables_of names.now locals.new.items ∷ outer)) }
 {
     for stmt in block {
         exec(code, host, store, depth, names, locals, stmt)?;
@@ -385,9 +386,9 @@ fn exec_items<H: Host>(
     items: &[Item],
 ) -> Result<(), Exit<H::Stop>>
     requires depth { depth ≤ 256 }
-    requires ready { IsReady (inside (seen_program code.now.program.now)) (moment_of (seen_program code.now.program.now) (host_now (H.told host.old) (H.tickets (H.told host.old)) (H.busy_room (H.told host.old)) (H.function_count host.old) (H.refusals host.old) (H.last_stop host.old)) store.old (variables_of names.now locals.old.items ∷ [])) }
+    requires ready { IsReady (inside H.rules H.leaves (seen_program code.now.program.now)) (moment_of (seen_program code.now.program.now) (H.now host.old) store.old (variables_of names.now locals.old.items ∷ [])) }
     requires fits { CallsFit (in_block (own_body (seen_items items.now))) }
-    ensures { (outer : List (List M.Variable)) → Runs (inside (seen_program code.now.program.now)) (exec_block (around_of H.rules (seen_program code.now.program.now) depth) (own_body (seen_items items.now))) (moment_of (seen_program code.now.program.now) (host_now (H.told host.old) (H.tickets (H.told host.old)) (H.busy_room (H.told host.old)) (H.function_count host.old) (H.refusals host.old) (H.last_stop host.old)) store.old (variables_of names.now locals.old.items ∷ outer)) (unit_left result) (moment_of (seen_program code.now.program.now) (host_now (H.told host.new) (H.tickets (H.told host.new)) (H.busy_room (H.told host.new)) (H.function_count host.new) (H.refusals host.new) (H.last_stop host.new)) store.new (variables_of names.now locals.new.items ∷ outer)) }
+    ensures { (outer : List (List M.Variable)) → Runs (inside H.rules H.leaves (seen_program code.now.program.now)) (exec_block (around_of H.rules (seen_program code.now.program.now) depth) (own_body (seen_items items.now))) (moment_of (seen_program code.now.program.now) (H.now host.old) store.old (variables_of names.now locals.old.items ∷ outer)) (unit_left result) (moment_of (seen_program code.now.program.now) (H.now host.new) store.new (variables_of names.now locals.new.items ∷ outer)) }
 {
     for item in items {
         let stmt = match item {
@@ -412,9 +413,9 @@ fn exec_while<H: Host>(
     block: &Vec<Stmt>,
 ) -> Result<(), Exit<H::Stop>>
     requires depth { depth ≤ 256 }
-    requires ready { IsReady (inside (seen_program code.now.program.now)) (moment_of (seen_program code.now.program.now) (host_now (H.told host.old) (H.tickets (H.told host.old)) (H.busy_room (H.told host.old)) (H.function_count host.old) (H.refusals host.old) (H.last_stop host.old)) store.old (variables_of names.now locals.old.items ∷ [])) }
+    requires ready { IsReady (inside H.rules H.leaves (seen_program code.now.program.now)) (moment_of (seen_program code.now.program.now) (H.now host.old) store.old (variables_of names.now locals.old.items ∷ [])) }
     requires fits { CallsFit (in_expr (seen_expr test.now) ++ in_block (seen_block block.now.items)) }
-    ensures { (outer : List (List M.Variable)) → Runs (inside (seen_program code.now.program.now)) (all_turns (eval (around_of H.rules (seen_program code.now.program.now) depth) (seen_expr test.now)) (exec_block (around_of H.rules (seen_program code.now.program.now) depth) (seen_block block.now.items))) (moment_of (seen_program code.now.program.now) (host_now (H.told host.old) (H.tickets (H.told host.old)) (H.busy_room (H.told host.old)) (H.function_count host.old) (H.refusals host.old) (H.last_stop host.old)) store.old (variables_of names.now locals.old.items ∷ outer)) (unit_left result) (moment_of (seen_program code.now.program.now) (host_now (H.told host.new) (H.tickets (H.told host.new)) (H.busy_room (H.told host.new)) (H.function_count host.new) (H.refusals host.new) (H.last_stop host.new)) store.new (variables_of names.now locals.new.items ∷ outer)) }
+    ensures { (outer : List (List M.Variable)) → Runs (inside H.rules H.leaves (seen_program code.now.program.now)) (all_turns (eval (around_of H.rules (seen_program code.now.program.now) depth) (seen_expr test.now)) (exec_block (around_of H.rules (seen_program code.now.program.now) depth) (seen_block block.now.items))) (moment_of (seen_program code.now.program.now) (H.now host.old) store.old (variables_of names.now locals.old.items ∷ outer)) (unit_left result) (moment_of (seen_program code.now.program.now) (H.now host.new) store.new (variables_of names.now locals.new.items ∷ outer)) }
 {
     loop {
         let v = eval(code, host, store, depth, names, locals, test)?;
@@ -443,9 +444,9 @@ fn exec_others<H: Host>(
     last: &Option<Vec<Stmt>>,
 ) -> Result<(), Exit<H::Stop>>
     requires depth { depth ≤ 256 }
-    requires ready { IsReady (inside (seen_program code.now.program.now)) (moment_of (seen_program code.now.program.now) (host_now (H.told host.old) (H.tickets (H.told host.old)) (H.busy_room (H.told host.old)) (H.function_count host.old) (H.refusals host.old) (H.last_stop host.old)) store.old (variables_of names.now locals.old.items ∷ [])) }
+    requires ready { IsReady (inside H.rules H.leaves (seen_program code.now.program.now)) (moment_of (seen_program code.now.program.now) (H.now host.old) store.old (variables_of names.now locals.old.items ∷ [])) }
     requires fits { CallsFit (in_others (seen_others others.now.items) ++ in_else (seen_else last.now)) }
-    ensures { (outer : List (List M.Variable)) → Runs (inside (seen_program code.now.program.now)) (exec_others (around_of H.rules (seen_program code.now.program.now) depth) (seen_others others.now.items) (exec_else (around_of H.rules (seen_program code.now.program.now) depth) (seen_else last.now))) (moment_of (seen_program code.now.program.now) (host_now (H.told host.old) (H.tickets (H.told host.old)) (H.busy_room (H.told host.old)) (H.function_count host.old) (H.refusals host.old) (H.last_stop host.old)) store.old (variables_of names.now locals.old.items ∷ outer)) (unit_left result) (moment_of (seen_program code.now.program.now) (host_now (H.told host.new) (H.tickets (H.told host.new)) (H.busy_room (H.told host.new)) (H.function_count host.new) (H.refusals host.new) (H.last_stop host.new)) store.new (variables_of names.now locals.new.items ∷ outer)) }
+    ensures { (outer : List (List M.Variable)) → Runs (inside H.rules H.leaves (seen_program code.now.program.now)) (exec_others (around_of H.rules (seen_program code.now.program.now) depth) (seen_others others.now.items) (exec_else (around_of H.rules (seen_program code.now.program.now) depth) (seen_else last.now))) (moment_of (seen_program code.now.program.now) (H.now host.old) store.old (variables_of names.now locals.old.items ∷ outer)) (unit_left result) (moment_of (seen_program code.now.program.now) (H.now host.new) store.new (variables_of names.now locals.new.items ∷ outer)) }
 {
     for other in others {
         let v = eval(code, host, store, depth, names, locals, &other.0)?;
@@ -470,11 +471,11 @@ fn call<H: Host>(
     args: Vec<Value>,
 ) -> Result<Value, Exit<H::Stop>>
     requires depth { depth ≤ 256 }
-    requires ready { IsReady (outside (seen_program code.now.program.now)) (moment_of (seen_program code.now.program.now) (host_now (H.told host.old) (H.tickets (H.told host.old)) (H.busy_room (H.told host.old)) (H.function_count host.old) (H.refusals host.old) (H.last_stop host.old)) store.old []) }
+    requires ready { IsReady (outside H.rules H.leaves (seen_program code.now.program.now)) (moment_of (seen_program code.now.program.now) (H.now host.old) store.old []) }
     requires function { SomeIsNumbered (count_of_functions (seen_program code.now.program.now)) (option_map seen function) }
     requires args { AllNumbered (count_of_functions (seen_program code.now.program.now)) (map seen args.items) }
-    ensures runs { (frames : List (List M.Variable)) → Runs (outside (seen_program code.now.program.now)) (call_given (caller_of H.rules (seen_program code.now.program.now) depth) (option_map seen function) (map seen args.items)) (moment_of (seen_program code.now.program.now) (host_now (H.told host.old) (H.tickets (H.told host.old)) (H.busy_room (H.told host.old)) (H.function_count host.old) (H.refusals host.old) (H.last_stop host.old)) store.old frames) (value_left result) (moment_of (seen_program code.now.program.now) (host_now (H.told host.new) (H.tickets (H.told host.new)) (H.busy_room (H.told host.new)) (H.function_count host.new) (H.refusals host.new) (H.last_stop host.new)) store.new frames) }
-    ensures still { store.new.fuel ≡ store.old.fuel → H.told host.new ≡ H.told host.old }
+    ensures runs { (frames : List (List M.Variable)) → Runs (outside H.rules H.leaves (seen_program code.now.program.now)) (call_given (caller_of H.rules (seen_program code.now.program.now) depth) (option_map seen function) (map seen args.items)) (moment_of (seen_program code.now.program.now) (H.now host.old) store.old frames) (value_left result) (moment_of (seen_program code.now.program.now) (H.now host.new) store.new frames) }
+    ensures still { store.new.fuel ≡ store.old.fuel → (H.now host.new).told ≡ (H.now host.old).told }
 {
     let Some(Func { function, bound }) = callee(function) else {
         return Err(Exit::Throw(fault(code.alloc, FaultName::TypeError)));
@@ -494,10 +495,10 @@ pub(crate) fn run_function<H: Host>(
     args: Vec<Value>,
 ) -> Result<Value, Exit<H::Stop>>
     requires depth { depth ≤ 256 }
-    requires ready { IsReady (outside (seen_program code.now.program.now)) (moment_of (seen_program code.now.program.now) (host_now (H.told host.old) (H.tickets (H.told host.old)) (H.busy_room (H.told host.old)) (H.function_count host.old) (H.refusals host.old) (H.last_stop host.old)) store.old []) }
+    requires ready { IsReady (outside H.rules H.leaves (seen_program code.now.program.now)) (moment_of (seen_program code.now.program.now) (H.now host.old) store.old []) }
     requires args { AllNumbered (count_of_functions (seen_program code.now.program.now)) (map seen args.items) }
-    ensures runs { (frames : List (List M.Variable)) → Runs (outside (seen_program code.now.program.now)) ((caller_of H.rules (seen_program code.now.program.now) depth) function (map seen args.items)) (moment_of (seen_program code.now.program.now) (host_now (H.told host.old) (H.tickets (H.told host.old)) (H.busy_room (H.told host.old)) (H.function_count host.old) (H.refusals host.old) (H.last_stop host.old)) store.old frames) (value_left result) (moment_of (seen_program code.now.program.now) (host_now (H.told host.new) (H.tickets (H.told host.new)) (H.busy_room (H.told host.new)) (H.function_count host.new) (H.refusals host.new) (H.last_stop host.new)) store.new frames) }
-    ensures still { store.new.fuel ≡ store.old.fuel → H.told host.new ≡ H.told host.old }
+    ensures runs { (frames : List (List M.Variable)) → Runs (outside H.rules H.leaves (seen_program code.now.program.now)) ((caller_of H.rules (seen_program code.now.program.now) depth) function (map seen args.items)) (moment_of (seen_program code.now.program.now) (H.now host.old) store.old frames) (value_left result) (moment_of (seen_program code.now.program.now) (H.now host.new) store.new frames) }
+    ensures still { store.new.fuel ≡ store.old.fuel → (H.now host.new).told ≡ (H.now host.old).told }
 {
     if depth >= OPEN_CALLS {
         return Err(Exit::Throw(fault(code.alloc, FaultName::RangeError)));
@@ -550,10 +551,10 @@ fn ask<H: Host>(
     args: Vec<Value>,
 ) -> Result<Value, Exit<H::Stop>>
     requires depth { depth ≤ 256 }
-    requires ready { IsReady (outside (seen_program code.now.program.now)) (moment_of (seen_program code.now.program.now) (host_now (H.told host.old) (H.tickets (H.told host.old)) (H.busy_room (H.told host.old)) (H.function_count host.old) (H.refusals host.old) (H.last_stop host.old)) store.old []) }
+    requires ready { IsReady (outside H.rules H.leaves (seen_program code.now.program.now)) (moment_of (seen_program code.now.program.now) (H.now host.old) store.old []) }
     requires count { length args.items ≡ count_of op }
     requires args { AllNumbered (count_of_functions (seen_program code.now.program.now)) (map seen args.items) }
-    ensures { (frames : List (List M.Variable)) → Runs (outside (seen_program code.now.program.now)) (host_operations H.rules (caller_of H.rules (seen_program code.now.program.now) depth) op (map seen args.items)) (moment_of (seen_program code.now.program.now) (host_now (H.told host.old) (H.tickets (H.told host.old)) (H.busy_room (H.told host.old)) (H.function_count host.old) (H.refusals host.old) (H.last_stop host.old)) store.old frames) (value_left result) (moment_of (seen_program code.now.program.now) (host_now (H.told host.new) (H.tickets (H.told host.new)) (H.busy_room (H.told host.new)) (H.function_count host.new) (H.refusals host.new) (H.last_stop host.new)) store.new frames) }
+    ensures { (frames : List (List M.Variable)) → Runs (outside H.rules H.leaves (seen_program code.now.program.now)) (limited_operations H.rules (caller_of H.rules (seen_program code.now.program.now) depth) op (map seen args.items)) (moment_of (seen_program code.now.program.now) (H.now host.old) store.old frames) (value_left result) (moment_of (seen_program code.now.program.now) (H.now host.new) store.new frames) }
 {
     if is_busy(op) {
         if store.fuel == 0 {
@@ -576,11 +577,11 @@ fn steps<H: Host>(
     args: Vec<Value>,
 ) -> Result<Value, Exit<H::Stop>>
     requires depth { depth ≤ 256 }
-    requires ready { IsReady (outside (seen_program code.now.program.now)) (moment_of (seen_program code.now.program.now) (host_now (H.told host.old) (H.tickets (H.told host.old)) (H.busy_room (H.told host.old)) (H.function_count host.old) (H.refusals host.old) (H.last_stop host.old)) store.old []) }
+    requires ready { IsReady (outside H.rules H.leaves (seen_program code.now.program.now)) (moment_of (seen_program code.now.program.now) (H.now host.old) store.old []) }
     requires count { length args.items ≡ count_of op }
     requires args { AllNumbered (count_of_functions (seen_program code.now.program.now)) (map seen args.items) }
-    requires room { store.old.fuel + room_taken (is_busy op) ≤ H.busy_room (H.told host.old) }
-    ensures { (frames : List (List M.Variable)) → Runs (outside (seen_program code.now.program.now)) (asked H.rules (caller_of H.rules (seen_program code.now.program.now) depth) op (map seen args.items)) (moment_of (seen_program code.now.program.now) (host_now (H.told host.old) (H.tickets (H.told host.old)) (H.busy_room (H.told host.old)) (H.function_count host.old) (H.refusals host.old) (H.last_stop host.old)) store.old frames) (value_left result) (moment_of (seen_program code.now.program.now) (host_now (H.told host.new) (H.tickets (H.told host.new)) (H.busy_room (H.told host.new)) (H.function_count host.new) (H.refusals host.new) (H.last_stop host.new)) store.new frames) }
+    requires room { store.old.fuel + room_taken (is_busy op) ≤ (H.now host.old).room }
+    ensures { (frames : List (List M.Variable)) → Runs (outside H.rules H.leaves (seen_program code.now.program.now)) (asked_by (ask_limited H.rules) (caller_of H.rules (seen_program code.now.program.now) depth) op (map seen args.items)) (moment_of (seen_program code.now.program.now) (H.now host.old) store.old frames) (value_left result) (moment_of (seen_program code.now.program.now) (H.now host.new) store.new frames) }
 {
     let mut step = match host.op(op, args) {
         Ok(step) => step,

@@ -1,10 +1,10 @@
 -- What the host of the examples does: one operation calls its argument twice, and every other one answers unit.
-use Rattle.std.specs.Prelude.{ℕ, ◌-◌, Bool, true, false, cond, ◌&&◌, List, [], ◌∷◌, map, reverse, length, nat_lt}
+use Rattle.std.specs.Prelude.{◌≡◌, ℕ, ◌-◌, ◌≤◌, Bool, true, false, cond, ◌&&◌, List, [], ◌∷◌, map, reverse, length, nat_lt}
 use Rattle.page_types.specs.declared.FaultName.TheVariants.{TypeError}
 use Rattle.page_types.specs.declared.Op.{Op}
 use Rattle.page_types.specs.declared.Op.TheVariants.{QueueMicrotask}
 use Rattle.page_types.specs.Values.{Value, UnitValue, FunValue, FaultValue, no_values}
-use Rattle.lang_meaning.specs.HostSteps.{HostStep, StepValue, StepThrow, StepInvoke, CallbackEnd, CallbackValue, CallbackThrow, Stepped, HostRules}
+use Rattle.lang_meaning.specs.HostSteps.{HostStep, StepValue, StepThrow, StepInvoke, CallbackEnd, CallbackValue, CallbackThrow, Stepped, HostRules, Ask}
 use Rattle.page_rows.specs.declared.nested_host.Pending.{Pending}
 
 -- how many functions the script has, how many operations are still done, and the callbacks that are pending, the last one first
@@ -50,8 +50,16 @@ resume_step ticket (CallbackThrow v) told = step_to (StepThrow v) (record told {
 abbrev pub nested_rules : HostRules Told
 nested_rules = record { op = op_step; resume = resume_step }
 
-abbrev pub tickets_of : Told → List ℕ
-tickets_of told = map (λ p. p.ticket) told.pending
+abbrev pub tickets_of : List Pending → List ℕ
+tickets_of pending = map (λ p. p.ticket) pending
+
+-- what the host tells, with the pending callbacks in the order in which they came
+abbrev pub told_by : ℕ → ℕ → List Pending → Told
+told_by functions operations pending = record { functions = functions; operations = operations; pending = reverse pending }
+
+-- what a refused ask leaves: no more operations than before
+abbrev pub Leaves : Ask → Told → Told → Type 0
+Leaves ask before after = (after.functions ≡ before.functions) × (after.operations ≤ before.operations)
 
 abbrev pub times_of : List Pending → ℕ
 times_of [] = 0

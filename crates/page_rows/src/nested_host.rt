@@ -53,27 +53,26 @@ impl Nested {
 
 impl Host for Nested {
     ghost use Rattle.std.specs.Prelude.{◌^◌, reverse};
-    ghost use Rattle.page_rows.specs.NestedHost.{Told, nested_rules, tickets_of, times_left};
+    ghost use Rattle.page_rows.specs.NestedHost.{Told, Leaves, told_by, nested_rules, tickets_of, times_left};
 
     type Stop = Refused;
 
     ghost Told = { Told };
 
-    ghost told = { λ h. record { functions = h.functions; operations = h.operations; pending = reverse h.pending.items } };
+    ghost now = { λ h. record {
+      told = told_by h.functions h.operations h.pending.items;
+      tickets = tickets_of (reverse h.pending.items);
+      room = 2 ^ 64;
+      functions = h.functions;
+      refusals = h.refusals;
+      last_stop = h.last;
+    } };
 
     ghost rules = { nested_rules };
 
-    ghost tickets = { tickets_of };
+    ghost leaves = { Leaves };
 
     ghost left = { times_left };
-
-    ghost busy_room = { λ told. 2 ^ 64 };
-
-    ghost function_count = { λ h. h.functions };
-
-    ghost refusals = { λ h. h.refusals };
-
-    ghost last_stop = { λ h. h.last };
 
     fn op(&mut self, op: Op, mut args: Vec<Value>) -> Result<HostStep, Refused> {
         if self.operations == 0 {

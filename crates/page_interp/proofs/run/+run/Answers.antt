@@ -7,8 +7,9 @@ use mir.Val.{SFits}
 use mir.Syntax.{w64}
 use Rattle.page_types.specs.Values.{UnitValue, BoolValue, IntValue, TextValue, ListValue, values_of}
 use Rattle.lang_meaning.specs.Machine.{OutOfFuel}
-use Rattle.lang_meaning.specs.Evaluation.{limited, own_body, names_in, parameters_with, unit_variables, sum_answer, product_answer, item_answer}
+use Rattle.lang_meaning.specs.Evaluation.{limited, call_of, own_body, names_in, parameters_with, unit_variables, sum_answer, product_answer, item_answer}
 use Rattle.lang_meaning.specs.HostSteps.{is_busy}
+use Rattle.lang_meaning.specs.Asks as asks
 use Rattle.lang_meaning.specs.OpNames.{op_named}
 use Rattle.page_values.specs.Seen.{seen}
 use Rattle.page_values.proofs.Lists.{front}
@@ -21,7 +22,7 @@ use Rattle.lang_ast.specs.Sizes.{expr_size, exprs_size, terms_size, factors_size
 use Rattle.lang_ast.specs.Steps.{seen_step, seen_outcome, tickets_after, AllNumbered, StepIsNumbered, room_taken}
 use Rattle.lang_ast.proofs.Trees.{seen-Or, seen-And, seen-Compare, seen-Sum, seen-Product, seen-Unary, seen-Post, seen-Number, seen-Text, seen-True, seen-False, seen-Unit, seen-Name, seen-Call, seen-Paren, seen-List, seen-Var, seen-Assign, seen-Expr, seen-If, seen-While, seen-Return, seen-Throw, seen-Try}
 use Rattle.lang_ast.proofs.Sizes as sizes
-use Rattle.page_interp.specs.Runs.{ends, gives, throws, returns, caught_left, host_now, moment_of, caller_of, variables_of, count_of_functions, SomeIsNumbered, AreNumberedIn}
+use Rattle.page_interp.specs.Runs.{ends, gives, throws, returns, caught_left, outside, moment_of, caller_of, around_of, variables_of, count_of_functions, SomeIsNumbered, AreNumberedIn}
 use Rattle.page_interp.specs.Sizes.{rank}
 use Rattle.page_interp.proofs.Ranks.{rank_below, rank_deeper, some_size, in_program, function_there}
 use Rattle.page_interp.proofs.Loops.{turn_falls}
@@ -46,7 +47,7 @@ ask-steps-requires g t c κs within =
     let ready = ready_less _ _ _ _ [] (c.args.store.now.fuel - 1) (omega arith) refl c.requires.ready in
     let busy : is_busy c.args.op ≡ true = sym c.is_busy.ensures ∙ c.if-is_busy.true in
     let old = room_for _ _ _ [] c.requires.ready in
-    let room : (c.args.store.now.fuel - 1) + room_taken (is_busy c.args.op) ≤ g.H.Host.busy_room (g.H.Host.told c.args.host.now) = rw busy (omega (arith, old)) in
+    let room : (c.args.store.now.fuel - 1) + room_taken (is_busy c.args.op) ≤ (g.H.Host.now c.args.host.now).room = rw busy (omega (arith, old)) in
     let smaller : rank (seen_program c.args.code.now.program.now) c.args.depth (2) < rank (seen_program c.args.code.now.program.now) c.args.depth (3) = rank_below (seen_program c.args.code.now.program.now) c.args.depth _ _ (omega arith) in
     search rules
 
@@ -60,7 +61,7 @@ ask-steps-requires-2 g t c κs within =
     let ready = c.requires.ready in
     let idle : is_busy c.args.op ≡ false = sym c.is_busy.ensures ∙ c.if-is_busy.false in
     let old = room_for _ _ _ [] c.requires.ready in
-    let room : c.args.store.now.fuel + room_taken (is_busy c.args.op) ≤ g.H.Host.busy_room (g.H.Host.told c.args.host.now) = rw idle (omega (arith, old)) in
+    let room : c.args.store.now.fuel + room_taken (is_busy c.args.op) ≤ (g.H.Host.now c.args.host.now).room = rw idle (omega (arith, old)) in
     let smaller : rank (seen_program c.args.code.now.program.now) c.args.depth (2) < rank (seen_program c.args.code.now.program.now) c.args.depth (3) = rank_below (seen_program c.args.code.now.program.now) c.args.depth _ _ (omega arith) in
     search rules
 
@@ -254,10 +255,10 @@ eval-eval_all-requires g t c κs within =
     search rules
 
 pub eval-returns-in_err-vs-in-List : goal.eval-returns-in_err-vs-in-List
-eval-returns-in_err-vs-in-List g t c = let q = err_from_is_err_and c.from_residual-in_err-vs-in-List.result c.from_residual-in_err-vs-in-List.ensures.1 in λ outer. rw (q.1, q.2, c.in-List.is, seen-List) (runs_as refl (c.in_err-vs-in-List.ensures.exit outer (λ vs m. limited (ListValue (values_of vs)) m)))
+eval-returns-in_err-vs-in-List g t c = let q = err_from_is_err_and c.from_residual-in_err-vs-in-List.result c.from_residual-in_err-vs-in-List.ensures.1 in λ outer. rw (q.1, q.2, c.in-List.is, seen-List) (runs_as (λ left. refl) (c.in_err-vs-in-List.ensures.exit outer (λ vs m. limited (ListValue (values_of vs)) m)))
 
 pub eval-returns-then-branch : goal.eval-returns-then-branch
-eval-returns-then-branch g t c = λ outer. rw (c.in-Or.is, seen-Or, ← c.deref.ensures) (runs_then _ (c.in_ok-v-in-Or.ensures outer) (runs_true _ _ _ (c.in_ok-truth-in-Or.ensures.ok ∙ ap Some c.if-branch.true) (runs_at (gives (BoolValue true)) (c.in_ok-v-in-Or.ensures outer).ready tt refl)))
+eval-returns-then-branch g t c = λ outer. rw (c.in-Or.is, seen-Or, ← c.deref.ensures) (runs_then _ (c.in_ok-v-in-Or.ensures outer) (runs_true _ _ _ (c.in_ok-truth-in-Or.ensures.ok ∙ ap Some c.if-branch.true) (runs_at (gives (BoolValue true)) (c.in_ok-v-in-Or.ensures outer).ready tt tt (λ left. refl))))
 
 pub eval-returns-else-branch : goal.eval-returns-else-branch
 eval-returns-else-branch g t c = λ outer. rw (c.in-Or.is, seen-Or, ← c.deref.ensures) (runs_then _ (c.in_ok-v-in-Or.ensures outer) (runs_false _ _ _ (c.in_ok-truth-in-Or.ensures.ok ∙ ap Some c.if-branch.false) (c.eval_or.ensures outer)))
@@ -266,7 +267,7 @@ pub eval-returns-then-branch-2 : goal.eval-returns-then-branch-2
 eval-returns-then-branch-2 g t c = λ outer. rw (c.in-And.is, seen-And, ← c.deref-in-And.ensures) (runs_then _ (c.in_ok-v-in-And.ensures outer) (runs_true _ _ _ (c.in_ok-truth-in-And.ensures.ok ∙ ap Some c.if-branch-2.true) (c.eval_and.ensures outer)))
 
 pub eval-returns-else-branch-2 : goal.eval-returns-else-branch-2
-eval-returns-else-branch-2 g t c = λ outer. rw (c.in-And.is, seen-And, ← c.deref-in-And.ensures) (runs_then _ (c.in_ok-v-in-And.ensures outer) (runs_false _ _ _ (c.in_ok-truth-in-And.ensures.ok ∙ ap Some c.if-branch-2.false) (runs_at (gives (BoolValue false)) (c.in_ok-v-in-And.ensures outer).ready tt refl)))
+eval-returns-else-branch-2 g t c = λ outer. rw (c.in-And.is, seen-And, ← c.deref-in-And.ensures) (runs_then _ (c.in_ok-v-in-And.ensures outer) (runs_false _ _ _ (c.in_ok-truth-in-And.ensures.ok ∙ ap Some c.if-branch-2.false) (runs_at (gives (BoolValue false)) (c.in_ok-v-in-And.ensures outer).ready tt tt (λ left. refl))))
 
 pub eval-returns-in_ok-w-in-Compare : goal.eval-returns-in_ok-w-in-Compare
 eval-returns-in_ok-w-in-Compare g t c = λ outer. rw (c.in-Compare.is, seen-Compare, ← c.deref-in-Compare.ensures, ← c.deref-in-Compare-2.ensures) (runs_then _ (c.in_ok-v-in-Compare.ensures outer) (runs_then _ (c.in_ok-w-in-Compare.ensures outer) (runs_answer _ _ (c.in_ok-w-in-Compare.ensures outer).ready (compare_numbered _ c.in-Compare.sign (seen c.in_ok-v-in-Compare.v) (seen c.in_ok-w-in-Compare.w)) c.compare.ensures)))
@@ -284,31 +285,31 @@ pub eval-returns-in_ok-v-in-Unary : goal.eval-returns-in_ok-v-in-Unary
 eval-returns-in_ok-v-in-Unary g t c = λ outer. rw (c.in-Unary.is, seen-Unary, ← c.deref-in-Unary.ensures) (runs_then _ (c.in_ok-v-in-Unary.ensures outer) (runs_answer _ _ (c.in_ok-v-in-Unary.ensures outer).ready (unary_numbered _ c.in-Unary.sign (seen c.in_ok-v-in-Unary.v)) c.negate.ensures))
 
 pub eval-returns-in-Number : goal.eval-returns-in-Number
-eval-returns-in-Number g t c = let f : SFits w64 c.in-Number.n = search rules in λ outer. rw (to_z-of_z, c.in-Number.is, seen-Number) (runs_at (gives (IntValue c.in-Number.n)) (ready_any _ _ _ _ [] outer c.requires.ready) tt refl)
+eval-returns-in-Number g t c = let f : SFits w64 c.in-Number.n = search rules in λ outer. rw (to_z-of_z, c.in-Number.is, seen-Number) (runs_at (gives (IntValue c.in-Number.n)) (ready_any _ _ _ _ [] outer c.requires.ready) tt tt (λ left. refl))
 
 pub eval-returns-in-Text : goal.eval-returns-in-Text
-eval-returns-in-Text g t c = λ outer. rw (c.in-Text.is, seen-Text) (runs_as refl (runs_answer _ (Ok (TextValue c.in-Text.t)) (ready_any _ _ _ _ [] outer c.requires.ready) tt c.text.ensures))
+eval-returns-in-Text g t c = λ outer. rw (c.in-Text.is, seen-Text) (runs_as (λ left. refl) (runs_answer _ (Ok (TextValue c.in-Text.t)) (ready_any _ _ _ _ [] outer c.requires.ready) tt c.text.ensures))
 
 pub eval-returns-in-True : goal.eval-returns-in-True
-eval-returns-in-True g t c = λ outer. rw (c.in-True.is, seen-True) (runs_at (gives (BoolValue true)) (ready_any _ _ _ _ [] outer c.requires.ready) tt refl)
+eval-returns-in-True g t c = λ outer. rw (c.in-True.is, seen-True) (runs_at (gives (BoolValue true)) (ready_any _ _ _ _ [] outer c.requires.ready) tt tt (λ left. refl))
 
 pub eval-returns-in-False : goal.eval-returns-in-False
-eval-returns-in-False g t c = λ outer. rw (c.in-False.is, seen-False) (runs_at (gives (BoolValue false)) (ready_any _ _ _ _ [] outer c.requires.ready) tt refl)
+eval-returns-in-False g t c = λ outer. rw (c.in-False.is, seen-False) (runs_at (gives (BoolValue false)) (ready_any _ _ _ _ [] outer c.requires.ready) tt tt (λ left. refl))
 
 pub eval-returns-in-Unit : goal.eval-returns-in-Unit
-eval-returns-in-Unit g t c = λ outer. rw (c.in-Unit.is, seen-Unit) (runs_at (gives UnitValue) (ready_any _ _ _ _ [] outer c.requires.ready) tt refl)
+eval-returns-in-Unit g t c = λ outer. rw (c.in-Unit.is, seen-Unit) (runs_at (gives UnitValue) (ready_any _ _ _ _ [] outer c.requires.ready) tt tt (λ left. refl))
 
 pub eval-returns-in-Name : goal.eval-returns-in-Name
 eval-returns-in-Name g t c = λ outer. rw (c.in-Name.is, seen-Name) (runs_name g.H.Host.rules (seen_program c.args.code.now.program.now) c.args.depth _ _ _ outer (seen_name c.in-Name.x) _ (ready_any _ _ _ _ [] outer c.requires.ready) (rw c.args.code.now.globals_named at c.name_value.ensures))
 
 pub eval-returns-in-Call : goal.eval-returns-in-Call
-eval-returns-in-Call g t c = λ outer. rw (c.in-Call.is, seen-Call) (runs_as refl (c.eval_call.ensures outer))
+eval-returns-in-Call g t c = λ outer. rw (c.in-Call.is, seen-Call) (runs_as (λ left. refl) (c.eval_call.ensures outer))
 
 pub eval-returns-in-Paren : goal.eval-returns-in-Paren
-eval-returns-in-Paren g t c = λ outer. rw (c.in-Paren.is, seen-Paren, ← c.deref-in-Paren.ensures) (runs_as refl (c.eval-in-Paren.ensures outer))
+eval-returns-in-Paren g t c = λ outer. rw (c.in-Paren.is, seen-Paren, ← c.deref-in-Paren.ensures) (runs_as (λ left. refl) (c.eval-in-Paren.ensures outer))
 
 pub eval-returns-in_ok-vs-in-List : goal.eval-returns-in_ok-vs-in-List
-eval-returns-in_ok-vs-in-List g t c = λ outer. rw (c.in-List.is, seen-List) (runs_as refl ((c.in_ok-vs-in-List.ensures.values.leads outer (λ vs m. limited (ListValue (values_of vs)) m)).runs _ _ (runs_as refl (runs_answer _ _ (c.in_ok-vs-in-List.ensures.values.leads outer (λ vs m. OutOfFuel m)).ready (limited_numbered _ (ListValue (values_of (map seen c.in_ok-vs-in-List.vs.items))) (list_numbered _ _ c.in_ok-vs-in-List.ensures.values.numbered)) c.list.ensures))))
+eval-returns-in_ok-vs-in-List g t c = λ outer. rw (c.in-List.is, seen-List) (runs_as (λ left. refl) ((c.in_ok-vs-in-List.ensures.values.leads outer (λ vs m. limited (ListValue (values_of vs)) m)).runs _ _ (runs_as (λ left. refl) (runs_answer _ _ (c.in_ok-vs-in-List.ensures.values.leads outer (λ vs m. OutOfFuel m)).ready (limited_numbered _ (ListValue (values_of (map seen c.in_ok-vs-in-List.vs.items))) (list_numbered _ _ c.in_ok-vs-in-List.ensures.values.numbered)) c.list.ensures))))
 
 pub eval_or-loop-operand-init : goal.eval_or-loop-operand-init
 eval_or-loop-operand-init g t c = λ outer. leads_at (ready_any _ _ _ _ [] outer c.requires.ready)
@@ -333,13 +334,13 @@ pub eval_or-returns-in_err-truth : goal.eval_or-returns-in_err-truth
 eval_or-returns-in_err-truth g t c = let q = err_from_is_err_and c.from_residual-in_err-truth.result c.from_residual-in_err-truth.ensures.1 in λ outer. rw (q.1, q.2, c.in_err-truth.ensures.err.1, ← c.deref-operand-items.ensures.value) ((rw (front c.deref-operand-items.result.now c.loop-operand.operand-index c.operand-item.result c.operand-item.is (omega arith)) at (c.loop-operand.invariant outer)).runs _ _ (runs_then _ (c.in_ok-v.ensures outer) (runs_no_bool _ _ _ (c.in_ok-v.ensures outer).ready c.in_err-truth.ensures.err.0)))
 
 pub eval_or-returns-then-branch : goal.eval_or-returns-then-branch
-eval_or-returns-then-branch g t c = λ outer. rw (← c.deref-operand-items.ensures.value) ((rw (front c.deref-operand-items.result.now c.loop-operand.operand-index c.operand-item.result c.operand-item.is (omega arith)) at (c.loop-operand.invariant outer)).runs _ _ (runs_then _ (c.in_ok-v.ensures outer) (runs_true _ _ _ (c.in_ok-truth.ensures.ok ∙ ap Some c.if-branch.true) (runs_at (gives (BoolValue true)) (c.in_ok-v.ensures outer).ready tt refl))))
+eval_or-returns-then-branch g t c = λ outer. rw (← c.deref-operand-items.ensures.value) ((rw (front c.deref-operand-items.result.now c.loop-operand.operand-index c.operand-item.result c.operand-item.is (omega arith)) at (c.loop-operand.invariant outer)).runs _ _ (runs_then _ (c.in_ok-v.ensures outer) (runs_true _ _ _ (c.in_ok-truth.ensures.ok ∙ ap Some c.if-branch.true) (runs_at (gives (BoolValue true)) (c.in_ok-v.ensures outer).ready tt tt (λ left. refl)))))
 
 pub eval_or-loop-operand-preserved : goal.eval_or-loop-operand-preserved
 eval_or-loop-operand-preserved g t c = λ outer. leads_trans (rw (front c.deref-operand-items.result.now c.loop-operand.operand-index c.operand-item.result c.operand-item.is (omega arith)) at (c.loop-operand.invariant outer)) (record { runs = λ l d y. runs_then _ (c.in_ok-v.ensures outer) (runs_false _ _ _ (c.in_ok-truth.ensures.ok ∙ ap Some c.if-branch.false) y); ready = (c.in_ok-v.ensures outer).ready })
 
 pub eval_or-returns : goal.eval_or-returns
-eval_or-returns g t c = λ outer. rw (← c.deref-operand-items.ensures.value) ((rw (drop_all c.loop-operand.operand-index c.deref-operand-items.result.now (omega arith)) at (c.loop-operand.invariant outer)).runs _ _ (runs_at (gives (BoolValue false)) (c.loop-operand.invariant outer).ready tt refl))
+eval_or-returns g t c = λ outer. rw (← c.deref-operand-items.ensures.value) ((rw (drop_all c.loop-operand.operand-index c.deref-operand-items.result.now (omega arith)) at (c.loop-operand.invariant outer)).runs _ _ (runs_at (gives (BoolValue false)) (c.loop-operand.invariant outer).ready tt tt (λ left. refl)))
 
 pub eval_and-loop-operand-init : goal.eval_and-loop-operand-init
 eval_and-loop-operand-init g t c = λ outer. leads_at (ready_any _ _ _ _ [] outer c.requires.ready)
@@ -364,13 +365,13 @@ pub eval_and-returns-in_err-truth : goal.eval_and-returns-in_err-truth
 eval_and-returns-in_err-truth g t c = let q = err_from_is_err_and c.from_residual-in_err-truth.result c.from_residual-in_err-truth.ensures.1 in λ outer. rw (q.1, q.2, c.in_err-truth.ensures.err.1, ← c.deref-operand-items.ensures.value) ((rw (front c.deref-operand-items.result.now c.loop-operand.operand-index c.operand-item.result c.operand-item.is (omega arith)) at (c.loop-operand.invariant outer)).runs _ _ (runs_then _ (c.in_ok-v.ensures outer) (runs_no_bool _ _ _ (c.in_ok-v.ensures outer).ready c.in_err-truth.ensures.err.0)))
 
 pub eval_and-returns-in-loop-operand : goal.eval_and-returns-in-loop-operand
-eval_and-returns-in-loop-operand g t c = λ outer. rw (← c.deref-operand-items.ensures.value) ((rw (front c.deref-operand-items.result.now c.loop-operand.operand-index c.operand-item.result c.operand-item.is (omega arith)) at (c.loop-operand.invariant outer)).runs _ _ (runs_then _ (c.in_ok-v.ensures outer) (runs_false _ _ _ (c.in_ok-truth.ensures.ok ∙ ap Some c.if-branch.false) (runs_at (gives (BoolValue false)) (c.in_ok-v.ensures outer).ready tt refl))))
+eval_and-returns-in-loop-operand g t c = λ outer. rw (← c.deref-operand-items.ensures.value) ((rw (front c.deref-operand-items.result.now c.loop-operand.operand-index c.operand-item.result c.operand-item.is (omega arith)) at (c.loop-operand.invariant outer)).runs _ _ (runs_then _ (c.in_ok-v.ensures outer) (runs_false _ _ _ (c.in_ok-truth.ensures.ok ∙ ap Some c.if-branch.false) (runs_at (gives (BoolValue false)) (c.in_ok-v.ensures outer).ready tt tt (λ left. refl)))))
 
 pub eval_and-loop-operand-preserved : goal.eval_and-loop-operand-preserved
 eval_and-loop-operand-preserved g t c = λ outer. leads_trans (rw (front c.deref-operand-items.result.now c.loop-operand.operand-index c.operand-item.result c.operand-item.is (omega arith)) at (c.loop-operand.invariant outer)) (record { runs = λ l d y. runs_then _ (c.in_ok-v.ensures outer) (runs_true _ _ _ (c.in_ok-truth.ensures.ok ∙ ap Some c.if-branch.true) y); ready = (c.in_ok-v.ensures outer).ready })
 
 pub eval_and-returns : goal.eval_and-returns
-eval_and-returns g t c = λ outer. rw (← c.deref-operand-items.ensures.value) ((rw (drop_all c.loop-operand.operand-index c.deref-operand-items.result.now (omega arith)) at (c.loop-operand.invariant outer)).runs _ _ (runs_at (gives (BoolValue true)) (c.loop-operand.invariant outer).ready tt refl))
+eval_and-returns g t c = λ outer. rw (← c.deref-operand-items.ensures.value) ((rw (drop_all c.loop-operand.operand-index c.deref-operand-items.result.now (omega arith)) at (c.loop-operand.invariant outer)).runs _ _ (runs_at (gives (BoolValue true)) (c.loop-operand.invariant outer).ready tt tt (λ left. refl)))
 
 pub eval_sum-loop-term-init : goal.eval_sum-loop-term-init
 eval_sum-loop-term-init g t c = record { leads = λ outer. leads_at (ready_any _ _ _ _ [] outer c.requires.ready); first = c.requires.first }
@@ -398,7 +399,7 @@ pub eval_sum-loop-term-preserved : goal.eval_sum-loop-term-preserved
 eval_sum-loop-term-preserved g t c = record { leads = λ outer. leads_trans (rw (front c.deref-term-items.result.now c.loop-term.term-index c.term-item.result c.term-item.is (omega arith)) at (c.loop-term.invariant.leads outer)) (leads_trans (leads_then _ (c.in_ok-w.ensures outer)) (leads_then _ (runs_answer _ _ (c.in_ok-w.ensures outer).ready (sum_numbered _ c.term-item.result.0 (seen c.loop-term.value) (seen c.in_ok-w.w)) c.in_ok-value.ensures))); first = numbered_answer _ (ends (gives _)) (sum_answer c.term-item.result.0 (seen c.loop-term.value) (seen c.in_ok-w.w)) c.in_ok-value.ensures (sum_numbered _ c.term-item.result.0 (seen c.loop-term.value) (seen c.in_ok-w.w)) }
 
 pub eval_sum-returns : goal.eval_sum-returns
-eval_sum-returns g t c = λ outer. rw (← c.deref-term-items.ensures.value) ((rw (drop_all c.loop-term.term-index c.deref-term-items.result.now (omega arith)) at (c.loop-term.invariant.leads outer)).runs _ _ (runs_at (gives (seen c.loop-term.value)) (c.loop-term.invariant.leads outer).ready c.loop-term.invariant.first refl))
+eval_sum-returns g t c = λ outer. rw (← c.deref-term-items.ensures.value) ((rw (drop_all c.loop-term.term-index c.deref-term-items.result.now (omega arith)) at (c.loop-term.invariant.leads outer)).runs _ _ (runs_at (gives (seen c.loop-term.value)) (c.loop-term.invariant.leads outer).ready c.loop-term.invariant.first tt (λ left. refl)))
 
 pub eval_product-loop-factor-init : goal.eval_product-loop-factor-init
 eval_product-loop-factor-init g t c = record { leads = λ outer. leads_at (ready_any _ _ _ _ [] outer c.requires.ready); first = c.requires.first }
@@ -426,7 +427,7 @@ pub eval_product-loop-factor-preserved : goal.eval_product-loop-factor-preserved
 eval_product-loop-factor-preserved g t c = record { leads = λ outer. leads_trans (rw (front c.deref-factor-items.result.now c.loop-factor.factor-index c.factor-item.result c.factor-item.is (omega arith)) at (c.loop-factor.invariant.leads outer)) (leads_trans (leads_then _ (c.in_ok-w.ensures outer)) (leads_then _ (runs_answer _ _ (c.in_ok-w.ensures outer).ready (product_numbered _ c.factor-item.result.0 (seen c.loop-factor.value) (seen c.in_ok-w.w)) c.in_ok-value.ensures))); first = numbered_answer _ (ends (gives _)) (product_answer c.factor-item.result.0 (seen c.loop-factor.value) (seen c.in_ok-w.w)) c.in_ok-value.ensures (product_numbered _ c.factor-item.result.0 (seen c.loop-factor.value) (seen c.in_ok-w.w)) }
 
 pub eval_product-returns : goal.eval_product-returns
-eval_product-returns g t c = λ outer. rw (← c.deref-factor-items.ensures.value) ((rw (drop_all c.loop-factor.factor-index c.deref-factor-items.result.now (omega arith)) at (c.loop-factor.invariant.leads outer)).runs _ _ (runs_at (gives (seen c.loop-factor.value)) (c.loop-factor.invariant.leads outer).ready c.loop-factor.invariant.first refl))
+eval_product-returns g t c = λ outer. rw (← c.deref-factor-items.ensures.value) ((rw (drop_all c.loop-factor.factor-index c.deref-factor-items.result.now (omega arith)) at (c.loop-factor.invariant.leads outer)).runs _ _ (runs_at (gives (seen c.loop-factor.value)) (c.loop-factor.invariant.leads outer).ready c.loop-factor.invariant.first tt (λ left. refl)))
 
 pub eval_places-loop-place-init : goal.eval_places-loop-place-init
 eval_places-loop-place-init g t c = record { leads = λ outer. leads_at (ready_any _ _ _ _ [] outer c.requires.ready); first = c.requires.first }
@@ -454,7 +455,7 @@ pub eval_places-loop-place-preserved : goal.eval_places-loop-place-preserved
 eval_places-loop-place-preserved g t c = record { leads = λ outer. leads_trans (rw (front c.deref-place-items.result.now c.loop-place.place-index c.place-item.result c.place-item.is (omega arith)) at (c.loop-place.invariant.leads outer)) (leads_trans (leads_then _ (c.in_ok-w.ensures outer)) (leads_then _ (runs_answer _ _ (c.in_ok-w.ensures outer).ready (item_numbered _ (seen c.loop-place.value) (seen c.in_ok-w.w) c.loop-place.invariant.first) c.in_ok-value.ensures))); first = numbered_answer _ (ends (gives _)) (item_answer (seen c.loop-place.value) (seen c.in_ok-w.w)) c.in_ok-value.ensures (item_numbered _ (seen c.loop-place.value) (seen c.in_ok-w.w) c.loop-place.invariant.first) }
 
 pub eval_places-returns : goal.eval_places-returns
-eval_places-returns g t c = λ outer. rw (← c.deref-place-items.ensures.value) ((rw (drop_all c.loop-place.place-index c.deref-place-items.result.now (omega arith)) at (c.loop-place.invariant.leads outer)).runs _ _ (runs_at (gives (seen c.loop-place.value)) (c.loop-place.invariant.leads outer).ready c.loop-place.invariant.first refl))
+eval_places-returns g t c = λ outer. rw (← c.deref-place-items.ensures.value) ((rw (drop_all c.loop-place.place-index c.deref-place-items.result.now (omega arith)) at (c.loop-place.invariant.leads outer)).runs _ _ (runs_at (gives (seen c.loop-place.value)) (c.loop-place.invariant.leads outer).ready c.loop-place.invariant.first tt (λ left. refl)))
 
 pub eval_all-loop-expr-init : goal.eval_all-loop-expr-init
 eval_all-loop-expr-init g t c = record { leads = λ outer next. rw c.new-values.ensures.items (leads_at (ready_any _ _ _ _ [] outer c.requires.ready)); numbered = rw c.new-values.ensures.items tt; counted = rw c.new-values.ensures.items refl }
@@ -506,7 +507,7 @@ eval_call-eval_all-requires g t c κs within =
     search rules
 
 pub eval_call-returns-in_err-vs-in-Some : goal.eval_call-returns-in_err-vs-in-Some
-eval_call-returns-in_err-vs-in-Some g t c = let q = err_from_is_err_and c.from_residual.result c.from_residual.ensures.1 in λ outer. rw (q.1, q.2) (runs_as refl (c.in_err-vs-in-Some.ensures.exit outer _))
+eval_call-returns-in_err-vs-in-Some g t c = let q = err_from_is_err_and c.from_residual.result c.from_residual.ensures.1 in λ outer. rw (q.1, q.2) (runs_as (λ left. refl) (c.in_err-vs-in-Some.ensures.exit outer (call_of (around_of g.H.Host.rules (seen_program c.args.code.now.program.now) c.args.depth) c.args.name.now.name (asks.limited None (moment_of (seen_program c.args.code.now.program.now) (g.H.Host.now c.args.host.now) c.args.store.now (variables_of c.args.names.now c.args.locals.now.items ∷ outer)).machine))))
 
 pub eval_call-ask-requires : goal.eval_call-ask-requires
 eval_call-ask-requires g t c κs within =
@@ -528,7 +529,7 @@ eval_call-eval_all-requires-in-None g t c κs within =
     search rules
 
 pub eval_call-returns-in_err-vs-in-None : goal.eval_call-returns-in_err-vs-in-None
-eval_call-returns-in_err-vs-in-None g t c = let q = err_from_is_err_and c.from_residual-in_err-vs-in-None.result c.from_residual-in_err-vs-in-None.ensures.1 in λ outer. rw (q.1, q.2) (runs_as refl (c.in_err-vs-in-None.ensures.exit outer _))
+eval_call-returns-in_err-vs-in-None g t c = let q = err_from_is_err_and c.from_residual-in_err-vs-in-None.result c.from_residual-in_err-vs-in-None.ensures.1 in λ outer. rw (q.1, q.2) (runs_as (λ left. refl) (c.in_err-vs-in-None.ensures.exit outer (call_of (around_of g.H.Host.rules (seen_program c.args.code.now.program.now) c.args.depth) c.args.name.now.name (asks.limited None (moment_of (seen_program c.args.code.now.program.now) (g.H.Host.now c.args.host.now) c.args.store.now (variables_of c.args.names.now c.args.locals.now.items ∷ outer)).machine))))
 
 pub eval_call-call-requires : goal.eval_call-call-requires
 eval_call-call-requires g t c κs within =
@@ -540,10 +541,10 @@ eval_call-call-requires g t c κs within =
     search rules
 
 pub eval_call-returns-in_ok-vs-in-Some : goal.eval_call-returns-in_ok-vs-in-Some
-eval_call-returns-in_ok-vs-in-Some g t c = λ outer. runs_as refl ((c.in_ok-vs-in-Some.ensures.values.leads outer _).runs _ _ (runs_op g.H.Host.rules (seen_program c.args.code.now.program.now) c.args.depth ((moment_of (seen_program c.args.code.now.program.now) (host_now (g.H.Host.told c.args.host.now) (g.H.Host.tickets (g.H.Host.told c.args.host.now)) (g.H.Host.busy_room (g.H.Host.told c.args.host.now)) (g.H.Host.function_count c.args.host.now) (g.H.Host.refusals c.args.host.now) (g.H.Host.last_stop c.args.host.now)) c.args.store.now (variables_of c.args.names.now c.args.locals.now.items ∷ outer)).machine) c.args.name.now.name _ _ (sym c.operation_named.ensures ∙ c.in-Some.is) (runs_inside (seen_program c.args.code.now.program.now) _ _ _ _ _ outer (held_of _ _ _ _ outer (c.in_ok-vs-in-Some.ensures.values.leads outer (λ vs m. OutOfFuel m)).ready) (c.ask.ensures (variables_of c.args.names.now c.eval_all.new.locals.items ∷ outer)))))
+eval_call-returns-in_ok-vs-in-Some g t c = λ outer. runs_as (λ left. refl) ((c.in_ok-vs-in-Some.ensures.values.leads outer (call_of (around_of g.H.Host.rules (seen_program c.args.code.now.program.now) c.args.depth) c.args.name.now.name (asks.limited None (moment_of (seen_program c.args.code.now.program.now) (g.H.Host.now c.args.host.now) c.args.store.now (variables_of c.args.names.now c.args.locals.now.items ∷ outer)).machine))).runs _ _ (runs_op g.H.Host.rules (seen_program c.args.code.now.program.now) c.args.depth (asks.limited None (moment_of (seen_program c.args.code.now.program.now) (g.H.Host.now c.args.host.now) c.args.store.now (variables_of c.args.names.now c.args.locals.now.items ∷ outer)).machine) c.args.name.now.name _ _ (sym c.operation_named.ensures ∙ c.in-Some.is) (runs_inside (seen_program c.args.code.now.program.now) _ _ _ _ _ outer (held_of _ _ _ _ outer (c.in_ok-vs-in-Some.ensures.values.leads outer (λ vs m. OutOfFuel m)).ready) (c.ask.ensures (variables_of c.args.names.now c.eval_all.new.locals.items ∷ outer)))))
 
 pub eval_call-returns-in_ok-vs-in-None : goal.eval_call-returns-in_ok-vs-in-None
-eval_call-returns-in_ok-vs-in-None g t c = λ outer. runs_as refl ((c.in_ok-vs-in-None.ensures.values.leads outer _).runs _ _ (runs_called g.H.Host.rules (seen_program c.args.code.now.program.now) c.args.depth ((moment_of (seen_program c.args.code.now.program.now) (host_now (g.H.Host.told c.args.host.now) (g.H.Host.tickets (g.H.Host.told c.args.host.now)) (g.H.Host.busy_room (g.H.Host.told c.args.host.now)) (g.H.Host.function_count c.args.host.now) (g.H.Host.refusals c.args.host.now) (g.H.Host.last_stop c.args.host.now)) c.args.store.now (variables_of c.args.names.now c.args.locals.now.items ∷ outer)).machine) c.args.name.now.name _ _ (sym c.operation_named.ensures ∙ c.in-None.is) (name_at g.H.Host.rules (seen_program c.args.code.now.program.now) c.args.depth (host_now (g.H.Host.told c.args.host.now) (g.H.Host.tickets (g.H.Host.told c.args.host.now)) (g.H.Host.busy_room (g.H.Host.told c.args.host.now)) (g.H.Host.function_count c.args.host.now) (g.H.Host.refusals c.args.host.now) (g.H.Host.last_stop c.args.host.now)) c.args.store.now (variables_of c.args.names.now c.args.locals.now.items) outer c.args.name.now.name _ (rw c.args.code.now.globals_named at c.in_ok-callee-in-None.ensures)) (runs_inside (seen_program c.args.code.now.program.now) _ _ _ _ _ outer (held_of _ _ _ _ outer (c.in_ok-vs-in-None.ensures.values.leads outer (λ vs m. OutOfFuel m)).ready) (c.call.ensures.runs (variables_of c.args.names.now c.eval_all-in-None.new.locals.items ∷ outer)))))
+eval_call-returns-in_ok-vs-in-None g t c = λ outer. runs_as (λ left. refl) ((c.in_ok-vs-in-None.ensures.values.leads outer (call_of (around_of g.H.Host.rules (seen_program c.args.code.now.program.now) c.args.depth) c.args.name.now.name (asks.limited None (moment_of (seen_program c.args.code.now.program.now) (g.H.Host.now c.args.host.now) c.args.store.now (variables_of c.args.names.now c.args.locals.now.items ∷ outer)).machine))).runs _ _ (runs_called g.H.Host.rules (seen_program c.args.code.now.program.now) c.args.depth (asks.limited None (moment_of (seen_program c.args.code.now.program.now) (g.H.Host.now c.args.host.now) c.args.store.now (variables_of c.args.names.now c.args.locals.now.items ∷ outer)).machine) c.args.name.now.name _ _ (sym c.operation_named.ensures ∙ c.in-None.is) (name_at g.H.Host.rules (seen_program c.args.code.now.program.now) c.args.depth (g.H.Host.now c.args.host.now) c.args.store.now (variables_of c.args.names.now c.args.locals.now.items) outer c.args.name.now.name _ (rw c.args.code.now.globals_named at c.in_ok-callee-in-None.ensures) None) (runs_inside (seen_program c.args.code.now.program.now) _ _ _ _ _ outer (held_of _ _ _ _ outer (c.in_ok-vs-in-None.ensures.values.leads outer (λ vs m. OutOfFuel m)).ready) (c.call.ensures.runs (variables_of c.args.names.now c.eval_all-in-None.new.locals.items ∷ outer)))))
 
 pub exec-eval-requires : goal.exec-eval-requires
 exec-eval-requires g t c κs within =
@@ -663,7 +664,7 @@ pub exec-returns-in_ok-v-in-Assign : goal.exec-returns-in_ok-v-in-Assign
 exec-returns-in_ok-v-in-Assign g t c = λ outer. rw (c.in-Assign.is, seen-Assign) (runs_then _ (c.in_ok-v-in-Assign.ensures outer) (runs_assign (seen_program c.args.code.now.program.now) _ _ _ _ _ outer c.in-Assign.x.name (seen c.in_ok-v-in-Assign.v) c.assign-in-Assign.ensures.locals (rw c.args.code.now.globals_named at c.assign-in-Assign.ensures.globals) c.assign-in-Assign.ensures.fuel (c.in_ok-v-in-Assign.ensures outer).numbered (c.in_ok-v-in-Assign.ensures outer).ready))
 
 pub exec-returns-in_ok-eval-in-Expr : goal.exec-returns-in_ok-eval-in-Expr
-exec-returns-in_ok-eval-in-Expr g t c = λ outer. rw (c.in-Expr.is, seen-Expr) (runs_then _ (c.in_ok-eval-in-Expr.ensures outer) (runs_at (gives UnitValue) (c.in_ok-eval-in-Expr.ensures outer).ready tt refl))
+exec-returns-in_ok-eval-in-Expr g t c = λ outer. rw (c.in-Expr.is, seen-Expr) (runs_then _ (c.in_ok-eval-in-Expr.ensures outer) (runs_at (gives UnitValue) (c.in_ok-eval-in-Expr.ensures outer).ready tt tt (λ left. refl)))
 
 pub exec-returns-then-branch : goal.exec-returns-then-branch
 exec-returns-then-branch g t c = λ outer. rw (c.in-If.is, seen-If) (runs_then _ (c.in_ok-v-in-If.ensures outer) (runs_true _ _ _ (c.in_ok-truth-in-If.ensures.ok ∙ ap Some c.if-branch.true) (c.exec_all.ensures outer)))
@@ -672,16 +673,16 @@ pub exec-returns-else-branch : goal.exec-returns-else-branch
 exec-returns-else-branch g t c = λ outer. rw (c.in-If.is, seen-If) (runs_then _ (c.in_ok-v-in-If.ensures outer) (runs_false _ _ _ (c.in_ok-truth-in-If.ensures.ok ∙ ap Some c.if-branch.false) (c.exec_others.ensures outer)))
 
 pub exec-returns-in-While : goal.exec-returns-in-While
-exec-returns-in-While g t c = λ outer. rw (c.in-While.is, seen-While) (runs_as refl (c.exec_while.ensures outer))
+exec-returns-in-While g t c = λ outer. rw (c.in-While.is, seen-While) (runs_as (λ left. refl) (c.exec_while.ensures outer))
 
 pub exec-returns-in-None : goal.exec-returns-in-None
-exec-returns-in-None g t c = λ outer. rw (c.in-Return.is, seen-Return, c.in-None.is) (runs_at (returns UnitValue) (ready_any _ _ _ _ [] outer c.requires.ready) tt refl)
+exec-returns-in-None g t c = λ outer. rw (c.in-Return.is, seen-Return, c.in-None.is) (runs_at (returns UnitValue) (ready_any _ _ _ _ [] outer c.requires.ready) tt tt (λ left. refl))
 
 pub exec-returns-in_ok-v-in-Some : goal.exec-returns-in_ok-v-in-Some
-exec-returns-in_ok-v-in-Some g t c = λ outer. rw (c.in-Return.is, seen-Return, c.in-Some.is) (runs_then _ (c.in_ok-v-in-Some.ensures outer) (runs_at (returns (seen c.in_ok-v-in-Some.v)) (c.in_ok-v-in-Some.ensures outer).ready (c.in_ok-v-in-Some.ensures outer).numbered refl))
+exec-returns-in_ok-v-in-Some g t c = λ outer. rw (c.in-Return.is, seen-Return, c.in-Some.is) (runs_then _ (c.in_ok-v-in-Some.ensures outer) (runs_at (returns (seen c.in_ok-v-in-Some.v)) (c.in_ok-v-in-Some.ensures outer).ready (c.in_ok-v-in-Some.ensures outer).numbered tt (λ left. refl)))
 
 pub exec-returns-in_ok-v-in-Throw : goal.exec-returns-in_ok-v-in-Throw
-exec-returns-in_ok-v-in-Throw g t c = λ outer. rw (c.in-Throw.is, seen-Throw) (runs_then _ (c.in_ok-v-in-Throw.ensures outer) (runs_at (throws (seen c.in_ok-v-in-Throw.v)) (c.in_ok-v-in-Throw.ensures outer).ready (c.in_ok-v-in-Throw.ensures outer).numbered refl))
+exec-returns-in_ok-v-in-Throw g t c = λ outer. rw (c.in-Throw.is, seen-Throw) (runs_then _ (c.in_ok-v-in-Throw.ensures outer) (runs_at (throws (seen c.in_ok-v-in-Throw.v)) (c.in_ok-v-in-Throw.ensures outer).ready (c.in_ok-v-in-Throw.ensures outer).numbered tt (λ left. refl)))
 
 pub exec-returns-in-Some-2 : goal.exec-returns-in-Some-2
 exec-returns-in-Some-2 g t c = λ outer. rw (c.in-Try.is, seen-Try) (runs_caught _ (runs_left (c.in_ok-v-in-Try.ensures.ok ∙ ap caught_left c.in-Some-2.is) (c.exec_all-done.ensures outer)) (runs_after_assign (seen_program c.args.code.now.program.now) _ _ _ _ _ outer c.in-Try.x.name (seen c.in-Some-2.v) _ c.assign-in-Some-2.ensures.locals (rw c.args.code.now.globals_named at c.assign-in-Some-2.ensures.globals) c.assign-in-Some-2.ensures.fuel (c.exec_all-in-Some-2.ensures outer)))
@@ -712,7 +713,7 @@ pub exec_all-loop-stmt-preserved : goal.exec_all-loop-stmt-preserved
 exec_all-loop-stmt-preserved g t c = λ outer. leads_trans (rw (front c.deref-stmt-items.result.now c.loop-stmt.stmt-index c.stmt-item.result c.stmt-item.is (omega arith)) at (c.loop-stmt.invariant outer)) (leads_then _ (c.in_ok-exec.ensures outer))
 
 pub exec_all-returns : goal.exec_all-returns
-exec_all-returns g t c = λ outer. rw (← c.deref-stmt-items.ensures.value) ((rw (drop_all c.loop-stmt.stmt-index c.deref-stmt-items.result.now (omega arith)) at (c.loop-stmt.invariant outer)).runs _ _ (runs_at (gives UnitValue) (c.loop-stmt.invariant outer).ready tt refl))
+exec_all-returns g t c = λ outer. rw (← c.deref-stmt-items.ensures.value) ((rw (drop_all c.loop-stmt.stmt-index c.deref-stmt-items.result.now (omega arith)) at (c.loop-stmt.invariant outer)).runs _ _ (runs_at (gives UnitValue) (c.loop-stmt.invariant outer).ready tt tt (λ left. refl)))
 
 pub exec_items-loop-item-init : goal.exec_items-loop-item-init
 exec_items-loop-item-init g t c = λ outer. leads_at (ready_any _ _ _ _ [] outer c.requires.ready)
@@ -745,7 +746,7 @@ pub exec_items-loop-item-preserved : goal.exec_items-loop-item-preserved
 exec_items-loop-item-preserved g t c = λ outer. leads_trans (rw c.in-Stmt.is at (rw (front c.args.items.now c.loop-item.item-index c.item-item.result c.item-item.is (omega arith)) at (c.loop-item.invariant outer))) (leads_then _ (c.in_ok-exec.ensures outer))
 
 pub exec_items-returns : goal.exec_items-returns
-exec_items-returns g t c = λ outer. (rw (drop_all c.loop-item.item-index c.args.items.now (omega arith)) at (c.loop-item.invariant outer)).runs _ _ (runs_at (gives UnitValue) (c.loop-item.invariant outer).ready tt refl)
+exec_items-returns g t c = λ outer. (rw (drop_all c.loop-item.item-index c.args.items.now (omega arith)) at (c.loop-item.invariant outer)).runs _ _ (runs_at (gives UnitValue) (c.loop-item.invariant outer).ready tt tt (λ left. refl))
 
 pub exec_others-loop-other-init : goal.exec_others-loop-other-init
 exec_others-loop-other-init g t c = λ outer. leads_at (ready_any _ _ _ _ [] outer c.requires.ready)
@@ -792,10 +793,10 @@ exec_others-exec_all-requires-in-Some g t c κs within =
     search rules
 
 pub exec_others-returns-in-Some : goal.exec_others-returns-in-Some
-exec_others-returns-in-Some g t c = λ outer. rw (← c.deref-other-items.ensures.value) ((rw (drop_all c.loop-other.other-index c.deref-other-items.result.now (omega arith)) at (c.loop-other.invariant outer)).runs _ _ (rw c.in-Some.is (runs_as refl (c.exec_all-in-Some.ensures outer))))
+exec_others-returns-in-Some g t c = λ outer. rw (← c.deref-other-items.ensures.value) ((rw (drop_all c.loop-other.other-index c.deref-other-items.result.now (omega arith)) at (c.loop-other.invariant outer)).runs _ _ (rw c.in-Some.is (runs_as (λ left. refl) (c.exec_all-in-Some.ensures outer))))
 
 pub exec_others-returns-in-None : goal.exec_others-returns-in-None
-exec_others-returns-in-None g t c = λ outer. rw (← c.deref-other-items.ensures.value) ((rw (drop_all c.loop-other.other-index c.deref-other-items.result.now (omega arith)) at (c.loop-other.invariant outer)).runs _ _ (rw c.in-None.is (runs_at (gives UnitValue) (c.loop-other.invariant outer).ready tt refl)))
+exec_others-returns-in-None g t c = λ outer. rw (← c.deref-other-items.ensures.value) ((rw (drop_all c.loop-other.other-index c.deref-other-items.result.now (omega arith)) at (c.loop-other.invariant outer)).runs _ _ (rw c.in-None.is (runs_at (gives UnitValue) (c.loop-other.invariant outer).ready tt tt (λ left. refl))))
 
 pub exec_while-loop-v-init : goal.exec_while-loop-v-init
 exec_while-loop-v-init g t c = turning_first _ _ _ _ _ _ (λ outer. (ready_any _ _ _ _ [] outer c.requires.ready))
@@ -838,7 +839,7 @@ pub exec_while-returns-in_err-exec_all : goal.exec_while-returns-in_err-exec_all
 exec_while-returns-in_err-exec_all g t c = let q = err_from_is_err_and c.from_residual-in_err-exec_all.result c.from_residual-in_err-exec_all.ensures.1 in λ outer. rw (q.1, q.2) ((c.loop-v.invariant.leads outer).runs _ _ (runs_then _ (c.in_ok-v.ensures outer) (runs_true _ _ _ (c.in_ok-truth.ensures.ok ∙ ap Some c.if-branch.true) (runs_unit _ _ _ _ _ (c.eval.new.store.fuel - 1) _ (omega arith) refl (runs_first c.in_err-exec_all.field-0.0 _ (c.in_err-exec_all.ensures outer))))))
 
 pub exec_while-returns-else-branch : goal.exec_while-returns-else-branch
-exec_while-returns-else-branch g t c = λ outer. (c.loop-v.invariant.leads outer).runs _ _ (runs_then _ (c.in_ok-v.ensures outer) (runs_false _ _ _ (c.in_ok-truth.ensures.ok ∙ ap Some c.if-branch.false) (runs_at (gives UnitValue) (c.in_ok-v.ensures outer).ready tt refl)))
+exec_while-returns-else-branch g t c = λ outer. (c.loop-v.invariant.leads outer).runs _ _ (runs_then _ (c.in_ok-v.ensures outer) (runs_false _ _ _ (c.in_ok-truth.ensures.ok ∙ ap Some c.if-branch.false) (runs_at (gives UnitValue) (c.in_ok-v.ensures outer).ready tt tt (λ left. refl))))
 
 pub run_function-returns-then-depth-ge-OPEN_CALLS-clause-runs : goal.run_function-returns-then-depth-ge-OPEN_CALLS-clause-runs
 run_function-returns-then-depth-ge-OPEN_CALLS-clause-runs g t c = λ frames. rw c.fault.ensures (runs_deep g.H.Host.rules (seen_program c.args.code.now.program.now) c.args.depth c.args.function (map seen c.args.args.items) (ready_frames _ _ _ [] frames c.requires.ready) (omega arith))
@@ -913,16 +914,16 @@ pub steps-op-requires-clause-room : goal.steps-op-requires-clause-room
 steps-op-requires-clause-room g t c = let r = c.requires.room in omega (arith, r)
 
 pub steps-returns-in-Err : goal.steps-returns-in-Err
-steps-returns-in-Err g t c = λ frames. refused_first g.H.Host.rules (caller_of g.H.Host.rules (seen_program c.args.code.now.program.now) c.args.depth) (seen_program c.args.code.now.program.now) _ _ _ frames _ c.in-Err.ensures.cause.failed c.in-Err.ensures.refused (ready_after _ _ _ _ _ [] frames (room_taken (is_busy c.args.op)) c.in-Err.ensures.functions c.in-Err.ensures.room refl c.requires.room c.requires.ready)
+steps-returns-in-Err g t c = λ frames. refused_first (outside g.H.Host.rules g.H.Host.leaves (seen_program c.args.code.now.program.now)) (caller_of g.H.Host.rules (seen_program c.args.code.now.program.now) c.args.depth) (seen_program c.args.code.now.program.now) _ _ _ frames c.args.op (map seen c.args.args.items) _ c.in-Err.ensures.cause.failed c.in-Err.ensures.refused c.in-Err.ensures.leaves (ready_after _ _ _ _ _ [] frames (room_taken (is_busy c.args.op)) c.in-Err.ensures.functions c.in-Err.ensures.room refl c.requires.room c.requires.ready)
 
 pub steps-loop-step-init : goal.steps-loop-step-init
-steps-loop-step-init g t c = record { turns = asks_first g.H.Host.rules (caller_of g.H.Host.rules (seen_program c.args.code.now.program.now) c.args.depth) (seen_program c.args.code.now.program.now) _ _ _ c.args.op (map seen c.args.args.items) _ _ c.in-Ok.ensures.rule c.in-Ok.ensures.no_refusal c.in-Ok.ensures.few (λ frames. (ready_after _ _ _ _ _ [] frames (room_taken (is_busy c.args.op)) c.in-Ok.ensures.functions c.in-Ok.ensures.room refl c.requires.room c.requires.ready)); open_tickets = c.in-Ok.ensures.open_tickets; few = c.in-Ok.ensures.few; numbered = rw (functions_for _ _ _ [] c.requires.ready) at c.in-Ok.ensures.numbered }
+steps-loop-step-init g t c = record { turns = asks_first (outside g.H.Host.rules g.H.Host.leaves (seen_program c.args.code.now.program.now)) (caller_of g.H.Host.rules (seen_program c.args.code.now.program.now) c.args.depth) (seen_program c.args.code.now.program.now) _ _ _ c.args.op (map seen c.args.args.items) _ _ c.in-Ok.ensures.rule c.in-Ok.ensures.no_refusal c.in-Ok.ensures.few (λ frames. (ready_after _ _ _ _ _ [] frames (room_taken (is_busy c.args.op)) c.in-Ok.ensures.functions c.in-Ok.ensures.room refl c.requires.room c.requires.ready)); open_tickets = c.in-Ok.ensures.open_tickets; few = c.in-Ok.ensures.few; numbered = rw (functions_for _ _ _ [] c.requires.ready) at c.in-Ok.ensures.numbered }
 
 pub steps-returns-in-Value : goal.steps-returns-in-Value
-steps-returns-in-Value g t c = λ frames. asks_value_at g.H.Host.rules (caller_of g.H.Host.rules (seen_program c.args.code.now.program.now) c.args.depth) (seen_program c.args.code.now.program.now) _ _ _ _ frames c.loop-step.invariant.turns.turns (seen_step c.loop-step.step) (seen c.in-Value.v) (c.loop-step.invariant.turns.leads frames) (ap seen_step c.in-Value.is) (subst (λ s. StepIsNumbered (count_of_functions (seen_program c.args.code.now.program.now)) (seen_step s)) c.in-Value.is c.loop-step.invariant.numbered) (c.loop-step.invariant.open_tickets ∙ ap (λ s. tickets_after (seen_step s) (g.H.Host.tickets (g.H.Host.told c.args.host.now))) c.in-Value.is)
+steps-returns-in-Value g t c = λ frames. asks_value_at (outside g.H.Host.rules g.H.Host.leaves (seen_program c.args.code.now.program.now)) (caller_of g.H.Host.rules (seen_program c.args.code.now.program.now) c.args.depth) (seen_program c.args.code.now.program.now) _ _ _ _ frames c.loop-step.invariant.turns.turns (seen_step c.loop-step.step) (seen c.in-Value.v) (c.loop-step.invariant.turns.leads frames) (ap seen_step c.in-Value.is) (subst (λ s. StepIsNumbered (count_of_functions (seen_program c.args.code.now.program.now)) (seen_step s)) c.in-Value.is c.loop-step.invariant.numbered) (c.loop-step.invariant.open_tickets ∙ ap (λ s. tickets_after (seen_step s) (g.H.Host.now c.args.host.now).tickets) c.in-Value.is)
 
 pub steps-returns-in-Throw : goal.steps-returns-in-Throw
-steps-returns-in-Throw g t c = λ frames. asks_throw_at g.H.Host.rules (caller_of g.H.Host.rules (seen_program c.args.code.now.program.now) c.args.depth) (seen_program c.args.code.now.program.now) _ _ _ _ frames c.loop-step.invariant.turns.turns (seen_step c.loop-step.step) (seen c.in-Throw.v) (c.loop-step.invariant.turns.leads frames) (ap seen_step c.in-Throw.is) (subst (λ s. StepIsNumbered (count_of_functions (seen_program c.args.code.now.program.now)) (seen_step s)) c.in-Throw.is c.loop-step.invariant.numbered) (c.loop-step.invariant.open_tickets ∙ ap (λ s. tickets_after (seen_step s) (g.H.Host.tickets (g.H.Host.told c.args.host.now))) c.in-Throw.is)
+steps-returns-in-Throw g t c = λ frames. asks_throw_at (outside g.H.Host.rules g.H.Host.leaves (seen_program c.args.code.now.program.now)) (caller_of g.H.Host.rules (seen_program c.args.code.now.program.now) c.args.depth) (seen_program c.args.code.now.program.now) _ _ _ _ frames c.loop-step.invariant.turns.turns (seen_step c.loop-step.step) (seen c.in-Throw.v) (c.loop-step.invariant.turns.leads frames) (ap seen_step c.in-Throw.is) (subst (λ s. StepIsNumbered (count_of_functions (seen_program c.args.code.now.program.now)) (seen_step s)) c.in-Throw.is c.loop-step.invariant.numbered) (c.loop-step.invariant.open_tickets ∙ ap (λ s. tickets_after (seen_step s) (g.H.Host.now c.args.host.now).tickets) c.in-Throw.is)
 
 pub steps-call-called-requires : goal.steps-call-called-requires
 steps-call-called-requires g t c κs within =
@@ -934,29 +935,29 @@ steps-call-called-requires g t c κs within =
     search rules
 
 pub steps-returns-in-Err-settled : goal.steps-returns-in-Err-settled
-steps-returns-in-Err-settled g t c = λ frames. asks_exit g.H.Host.rules (caller_of g.H.Host.rules (seen_program c.args.code.now.program.now) c.args.depth) (seen_program c.args.code.now.program.now) c.loop-step.invariant.turns.turns (c.loop-step.invariant.turns.turns - 1) (seen_step c.loop-step.step) (seen c.in-Invoke.callback) (map seen c.in-Invoke.args.items) c.in-Invoke.ticket c.in-Err-settled.exit ((one_more _ 0 c.loop-step.invariant.turns.turns c.loop-step.invariant.turns.enough (some_left c.loop-step.store.fuel (g.H.Host.left (g.H.Host.told c.loop-step.host)) (seen_step c.loop-step.step) (seen c.in-Invoke.callback) (map seen c.in-Invoke.args.items) c.in-Invoke.ticket (ap seen_step c.in-Invoke.is))).0) (c.loop-step.invariant.turns.leads frames) (ap seen_step c.in-Invoke.is) (c.call-called.ensures.runs frames) c.in-Err-settled.ensures.err c.in-Err-settled.ensures.not_settled
+steps-returns-in-Err-settled g t c = λ frames. asks_exit (outside g.H.Host.rules g.H.Host.leaves (seen_program c.args.code.now.program.now)) (caller_of g.H.Host.rules (seen_program c.args.code.now.program.now) c.args.depth) (seen_program c.args.code.now.program.now) c.loop-step.invariant.turns.turns (c.loop-step.invariant.turns.turns - 1) (seen_step c.loop-step.step) (seen c.in-Invoke.callback) (map seen c.in-Invoke.args.items) c.in-Invoke.ticket c.in-Err-settled.exit ((one_more _ 0 c.loop-step.invariant.turns.turns c.loop-step.invariant.turns.enough (some_left c.loop-step.store.fuel (g.H.Host.left (g.H.Host.now c.loop-step.host).told) (seen_step c.loop-step.step) (seen c.in-Invoke.callback) (map seen c.in-Invoke.args.items) c.in-Invoke.ticket (ap seen_step c.in-Invoke.is))).0) (c.loop-step.invariant.turns.leads frames) (ap seen_step c.in-Invoke.is) (c.call-called.ensures.runs frames) c.in-Err-settled.ensures.err c.in-Err-settled.ensures.not_settled
 
 pub steps-resume-requires-clause-open_ticket : goal.steps-resume-requires-clause-open_ticket
-steps-resume-requires-clause-open_ticket g t c = ((g.H.Host.tickets (g.H.Host.told c.args.host.now)), (kept_tickets _ _ _ _ _ _ _ (seen_outcome c.in-Ok-settled.outcome) (c.call-called.ensures.runs []) c.in-Ok-settled.ensures.ok ∙ (c.loop-step.invariant.open_tickets ∙ ap (λ s. tickets_after (seen_step s) (g.H.Host.tickets (g.H.Host.told c.args.host.now))) c.in-Invoke.is)))
+steps-resume-requires-clause-open_ticket g t c = ((g.H.Host.now c.args.host.now).tickets, (kept_tickets _ _ _ _ _ _ _ (seen_outcome c.in-Ok-settled.outcome) (c.call-called.ensures.runs []) c.in-Ok-settled.ensures.ok ∙ (c.loop-step.invariant.open_tickets ∙ ap (λ s. tickets_after (seen_step s) (g.H.Host.now c.args.host.now).tickets) c.in-Invoke.is)))
 
 pub steps-resume-requires-clause-numbered : goal.steps-resume-requires-clause-numbered
 steps-resume-requires-clause-numbered g t c = rw (functions_for _ _ _ [] (c.call-called.ensures.runs []).ready) (settled_numbered _ _ (seen_outcome c.in-Ok-settled.outcome) c.in-Ok-settled.ensures.ok (c.call-called.ensures.runs []).numbered)
 
 pub steps-returns-in-Err-resume : goal.steps-returns-in-Err-resume
-steps-returns-in-Err-resume g t c = λ frames. asks_refused g.H.Host.rules (caller_of g.H.Host.rules (seen_program c.args.code.now.program.now) c.args.depth) (seen_program c.args.code.now.program.now) _ _ _ _ frames (seen c.in-Invoke.callback) (map seen c.in-Invoke.args.items) (seen_outcome c.in-Ok-settled.outcome) c.in-Err-resume.stop (c.loop-step.invariant.turns.leads frames) (c.call-called.ensures.runs frames) c.in-Ok-settled.ensures.ok c.in-Err-resume.ensures.cause.failed c.in-Err-resume.ensures.refused (ready_after _ _ _ _ _ frames frames 0 c.in-Err-resume.ensures.functions (let r = c.in-Err-resume.ensures.room in omega (arith, r)) refl (let r = room_for _ _ _ frames (c.call-called.ensures.runs frames).ready in omega (arith, r)) (c.call-called.ensures.runs frames).ready)
+steps-returns-in-Err-resume g t c = λ frames. asks_refused (outside g.H.Host.rules g.H.Host.leaves (seen_program c.args.code.now.program.now)) (caller_of g.H.Host.rules (seen_program c.args.code.now.program.now) c.args.depth) (seen_program c.args.code.now.program.now) _ _ _ frames c.loop-step.invariant.turns.turns (c.loop-step.invariant.turns.turns - 1) (seen_step c.loop-step.step) (seen c.in-Invoke.callback) (map seen c.in-Invoke.args.items) c.in-Invoke.ticket (seen_outcome c.in-Ok-settled.outcome) c.in-Err-resume.stop ((one_more _ 0 c.loop-step.invariant.turns.turns c.loop-step.invariant.turns.enough (some_left c.loop-step.store.fuel (g.H.Host.left (g.H.Host.now c.loop-step.host).told) (seen_step c.loop-step.step) (seen c.in-Invoke.callback) (map seen c.in-Invoke.args.items) c.in-Invoke.ticket (ap seen_step c.in-Invoke.is))).0) (c.loop-step.invariant.turns.leads frames) (ap seen_step c.in-Invoke.is) (c.call-called.ensures.runs frames) c.in-Ok-settled.ensures.ok c.in-Err-resume.ensures.cause.failed c.in-Err-resume.ensures.refused c.in-Err-resume.ensures.leaves (ready_after _ _ _ _ _ frames frames 0 c.in-Err-resume.ensures.functions (let r = c.in-Err-resume.ensures.room in omega (arith, r)) refl (let r = room_for _ _ _ frames (c.call-called.ensures.runs frames).ready in omega (arith, r)) (c.call-called.ensures.runs frames).ready)
 
 pub steps-loop-step-smaller : goal.steps-loop-step-smaller
-steps-loop-step-smaller g t c = (turn_falls c.loop-step.store.fuel c.call-called.new.store.fuel (g.H.Host.left (g.H.Host.told c.loop-step.host)) (g.H.Host.left (g.H.Host.told c.call-called.new.host)) (g.H.Host.left (g.H.Host.told c.resume.new.self)) (seen_step c.loop-step.step) (seen_step c.in-Ok-resume.next) (seen c.in-Invoke.callback) (map seen c.in-Invoke.args.items) c.in-Invoke.ticket (kept_fuel _ _ _ _ _ _ _ (c.call-called.ensures.runs [])) (ap seen_step c.in-Invoke.is) (λ e. ap (λ s. g.H.Host.left s c.in-Invoke.ticket) (c.call-called.ensures.still e)) c.in-Ok-resume.ensures.few c.in-Ok-resume.ensures.falls)
+steps-loop-step-smaller g t c = (turn_falls c.loop-step.store.fuel c.call-called.new.store.fuel (g.H.Host.left (g.H.Host.now c.loop-step.host).told) (g.H.Host.left (g.H.Host.now c.call-called.new.host).told) (g.H.Host.left (g.H.Host.now c.resume.new.self).told) (seen_step c.loop-step.step) (seen_step c.in-Ok-resume.next) (seen c.in-Invoke.callback) (map seen c.in-Invoke.args.items) c.in-Invoke.ticket (kept_fuel _ _ _ _ _ _ _ (c.call-called.ensures.runs [])) (ap seen_step c.in-Invoke.is) (λ e. ap (λ s. g.H.Host.left s c.in-Invoke.ticket) (c.call-called.ensures.still e)) c.in-Ok-resume.ensures.few c.in-Ok-resume.ensures.falls)
 
 pub steps-loop-step-preserved : goal.steps-loop-step-preserved
-steps-loop-step-preserved g t c = let more = one_more _ _ c.loop-step.invariant.turns.turns c.loop-step.invariant.turns.enough (turn_falls c.loop-step.store.fuel c.call-called.new.store.fuel (g.H.Host.left (g.H.Host.told c.loop-step.host)) (g.H.Host.left (g.H.Host.told c.call-called.new.host)) (g.H.Host.left (g.H.Host.told c.resume.new.self)) (seen_step c.loop-step.step) (seen_step c.in-Ok-resume.next) (seen c.in-Invoke.callback) (map seen c.in-Invoke.args.items) c.in-Invoke.ticket (kept_fuel _ _ _ _ _ _ _ (c.call-called.ensures.runs [])) (ap seen_step c.in-Invoke.is) (λ e. ap (λ s. g.H.Host.left s c.in-Invoke.ticket) (c.call-called.ensures.still e)) c.in-Ok-resume.ensures.few c.in-Ok-resume.ensures.falls) in
+steps-loop-step-preserved g t c = let more = one_more _ _ c.loop-step.invariant.turns.turns c.loop-step.invariant.turns.enough (turn_falls c.loop-step.store.fuel c.call-called.new.store.fuel (g.H.Host.left (g.H.Host.now c.loop-step.host).told) (g.H.Host.left (g.H.Host.now c.call-called.new.host).told) (g.H.Host.left (g.H.Host.now c.resume.new.self).told) (seen_step c.loop-step.step) (seen_step c.in-Ok-resume.next) (seen c.in-Invoke.callback) (map seen c.in-Invoke.args.items) c.in-Invoke.ticket (kept_fuel _ _ _ _ _ _ _ (c.call-called.ensures.runs [])) (ap seen_step c.in-Invoke.is) (λ e. ap (λ s. g.H.Host.left s c.in-Invoke.ticket) (c.call-called.ensures.still e)) c.in-Ok-resume.ensures.few c.in-Ok-resume.ensures.falls) in
     record {
       turns = record {
         turns = c.loop-step.invariant.turns.turns - 1;
         enough = more.1;
-        leads = λ frames. asks_more g.H.Host.rules (caller_of g.H.Host.rules (seen_program c.args.code.now.program.now) c.args.depth) (seen_program c.args.code.now.program.now) _ _ _ frames c.loop-step.invariant.turns.turns (c.loop-step.invariant.turns.turns - 1) (seen_step c.loop-step.step) (seen_step c.in-Ok-resume.next) (seen c.in-Invoke.callback) (map seen c.in-Invoke.args.items) c.in-Invoke.ticket (seen_outcome c.in-Ok-settled.outcome) more.0 (c.loop-step.invariant.turns.leads frames) (ap seen_step c.in-Invoke.is) (c.call-called.ensures.runs frames) c.in-Ok-settled.ensures.ok c.in-Ok-resume.ensures.rule c.in-Ok-resume.ensures.no_refusal (ready_after _ _ _ _ _ frames frames 0 c.in-Ok-resume.ensures.functions (let r = c.in-Ok-resume.ensures.room in omega (arith, r)) refl (let r = room_for _ _ _ frames (c.call-called.ensures.runs frames).ready in omega (arith, r)) (c.call-called.ensures.runs frames).ready);
+        leads = λ frames. asks_more (outside g.H.Host.rules g.H.Host.leaves (seen_program c.args.code.now.program.now)) (caller_of g.H.Host.rules (seen_program c.args.code.now.program.now) c.args.depth) (seen_program c.args.code.now.program.now) _ _ _ frames c.loop-step.invariant.turns.turns (c.loop-step.invariant.turns.turns - 1) (seen_step c.loop-step.step) (seen_step c.in-Ok-resume.next) (seen c.in-Invoke.callback) (map seen c.in-Invoke.args.items) c.in-Invoke.ticket (seen_outcome c.in-Ok-settled.outcome) more.0 (c.loop-step.invariant.turns.leads frames) (ap seen_step c.in-Invoke.is) (c.call-called.ensures.runs frames) c.in-Ok-settled.ensures.ok c.in-Ok-resume.ensures.rule c.in-Ok-resume.ensures.no_refusal (ready_after _ _ _ _ _ frames frames 0 c.in-Ok-resume.ensures.functions (let r = c.in-Ok-resume.ensures.room in omega (arith, r)) refl (let r = room_for _ _ _ frames (c.call-called.ensures.runs frames).ready in omega (arith, r)) (c.call-called.ensures.runs frames).ready);
       };
-      open_tickets = c.in-Ok-resume.ensures.open_tickets (g.H.Host.tickets (g.H.Host.told c.args.host.now)) (kept_tickets _ _ _ _ _ _ _ (seen_outcome c.in-Ok-settled.outcome) (c.call-called.ensures.runs []) c.in-Ok-settled.ensures.ok ∙ (c.loop-step.invariant.open_tickets ∙ ap (λ s. tickets_after (seen_step s) (g.H.Host.tickets (g.H.Host.told c.args.host.now))) c.in-Invoke.is));
+      open_tickets = c.in-Ok-resume.ensures.open_tickets (g.H.Host.now c.args.host.now).tickets (kept_tickets _ _ _ _ _ _ _ (seen_outcome c.in-Ok-settled.outcome) (c.call-called.ensures.runs []) c.in-Ok-settled.ensures.ok ∙ (c.loop-step.invariant.open_tickets ∙ ap (λ s. tickets_after (seen_step s) (g.H.Host.now c.args.host.now).tickets) c.in-Invoke.is));
       few = c.in-Ok-resume.ensures.few;
       numbered = rw (functions_for _ _ _ [] (c.call-called.ensures.runs []).ready) at c.in-Ok-resume.ensures.numbered;
     }

@@ -1,10 +1,11 @@
-use Rattle.std.proofs.Common.{[], ◌++◌, map, sym, ◌∙◌}
+use Rattle.std.proofs.Common.{[], ◌++◌, map, refl, sym, ◌∙◌}
 use Rattle.page_types.specs.Values.{items_of}
 use Rattle.page_values.specs.Seen.{seen}
 use Rattle.lang_ast.specs.SeenProgram.{seen_program}
+use Rattle.lang_meaning.specs.Asks.{unasked}
 use Rattle.page_interp.specs.Runs.{count_of_functions}
 use Rattle.page_interp.proofs.Calls.{kept_fuel, room_for, functions_for}
-use Rattle.page_interp.proofs.FromOutside.{outside_meaning, outside_refusals, outside_tickets, outside_numbered, first_ready, globals_ready}
+use Rattle.page_interp.proofs.FromOutside.{outside_meaning, outside_refusals, outside_tickets, outside_numbered, outside_stands, outside_dry, first_ready, globals_ready}
 use Rattle.page_interp.proofs.Numbered.{all_append, items_numbered}
 use Rattle.page_interp.proofs.NumberTests.{variables_known, variables_tested}
 use Rattle.page_interp.proofs.machine.Machine.call.Goals as goal
@@ -39,3 +40,12 @@ returns-clause-fuel g c = kept_fuel _ _ _ _ _ [] [] (c.run_function-done.ensures
 
 pub returns-clause-room : goal.returns-clause-room
 returns-clause-room g c = room_for _ _ _ [] (c.run_function-done.ensures.runs []).ready
+
+pub returns-clause-stands : goal.returns-clause-stands
+returns-clause-stands g c = outside_stands g.H.Host.rules (seen_program c.args.self.now.code.program.now) _ _ _ _ c.args.fun.now.function (items_of c.args.fun.now.bound ++ map seen c.args.args.items) (map seen c.in-Ok.all.items) _ _ c.in-Ok.ensures c.call_end.ensures (c.run_function-done.ensures.runs [])
+
+pub returns-clause-no_fuel : goal.returns-clause-no_fuel
+returns-clause-no_fuel g c = outside_dry _ _ _ _ _ _ _ c.call_end.ensures (c.run_function-done.ensures.runs [])
+
+pub returns-in-Err-clause-stands : goal.returns-in-Err-clause-stands
+returns-in-Err-clause-stands g c = unasked refl
