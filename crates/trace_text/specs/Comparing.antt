@@ -1,5 +1,6 @@
 -- What a comparison of lines is seen as.
 use Rattle.std.specs.Prelude.{ℕ, List, map}
+use Rattle.page_types.specs.Counts.{raised}
 use Rattle.trace_text.specs.declared.event.Stamped.{Stamped}
 use Rattle.trace_text.specs.EventSeen.{stamped_seen}
 use Rattle.trace_text.specs.Checks.{Kept, kept_lines}
@@ -13,3 +14,7 @@ pub record Comparison : Type 0 where
 
 abbrev pub kept_in : Comparison → Kept
 kept_in c = record { left = kept_lines c.form (map stamped_seen c.left) c.matched; matched = c.matched }
+
+-- the same comparison, in which one line more differed
+abbrev pub differed : Comparison → Comparison
+differed c = record c { refusals = raised c.refusals }

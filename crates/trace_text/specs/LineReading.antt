@@ -42,7 +42,8 @@ abbrev pub all_sources : List (Option Source)
 all_sources = None ∷ Some User ∷ Some Net ∷ Some Dom ∷ Some Timer ∷ Some Render ∷ Some Sched ∷ Some Idle ∷ []
 
 abbrev pub all_kinds : List RegKind
-all_kinds = TimeoutKind ∷ IntervalKind ∷ FrameKind ∷ IdleKind ∷ PostKind ∷ YieldKind ∷ HostKind ∷ ListenerKind ∷ ThenKind ∷ MicroKind ∷ SignalKind ∷ []
+all_kinds =
+    TimeoutKind ∷ IntervalKind ∷ FrameKind ∷ IdleKind ∷ PostKind ∷ YieldKind ∷ HostKind ∷ ListenerKind ∷ ThenKind ∷ MicroKind ∷ SignalKind ∷ []
 
 abbrev pub all_priorities : List Priority
 all_priorities = Background ∷ UserVisible ∷ UserBlocking ∷ []
@@ -73,7 +74,9 @@ form_at word = cond (is_word (codes "cont") word) (Some true) (cond (is_word (co
 
 -- a priority, or `s` and the number of a signal
 unfoldable pub queue_at : List ℕ → Option QueueName
-queue_at word = read_or (behind (codes "s") word) (λ digits. option_map SignalQueue (count_at digits)) (option_map FixedQueue (priority_at word))
+queue_at word =
+    read_or (behind (codes "s") word) (λ digits. option_map SignalQueue (count_at digits))
+    (option_map FixedQueue (priority_at word))
 
 -- `micro`, `react` or `adopt`, and a number
 unfoldable pub queued_at : List ℕ → Option Queued

@@ -1,10 +1,12 @@
 -- What a summary of a trace counts.
-use Rattle.std.specs.Prelude.{ℕ, suc, ◌-◌, ◌^◌, min, Bool, true, false, cond, List, [], ◌∷◌, Option, Some, None}
+use Rattle.std.specs.Prelude.{ℕ, suc, ◌-◌, ◌^◌, min, Bool, true, false, cond, List, [], ◌∷◌, Option, Some, None, Result}
+use Rattle.std.specs.Result.{result_err}
 use Rattle.page_types.specs.Counts.{raised}
 use Rattle.page_types.specs.declared.End.{End}
 use Rattle.page_types.specs.Events.{Event, Turn, Call, Drop, Settle, EndLine, Stamped}
 use Rattle.trace_text.specs.Line.{Line, Head, Of}
-use Rattle.trace_text.specs.Given.{Keeping, Seen}
+use Rattle.trace_text.specs.Given.{Keeping, Seen, Gives}
+use Rattle.trace_text.specs.declared.lines.NoLine.{NoLine}
 use Rattle.trace_text.specs.declared.summary.Summary.{Summary}
 
 -- ---- Ours: the numbers of turns, calls, drops and settlings, and why the run ended
@@ -98,3 +100,7 @@ count_keeping = record { rule = count_line; left = λ counts line after. ⊥ }
 -- what is seen of a count
 abbrev pub seen_counts : Counts → Seen Counts
 seen_counts counts = record { told = Some counts; faults = 0; refusals = 0 }
+
+-- a call counted one line, as its result tells
+abbrev pub CountsLine : {X : Type 0} → Counts → Line → Result X NoLine → Counts → Type 0
+CountsLine old line result new = Gives count_keeping (seen_counts old) (line ∷ []) (result_err result) (seen_counts new)

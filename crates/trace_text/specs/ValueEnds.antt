@@ -78,7 +78,8 @@ after_simple bytes = cond (begins_number bytes) (after_int bytes) (after_word by
 
 -- behind a name and the bracket that opens its row
 unfoldable pub inside_name : List ℕ → Option (List ℕ)
-inside_name bytes = cond (is_name (take_while is_name_byte bytes)) (behind (codes "(") (drop (length (take_while is_name_byte bytes)) bytes)) None
+inside_name bytes =
+    cond (is_name (take_while is_name_byte bytes)) (behind (codes "(") (drop (length (take_while is_name_byte bytes)) bytes)) None
 
 -- behind what begins a list or a function, with the byte that will close it
 unfoldable pub inside : List ℕ → Option (ℕ × List ℕ)

@@ -1,10 +1,10 @@
 //! Lines that are compared with those of a trace.
 
 ghost use Rattle.std.specs.Prelude.{◌≡◌, Err, IfOk};
-ghost use Rattle.page_types.specs.Counts.{raised};
 ghost use Rattle.page_parts.specs.Words.{same_bytes};
 ghost use Rattle.page_parts.specs.TraceText.{line_text};
 ghost use Rattle.trace_text.specs.EventSeen.{stamped_seen};
+ghost use Rattle.trace_text.specs.Comparing.{differed};
 ghost use Rattle.trace_text.specs.declared.lines.NoLine.TheVariants.{Differs};
 
 use crate::writing::write_line;
@@ -56,7 +56,7 @@ impl<'e> LineCheck<'e> {
 
     fn differs(&mut self) -> Result<(), NoLine>
         ensures answer { result ≡ Err Differs }
-        ensures counted { self.new ≡ record { form = self.old.form; left = self.old.left; matched = self.old.matched; refusals = raised self.old.refusals } }
+        ensures counted { self.new ≡ differed self.old }
     {
         self.refusals = self.refusals.saturating_add(1);
         Err(NoLine::Differs)

@@ -38,6 +38,7 @@ pub fn read_trace(alloc: Global, bytes: &[u8]) -> Result<Events, TraceFault>
 }
 
 // The form of the head, and what stands behind it.
+#[tactic(auto, using(crate::proofs::TracesRead::first_head_read, crate::proofs::TracesRead::second_head_read, crate::proofs::TracesRead::no_head_read))]
 fn read_head(bytes: &[u8]) -> Option<(u32, &[u8])>
     ensures { IsHeadRead bytes.now (option_map (λ head. (head.0, head.1.now)) result) }
 {

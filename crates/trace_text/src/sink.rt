@@ -40,14 +40,12 @@ impl<O: Sink> LineSink<O> {
 }
 
 impl<O: Sink> Lines for LineSink<O> {
-    ghost use Rattle.std.specs.Prelude.{◌≢◌, ℕ, List, [], ◌∷◌};
-    ghost use Rattle.std.specs.Result.{result_err};
+    ghost use Rattle.std.specs.Prelude.{◌≢◌, ℕ, List};
     ghost use Rattle.trace_text.specs.declared.lines.NoLine.TheVariants.{OutOfMemory};
-    ghost use Rattle.trace_text.specs.Given.{Gives};
     ghost use Rattle.page_types.specs.Counts.{raised};
     ghost use Rattle.trace_text.specs.EventSeen.{stamped_seen};
     ghost use Rattle.trace_text.specs.Line.{Head, Of};
-    ghost use Rattle.trace_text.specs.Sinks.{puts_after, seen_through, sink_keeping};
+    ghost use Rattle.trace_text.specs.Sinks.{PutsLine, puts_after, seen_through, sink_keeping};
     ghost use Rattle.trace_text.specs.Trace.{IsForm};
 
     ghost Told = { List ℕ };
@@ -59,7 +57,7 @@ impl<O: Sink> Lines for LineSink<O> {
     /// It takes no memory.
     fn head(&mut self, form: u32) -> Result<(), NoLine>
         requires { IsForm form }
-        ensures gives { Gives sink_keeping (seen_through O.bytes O.faults self.old) (Head form ∷ []) (result_err result) (seen_through O.bytes O.faults self.new) }
+        ensures gives { PutsLine O.bytes O.faults self.old (Head form) result self.new }
         ensures no_memory { result ≢ Err OutOfMemory }
         ensures one_put { O.puts self.new ≡ raised (O.puts self.old) }
     {
@@ -71,7 +69,7 @@ impl<O: Sink> Lines for LineSink<O> {
 
     /// For want of memory nothing is put.
     fn emit(&mut self, e: &Stamped) -> Result<(), NoLine>
-        ensures gives { Gives sink_keeping (seen_through O.bytes O.faults self.old) (Of (stamped_seen e.now) ∷ []) (result_err result) (seen_through O.bytes O.faults self.new) }
+        ensures gives { PutsLine O.bytes O.faults self.old (Of (stamped_seen e.now)) result self.new }
         ensures one_put { O.puts self.new ≡ puts_after (O.puts self.old) result }
     {
         let mut line = Vec::new(self.alloc);

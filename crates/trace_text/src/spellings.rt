@@ -299,7 +299,9 @@ fn parts_end(bytes: &[u8]) -> Option<&[u8]>
 // What follows the part of a text that begins with this byte.
 fn part_end(byte: u8, after: &[u8]) -> Option<&[u8]>
     requires { byte ≢ 34 }
-    ensures part { MatchOption result (after_parts (byte ∷ after.now) ≡ None) (λ rest. after_parts (byte ∷ after.now) ≡ after_parts rest.now) }
+    ensures part { MatchOption result
+        (after_parts (byte ∷ after.now) ≡ None)
+        (λ rest. after_parts (byte ∷ after.now) ≡ after_parts rest.now) }
     ensures shorter { IfSome result (λ rest. length rest.now ≤ length after.now) }
 {
     match byte {

@@ -75,12 +75,10 @@ impl LineCount {
 }
 
 impl Lines for LineCount {
-    ghost use Rattle.std.specs.Prelude.{◌≡◌, [], ◌∷◌, Ok};
-    ghost use Rattle.std.specs.Result.{result_err};
+    ghost use Rattle.std.specs.Prelude.{◌≡◌, Ok};
     ghost use Rattle.trace_text.specs.EventSeen.{stamped_seen};
     ghost use Rattle.trace_text.specs.Line.{Head, Of};
-    ghost use Rattle.trace_text.specs.Given.{Gives};
-    ghost use Rattle.trace_text.specs.Summaries.{Counts, count_keeping, seen_counts};
+    ghost use Rattle.trace_text.specs.Summaries.{Counts, CountsLine, count_keeping, seen_counts};
     ghost use Rattle.trace_text.specs.Counters.{counts_in};
     ghost use Rattle.trace_text.specs.Trace.{IsForm};
 
@@ -93,7 +91,7 @@ impl Lines for LineCount {
     /// It takes the head, and no memory.
     fn head(&mut self, _form: u32) -> Result<(), NoLine>
         requires { IsForm _form }
-        ensures gives { Gives count_keeping (seen_counts (counts_in self.old)) (Head _form ∷ []) (result_err result) (seen_counts (counts_in self.new)) }
+        ensures gives { CountsLine (counts_in self.old) (Head _form) result (counts_in self.new) }
         ensures always { result ≡ Ok tt }
     {
         Ok(())
@@ -101,7 +99,7 @@ impl Lines for LineCount {
 
     /// It takes the line, and no memory.
     fn emit(&mut self, e: &Stamped) -> Result<(), NoLine>
-        ensures gives { Gives count_keeping (seen_counts (counts_in self.old)) (Of (stamped_seen e.now) ∷ []) (result_err result) (seen_counts (counts_in self.new)) }
+        ensures gives { CountsLine (counts_in self.old) (Of (stamped_seen e.now)) result (counts_in self.new) }
         ensures always { result ≡ Ok tt }
     {
         self.count(&e.event);
