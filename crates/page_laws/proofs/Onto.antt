@@ -142,7 +142,6 @@ continuation_queued-onto s p h x = (continuation_queued-held s p h x, continuati
 pub host_queued-onto : (k : ℕ) (c : HostClosure) (x : ℤ) (signal : Option ℕ) (p : Page) → Held (made_by p) p → k < length p.hosts → slice_get p.hosts k ≡ Some c → c.mark ≡ Live → IfThere (IsGiven (length p.signals)) signal → Anew p (host_queued k c x signal p)
 host_queued-onto k c x signal p h below there live s = (host_queued-held k c x signal p h below s, host_queued-changes k c x signal p there live)
 
-
 pub parallel-onto : (p : Page) → Held (made_by p) p → Onto p (parallel p)
 parallel-onto p h = (parallel-held p h, parallel-changes p)
 
