@@ -1,15 +1,15 @@
 -- A closure of the host answers once at most: its answer is pending, or due, or given, and only where it is not live.
-use Rattle.std.proofs.Common.{◌≡◌, ℕ, zero, suc, ◌≤◌, ◌<◌, ◌+◌, Bool, true, false, List, [], ◌∷◌, ◌++◌, ◌||◌, not, Option, Some, None, refl, sym, subst, ap, ◌∙◌, cond, length, arith, unwrap_or, slice_get, ℤ, Result}
+use Rattle.std.proofs.Common.{◌≡◌, ℕ, zero, suc, ◌≤◌, ◌+◌, Bool, true, false, List, [], ◌∷◌, ◌++◌, ◌||◌, not, Option, Some, None, refl, sym, subst, ap, ◌∙◌, cond, length, arith, unwrap_or, slice_get, ℤ, Result}
 use Rattle.std.proofs.lemmas.Bool.{eqb-true, eq-eqb}
 use Rattle.std.specs.Prelude.{◌==◌, filter, find, slice_set}
 use Rattle.page_types.specs.declared.HostMark.{HostMark}
 use Rattle.page_types.specs.declared.HostMark.TheVariants.{Live, Queued as QueuedMark, Fired, Dropped}
-use Rattle.page_types.specs.Events.{Queued, Event, Ret, Throw, Call, Drop, Reg, Host, Settle, Job}
+use Rattle.page_types.specs.Events.{Event, Call, Drop, Reg, Host}
 use Rattle.page_types.specs.Tree.{Program}
 use Rattle.page_parts.specs.HostClosures.{HostClosure, fired}
 use Rattle.page_parts.specs.Promises.{Settled, Fulfilled, Failed, Reaction, PromiseJob, the_promise}
 use Rattle.page_parts.specs.Promises as Promises
-use Rattle.page_parts.specs.Notices.{Context, Notices, Noticed, changed, queue_job, queue_jobs, settle_line, subscribe_promise, queue_micro}
+use Rattle.page_parts.specs.Notices.{Context, Notices, Noticed, changed, queue_jobs, settle_line, subscribe_promise, queue_micro}
 use Rattle.page_parts.specs.Setup.{Setup}
 use Rattle.page_parts.specs.Sources.{same_source}
 use Rattle.page_parts.specs.Words.{and_last, without}

@@ -1,10 +1,10 @@
 -- How often a registration waits for its call, and what each change of the places does to that.
-use Rattle.std.proofs.Common.{◌≡◌, ℕ, zero, suc, pred, ◌≤◌, ◌<◌, ◌+◌, Bool, true, false, List, [], ◌∷◌, ◌++◌, Option, Some, None, refl, sym, subst, ap, ◌∙◌, cond, length, arith, map, unwrap_or, slice_get}
+use Rattle.std.proofs.Common.{◌≡◌, ℕ, suc, ◌≤◌, ◌+◌, Bool, true, false, List, [], ◌∷◌, ◌++◌, Option, Some, None, refl, sym, subst, ap, cond, length, arith, map, unwrap_or}
 use Rattle.std.proofs.lemmas.Bool.{eq-eqb}
 use Rattle.std.specs.Prelude.{◌==◌, find, option_map}
-use Rattle.page_parts.specs.Words.{and_last, without, with_numbered}
+use Rattle.page_parts.specs.Words.{and_last, without}
 use Rattle.page_parts.specs.Frames.{Callback, callback_in, without_handle}
-use Rattle.page_parts.specs.IdleCallbacks.{Idle, request, cancel, started}
+use Rattle.page_parts.specs.IdleCallbacks.{Idle}
 use Rattle.page_parts.specs.Promises.{Settled, Reaction, PromiseRecord, PromiseJob, React, Adopt, the_promise, pending_promise}
 use Rattle.page_parts.specs.Promises as Promises
 use Rattle.page_parts.specs.Notices.{Notices, Todo, Micro, OfPromise, WaitingJob, Context, queue_job, queue_jobs, changed, promise_changed, subscribe_promise, note_outstanding}

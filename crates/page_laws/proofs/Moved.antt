@@ -1,5 +1,5 @@
 -- What a page does is rows of changes, function by function.
-use Rattle.std.proofs.Common.{◌≡◌, ℕ, zero, suc, ◌+◌, ◌*◌, Bool, true, false, List, [], ◌∷◌, Option, Some, None, refl, ap, sym, subst, ◌∙◌, ◌++◌, cond, ℤ, Result, Ok, Err, length, pred, unwrap_or, slice_get, ◌&&◌, nat_lt, nat_le, map}
+use Rattle.std.proofs.Common.{◌≡◌, ℕ, zero, suc, ◌+◌, ◌*◌, Bool, true, false, List, [], ◌∷◌, Option, Some, None, refl, ap, sym, subst, ◌∙◌, ◌++◌, cond, ℤ, Result, Ok, Err, length, slice_get, ◌&&◌, nat_lt, nat_le, map}
 use Rattle.std.specs.Prelude.{◌==◌, slice_set}
 use Rattle.page_types.specs.Values.{Value, IntValue}
 use Rattle.page_types.specs.declared.FaultName.TheVariants.{TypeError}

@@ -13,7 +13,7 @@ use Rattle.page_model.specs.State.{Page, on_notices, context}
 use Rattle.page_model.specs.Numbers.{Each}
 use Rattle.page_laws.specs.History.{History, is_rest}
 use Rattle.page_laws.specs.CallLaws.{keeps_nesting, is_nil}
-use Rattle.page_laws.specs.Moves.{frame_asked, frame_gone, is_aside, is_end, promise_changes, PageChange, elsewhere, told, rested, registered, promised, settled, followed, adopted, subscribed, micro_asked, then_asked, answered, dropped, frame_dropped, AsBefore, rejected_taken, noted, Beginning, TheScript, ATimer, AFrame, AnIdle, ALateIdle, AListener, APost, AContinuation, AMicro, AReaction, taken, Waited, Moves, here, changing, calling, ending, flagging, running}
+use Rattle.page_laws.specs.Moves.{frame_asked, frame_gone, is_aside, is_end, promise_changes, PageChange, elsewhere, told, rested, registered, promised, settled, followed, adopted, subscribed, micro_asked, then_asked, answered, dropped, frame_dropped, rejected_taken, noted, Beginning, TheScript, ATimer, AFrame, AnIdle, ALateIdle, AListener, APost, AContinuation, AMicro, AReaction, taken, Waited, Moves, here, changing, calling, ending, flagging, running}
 use Rattle.page_laws.proofs.Lines.{emit_each-events}
 use Rattle.page_laws.proofs.Scans.{Test, Kept, kept-added}
 

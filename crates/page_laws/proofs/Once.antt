@@ -1,11 +1,11 @@
 -- What runs once is called once at most: it waits or was called, never both.
-use Rattle.std.proofs.Common.{◌≡◌, ℕ, zero, suc, pred, ◌≤◌, ◌<◌, ◌+◌, Bool, true, false, List, [], ◌∷◌, ◌++◌, ◌&&◌, ◌||◌, not, Option, Some, None, refl, sym, subst, ap, ◌∙◌, cond, length, arith, unwrap_or, nat_le, slice_get}
+use Rattle.std.proofs.Common.{◌≡◌, ℕ, suc, ◌≤◌, ◌<◌, ◌+◌, Bool, true, false, List, [], ◌∷◌, ◌++◌, ◌&&◌, ◌||◌, not, Option, Some, None, refl, sym, subst, ap, ◌∙◌, cond, length, arith, nat_le}
 use Rattle.std.proofs.lemmas.Bool.{eqb-true, eq-eqb, leb-true, leb-false}
 use Rattle.std.specs.Prelude.{◌==◌, filter, find}
 use Rattle.page_types.specs.declared.RegKind.{RegKind}
 use Rattle.page_types.specs.declared.RegKind.TheVariants as kind
 use Rattle.page_types.specs.declared.Source.TheVariants.{Sched}
-use Rattle.page_types.specs.Events.{Event, Call, Ret, Throw, Reg, Run, Turn, IdleLine, Host, Drop, Stamped}
+use Rattle.page_types.specs.Events.{Event, Call, Reg, Run, Turn, IdleLine, Host, Drop}
 use Rattle.page_parts.specs.Words.{and_last, without}
 use Rattle.page_parts.specs.Frames.{Frames, Callback, without_handle}
 use Rattle.page_parts.specs.Promises.{Settled, Reaction, the_promise, pending_promise}
@@ -15,16 +15,16 @@ use Rattle.page_parts.specs.Sources.{same_source}
 use Rattle.page_model.specs.State.{Role, ScriptRole, OfKind, Registration, Page, Task, QueueTimer, QueueSignal, RunTimer, AnswerHost, EnqueuePost, emit, emit_each, on_notices, context, caller}
 use Rattle.page_model.specs.Invoke.{call_begun, register_as}
 use Rattle.page_model.specs.PageTime.{deadline}
-use Rattle.page_model.specs.Numbers.{Each, IsFor, IsGiven, made_by, timer_role}
+use Rattle.page_model.specs.Numbers.{Each, IsFor, made_by, timer_role}
 use Rattle.page_model.proofs.NumbersGrow.{length-last}
-use Rattle.page_laws.specs.History.{History, count_lines, some_line, has_kind, is_some_and, is_call_of, is_reg_of, is_rest, kind_of, was_called}
+use Rattle.page_laws.specs.History.{History, count_lines, has_kind, is_some_and, is_call_of, kind_of, was_called}
 use Rattle.page_laws.specs.CallLaws.{is_one_shot, has_no_callback, was_made, runs_once, may_be_called, may_be_registered}
-use Rattle.page_laws.specs.Moves.{is_aside, is_end, promise_changes, Places, places, PlaceChange, places_stay, task_queued, task_left, armed_again, signal_armed, timer_due, post_due, completed, idle_started, idle_left, sched_left, answer_due, id_cleared, idle_armed, idle_due, Dropping, timer_dropped, idle_dropped, listener_dropped, task_dropped, AsBefore, PageChange, elsewhere, told, rested, answered, dropped, frame_dropped, registered, frame_asked, frame_gone, promised, settled, followed, adopted, subscribed, then_asked, micro_asked, rejected_taken, noted, Beginning, TheScript, ATimer, AFrame, AnIdle, ALateIdle, AListener, APost, AContinuation, AMicro, AReaction, called_by, role_of, taken, Waited, Moves, here, changing, calling, ending, flagging, running}
+use Rattle.page_laws.specs.Moves.{promise_changes, Places, places, PlaceChange, places_stay, task_queued, task_left, armed_again, signal_armed, timer_due, post_due, completed, idle_started, idle_left, sched_left, answer_due, id_cleared, idle_armed, idle_due, Dropping, timer_dropped, idle_dropped, listener_dropped, task_dropped, AsBefore, PageChange, elsewhere, told, rested, answered, dropped, frame_dropped, registered, frame_asked, frame_gone, promised, settled, followed, adopted, subscribed, then_asked, micro_asked, rejected_taken, noted, Beginning, TheScript, ATimer, AFrame, AnIdle, ALateIdle, AListener, APost, AContinuation, AMicro, AReaction, called_by, role_of, taken, Waited, Moves, here, changing, calling, ending, flagging, running}
 use Rattle.page_types.specs.Tree.{Program}
 use Rattle.page_parts.specs.Setup.{Setup}
 use Rattle.page_parts.specs.HostClosures.{HostClosure}
 use Rattle.page_model.specs.Turns.{first_page, the_script}
-use Rattle.page_laws.proofs.Claims.{steps_claim, todo_claims, handler_claims, task_claims, completing_claims, callback_claims, sched_claims, reaction_claims, promise_claims, job_claims, place_claims, notice_claims, free-claims, completed-less, sched-less, idle-less, first-claims, settled-claims, adopted-claims, subscribed-claims, micro-claims, promised-claims, noted-claims}
+use Rattle.page_laws.proofs.Claims.{steps_claim, todo_claims, handler_claims, task_claims, completing_claims, callback_claims, sched_claims, reaction_claims, job_claims, place_claims, notice_claims, free-claims, completed-less, sched-less, idle-less, first-claims, settled-claims, adopted-claims, subscribed-claims, micro-claims, promised-claims, noted-claims}
 use Rattle.page_laws.proofs.Lines.{added, emit_each-events}
 use Rattle.page_laws.proofs.Registered as registered
 use Rattle.page_laws.proofs.Registered.{At, KindsFit, IsCallable, Silent, tells_of_kinds, kind_in_role, at_past, at_number, false_true, or-true, none-line, some-line, changed-silent, aside-silent, rest-silent, end-silent}

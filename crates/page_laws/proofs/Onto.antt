@@ -5,18 +5,17 @@ use Rattle.page_laws.proofs.Moving.{changes-then}
 use Rattle.page_laws.specs.Moves.{Changes, nothing}
 use Rattle.page_model.proofs.NumbersGrow.{Each-more, HasPromise-grows, Held, InSignals, IsKnown-grows, Onward, last-given, promise-grows}
 use Rattle.page_model.proofs.NumbersMaking.{any-held, any_made-held, continuation_queued-held, frame_requested-held, host_queued-held, idle_requested-held, listener_added-held, listener_removed-held, make-held, make_aborted-held, micro_registered-held, new_settled-held, post_queued-held, script_promise-held, task_signal_made-held, then_made-held, timeout_signal_made-held, timer_set-held, finally_made-held, posted-held}
-use Rattle.page_model.proofs.NumbersPages.{abort_registration-held, cancel_frame-held, cancel_idle-held, change_begun-held, change_ended-held, clear_id-held, clear_timer-held, follow-held, init_again-held, new_promise-held, queue_task-held, reason_set-held, reason_value-known, reject-held, resolve-held, run_algorithms-held, settle-held, subscribe-held, unwatch-held, with_algorithms-held, with_state-held, without_frame-held, without_idle-held, without_sched-held}
+use Rattle.page_model.proofs.NumbersPages.{abort_registration-held, cancel_frame-held, cancel_idle-held, change_begun-held, change_ended-held, clear_id-held, clear_timer-held, follow-held, init_again-held, new_promise-held, reason_set-held, reason_value-known, reject-held, resolve-held, run_algorithms-held, settle-held, subscribe-held, unwatch-held, with_algorithms-held, with_state-held, without_frame-held, without_idle-held, without_sched-held}
 use Rattle.page_model.proofs.NumbersParts.{the_signal-given}
-use Rattle.page_model.proofs.NumbersTasks.{answer_host-held, parallel-held}
-use Rattle.page_model.specs.Numbers.{IsFor, timer_role, AreKnown, Each, HasPromise, IfThere, IsGiven, IsKnown, PrioSourceIsGiven, ReactionIsGiven, StateIsGiven, StepsAreGiven, TargetIsGiven, made_by}
+use Rattle.page_model.proofs.NumbersTasks.{parallel-held}
+use Rattle.page_model.specs.Numbers.{IsFor, timer_role, AreKnown, Each, HasPromise, IfThere, IsGiven, IsKnown, PrioSourceIsGiven, ReactionIsGiven, StateIsGiven, TargetIsGiven, made_by}
 use Rattle.page_model.specs.Operations.{any_made, continuation_queued, frame_requested, host_queued, idle_requested, listener_added, listener_removed, micro_registered, post_queued, script_promise, task_signal_made, then_made, timeout_signal_made, timer_set, with_signals, finally_made, posted}
 use Rattle.page_model.specs.PagePromises.{last_promise, new_promise, new_settled}
 use Rattle.page_model.specs.PageSignals.{abort_registration, abort_registrations, change_begun, change_ended, reason_set, reason_value, run_algorithms, unwatch}
 use Rattle.page_model.specs.PageTime.{cancel_frame, cancel_idle, clear_id, clear_timer, init_timer, without_frame, without_idle}
 use Rattle.page_model.specs.SchedulerTasks.{with_state, without_sched}
 use Rattle.page_model.specs.Parallel.{parallel}
-use Rattle.page_model.specs.State.{OfKind, HostTask, Page, PrioSource, SchedulingState, Steps, queue_task}
-use Rattle.page_model.specs.Tasks.{answer_host}
+use Rattle.page_model.specs.State.{OfKind, Page, PrioSource, SchedulingState}
 use Rattle.page_parts.specs.AbortGraph.{make_aborted, the_signal, with_algorithms}
 use Rattle.page_parts.specs.HostClosures.{HostClosure}
 use Rattle.page_types.specs.declared.HostMark.TheVariants.{Live}
@@ -27,7 +26,6 @@ use Rattle.page_parts.specs.Promises.{Failed, Fulfilled, Reaction, Settled, pend
 use Rattle.page_types.specs.Values.{Value}
 use Rattle.page_types.specs.declared.Priority.{Priority}
 use Rattle.page_types.specs.declared.RegKind.{RegKind}
-use Rattle.page_types.specs.declared.Source.{Source}
 use Rattle.std.proofs.Common.{◌≡◌, Bool, true, List, Option, None, Some, [], slice_get, length, refl, ℕ, ℤ, ◌<◌, ◌∷◌}
 use Rattle.page_model.specs.PagePromises as promises
 use Rattle.page_parts.specs.AbortGraph as AbortGraph
@@ -141,7 +139,6 @@ continuation_queued-onto s p h x = (continuation_queued-held s p h x, continuati
 
 pub host_queued-onto : (k : ℕ) (c : HostClosure) (x : ℤ) (signal : Option ℕ) (p : Page) → Held (made_by p) p → k < length p.hosts → slice_get p.hosts k ≡ Some c → c.mark ≡ Live → IfThere (IsGiven (length p.signals)) signal → Anew p (host_queued k c x signal p)
 host_queued-onto k c x signal p h below there live s = (host_queued-held k c x signal p h below s, host_queued-changes k c x signal p there live)
-
 
 pub parallel-onto : (p : Page) → Held (made_by p) p → Onto p (parallel p)
 parallel-onto p h = (parallel-held p h, parallel-changes p)

@@ -1,5 +1,5 @@
 -- Sums over lists: what is taken out of a list is less in its sum.
-use Rattle.std.proofs.Common.{◌≡◌, ℕ, zero, suc, ◌≤◌, ◌<◌, ◌+◌, Bool, true, false, List, [], ◌∷◌, ◌++◌, Option, Some, None, refl, sym, subst, ap, cond, length, arith, map, unwrap_or, slice_get}
+use Rattle.std.proofs.Common.{◌≡◌, ℕ, zero, suc, ◌≤◌, ◌<◌, ◌+◌, Bool, true, false, List, [], ◌∷◌, ◌++◌, Option, Some, refl, sym, subst, ap, cond, length, arith, map, unwrap_or, slice_get}
 use Rattle.std.specs.Prelude.{find, slice_set}
 use Rattle.page_parts.specs.Words.{numbered, with_numbered, and_last, without}
 

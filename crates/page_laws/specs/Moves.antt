@@ -8,7 +8,7 @@ use Rattle.page_parts.specs.Promises.{Settled, Reaction, React}
 use Rattle.page_parts.specs.Promises as Promises
 use Rattle.page_parts.specs.Notices.{Micro, OfPromise, WaitingJob, changed, subscribe_promise, queue_micro, note_outstanding}
 use Rattle.page_parts.specs.Promises.{the_promise}
-use Rattle.page_model.specs.State.{Role, ScriptRole, OfKind, Registration, no_registration, Page, Task, TimerTask, HostTask, Steps, RunScript, RunTimer, AnswerHost, PrioSource, SchedTask, Completing, QueueTimer, EnqueuePost, QueueSignal, HostAnswer, IdleTimer, emit, on_notices, context}
+use Rattle.page_model.specs.State.{Role, ScriptRole, OfKind, Registration, no_registration, Page, Task, TimerTask, HostTask, Steps, RunScript, RunTimer, AnswerHost, PrioSource, SchedTask, Completion, Completing, QueueTimer, EnqueuePost, QueueSignal, HostAnswer, IdleTimer, emit, on_notices, context}
 use Rattle.page_model.specs.PagePromises.{new_promise}
 use Rattle.page_model.specs.PageTime.{first_task, registration_with_id, completion_of, without_frame, deadline, without_idle, idle_callback}
 use Rattle.page_model.specs.SchedulerTasks.{with_state, first_sched, without_sched}
@@ -58,7 +58,8 @@ is_end e = false
 
 -- ---- Ours: where registrations wait
 
--- tasks, timers with their completion steps, idle callbacks and idle timeouts, listeners, scheduler tasks and pending answers of hosts; and the host closures
+-- tasks, timers with their completion steps, idle callbacks and idle timeouts, listeners, scheduler tasks and pending answers of hosts;
+-- and the host closures
 pub record Places : Type 0 where
   pub tasks : List Task
   pub timers : Timers
@@ -70,9 +71,57 @@ pub record Places : Type 0 where
   pub host_answers : List HostAnswer
   pub hosts : List HostClosure
 
+-- the completion steps that are left when those of this start are done
+abbrev pub completions_but : ℕ → List Completing → List Completing
+completions_but start cs = without (λ c. c.start == start) cs
+
 -- those of a page
 abbrev pub places : Page → Places
-places p = record { tasks = p.tasks; timers = p.timers; completions = p.completions; idle = p.idle; idle_timers = p.idle_timers; listeners = p.listeners; sched_tasks = p.sched_tasks; host_answers = p.host_answers; hosts = p.hosts }
+places p =
+    record {
+      tasks = p.tasks;
+      timers = p.timers;
+      completions = p.completions;
+      idle = p.idle;
+      idle_timers = p.idle_timers;
+      listeners = p.listeners;
+      sched_tasks = p.sched_tasks;
+      host_answers = p.host_answers;
+      hosts = p.hosts;
+    }
+
+-- with a task more
+abbrev pub with_task : Task → Places → Places
+with_task t x = record x { tasks = and_last x.tasks t }
+
+-- with another map of timers, and the completion steps of this start more
+abbrev pub with_timer : Timers → (start : ℕ) → Completion → Places → Places
+with_timer timers start c x = record x { timers = timers; completions = and_last x.completions (record { start = start; completion = c }) }
+
+-- without the active timer of this start and its completion steps
+abbrev pub without_start : ℕ → Places → Places
+without_start start x = record x { timers = Timers.completed start x.timers; completions = completions_but start x.completions }
+
+-- without the pending answer of this registration
+abbrev pub without_answer : ℕ → Places → Places
+without_answer r x = record x { host_answers = without (λ a. a.task.registration == r) x.host_answers }
+
+-- without the scheduler task of this registration
+abbrev pub without_queued : ℕ → Places → Places
+without_queued r x = record x { sched_tasks = without (λ t. t.registration == r) x.sched_tasks }
+
+-- without the task of this number
+abbrev pub without_number : ℕ → Places → Places
+without_number number x = record x { tasks = without (λ t. t.number == number) x.tasks }
+
+-- the closures, where number k was fired
+abbrev pub fired_at : ℕ → Option HostClosure → List HostClosure → List HostClosure
+fired_at k None hosts = hosts
+fired_at k (Some c) hosts = slice_set hosts k (fired c)
+
+-- with closure number k fired
+abbrev pub host_fired : ℕ → Places → Places
+host_fired k x = record x { hosts = fired_at k (slice_get x.hosts k) x.hosts }
 
 -- steps that call nothing that was registered for one call, and answer no host
 abbrev pub is_free : Steps → Bool
@@ -81,21 +130,19 @@ is_free (RunTimer t) = false
 is_free (AnswerHost t) = false
 is_free steps = true
 
--- the completion steps that are left when those of this start are done
-abbrev pub completions_but : ℕ → List Completing → List Completing
-completions_but start cs = without (λ c. c.start == start) cs
-
 -- a change of the places, where these registrations were made
 pub data PlaceChange (made : List Registration) : Places → Places → Type 0 where
   -- none
   places_stay : {x : Places} → PlaceChange made x x
   -- a task is queued that calls nothing by itself; a task leaves its queue
-  task_queued : {x : Places} (t : Task) → is_free t.steps ≡ true → PlaceChange made x (record x { tasks = and_last x.tasks t })
-  task_left : {x : Places} (number : ℕ) → PlaceChange made x (record x { tasks = without (λ t. t.number == number) x.tasks })
+  task_queued : {x : Places} (t : Task) → is_free t.steps ≡ true → PlaceChange made x (with_task t x)
+  task_left : {x : Places} (number : ℕ) → PlaceChange made x (without_number number x)
   -- an interval whose id is in the map is armed again, and the timer of a signal is armed
-  armed_again : {x : Places} (a : Armed) (t : TimerTask) → (numbered made t.registration no_registration).role ≡ OfKind kind.Interval → has_id t.id x.timers ≡ true
-      → PlaceChange made x (record x { timers = with_armed (Some t.id) a x.timers; completions = and_last x.completions (record { start = a.start; completion = QueueTimer t }) })
-  signal_armed : {x : Places} (ms now r s : ℕ) → PlaceChange made x (record x { timers = run_after ms now x.timers; completions = and_last x.completions (record { start = suc x.timers.starts_made; completion = QueueSignal r s }) })
+  armed_again : {x : Places} (a : Armed) (t : TimerTask) → (numbered made t.registration no_registration).role ≡ OfKind kind.Interval
+      → has_id t.id x.timers ≡ true
+      → PlaceChange made x (with_timer (with_armed (Some t.id) a x.timers) a.start (QueueTimer t) x)
+  signal_armed : {x : Places} (ms now r s : ℕ)
+      → PlaceChange made x (with_timer (run_after ms now x.timers) (suc x.timers.starts_made) (QueueSignal r s) x)
   -- a timer's id leaves the map
   id_cleared : {x : Places} (id : ℕ) → PlaceChange made x (record x { timers = clear id x.timers })
   -- an idle timeout is started, and one is due
@@ -103,45 +150,54 @@ pub data PlaceChange (made : List Registration) : Places → Places → Type 0 w
   idle_due : {x : Places} (handle : ℕ) → PlaceChange made x (record x { idle_timers = without (λ u. u.handle == handle) x.idle_timers })
   -- an active timer completes: its task is queued, or a delayed post is enqueued, or nothing
   timer_due : {x : Places} (start number : ℕ) (source : Source) (t : TimerTask) → completion_of x.completions start ≡ Some (QueueTimer t)
-      → PlaceChange made x (record x { timers = Timers.completed start x.timers; completions = completions_but start x.completions; tasks = and_last x.tasks (record { number = number; source = source; steps = RunTimer t }) })
-  post_due : {x : Places} (start : ℕ) (source : PrioSource) (t : SchedTask) → completion_of x.completions start ≡ Some (EnqueuePost t.registration source)
-      → PlaceChange made x (record x { timers = Timers.completed start x.timers; completions = completions_but start x.completions; sched_tasks = and_last x.sched_tasks t })
-  completed : {x : Places} (start : ℕ) → PlaceChange made x (record x { timers = Timers.completed start x.timers; completions = completions_but start x.completions })
+      → PlaceChange made x (with_task (record { number = number; source = source; steps = RunTimer t }) (without_start start x))
+  post_due : {x : Places} (start : ℕ) (source : PrioSource) (t : SchedTask)
+      → completion_of x.completions start ≡ Some (EnqueuePost t.registration source)
+      → PlaceChange made x (record (without_start start x) { sched_tasks = and_last x.sched_tasks t })
+  completed : {x : Places} (start : ℕ) → PlaceChange made x (without_start start x)
   -- the pending idle callbacks become runnable; an idle callback leaves the lists
   idle_started : {x : Places} → PlaceChange made x (record x { idle = started x.idle })
   idle_left : {x : Places} (handle : ℕ) → PlaceChange made x (record x { idle = cancel handle x.idle })
   -- a registration's scheduler task leaves its queue
-  sched_left : {x : Places} (r : ℕ) → PlaceChange made x (record x { sched_tasks = without (λ t. t.registration == r) x.sched_tasks })
+  sched_left : {x : Places} (r : ℕ) → PlaceChange made x (without_queued r x)
   -- a pending answer of a host is due, and its task is queued
-  answer_due : {x : Places} (before : List HostAnswer) (a : HostAnswer) (after : List HostAnswer) (number : ℕ) (source : Source) → x.host_answers ≡ before ++ a ∷ after
-      → PlaceChange made x (record x { host_answers = without (λ b. b.task.registration == a.task.registration) x.host_answers; tasks = and_last x.tasks (record { number = number; source = source; steps = AnswerHost a.task }) })
+  answer_due : {x : Places} (before : List HostAnswer) (a : HostAnswer) (after : List HostAnswer) (number : ℕ) (source : Source)
+      → x.host_answers ≡ before ++ a ∷ after
+      → PlaceChange made x
+      (with_task (record { number = number; source = source; steps = AnswerHost a.task }) (without_answer a.task.registration x))
 
 -- how registration r leaves its place by a cancel
 pub data Dropping (made : List Registration) (r : ℕ) : Places → Places → Type 0 where
   -- a timer: its id leaves the map
-  timer_dropped : {x : Places} (id : ℕ) → has_id id x.timers ≡ true → r ≡ registration_with_id id 1 made → Dropping made r x (record x { timers = clear id x.timers })
+  timer_dropped : {x : Places} (id : ℕ) → has_id id x.timers ≡ true → r ≡ registration_with_id id 1 made
+      → Dropping made r x (record x { timers = clear id x.timers })
   -- an idle callback leaves the lists, and a listener its list
-  idle_dropped : {x : Places} (handle : ℕ) (c : Callback) → waiting_callback handle x.idle ≡ Some c → r ≡ c.registration → Dropping made r x (record x { idle = cancel handle x.idle })
+  idle_dropped : {x : Places} (handle : ℕ) (c : Callback) → waiting_callback handle x.idle ≡ Some c → r ≡ c.registration
+      → Dropping made r x (record x { idle = cancel handle x.idle })
   listener_dropped : {x : Places} → is_listening r x.listeners ≡ true → Dropping made r x (record x { listeners = off r x.listeners })
   -- what was posted, continues or waits for a host: its scheduler task and its pending answer go, and closures are dropped
   task_dropped : {x : Places} (pending due : Option HostTask)
-      → Dropping made r x (record x { sched_tasks = without (λ t. t.registration == r) x.sched_tasks; host_answers = without (λ a. a.task.registration == r) x.host_answers; hosts = drop_closure pending (drop_closure due x.hosts) })
+      → Dropping made r x (record (without_queued r (without_answer r x)) { hosts = drop_closure pending (drop_closure due x.hosts) })
 
 -- where a new registration waits first, from the places before
 pub data FirstPlace (r : ℕ) : Places → Places → Type 0 where
   -- at none of these: the timer of a signal, which is armed next
   nowhere : {x : Places} → FirstPlace r x x
   -- among the listeners
-  at_listener : {x : Places} (target : Target) (name : List ℕ) (q : ℕ) → q ≡ r → FirstPlace r x (record x { listeners = add target name q x.listeners })
+  at_listener : {x : Places} (target : Target) (name : List ℕ) (q : ℕ) → q ≡ r
+      → FirstPlace r x (record x { listeners = add target name q x.listeners })
   -- in the completion steps of its timer: a timer, a delayed post
-  at_timer : {x : Places} (a : Armed) (t : TimerTask) → t.registration ≡ r → FirstPlace r x (record x { timers = with_armed None a x.timers; completions = and_last x.completions (record { start = a.start; completion = QueueTimer t }) })
-  at_delay : {x : Places} (ms now q : ℕ) (source : PrioSource) → q ≡ r → FirstPlace r x (record x { timers = run_after ms now x.timers; completions = and_last x.completions (record { start = suc x.timers.starts_made; completion = EnqueuePost q source }) })
+  at_timer : {x : Places} (a : Armed) (t : TimerTask) → t.registration ≡ r
+      → FirstPlace r x (with_timer (with_armed None a x.timers) a.start (QueueTimer t) x)
+  at_delay : {x : Places} (ms now q : ℕ) (source : PrioSource) → q ≡ r
+      → FirstPlace r x (with_timer (run_after ms now x.timers) (suc x.timers.starts_made) (EnqueuePost q source) x)
   -- among the idle callbacks
   at_idle : {x : Places} (q : ℕ) → q ≡ r → FirstPlace r x (record x { idle = request q x.idle })
   -- in the queue of the scheduler
   at_queue : {x : Places} (t : SchedTask) → t.registration ≡ r → FirstPlace r x (record x { sched_tasks = and_last x.sched_tasks t })
   -- among the pending answers of hosts, where the closure was not asked before
-  at_host : {x : Places} (c : HostClosure) (a : HostAnswer) → a.task.registration ≡ r → slice_get x.hosts a.task.closure ≡ Some c → c.mark ≡ Live
+  at_host : {x : Places} (c : HostClosure) (a : HostAnswer) → a.task.registration ≡ r → slice_get x.hosts a.task.closure ≡ Some c
+      → c.mark ≡ Live
       → FirstPlace r x (record x { hosts = slice_set x.hosts a.task.closure (queued_mark c); host_answers = and_last x.host_answers a })
 
 -- promises, jobs, the flag of the checkpoint, lines, registrations and frame callbacks are as in p
@@ -151,11 +207,6 @@ pub record AsBefore (p q : Page) : Type 0 where
   pub events : q.events ≡ p.events
   pub registrations : q.registrations ≡ p.registrations
   pub frames : q.frames ≡ p.frames
-
--- the closures, where number k was fired
-abbrev pub fired_at : ℕ → Option HostClosure → List HostClosure → List HostClosure
-fired_at k None hosts = hosts
-fired_at k (Some c) hosts = slice_set hosts k (fired c)
 
 -- ---- Ours: a change, with which no call begins or ends
 
@@ -171,32 +222,43 @@ pub data PageChange : Page → Page → Type 0 where
   -- a line between turns, where no call is open and no job waits
   rested : {p : Page} (e : Event) → is_rest e ≡ true → open_registrations p.events ≡ [] → p.notices.jobs ≡ [] → PageChange p (emit e p)
   -- a host's task is taken, and the host answers
-  answered : {p q : Page} (source : Source) (task : Task) (t : HostTask) (answer : Result ℤ ℤ) → first_task source p.tasks ≡ Some task → task.steps ≡ AnswerHost t
-      → places q ≡ record (places p) { tasks = without (λ t. t.number == task.number) p.tasks; hosts = fired_at t.closure (slice_get p.hosts t.closure) p.hosts }
+  answered : {p q : Page} (source : Source) (task : Task) (t : HostTask) (answer : Result ℤ ℤ) → first_task source p.tasks ≡ Some task
+      → task.steps ≡ AnswerHost t
+      → places q ≡ host_fired t.closure (without_number task.number (places p))
       → AsBefore (emit (Host t.closure t.number answer) p) q → PageChange p q
   -- a registration is made, and waits at its first place
-  registered : {p q : Page} (kind : RegKind) (x : Registration) → x.role ≡ OfKind kind → FirstPlace (suc (length p.registrations)) (places p) (places q) → AsBefore (register_as kind x p) q → PageChange p q
+  registered : {p q : Page} (kind : RegKind) (x : Registration) → x.role ≡ OfKind kind
+      → FirstPlace (suc (length p.registrations)) (places p) (places q) → AsBefore (register_as kind x p) q → PageChange p q
   -- a registration is cancelled, with its line, and a frame callback so
   dropped : {p q : Page} (r : ℕ) → Dropping p.registrations r (places p) (places q) → AsBefore (emit (Drop r) p) q → PageChange p q
-  frame_dropped : {p : Page} (handle : ℕ) (c : Callback) → callback_in p.frames.callbacks handle ≡ Some c → PageChange p (emit (Drop c.registration) (without_frame handle p))
+  frame_dropped : {p : Page} (handle : ℕ) (c : Callback) → callback_in p.frames.callbacks handle ≡ Some c
+      → PageChange p (emit (Drop c.registration) (without_frame handle p))
   -- a frame callback is registered and requested, and one leaves the map
   frame_asked : {p : Page} (f : Func) → PageChange p (frame_requested f p)
   frame_gone : {p : Page} (handle : ℕ) → PageChange p (without_frame handle p)
   -- a promise is made
   promised : {p : Page} → PageChange p (new_promise p)
   -- a promise that was never resolved is settled, with its jobs
-  settled : {p : Page} (n : ℕ) (how : Settled) → IsGiven (length p.notices.promises) n → (the_promise p.notices.promises n).locked ≡ false → PageChange p (promise_changes n (Promises.settle n (the_promise p.notices.promises n) how) p)
+  settled : {p : Page} (n : ℕ) (how : Settled) → IsGiven (length p.notices.promises) n
+      → (the_promise p.notices.promises n).locked ≡ false
+      → PageChange p (promise_changes n (Promises.settle n (the_promise p.notices.promises n) how) p)
   -- a pending promise is settled as the one that it was resolved with
-  followed : {p : Page} (n : ℕ) (how : Settled) → IsGiven (length p.notices.promises) n → (the_promise p.notices.promises n).outcome ≡ None → PageChange p (promise_changes n (Promises.settle n (the_promise p.notices.promises n) how) p)
+  followed : {p : Page} (n : ℕ) (how : Settled) → IsGiven (length p.notices.promises) n
+      → (the_promise p.notices.promises n).outcome ≡ None
+      → PageChange p (promise_changes n (Promises.settle n (the_promise p.notices.promises n) how) p)
   -- a promise that was never resolved is to become what another one becomes
-  adopted : {p : Page} (n from : ℕ) → IsGiven (length p.notices.promises) n → (the_promise p.notices.promises n).locked ≡ false → PageChange p (promise_changes n (Promises.adopt n (the_promise p.notices.promises n) from) p)
+  adopted : {p : Page} (n from : ℕ) → IsGiven (length p.notices.promises) n → (the_promise p.notices.promises n).locked ≡ false
+      → PageChange p (promise_changes n (Promises.adopt n (the_promise p.notices.promises n) from) p)
   -- a promise gets a reaction without a callback
-  subscribed : {p : Page} (n : ℕ) (r : Reaction) → IsGiven (length p.notices.promises) n → r.registration ≡ None → PageChange p (on_notices (subscribe_promise (context p) n r) p)
+  subscribed : {p : Page} (n : ℕ) (r : Reaction) → IsGiven (length p.notices.promises) n → r.registration ≡ None
+      → PageChange p (on_notices (subscribe_promise (context p) n r) p)
   -- handlers are registered, and a promise gets a reaction with them
-  then_asked : {p : Page} (n : ℕ) (x : Registration) (r : Reaction) → x.role ≡ OfKind kind.Then → IsGiven (length p.notices.promises) n → r.registration ≡ Some (suc (length p.registrations))
+  then_asked : {p : Page} (n : ℕ) (x : Registration) (r : Reaction) → x.role ≡ OfKind kind.Then → IsGiven (length p.notices.promises) n
+      → r.registration ≡ Some (suc (length p.registrations))
       → PageChange p (on_notices (subscribe_promise (context p) n r) (register_as kind.Then x p))
   -- a microtask callback is registered and queued
-  micro_asked : {p : Page} (x : Registration) (r : ℕ) → x.role ≡ OfKind kind.Micro → r ≡ suc (length p.registrations) → PageChange p (on_notices (queue_micro (context p) r) (register_as kind.Micro x p))
+  micro_asked : {p : Page} (x : Registration) (r : ℕ) → x.role ≡ OfKind kind.Micro → r ≡ suc (length p.registrations)
+      → PageChange p (on_notices (queue_micro (context p) r) (register_as kind.Micro x p))
   -- the promises about to be notified about are taken
   rejected_taken : {p : Page} → PageChange p (record p { notices = record p.notices { rejected = [] } })
   -- a promise joins the outstanding ones
@@ -209,7 +271,8 @@ pub data Changes : Page → Page → Type 0 where
 
 -- ---- Ours: how a call begins
 
--- where the callback of a call waited: the script's task and that of a timer, with the source; a frame callback with its key; the first idle callback of a period, and one whose timeout is over, with its handle; a listener;
+-- where the callback of a call waited: the script's task and that of a timer, with the source; a frame callback with its key; the first
+-- idle callback of a period, and one whose timeout is over, with its handle; a listener;
 -- a scheduler task: a posted callback or a continuation; a job: of a microtask callback, or of a reaction whose handler is called
 pub data Beginning : Type 0 where
   TheScript : Source → Task → Beginning
@@ -277,7 +340,8 @@ Waited (AListener r) p = is_listening r p.listeners ≡ true
 Waited (APost t) p = first_sched p ≡ Some t × t.continuation ≡ false × open_registrations p.events ≡ [] × p.notices.jobs ≡ []
 Waited (AContinuation t) p = first_sched p ≡ Some t × t.continuation ≡ true × open_registrations p.events ≡ [] × p.notices.jobs ≡ []
 Waited (AMicro job others r) p = p.notices.jobs ≡ job ∷ others × job.what ≡ Micro r × open_registrations p.events ≡ []
-Waited (AReaction job others of x r) p = p.notices.jobs ≡ job ∷ others × job.what ≡ OfPromise (React of x) × x.registration ≡ Some r × open_registrations p.events ≡ []
+Waited (AReaction job others of x r) p =
+    p.notices.jobs ≡ job ∷ others × job.what ≡ OfPromise (React of x) × x.registration ≡ Some r × open_registrations p.events ≡ []
 
 -- ---- Ours: moves
 
@@ -285,8 +349,11 @@ Waited (AReaction job others of x r) p = p.notices.jobs ≡ job ∷ others × jo
 pub data Moves : Page → Page → Type 0 where
   here : {p : Page} → Moves p p
   changing : {p q r : Page} → Moves p q → PageChange q r → Moves p r
-  calling : {p q : Page} → Moves p q → (b : Beginning) → Waited b q → IsFor (role_of b) (made_by q) (called_by b) → Moves p (call_begun (called_by b) (taken b q))
+  calling : {p q : Page} → Moves p q → (b : Beginning) → Waited b q → IsFor (role_of b) (made_by q) (called_by b)
+      → Moves p (call_begun (called_by b) (taken b q))
   ending : {p q : Page} → Moves p q → (e : Event) → is_end e ≡ true → Moves p (call_ended e q)
   -- the flag of the checkpoint
-  flagging : {p q r : Page} → Moves p q → r.notices ≡ q.notices → r.events ≡ q.events → r.registrations ≡ q.registrations → r.frames ≡ q.frames → places r ≡ places q → Moves p r
-  running : {p q : Page} → Moves p q → (job : WaitingJob) (others : List WaitingJob) → q.notices.jobs ≡ job ∷ others → open_registrations q.events ≡ [] → Moves p (job_begun job others q)
+  flagging : {p q r : Page} → Moves p q → r.notices ≡ q.notices → r.events ≡ q.events → r.registrations ≡ q.registrations
+      → r.frames ≡ q.frames → places r ≡ places q → Moves p r
+  running : {p q : Page} → Moves p q → (job : WaitingJob) (others : List WaitingJob) → q.notices.jobs ≡ job ∷ others
+      → open_registrations q.events ≡ [] → Moves p (job_begun job others q)

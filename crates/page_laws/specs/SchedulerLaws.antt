@@ -55,7 +55,8 @@ abbrev pub effective : History → Enqueued → Option ℕ
 effective past t = option_map (λ p. 2 * rank_of p + cond t.continuation 1 0) (queue_priority past t.queue)
 
 abbrev pub goes_first : ℕ → ℕ → ℕ → ℕ → Bool
-goes_first priority order other_priority other_order = nat_lt other_priority priority || ((priority == other_priority) && nat_le order other_order)
+goes_first priority order other_priority other_order =
+    nat_lt other_priority priority || ((priority == other_priority) && nat_le order other_order)
 
 -- whether a task goes before another, or is that task
 abbrev pub precedes : History → Enqueued → Enqueued → Bool

@@ -59,7 +59,8 @@ arms_well form past now r due level =
 
 -- each of these that was armed before, for no later time, has been due since
 abbrev pub all_due : History → ℕ → ℕ → History → Bool
-all_due older r due newer = list_all (λ a. (a == r) || not (is_some_and (λ t. nat_le t due) (armed_for older a)) || was_due newer a) (active older)
+all_due older r due newer =
+    list_all (λ a. (a == r) || not (is_some_and (λ t. nat_le t due) (armed_for older a)) || was_due newer a) (active older)
 
 abbrev pub armed_passes : ℕ → Event → History → History → Bool
 armed_passes r (Arm q due level) older newer = not (q == r) || all_due older r due newer
@@ -174,7 +175,8 @@ may_be_idle past r = is_reg_before r (before_last is_period past) && list_all (�
 
 -- else its timeout is over
 abbrev pub idle_well : History → ℕ → Bool
-idle_well past r = cond (last_line is_idle_line past) (has_kind is_idle past r && may_be_idle past r) (not (has_kind is_idle past r) || was_due past r)
+idle_well past r =
+    cond (last_line is_idle_line past) (has_kind is_idle past r && may_be_idle past r) (not (has_kind is_idle past r) || was_due past r)
 
 abbrev pub keeps_idle : History → ℕ → Event → Bool
 keeps_idle past now (Call r) = idle_well past r
