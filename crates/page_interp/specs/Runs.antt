@@ -1,9 +1,9 @@
 -- What a run of the machine is, by the meaning of the script.
-use Rattle.std.specs.Prelude.{◌≡◌, ℕ, zero, suc, ◌-◌, ◌≤◌, Bool, true, false, List, [], ◌∷◌, ◌++◌, Option, Some, None, Result, Ok, Err, ⊤, map, length}
+use Rattle.std.specs.Prelude.{◌≡◌, ℕ, zero, suc, ◌-◌, ◌≤◌, Bool, true, false, List, [], ◌∷◌, ◌++◌, Option, Some, None, Result, Ok, Err, ⊤, length}
 use Rattle.page_types.specs.Counts.{Rose}
 use Rattle.page_types.specs.Values as Model
 use Rattle.page_types.specs.Values.{UnitValue, FaultValue, items_of}
-use Rattle.page_types.specs.Tree.{Program, Exprs, Block}
+use Rattle.page_types.specs.Tree.{Program, Exprs}
 use Rattle.page_types.specs.declared.FaultName.TheVariants.{TypeError}
 use Rattle.page_parts.specs.Kinds.{Func, func_in}
 use Rattle.page_values.specs.declared.Value.{Value}
