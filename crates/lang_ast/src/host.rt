@@ -62,7 +62,8 @@ pub trait Host {
         requires count { length args.items ≡ count_of op }
         requires numbered { AllNumbered (now self.old).functions (map seen args.items) }
         requires room { room_taken (is_busy op) ≤ (now self.old).room }
-        ensures rule { IfOk result (λ step. on_ask rules (AskOp op (map seen args.items)) (now self.old).told ≡ record { step = seen_step step; host = (now self.new).told }) }
+        ensures rule { IfOk result (λ step. on_ask rules (AskOp op (map seen args.items)) (now self.old).told ≡
+            record { step = seen_step step; host = (now self.new).told }) }
         ensures open_tickets { IfOk result (λ step. (now self.new).tickets ≡ tickets_after (seen_step step) (now self.old).tickets) }
         ensures few { IfOk result (λ step. AreFew (left (now self.new).told) (seen_step step)) }
         ensures numbered { IfOk result (λ step. StepIsNumbered (now self.old).functions (seen_step step)) }
@@ -79,8 +80,10 @@ pub trait Host {
     fn resume(&mut self, ticket: u64, outcome: Outcome) -> Result<HostStep, Self::Stop>
         requires open_ticket { (rest : List ℕ) × ((now self.old).tickets ≡ ticket ∷ rest) }
         requires numbered { EndIsNumbered (now self.old).functions (seen_outcome outcome) }
-        ensures rule { IfOk result (λ step. on_ask rules (AskResume ticket (seen_outcome outcome)) (now self.old).told ≡ record { step = seen_step step; host = (now self.new).told }) }
-        ensures open_tickets { IfOk result (λ step. (rest : List ℕ) → (now self.old).tickets ≡ ticket ∷ rest → (now self.new).tickets ≡ tickets_after (seen_step step) rest) }
+        ensures rule { IfOk result (λ step. on_ask rules (AskResume ticket (seen_outcome outcome)) (now self.old).told ≡
+            record { step = seen_step step; host = (now self.new).told }) }
+        ensures open_tickets { IfOk result (λ step. (rest : List ℕ) → (now self.old).tickets ≡ ticket ∷ rest →
+            (now self.new).tickets ≡ tickets_after (seen_step step) rest) }
         ensures falls { IfOk result (λ step. Falls (left (now self.new).told) (left (now self.old).told ticket) (seen_step step)) }
         ensures few { IfOk result (λ step. AreFew (left (now self.new).told) (seen_step step)) }
         ensures numbered { IfOk result (λ step. StepIsNumbered (now self.old).functions (seen_step step)) }

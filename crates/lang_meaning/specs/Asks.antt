@@ -25,7 +25,8 @@ stopped_at ask h = record { asks = Some 0; stop = Some ask; host = h }
 -- the host is asked, where it is asked once more; else the script stops
 abbrev pub ask_once_more : {H : Type 0} → Option ℕ → HostRules H → Asking (Limited H)
 ask_once_more (Some zero) rules ask m next = OutOfFuel (with_host (stopped_at ask m.host.host) m)
-ask_once_more (Some (suc n)) rules ask m next = let s = on_ask rules ask m.host.host in next s.step (with_host (limited_host (Some n) s.host) m)
+ask_once_more (Some (suc n)) rules ask m next =
+    let s = on_ask rules ask m.host.host in next s.step (with_host (limited_host (Some n) s.host) m)
 ask_once_more None rules ask m next = let s = on_ask rules ask m.host.host in next s.step (with_host (limited_host None s.host) m)
 
 abbrev pub ask_limited : {H : Type 0} → HostRules H → Asking (Limited H)
@@ -47,7 +48,8 @@ pub data IsPassed {H : Type 0} (rules : HostRules H) (f : Machine (Limited H) �
   after_ask : (n : ℕ) (ask : Ask) (before : H) → Reaches f m n ask before → host ≡ (on_ask rules ask before).host → IsPassed rules f m host
 
 -- The host is as a refused ask may leave it, which is one of those in what f does from the state m on.
-pub record IsRefused {H : Type 0} (leaves : Ask → H → H → Type 0) (f : Machine (Limited H) → Done (Limited H)) (m : Machine H) (host : H) : Type 0 where
+pub record IsRefused {H : Type 0} (leaves : Ask → H → H → Type 0)
+    (f : Machine (Limited H) → Done (Limited H)) (m : Machine H) (host : H) : Type 0 where
   pub n : ℕ
   pub ask : Ask
   pub before : H

@@ -1,4 +1,5 @@
--- What operations mean for a host that answers by steps: a callback that it asks for is called in that place, and the host goes on with its outcome.
+-- What operations mean for a host that answers by steps: a callback that it asks for is called in that place, and the host goes
+-- on with its outcome.
 use Rattle.std.specs.Prelude.{ℕ, zero, suc, ◌+◌, ◌*◌, ◌^◌, Bool, true, false, List}
 use Rattle.page_types.specs.Values.{Value}
 use Rattle.page_types.specs.declared.Op.{Op}

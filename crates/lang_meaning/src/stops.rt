@@ -25,6 +25,10 @@ pub trait Growing {
 /// Where the rules keep the order, what a call that was stopped leaves of the host comes before what the whole call leaves: after
 /// any of its asks, and after one that was refused, where a refused ask leaves no more than its rule gives.
 pub fn stopped_calls_come_before_their_end<G: Growing>()
-    ensures passed { IsKept G.rules G.order → (p : Program) (n f : ℕ) (args : List Value) → ComesBefore G.order (IsPassed G.rules) (calls p (limited_operations G.rules) n f args) (calls p (host_operations G.rules) n f args) }
-    ensures refused { IsKept G.rules G.order → IsWithin G.rules G.leaves G.order → (p : Program) (n f : ℕ) (args : List Value) → ComesBefore G.order (IsRefused G.leaves) (calls p (limited_operations G.rules) n f args) (calls p (host_operations G.rules) n f args) }
+    ensures passed { IsKept G.rules G.order → (p : Program) (n f : ℕ) (args : List Value) →
+        ComesBefore G.order (IsPassed G.rules) (calls p (limited_operations G.rules) n f args)
+        (calls p (host_operations G.rules) n f args) }
+    ensures refused { IsKept G.rules G.order → IsWithin G.rules G.leaves G.order → (p : Program) (n f : ℕ) (args : List Value) →
+        ComesBefore G.order (IsRefused G.leaves) (calls p (limited_operations G.rules) n f args)
+        (calls p (host_operations G.rules) n f args) }
 {}

@@ -1,5 +1,5 @@
 -- Calls, and operations with their callbacks.
-use Rattle.std.proofs.Common.{◌≡◌, ℕ, zero, suc, ◌+◌, ◌-◌, ◌*◌, ◌^◌, ◌<◌, ◌≤◌, List, [], ◌∷◌, ◌++◌, map, Option, Some, None, refl, sym, ap, ◌∙◌, subst, arith, slice_get}
+use Rattle.std.proofs.Common.{◌≡◌, ℕ, zero, suc, ◌+◌, ◌-◌, ◌*◌, ◌^◌, ◌<◌, ◌≤◌, List, [], ◌∷◌, ◌++◌, Option, Some, None, refl, sym, ap, ◌∙◌, subst, arith, slice_get}
 use Rattle.page_types.specs.Counts.{Rose}
 use Rattle.page_types.specs.declared.FaultName.TheVariants.{TypeError, RangeError}
 use Rattle.page_types.specs.declared.Op.{Op}
@@ -13,14 +13,14 @@ use Rattle.lang_meaning.specs.Machine as M
 use Rattle.lang_meaning.specs.Machine.{Machine, Done, Gives, Throws, Returns, OutOfFuel, Caller}
 use Rattle.lang_meaning.specs.Evaluation as E
 use Rattle.lang_meaning.specs.Evaluation.{functions_of, own_body, body_of_call, end_of_call, exec_block, closed, parameters_with, unit_variables, names_in}
-use Rattle.lang_meaning.specs.HostSteps.{HostStep, StepValue, StepThrow, StepInvoke, CallbackEnd, CallbackValue, CallbackThrow, HostRules, Ask, AskOp, AskResume, on_ask, with_host, asked_by, steps_by, after_callback}
+use Rattle.lang_meaning.specs.HostSteps.{HostStep, StepValue, StepThrow, StepInvoke, CallbackEnd, HostRules, Ask, AskOp, AskResume, on_ask, with_host, asked_by, steps_by, after_callback}
 use Rattle.lang_meaning.specs.Asks.{Limited, limited, stopped_at, ask_limited, Reaches, unasked, after_ask}
 use Rattle.lang_ast.specs.Hosts.{HostNow}
 use Rattle.lang_ast.specs.Steps.{AreFew, EndIsNumbered}
 use Rattle.page_interp.specs.declared.exit.Exit.{Exit}
 use Rattle.page_interp.specs.declared.exit.Exit.TheVariants.{Throw, Return, Fuel, Host, OutOfMemory}
 use Rattle.page_interp.specs.declared.exit.Store.{Store}
-use Rattle.page_interp.specs.Runs.{gives, throws, returns, no_fuel, Left, ends, refused, no_memory, exit_left, more, Comes, Stands, IsDry, WhereSettled, Refuses, LeftIsNumbered, Settles, IsUnsettled, call_left, Scope, outside, inside, IsReady, Moment, moment_of, Runs, caller_of, around_of, call_given, func_of, variables_of, global_names}
+use Rattle.page_interp.specs.Runs.{gives, throws, returns, no_fuel, Left, ends, refused, no_memory, exit_left, more, Comes, Stands, IsDry, WhereSettled, Refuses, LeftIsNumbered, Settles, IsUnsettled, call_left, Scope, outside, inside, IsReady, Moment, moment_of, Runs, caller_of, around_of, call_given, func_of}
 use Rattle.page_interp.proofs.Steps.{still, runs_at, runs_as, more_some, more_more, Within, stands_within, comes_after}
 use Rattle.page_interp.proofs.Loops.{Asks, Stepping, calls_left}
 use Rattle.page_interp.proofs.Parts.{ready_out}
@@ -334,13 +334,15 @@ module _ {T S : Type 0} (w : Scope T) (call : Caller (Limited T)) (p : Program) 
       → Runs w (call_given call (Some f) args) b l c → Settles l o → (at : ℕ) × Reaches whole a.machine at (AskResume t o) c.machine.host
   unfolding next_of
   resume_reached {whole = whole} {a = a} {b = b} {c = c} n k step f args t o {l = l} e inv q y g =
-      let r = settled_next (call_given call (Some f) args) b.machine c.machine l o (next_of w.rules call k) t g y.meaning in
-      (inv.asks + (r.asks + 0), record {
-        state = with_host (stopped_at (AskResume t o) c.machine.host) (limited (Some 0) c.machine);
-        stops = subst (λ left. whole (limited left a.machine) ≡ OutOfFuel (with_host (stopped_at (AskResume t o) c.machine.host) (limited (Some 0) c.machine))) (ap (more inv.asks) (more_some r.asks 0) ∙ more_some inv.asks (r.asks + 0))
-            (invoked_at n k step f args t e inv q (more r.asks (Some 0)) ∙ r.resumes (Some 0));
-        host = refl;
-      })
+      let r = settled_next (call_given call (Some f) args) b.machine c.machine l o (next_of w.rules call k) t g y.meaning in (
+        inv.asks + (r.asks + 0),
+        record {
+          state = with_host (stopped_at (AskResume t o) c.machine.host) (limited (Some 0) c.machine);
+          stops = subst (λ left. whole (limited left a.machine) ≡ OutOfFuel (with_host (stopped_at (AskResume t o) c.machine.host) (limited (Some 0) c.machine))) (ap (more inv.asks) (more_some r.asks 0) ∙ more_some inv.asks (r.asks + 0))
+              (invoked_at n k step f args t e inv q (more r.asks (Some 0)) ∙ r.resumes (Some 0));
+          host = refl;
+        },
+      )
 
   -- the host refused to go on after a callback
   pub asks_refused : {whole : Machine (Limited T) → Done (Limited T)} {a b : Moment T S} (hC h' : HostNow T S) (store : Store) (frames : List (List M.Variable)) (n k : ℕ) (step : HostStep) (f : Model.Value) (args : List Model.Value) (t : ℕ) (o : CallbackEnd) {l : Left S} (stop : S)

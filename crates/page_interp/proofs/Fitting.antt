@@ -1,7 +1,6 @@
 -- In a part of a resolved script each operation has as many arguments as it takes, and a part is smaller than the whole.
-use Rattle.std.proofs.Common.{◌≡◌, ℕ, zero, suc, ◌+◌, ◌<◌, List, [], ◌∷◌, ◌++◌, get_or, length, map, Option, Some, None, Vec, Global, ap, refl, sym, ◌∙◌, arith}
+use Rattle.std.proofs.Common.{◌≡◌, ℕ, zero, suc, ◌<◌, List, [], ◌∷◌, ◌++◌, get_or, length, map, Option, Some, None, Vec, Global, ap, refl, sym, ◌∙◌, arith}
 use Rattle.std.specs.Prelude.{Box}
-use Rattle.std.specs.Option.{option_map}
 use Rattle.std.proofs.lemmas.List.{length-map}
 use Rattle.page_types.specs.declared.Op.{Op}
 use Rattle.page_types.specs.declared.SumSign.{SumSign}
@@ -19,7 +18,7 @@ use Rattle.lang_ast.specs.declared.tree.Stmt.{Stmt}
 use Rattle.lang_ast.specs.declared.tree.Stmt as S
 use Rattle.lang_ast.specs.declared.tree.Item.{Item}
 use Rattle.lang_ast.specs.declared.tree.Item.TheVariants as item
-use Rattle.lang_ast.specs.Seen.{seen_name, seen_expr, seen_exprs, seen_terms, seen_factors, seen_stmt, seen_block, seen_others, seen_else, seen_items}
+use Rattle.lang_ast.specs.Seen.{seen_expr, seen_exprs, seen_terms, seen_factors, seen_stmt, seen_block, seen_others, seen_else, seen_items}
 use Rattle.lang_ast.specs.Names.{Mention, in_expr, in_exprs, in_terms, in_factors, in_stmt, in_block, in_others, in_else, count_exprs}
 use Rattle.lang_ast.specs.Operations.{count_of}
 use Rattle.lang_ast.specs.Calls.{HasCount, CallsFit}

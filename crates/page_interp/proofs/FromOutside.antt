@@ -1,10 +1,9 @@
 -- Calls from outside of the script, in the words of its meaning.
-use Rattle.std.proofs.Common.{◌≡◌, ℕ, zero, suc, ◌≤◌, List, [], ◌∷◌, ◌++◌, Option, Some, None, refl, sym, ap, ◌∙◌, subst}
+use Rattle.std.proofs.Common.{◌≡◌, ℕ, zero, suc, ◌≤◌, List, [], Option, Some, None, refl, sym, ap, ◌∙◌, subst}
 use Rattle.std.specs.Prelude.{slice_get}
 use Rattle.page_types.specs.Values as Model
 use Rattle.page_types.specs.Tree.{Program}
 use Rattle.page_values.specs.declared.Value.{Value}
-use Rattle.lang_meaning.specs.Machine as M
 use Rattle.lang_meaning.specs.Machine.{Machine, Done, Gives, Throws, Returns, OutOfFuel, done_hosted, with_fuel, Operations}
 use Rattle.lang_meaning.specs.Evaluation as E
 use Rattle.lang_meaning.specs.Evaluation.{calls, body_of_call, end_of_call, unit_variables, first_globals}
@@ -13,7 +12,7 @@ use Rattle.lang_meaning.specs.Asks.{Limited, limited_host, limited, limited_oper
 use Rattle.lang_meaning.proofs.Unlimited.{unlimited-follows}
 use Rattle.lang_ast.specs.Hosts.{HostNow}
 use Rattle.page_interp.specs.declared.exit.Store.{Store}
-use Rattle.page_interp.specs.Runs.{Ended, done, Left, ends, refused, no_memory, gives, throws, returns, no_fuel, Is, more, Comes, Stands, IsDry, WhereSettled, Refuses, LeftIsNumbered, AreNumberedIn, outside, count_of_functions, global_names, variables_of, IsReady, Moment, moment_of, machine_of, Runs, caller_of, as_called}
+use Rattle.page_interp.specs.Runs.{Ended, done, Left, ends, refused, no_memory, gives, throws, returns, no_fuel, Is, more, Comes, Stands, IsDry, WhereSettled, Refuses, LeftIsNumbered, AreNumberedIn, outside, count_of_functions, global_names, variables_of, IsReady, moment_of, machine_of, Runs, caller_of, as_called}
 use Rattle.page_interp.proofs.Numbered.{units_numbered}
 
 -- no call ends in a `return` of its caller

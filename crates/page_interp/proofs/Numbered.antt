@@ -1,6 +1,6 @@
 -- What is read, written and answered names only functions that are there.
-use Rattle.std.proofs.Common.{◌≡◌, ℕ, zero, suc, ◌+◌, ◌<◌, ◌≤◌, Bool, true, false, cond, List, [], ◌∷◌, ◌++◌, map, length, Option, Some, None, Ok, Err, refl, sym, ap, subst, arith}
-use Rattle.std.specs.Prelude.{ℤ, pos, negsuc, ◌+ℤ◌, ◌-ℤ◌, ◌*ℤ◌, neg_ℤ, int_lt, int_le, int_div, int_rem, slice_get, ⊤, not, ◌&&◌, nat_le}
+use Rattle.std.proofs.Common.{ℕ, zero, suc, Bool, true, false, cond, List, [], ◌∷◌, ◌++◌, length, Option, Some, None, Ok, Err, arith}
+use Rattle.std.specs.Prelude.{ℤ, pos, negsuc, ◌+ℤ◌, ◌-ℤ◌, ◌*ℤ◌, neg_ℤ, int_lt, int_le, int_div, int_rem, slice_get, not, ◌&&◌, nat_le}
 use Rattle.page_types.specs.declared.FaultName.{FaultName}
 use Rattle.page_types.specs.declared.FaultName.TheVariants.{TypeError, RangeError}
 use Rattle.page_types.specs.declared.SumSign.{SumSign}
@@ -11,15 +11,15 @@ use Rattle.page_types.specs.declared.CompareSign.{CompareSign}
 use Rattle.page_types.specs.declared.CompareSign.TheVariants.{Equals, Differs, Less, AtMost, Greater, AtLeast}
 use Rattle.page_types.specs.declared.UnarySign.{UnarySign}
 use Rattle.page_types.specs.declared.UnarySign.TheVariants.{Negative, Not}
-use Rattle.page_types.specs.Values.{Value, UnitValue, BoolValue, IntValue, TextValue, ListValue, FunValue, Values, no_values, with_value, items_of, values_of}
-use Rattle.page_parts.specs.Words.{same_bytes, is_there}
-use Rattle.page_parts.specs.Kinds.{weight, nesting, int_in, bool_in, text_in, list_in, func_in, within_limits}
+use Rattle.page_types.specs.Values.{Value, BoolValue, IntValue, TextValue, ListValue, Values, no_values, with_value, items_of, values_of}
+use Rattle.page_parts.specs.Words.{same_bytes}
+use Rattle.page_parts.specs.Kinds.{weight, nesting, int_in, bool_in, text_in}
 use Rattle.page_values.specs.Written.{IsNumbered, AreNumbered}
 use Rattle.lang_ast.specs.Steps.{AllNumbered}
 use Rattle.lang_meaning.specs.Machine as M
 use Rattle.lang_meaning.specs.Machine.{value_in, with_value_in, or_else}
 use Rattle.lang_meaning.specs.Evaluation.{Function, Answer, need, limited_value, sum_answer, product_answer, compare_answer, unary_answer, item_answer, both_ints, int_answer, divides, divided, ordered, fits, place_in, number_of, function_value, parameters_with, unit_variables}
-use Rattle.page_interp.specs.Runs.{AnswerIsNumbered, SomeIsNumbered, AreNumberedIn, func_of}
+use Rattle.page_interp.specs.Runs.{AnswerIsNumbered, SomeIsNumbered, AreNumberedIn}
 
 need_by : {X : Type 0} (count : ℕ) (o : Option X) (fault : FaultName) (next : X → Answer) → ((x : X) → AnswerIsNumbered count (next x)) → AnswerIsNumbered count (need o fault next)
 need_by count None fault next each = tt

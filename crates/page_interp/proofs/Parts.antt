@@ -1,5 +1,5 @@
 -- Names, conditions, units of fuel, and the turns of a loop.
-use Rattle.std.proofs.Common.{◌≡◌, ℕ, suc, ◌-◌, ◌≤◌, List, [], ◌∷◌, Option, Some, None, Ok, true, false, cond, refl, sym, ap, ◌∙◌, arith, length}
+use Rattle.std.proofs.Common.{◌≡◌, ℕ, suc, ◌-◌, ◌≤◌, List, [], ◌∷◌, Option, Some, None, Ok, true, false, cond, refl, sym, ap, ◌∙◌, arith}
 use Rattle.page_types.specs.declared.FaultName.{FaultName}
 use Rattle.page_types.specs.declared.FaultName.TheVariants.{TypeError}
 use Rattle.page_types.specs.declared.Op.{Op}
@@ -19,7 +19,7 @@ use Rattle.lang_ast.specs.Hosts.{HostNow}
 use Rattle.lang_meaning.specs.OpNames.{op_named}
 use Rattle.page_interp.specs.declared.exit.Store.{Store}
 use Rattle.page_interp.specs.Answers.{Answers}
-use Rattle.page_interp.specs.Runs.{gives, throws, no_fuel, Left, ends, SomeIsNumbered, AreNumberedIn, Scope, outside, inside, count_of_functions, global_names, variables_of, IsReady, Moment, moment_of, Runs, Leads, around_of, caller_of, call_given}
+use Rattle.page_interp.specs.Runs.{gives, throws, no_fuel, Left, ends, SomeIsNumbered, AreNumberedIn, Scope, outside, inside, count_of_functions, global_names, variables_of, IsReady, Moment, moment_of, Runs, around_of, caller_of, call_given}
 use Rattle.page_interp.proofs.Steps.{still, runs_at, runs_as, runs_then, runs_answer, runs_assigned, leads_trans, comes_after, stands_within}
 use Rattle.page_interp.proofs.Numbered.{need_numbered, read_numbered, write_numbered, cond_numbered, or_numbered, function_numbered}
 use Rattle.page_interp.proofs.Loops.{Turning}

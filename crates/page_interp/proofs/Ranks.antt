@@ -2,7 +2,7 @@
 use Rattle.std.proofs.Common.{◌≡◌, ℕ, zero, suc, ◌+◌, ◌-◌, ◌*◌, ◌<◌, ◌≤◌, List, [], ◌∷◌, Some, arith, ap, length}
 use Rattle.std.specs.Prelude.{slice_get}
 use Rattle.page_types.specs.Tree.{Program, Exprs, no_exprs, with_expr}
-use Rattle.lang_meaning.specs.Evaluation.{Function, functions_of, own_body}
+use Rattle.lang_meaning.specs.Evaluation.{Function, functions_of}
 use Rattle.lang_ast.specs.Sizes.{block_size, exprs_size}
 use Rattle.page_interp.specs.Sizes.{bodies_size, program_size, rank}
 

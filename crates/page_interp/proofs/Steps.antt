@@ -13,9 +13,7 @@ use Rattle.page_interp.specs.declared.exit.Exit.{Exit}
 use Rattle.page_interp.specs.declared.exit.Exit.TheVariants.{Throw, Return, Fuel, Host, OutOfMemory}
 use Rattle.page_interp.specs.declared.exit.Store.{Store}
 use Rattle.page_interp.specs.Answers.{Answers}
-use Rattle.page_types.specs.Counts.{Rose}
 use Rattle.page_types.specs.Tree.{Program}
-use Rattle.page_values.specs.Written.{IsNumbered}
 use Rattle.page_interp.specs.Runs.{Ended, gives, throws, returns, no_fuel, done, Left, ends, refused, no_memory, exit_left, more, Ends, Comes, Stands, IsDry, WhereSettled, Refuses, IsNoThrow, LeftIsNumbered, AnswerIsNumbered, Scope, IsReady, Moment, moment_of, Runs, Leads, variables_of, global_names}
 
 pub still : (n : ℕ) → n ≤ n

@@ -1,5 +1,5 @@
 -- What the operators answer.
-use Rattle.std.specs.Prelude.{◌≡◌, Bool, cond, ℤ, ◌+ℤ◌, ◌-ℤ◌, ◌*ℤ◌, int_lt, int_le, int_div, int_rem, Option, Some, None, ⊤}
+use Rattle.std.specs.Prelude.{◌≡◌, cond, ℤ, ◌+ℤ◌, ◌-ℤ◌, ◌*ℤ◌, int_div, int_rem, Option, Some, None, ⊤}
 use Rattle.page_types.specs.declared.SumSign.{SumSign}
 use Rattle.page_types.specs.declared.SumSign.TheVariants.{Plus, Minus}
 use Rattle.page_types.specs.declared.ProductSign.{ProductSign}

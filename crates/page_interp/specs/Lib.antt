@@ -5,3 +5,4 @@ pub mod Answers
 pub mod Sizes
 pub mod NumberTests
 pub mod Machines
+pub mod Clauses

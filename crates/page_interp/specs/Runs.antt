@@ -1,9 +1,9 @@
 -- What a run of the machine is, by the meaning of the script.
-use Rattle.std.specs.Prelude.{◌≡◌, ℕ, zero, suc, ◌-◌, ◌≤◌, Bool, true, false, List, [], ◌∷◌, ◌++◌, Option, Some, None, Result, Ok, Err, ⊤, map, length}
+use Rattle.std.specs.Prelude.{◌≡◌, ℕ, zero, suc, ◌-◌, ◌≤◌, Bool, true, false, List, [], ◌∷◌, ◌++◌, Option, Some, None, Result, Ok, Err, ⊤, length}
 use Rattle.page_types.specs.Counts.{Rose}
 use Rattle.page_types.specs.Values as Model
 use Rattle.page_types.specs.Values.{UnitValue, FaultValue, items_of}
-use Rattle.page_types.specs.Tree.{Program, Exprs, Block}
+use Rattle.page_types.specs.Tree.{Program, Exprs}
 use Rattle.page_types.specs.declared.FaultName.TheVariants.{TypeError}
 use Rattle.page_parts.specs.Kinds.{Func, func_in}
 use Rattle.page_values.specs.declared.Value.{Value}
@@ -83,7 +83,8 @@ Comes f a (refused stop) b = ⊤
 Comes f a no_memory b = ⊤
 
 -- where f leaves the host: as a refused ask may leave it, or as it was after the asks so far
-abbrev pub Stands : {H S : Type 0} → HostRules H → (Ask → H → H → Type 0) → Left S → (Machine (Limited H) → Done (Limited H)) → Machine H → H → Type 0
+abbrev pub Stands : {H S : Type 0} → HostRules H → (Ask → H → H → Type 0) → Left S
+    → (Machine (Limited H) → Done (Limited H)) → Machine H → H → Type 0
 Stands rules leaves (ends e) f m told = IsPassed rules f m told
 Stands rules leaves (refused stop) f m told = IsRefused leaves f m told
 Stands rules leaves no_memory f m told = IsPassed rules f m told
@@ -181,7 +182,8 @@ pub record Moment (T S : Type 0) : Type 0 where
 
 -- the state with these calls open, the innermost first
 abbrev pub machine_of : {T : Type 0} → Program → T → Store → List (List M.Variable) → Machine T
-machine_of p told store frames = record { globals = variables_of (global_names p) store.globals.items; open_calls = frames; fuel = store.fuel; host = told }
+machine_of p told store frames =
+    record { globals = variables_of (global_names p) store.globals.items; open_calls = frames; fuel = store.fuel; host = told }
 
 unfoldable pub moment_of : {T S : Type 0} → Program → HostNow T S → Store → List (List M.Variable) → Moment T S
 moment_of p h store frames = record { machine = machine_of p h.told store frames; now = h }
@@ -226,13 +228,17 @@ module _ {T S : Type 0} where
     pub numbered : LeftIsNumbered w.count l
 
   -- What g comes to from the second moment on, f comes to from the first.
-  pub record Leads (w : Scope T) (f : Machine (Limited T) → Done (Limited T)) (a : Moment T S) (g : Machine (Limited T) → Done (Limited T)) (b : Moment T S) : Type 0 where
+  pub record Leads (w : Scope T) (f : Machine (Limited T) → Done (Limited T)) (a : Moment T S)
+      (g : Machine (Limited T) → Done (Limited T)) (b : Moment T S) : Type 0 where
     pub runs : (l : Left S) (c : Moment T S) → Runs w g b l c → Runs w f a l c
     pub ready : IsReady w b
 
   -- These are the values of so many expressions: what is done with them from the second moment on comes of the whole from the first.
-  pub record AreValues (w : Scope T) (whole : (List Model.Value → Machine (Limited T) → Done (Limited T)) → Machine (Limited T) → Done (Limited T)) (a : List (List M.Variable) → Moment T S) (vs : List Model.Value) (b : List (List M.Variable) → Moment T S) (n : ℕ) : Type 0 where
-    pub leads : (outer : List (List M.Variable)) (next : List Model.Value → Machine (Limited T) → Done (Limited T)) → Leads w (whole next) (a outer) (next vs) (b outer)
+  pub record AreValues (w : Scope T)
+      (whole : (List Model.Value → Machine (Limited T) → Done (Limited T)) → Machine (Limited T) → Done (Limited T))
+      (a : List (List M.Variable) → Moment T S) (vs : List Model.Value) (b : List (List M.Variable) → Moment T S) (n : ℕ) : Type 0 where
+    pub leads : (outer : List (List M.Variable)) (next : List Model.Value → Machine (Limited T) → Done (Limited T))
+        → Leads w (whole next) (a outer) (next vs) (b outer)
     pub numbered : AllNumbered w.count vs
     pub counted : length vs ≡ n
 

@@ -58,11 +58,13 @@ impl<'p> Machine<'p> {
         requires room { fuel.old ≤ (H.now host.old).room }
         requires bound { AreNumbered (count_of_functions (program_in self.old)) fun.now.bound }
         requires args { AllNumbered (count_of_functions (program_in self.old)) (map seen args.items) }
-        ensures meaning { Is (call_from_outside (program_in self.old) (host_operations H.rules) fun.now.function (bound_args fun.now.bound args.items)
+        ensures meaning { Is (call_from_outside (program_in self.old) (host_operations H.rules)
+            fun.now.function (bound_args fun.now.bound args.items)
             (machine_with (globals_in self.old) fuel.old (H.now host.old).told)) (ran_left result)
             (machine_with (globals_in self.new) fuel.new (H.now host.new).told) }
         ensures stands { Stands H.rules H.leaves (ran_left result)
-            (call_from_outside (program_in self.old) (limited_operations H.rules) fun.now.function (bound_args fun.now.bound args.items))
+            (call_from_outside (program_in self.old) (limited_operations H.rules)
+            fun.now.function (bound_args fun.now.bound args.items))
             (machine_with (globals_in self.old) fuel.old (H.now host.old).told) (H.now host.new).told }
         ensures refusals { Refuses (ran_left result) (H.now host.old).refusals (H.now host.new).refusals (H.now host.new).last_stop }
         ensures tickets { WhereSettled (ran_left result) ((H.now host.new).tickets ≡ (H.now host.old).tickets) }

@@ -70,7 +70,8 @@ impl Code<'_> {
 
     /// The function with this number.
     pub fn function(&self, number: u32) -> Option<&Function>
-        ensures found { option_map (λ f. seen_function f.now) result ≡ slice_get (functions_of (seen_program self.now.program.now).items) number }
+        ensures found { option_map (λ f. seen_function f.now) result ≡
+            slice_get (functions_of (seen_program self.now.program.now).items) number }
         ensures fits { IfSome result (λ f. CallsFit (in_block (seen_block f.now.body.items))) }
     {
         self.program.function(number)

@@ -34,5 +34,6 @@ pub enum Stopped<S> {
 pub struct Machine<'p> {
     pub(crate) code: Code<'p>,
     pub(crate) store: Store,
-    ghost numbered: { IsTrue (are_numbered_in (count_of_functions (seen_program code.program.now)) (variables_of (global_names (seen_program code.program.now)) store.globals.items)) },
+    ghost numbered: { IsTrue (are_numbered_in (count_of_functions (seen_program code.program.now))
+        (variables_of (global_names (seen_program code.program.now)) store.globals.items)) },
 }

@@ -1,23 +1,22 @@
 //! The machine, by recursion on the script.
 
-ghost use Rattle.std.specs.Prelude.{◌≡◌, ℕ, ◌≤◌, ◌+◌, ◌++◌, List, [], ◌∷◌, IfOk, IfErr, map, length};
+ghost use Rattle.std.specs.Prelude.{◌≡◌, ◌≤◌, ◌+◌, ◌++◌, List, [], ◌∷◌, IfOk, IfErr, map, length};
 ghost use Rattle.std.specs.Option.{option_map};
 ghost use Rattle.page_types.specs.Values as Model;
 ghost use Rattle.page_values.specs.Seen.{seen};
 ghost use Rattle.page_values.specs.Written.{IsNumbered};
-ghost use Rattle.lang_meaning.specs.Machine as M;
 ghost use Rattle.lang_meaning.specs.Machine.{Machine, Done};
 ghost use Rattle.lang_meaning.specs.Evaluation.{eval, eval_or, eval_and, eval_all, eval_sum, eval_product, eval_places, exec, exec_block, exec_others, exec_else, own_body};
 ghost use Rattle.lang_meaning.specs.HostSteps.{asked_by, is_busy};
 ghost use Rattle.lang_meaning.specs.Asks.{Limited, ask_limited, limited_operations};
 ghost use Rattle.lang_meaning.specs.OpNames.{op_named};
 ghost use Rattle.lang_ast.specs.Seen.{seen_expr, seen_exprs, seen_terms, seen_factors, seen_stmt, seen_block, seen_others, seen_else, seen_items};
-ghost use Rattle.lang_ast.specs.SeenProgram.{seen_program};
 ghost use Rattle.lang_ast.specs.Names.{in_expr, in_exprs, in_terms, in_factors, in_stmt, in_block, in_others, in_else, count_exprs};
 ghost use Rattle.lang_ast.specs.Calls.{CallsFit, HasCount};
 ghost use Rattle.lang_ast.specs.Operations.{count_of};
 ghost use Rattle.lang_ast.specs.Steps.{AllNumbered, room_taken};
-ghost use Rattle.page_interp.specs.Runs.{Runs, IsReady, AreValues, inside, outside, count_of_functions, SomeIsNumbered, value_left, unit_left, exit_left, moment_of, caller_of, around_of, called_by_name, call_given, all_turns, variables_of};
+ghost use Rattle.page_interp.specs.Runs.{AreValues, inside, count_of_functions, SomeIsNumbered, value_left, unit_left, exit_left, around_of, called_by_name, call_given, all_turns};
+ghost use Rattle.page_interp.specs.Clauses.{script, body, moment_in, CanRun, RunsIn, CanCall, Calls};
 
 use crate::catching::caught;
 use crate::code::Code;
@@ -46,9 +45,10 @@ pub(crate) fn eval<H: Host>(
     expr: &Expr,
 ) -> Result<Value, Exit<H::Stop>>
     requires depth { depth ≤ 256 }
-    requires ready { IsReady (inside H.rules H.leaves (seen_program code.now.program.now)) (moment_of (seen_program code.now.program.now) (H.now host.old) store.old (variables_of names.now locals.old.items ∷ [])) }
+    requires ready { CanRun (body H.rules H.leaves code.now depth names.now) (H.now host.old) store.old locals.old.items }
     requires fits { CallsFit (in_expr (seen_expr expr.now)) }
-    ensures { (outer : List (List M.Variable)) → Runs (inside H.rules H.leaves (seen_program code.now.program.now)) (eval (around_of H.rules (seen_program code.now.program.now) depth) (seen_expr expr.now)) (moment_of (seen_program code.now.program.now) (H.now host.old) store.old (variables_of names.now locals.old.items ∷ outer)) (value_left result) (moment_of (seen_program code.now.program.now) (H.now host.new) store.new (variables_of names.now locals.new.items ∷ outer)) }
+    ensures { RunsIn (body H.rules H.leaves code.now depth names.now) (λ w. eval w (seen_expr expr.now))
+        (H.now host.old) store.old locals.old.items (value_left result) (H.now host.new) store.new locals.new.items }
 {
     match expr {
         Expr::Or(first, rest) => {
@@ -115,9 +115,10 @@ fn eval_or<H: Host>(
     operands: &Vec<Expr>,
 ) -> Result<Value, Exit<H::Stop>>
     requires depth { depth ≤ 256 }
-    requires ready { IsReady (inside H.rules H.leaves (seen_program code.now.program.now)) (moment_of (seen_program code.now.program.now) (H.now host.old) store.old (variables_of names.now locals.old.items ∷ [])) }
+    requires ready { CanRun (body H.rules H.leaves code.now depth names.now) (H.now host.old) store.old locals.old.items }
     requires fits { CallsFit (in_exprs (seen_exprs operands.now.items)) }
-    ensures { (outer : List (List M.Variable)) → Runs (inside H.rules H.leaves (seen_program code.now.program.now)) (eval_or (around_of H.rules (seen_program code.now.program.now) depth) (seen_exprs operands.now.items)) (moment_of (seen_program code.now.program.now) (H.now host.old) store.old (variables_of names.now locals.old.items ∷ outer)) (value_left result) (moment_of (seen_program code.now.program.now) (H.now host.new) store.new (variables_of names.now locals.new.items ∷ outer)) }
+    ensures { RunsIn (body H.rules H.leaves code.now depth names.now) (λ w. eval_or w (seen_exprs operands.now.items))
+        (H.now host.old) store.old locals.old.items (value_left result) (H.now host.new) store.new locals.new.items }
 {
     for operand in operands {
         let v = eval(code, host, store, depth, names, locals, operand)?;
@@ -140,9 +141,10 @@ fn eval_and<H: Host>(
     operands: &Vec<Expr>,
 ) -> Result<Value, Exit<H::Stop>>
     requires depth { depth ≤ 256 }
-    requires ready { IsReady (inside H.rules H.leaves (seen_program code.now.program.now)) (moment_of (seen_program code.now.program.now) (H.now host.old) store.old (variables_of names.now locals.old.items ∷ [])) }
+    requires ready { CanRun (body H.rules H.leaves code.now depth names.now) (H.now host.old) store.old locals.old.items }
     requires fits { CallsFit (in_exprs (seen_exprs operands.now.items)) }
-    ensures { (outer : List (List M.Variable)) → Runs (inside H.rules H.leaves (seen_program code.now.program.now)) (eval_and (around_of H.rules (seen_program code.now.program.now) depth) (seen_exprs operands.now.items)) (moment_of (seen_program code.now.program.now) (H.now host.old) store.old (variables_of names.now locals.old.items ∷ outer)) (value_left result) (moment_of (seen_program code.now.program.now) (H.now host.new) store.new (variables_of names.now locals.new.items ∷ outer)) }
+    ensures { RunsIn (body H.rules H.leaves code.now depth names.now) (λ w. eval_and w (seen_exprs operands.now.items))
+        (H.now host.old) store.old locals.old.items (value_left result) (H.now host.new) store.new locals.new.items }
 {
     for operand in operands {
         let v = eval(code, host, store, depth, names, locals, operand)?;
@@ -167,10 +169,11 @@ fn eval_sum<H: Host>(
     terms: &Vec<(SumSign, Expr)>,
 ) -> Result<Value, Exit<H::Stop>>
     requires depth { depth ≤ 256 }
-    requires ready { IsReady (inside H.rules H.leaves (seen_program code.now.program.now)) (moment_of (seen_program code.now.program.now) (H.now host.old) store.old (variables_of names.now locals.old.items ∷ [])) }
+    requires ready { CanRun (body H.rules H.leaves code.now depth names.now) (H.now host.old) store.old locals.old.items }
     requires fits { CallsFit (in_terms (seen_terms terms.now.items)) }
-    requires first { IsNumbered (count_of_functions (seen_program code.now.program.now)) (seen first) }
-    ensures { (outer : List (List M.Variable)) → Runs (inside H.rules H.leaves (seen_program code.now.program.now)) (eval_sum (around_of H.rules (seen_program code.now.program.now) depth) (seen_terms terms.now.items) (seen first)) (moment_of (seen_program code.now.program.now) (H.now host.old) store.old (variables_of names.now locals.old.items ∷ outer)) (value_left result) (moment_of (seen_program code.now.program.now) (H.now host.new) store.new (variables_of names.now locals.new.items ∷ outer)) }
+    requires first { IsNumbered (count_of_functions (script code.now)) (seen first) }
+    ensures { RunsIn (body H.rules H.leaves code.now depth names.now) (λ w. eval_sum w (seen_terms terms.now.items) (seen first))
+        (H.now host.old) store.old locals.old.items (value_left result) (H.now host.new) store.new locals.new.items }
 {
     let mut value = first;
     for term in terms {
@@ -193,10 +196,11 @@ fn eval_product<H: Host>(
     factors: &Vec<(ProductSign, Expr)>,
 ) -> Result<Value, Exit<H::Stop>>
     requires depth { depth ≤ 256 }
-    requires ready { IsReady (inside H.rules H.leaves (seen_program code.now.program.now)) (moment_of (seen_program code.now.program.now) (H.now host.old) store.old (variables_of names.now locals.old.items ∷ [])) }
+    requires ready { CanRun (body H.rules H.leaves code.now depth names.now) (H.now host.old) store.old locals.old.items }
     requires fits { CallsFit (in_factors (seen_factors factors.now.items)) }
-    requires first { IsNumbered (count_of_functions (seen_program code.now.program.now)) (seen first) }
-    ensures { (outer : List (List M.Variable)) → Runs (inside H.rules H.leaves (seen_program code.now.program.now)) (eval_product (around_of H.rules (seen_program code.now.program.now) depth) (seen_factors factors.now.items) (seen first)) (moment_of (seen_program code.now.program.now) (H.now host.old) store.old (variables_of names.now locals.old.items ∷ outer)) (value_left result) (moment_of (seen_program code.now.program.now) (H.now host.new) store.new (variables_of names.now locals.new.items ∷ outer)) }
+    requires first { IsNumbered (count_of_functions (script code.now)) (seen first) }
+    ensures { RunsIn (body H.rules H.leaves code.now depth names.now) (λ w. eval_product w (seen_factors factors.now.items) (seen first))
+        (H.now host.old) store.old locals.old.items (value_left result) (H.now host.new) store.new locals.new.items }
 {
     let mut value = first;
     for factor in factors {
@@ -219,10 +223,11 @@ fn eval_places<H: Host>(
     places: &Vec<Expr>,
 ) -> Result<Value, Exit<H::Stop>>
     requires depth { depth ≤ 256 }
-    requires ready { IsReady (inside H.rules H.leaves (seen_program code.now.program.now)) (moment_of (seen_program code.now.program.now) (H.now host.old) store.old (variables_of names.now locals.old.items ∷ [])) }
+    requires ready { CanRun (body H.rules H.leaves code.now depth names.now) (H.now host.old) store.old locals.old.items }
     requires fits { CallsFit (in_exprs (seen_exprs places.now.items)) }
-    requires first { IsNumbered (count_of_functions (seen_program code.now.program.now)) (seen first) }
-    ensures { (outer : List (List M.Variable)) → Runs (inside H.rules H.leaves (seen_program code.now.program.now)) (eval_places (around_of H.rules (seen_program code.now.program.now) depth) (seen_exprs places.now.items) (seen first)) (moment_of (seen_program code.now.program.now) (H.now host.old) store.old (variables_of names.now locals.old.items ∷ outer)) (value_left result) (moment_of (seen_program code.now.program.now) (H.now host.new) store.new (variables_of names.now locals.new.items ∷ outer)) }
+    requires first { IsNumbered (count_of_functions (script code.now)) (seen first) }
+    ensures { RunsIn (body H.rules H.leaves code.now depth names.now) (λ w. eval_places w (seen_exprs places.now.items) (seen first))
+        (H.now host.old) store.old locals.old.items (value_left result) (H.now host.new) store.new locals.new.items }
 {
     let mut value = first;
     for place in places {
@@ -244,10 +249,17 @@ fn eval_all<H: Host>(
     exprs: &Vec<Expr>,
 ) -> Result<Vec<Value>, Exit<H::Stop>>
     requires depth { depth ≤ 256 }
-    requires ready { IsReady (inside H.rules H.leaves (seen_program code.now.program.now)) (moment_of (seen_program code.now.program.now) (H.now host.old) store.old (variables_of names.now locals.old.items ∷ [])) }
+    requires ready { CanRun (body H.rules H.leaves code.now depth names.now) (H.now host.old) store.old locals.old.items }
     requires fits { CallsFit (in_exprs (seen_exprs exprs.now.items)) }
-    ensures values { IfOk result (λ vs. AreValues (inside H.rules H.leaves (seen_program code.now.program.now)) (λ next. eval_all (around_of H.rules (seen_program code.now.program.now) depth) (seen_exprs exprs.now.items) [] next) (λ outer. (moment_of (seen_program code.now.program.now) (H.now host.old) store.old (variables_of names.now locals.old.items ∷ outer))) (map seen vs.items) (λ outer. (moment_of (seen_program code.now.program.now) (H.now host.new) store.new (variables_of names.now locals.new.items ∷ outer))) (length exprs.now.items)) }
-    ensures exit { IfErr result (λ x. (outer : List (List M.Variable)) (next : List Model.Value → Machine (Limited H.Told) → Done (Limited H.Told)) → Runs (inside H.rules H.leaves (seen_program code.now.program.now)) (eval_all (around_of H.rules (seen_program code.now.program.now) depth) (seen_exprs exprs.now.items) [] next) (moment_of (seen_program code.now.program.now) (H.now host.old) store.old (variables_of names.now locals.old.items ∷ outer)) (exit_left x) (moment_of (seen_program code.now.program.now) (H.now host.new) store.new (variables_of names.now locals.new.items ∷ outer))) }
+    ensures values { IfOk result (λ vs. AreValues (inside H.rules H.leaves (script code.now))
+        (λ next. eval_all (around_of H.rules (script code.now) depth) (seen_exprs exprs.now.items) [] next)
+        (λ outer. moment_in (body H.rules H.leaves code.now depth names.now) (H.now host.old) store.old locals.old.items outer)
+        (map seen vs.items)
+        (λ outer. moment_in (body H.rules H.leaves code.now depth names.now) (H.now host.new) store.new locals.new.items outer)
+        (length exprs.now.items)) }
+    ensures exit { IfErr result (λ x. (next : List Model.Value → Machine (Limited H.Told) → Done (Limited H.Told)) →
+        RunsIn (body H.rules H.leaves code.now depth names.now) (λ w. eval_all w (seen_exprs exprs.now.items) [] next)
+        (H.now host.old) store.old locals.old.items (exit_left x) (H.now host.new) store.new locals.new.items) }
 {
     let mut values = Vec::new(code.alloc);
     for expr in exprs {
@@ -270,10 +282,11 @@ fn eval_call<H: Host>(
     args: &Vec<Expr>,
 ) -> Result<Value, Exit<H::Stop>>
     requires depth { depth ≤ 256 }
-    requires ready { IsReady (inside H.rules H.leaves (seen_program code.now.program.now)) (moment_of (seen_program code.now.program.now) (H.now host.old) store.old (variables_of names.now locals.old.items ∷ [])) }
+    requires ready { CanRun (body H.rules H.leaves code.now depth names.now) (H.now host.old) store.old locals.old.items }
     requires fits { CallsFit (in_exprs (seen_exprs args.now.items)) }
     requires count { HasCount (op_named name.now.name) (count_exprs (seen_exprs args.now.items)) }
-    ensures { (outer : List (List M.Variable)) → Runs (inside H.rules H.leaves (seen_program code.now.program.now)) (called_by_name (around_of H.rules (seen_program code.now.program.now) depth) name.now.name (seen_exprs args.now.items)) (moment_of (seen_program code.now.program.now) (H.now host.old) store.old (variables_of names.now locals.old.items ∷ outer)) (value_left result) (moment_of (seen_program code.now.program.now) (H.now host.new) store.new (variables_of names.now locals.new.items ∷ outer)) }
+    ensures { RunsIn (body H.rules H.leaves code.now depth names.now) (λ w. called_by_name w name.now.name (seen_exprs args.now.items))
+        (H.now host.old) store.old locals.old.items (value_left result) (H.now host.new) store.new locals.new.items }
 {
     match operation_named(&name.name) {
         Some(op) => {
@@ -300,9 +313,10 @@ fn exec<H: Host>(
     stmt: &Stmt,
 ) -> Result<(), Exit<H::Stop>>
     requires depth { depth ≤ 256 }
-    requires ready { IsReady (inside H.rules H.leaves (seen_program code.now.program.now)) (moment_of (seen_program code.now.program.now) (H.now host.old) store.old (variables_of names.now locals.old.items ∷ [])) }
+    requires ready { CanRun (body H.rules H.leaves code.now depth names.now) (H.now host.old) store.old locals.old.items }
     requires fits { CallsFit (in_stmt (seen_stmt stmt.now)) }
-    ensures { (outer : List (List M.Variable)) → Runs (inside H.rules H.leaves (seen_program code.now.program.now)) (exec (around_of H.rules (seen_program code.now.program.now) depth) (seen_stmt stmt.now)) (moment_of (seen_program code.now.program.now) (H.now host.old) store.old (variables_of names.now locals.old.items ∷ outer)) (unit_left result) (moment_of (seen_program code.now.program.now) (H.now host.new) store.new (variables_of names.now locals.new.items ∷ outer)) }
+    ensures { RunsIn (body H.rules H.leaves code.now depth names.now) (λ w. exec w (seen_stmt stmt.now))
+        (H.now host.old) store.old locals.old.items (unit_left result) (H.now host.new) store.new locals.new.items }
 {
     match stmt {
         Stmt::Var(x, e) => {
@@ -364,9 +378,10 @@ fn exec_all<H: Host>(
     block: &Vec<Stmt>,
 ) -> Result<(), Exit<H::Stop>>
     requires depth { depth ≤ 256 }
-    requires ready { IsReady (inside H.rules H.leaves (seen_program code.now.program.now)) (moment_of (seen_program code.now.program.now) (H.now host.old) store.old (variables_of names.now locals.old.items ∷ [])) }
+    requires ready { CanRun (body H.rules H.leaves code.now depth names.now) (H.now host.old) store.old locals.old.items }
     requires fits { CallsFit (in_block (seen_block block.now.items)) }
-    ensures { (outer : List (List M.Variable)) → Runs (inside H.rules H.leaves (seen_program code.now.program.now)) (exec_block (around_of H.rules (seen_program code.now.program.now) depth) (seen_block block.now.items)) (moment_of (seen_program code.now.program.now) (H.now host.old) store.old (variables_of names.now locals.old.items ∷ outer)) (unit_left result) (moment_of (seen_program code.now.program.now) (H.now host.new) store.new (variables_of names.now locals.new.items ∷ outer)) }
+    ensures { RunsIn (body H.rules H.leaves code.now depth names.now) (λ w. exec_block w (seen_block block.now.items))
+        (H.now host.old) store.old locals.old.items (unit_left result) (H.now host.new) store.new locals.new.items }
 {
     for stmt in block {
         exec(code, host, store, depth, names, locals, stmt)?;
@@ -386,9 +401,10 @@ fn exec_items<H: Host>(
     items: &[Item],
 ) -> Result<(), Exit<H::Stop>>
     requires depth { depth ≤ 256 }
-    requires ready { IsReady (inside H.rules H.leaves (seen_program code.now.program.now)) (moment_of (seen_program code.now.program.now) (H.now host.old) store.old (variables_of names.now locals.old.items ∷ [])) }
+    requires ready { CanRun (body H.rules H.leaves code.now depth names.now) (H.now host.old) store.old locals.old.items }
     requires fits { CallsFit (in_block (own_body (seen_items items.now))) }
-    ensures { (outer : List (List M.Variable)) → Runs (inside H.rules H.leaves (seen_program code.now.program.now)) (exec_block (around_of H.rules (seen_program code.now.program.now) depth) (own_body (seen_items items.now))) (moment_of (seen_program code.now.program.now) (H.now host.old) store.old (variables_of names.now locals.old.items ∷ outer)) (unit_left result) (moment_of (seen_program code.now.program.now) (H.now host.new) store.new (variables_of names.now locals.new.items ∷ outer)) }
+    ensures { RunsIn (body H.rules H.leaves code.now depth names.now) (λ w. exec_block w (own_body (seen_items items.now)))
+        (H.now host.old) store.old locals.old.items (unit_left result) (H.now host.new) store.new locals.new.items }
 {
     for item in items {
         let stmt = match item {
@@ -413,9 +429,11 @@ fn exec_while<H: Host>(
     block: &Vec<Stmt>,
 ) -> Result<(), Exit<H::Stop>>
     requires depth { depth ≤ 256 }
-    requires ready { IsReady (inside H.rules H.leaves (seen_program code.now.program.now)) (moment_of (seen_program code.now.program.now) (H.now host.old) store.old (variables_of names.now locals.old.items ∷ [])) }
+    requires ready { CanRun (body H.rules H.leaves code.now depth names.now) (H.now host.old) store.old locals.old.items }
     requires fits { CallsFit (in_expr (seen_expr test.now) ++ in_block (seen_block block.now.items)) }
-    ensures { (outer : List (List M.Variable)) → Runs (inside H.rules H.leaves (seen_program code.now.program.now)) (all_turns (eval (around_of H.rules (seen_program code.now.program.now) depth) (seen_expr test.now)) (exec_block (around_of H.rules (seen_program code.now.program.now) depth) (seen_block block.now.items))) (moment_of (seen_program code.now.program.now) (H.now host.old) store.old (variables_of names.now locals.old.items ∷ outer)) (unit_left result) (moment_of (seen_program code.now.program.now) (H.now host.new) store.new (variables_of names.now locals.new.items ∷ outer)) }
+    ensures { RunsIn (body H.rules H.leaves code.now depth names.now)
+        (λ w. all_turns (eval w (seen_expr test.now)) (exec_block w (seen_block block.now.items)))
+        (H.now host.old) store.old locals.old.items (unit_left result) (H.now host.new) store.new locals.new.items }
 {
     loop {
         let v = eval(code, host, store, depth, names, locals, test)?;
@@ -444,9 +462,11 @@ fn exec_others<H: Host>(
     last: &Option<Vec<Stmt>>,
 ) -> Result<(), Exit<H::Stop>>
     requires depth { depth ≤ 256 }
-    requires ready { IsReady (inside H.rules H.leaves (seen_program code.now.program.now)) (moment_of (seen_program code.now.program.now) (H.now host.old) store.old (variables_of names.now locals.old.items ∷ [])) }
+    requires ready { CanRun (body H.rules H.leaves code.now depth names.now) (H.now host.old) store.old locals.old.items }
     requires fits { CallsFit (in_others (seen_others others.now.items) ++ in_else (seen_else last.now)) }
-    ensures { (outer : List (List M.Variable)) → Runs (inside H.rules H.leaves (seen_program code.now.program.now)) (exec_others (around_of H.rules (seen_program code.now.program.now) depth) (seen_others others.now.items) (exec_else (around_of H.rules (seen_program code.now.program.now) depth) (seen_else last.now))) (moment_of (seen_program code.now.program.now) (H.now host.old) store.old (variables_of names.now locals.old.items ∷ outer)) (unit_left result) (moment_of (seen_program code.now.program.now) (H.now host.new) store.new (variables_of names.now locals.new.items ∷ outer)) }
+    ensures { RunsIn (body H.rules H.leaves code.now depth names.now)
+        (λ w. exec_others w (seen_others others.now.items) (exec_else w (seen_else last.now)))
+        (H.now host.old) store.old locals.old.items (unit_left result) (H.now host.new) store.new locals.new.items }
 {
     for other in others {
         let v = eval(code, host, store, depth, names, locals, &other.0)?;
@@ -471,10 +491,11 @@ fn call<H: Host>(
     args: Vec<Value>,
 ) -> Result<Value, Exit<H::Stop>>
     requires depth { depth ≤ 256 }
-    requires ready { IsReady (outside H.rules H.leaves (seen_program code.now.program.now)) (moment_of (seen_program code.now.program.now) (H.now host.old) store.old []) }
-    requires function { SomeIsNumbered (count_of_functions (seen_program code.now.program.now)) (option_map seen function) }
-    requires args { AllNumbered (count_of_functions (seen_program code.now.program.now)) (map seen args.items) }
-    ensures runs { (frames : List (List M.Variable)) → Runs (outside H.rules H.leaves (seen_program code.now.program.now)) (call_given (caller_of H.rules (seen_program code.now.program.now) depth) (option_map seen function) (map seen args.items)) (moment_of (seen_program code.now.program.now) (H.now host.old) store.old frames) (value_left result) (moment_of (seen_program code.now.program.now) (H.now host.new) store.new frames) }
+    requires ready { CanCall H.rules H.leaves code.now (H.now host.old) store.old }
+    requires function { SomeIsNumbered (count_of_functions (script code.now)) (option_map seen function) }
+    requires args { AllNumbered (count_of_functions (script code.now)) (map seen args.items) }
+    ensures runs { Calls H.rules H.leaves code.now depth (λ call. call_given call (option_map seen function) (map seen args.items))
+        (H.now host.old) store.old (value_left result) (H.now host.new) store.new }
     ensures still { store.new.fuel ≡ store.old.fuel → (H.now host.new).told ≡ (H.now host.old).told }
 {
     let Some(Func { function, bound }) = callee(function) else {
@@ -495,9 +516,10 @@ pub(crate) fn run_function<H: Host>(
     args: Vec<Value>,
 ) -> Result<Value, Exit<H::Stop>>
     requires depth { depth ≤ 256 }
-    requires ready { IsReady (outside H.rules H.leaves (seen_program code.now.program.now)) (moment_of (seen_program code.now.program.now) (H.now host.old) store.old []) }
-    requires args { AllNumbered (count_of_functions (seen_program code.now.program.now)) (map seen args.items) }
-    ensures runs { (frames : List (List M.Variable)) → Runs (outside H.rules H.leaves (seen_program code.now.program.now)) ((caller_of H.rules (seen_program code.now.program.now) depth) function (map seen args.items)) (moment_of (seen_program code.now.program.now) (H.now host.old) store.old frames) (value_left result) (moment_of (seen_program code.now.program.now) (H.now host.new) store.new frames) }
+    requires ready { CanCall H.rules H.leaves code.now (H.now host.old) store.old }
+    requires args { AllNumbered (count_of_functions (script code.now)) (map seen args.items) }
+    ensures runs { Calls H.rules H.leaves code.now depth (λ call. call function (map seen args.items))
+        (H.now host.old) store.old (value_left result) (H.now host.new) store.new }
     ensures still { store.new.fuel ≡ store.old.fuel → (H.now host.new).told ≡ (H.now host.old).told }
 {
     if depth >= OPEN_CALLS {
@@ -551,10 +573,11 @@ fn ask<H: Host>(
     args: Vec<Value>,
 ) -> Result<Value, Exit<H::Stop>>
     requires depth { depth ≤ 256 }
-    requires ready { IsReady (outside H.rules H.leaves (seen_program code.now.program.now)) (moment_of (seen_program code.now.program.now) (H.now host.old) store.old []) }
+    requires ready { CanCall H.rules H.leaves code.now (H.now host.old) store.old }
     requires count { length args.items ≡ count_of op }
-    requires args { AllNumbered (count_of_functions (seen_program code.now.program.now)) (map seen args.items) }
-    ensures { (frames : List (List M.Variable)) → Runs (outside H.rules H.leaves (seen_program code.now.program.now)) (limited_operations H.rules (caller_of H.rules (seen_program code.now.program.now) depth) op (map seen args.items)) (moment_of (seen_program code.now.program.now) (H.now host.old) store.old frames) (value_left result) (moment_of (seen_program code.now.program.now) (H.now host.new) store.new frames) }
+    requires args { AllNumbered (count_of_functions (script code.now)) (map seen args.items) }
+    ensures { Calls H.rules H.leaves code.now depth (λ call. limited_operations H.rules call op (map seen args.items))
+        (H.now host.old) store.old (value_left result) (H.now host.new) store.new }
 {
     if is_busy(op) {
         if store.fuel == 0 {
@@ -577,11 +600,12 @@ fn steps<H: Host>(
     args: Vec<Value>,
 ) -> Result<Value, Exit<H::Stop>>
     requires depth { depth ≤ 256 }
-    requires ready { IsReady (outside H.rules H.leaves (seen_program code.now.program.now)) (moment_of (seen_program code.now.program.now) (H.now host.old) store.old []) }
+    requires ready { CanCall H.rules H.leaves code.now (H.now host.old) store.old }
     requires count { length args.items ≡ count_of op }
-    requires args { AllNumbered (count_of_functions (seen_program code.now.program.now)) (map seen args.items) }
+    requires args { AllNumbered (count_of_functions (script code.now)) (map seen args.items) }
     requires room { store.old.fuel + room_taken (is_busy op) ≤ (H.now host.old).room }
-    ensures { (frames : List (List M.Variable)) → Runs (outside H.rules H.leaves (seen_program code.now.program.now)) (asked_by (ask_limited H.rules) (caller_of H.rules (seen_program code.now.program.now) depth) op (map seen args.items)) (moment_of (seen_program code.now.program.now) (H.now host.old) store.old frames) (value_left result) (moment_of (seen_program code.now.program.now) (H.now host.new) store.new frames) }
+    ensures { Calls H.rules H.leaves code.now depth (λ call. asked_by (ask_limited H.rules) call op (map seen args.items))
+        (H.now host.old) store.old (value_left result) (H.now host.new) store.new }
 {
     let mut step = match host.op(op, args) {
         Ok(step) => step,

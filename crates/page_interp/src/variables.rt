@@ -37,9 +37,12 @@ fn read(
 
 /// Puts a value into the variable of this name, and gives it back where there is none.
 fn write(names: &Names, values: &mut Vec<Value>, name: &Str, value: Value) -> Option<Value>
-    ensures after { variables_of names.now values.new.items ≡ with_value_in (variables_of names.now values.old.items) name.now (seen value) }
+    ensures after { variables_of names.now values.new.items ≡
+        with_value_in (variables_of names.now values.old.items) name.now (seen value) }
     ensures written { result ≡ None → is_there (value_in (variables_of names.now values.old.items) name.now) ≡ true }
-    ensures absent { IfSome result (λ v. (v ≡ value) × (is_there (value_in (variables_of names.now values.old.items) name.now) ≡ false) × (values.new.items ≡ values.old.items)) }
+    ensures absent { IfSome result (λ v. (v ≡ value) ×
+        (is_there (value_in (variables_of names.now values.old.items) name.now) ≡ false) ×
+        (values.new.items ≡ values.old.items)) }
 {
     let Some(place) = names.place(name) else {
         return Some(value);
@@ -60,8 +63,14 @@ pub fn assign(
     name: &Str,
     value: Value,
 )
-    ensures locals { variables_of names.now locals.new.items ≡ cond (is_there (value_in (variables_of names.now locals.old.items) name.now)) (with_value_in (variables_of names.now locals.old.items) name.now (seen value)) (variables_of names.now locals.old.items) }
-    ensures globals { variables_of globals.now store.new.globals.items ≡ cond (is_there (value_in (variables_of names.now locals.old.items) name.now)) (variables_of globals.now store.old.globals.items) (with_value_in (variables_of globals.now store.old.globals.items) name.now (seen value)) }
+    ensures locals { variables_of names.now locals.new.items ≡
+        cond (is_there (value_in (variables_of names.now locals.old.items) name.now))
+        (with_value_in (variables_of names.now locals.old.items) name.now (seen value))
+        (variables_of names.now locals.old.items) }
+    ensures globals { variables_of globals.now store.new.globals.items ≡
+        cond (is_there (value_in (variables_of names.now locals.old.items) name.now))
+        (variables_of globals.now store.old.globals.items)
+        (with_value_in (variables_of globals.now store.old.globals.items) name.now (seen value)) }
     ensures fuel { store.new.fuel ≡ store.old.fuel }
 {
     if let Some(value) = write(names, locals, name, value) {
@@ -77,7 +86,10 @@ pub fn named(
     locals: &Vec<Value>,
     name: &Str,
 ) -> Result<Option<Value>, MemoryFault>
-    ensures { IfOk result (λ o. option_map seen o ≡ or_else (or_else (value_in (variables_of names.now locals.now.items) name.now) (value_in (variables_of code.now.globals store.now.globals.items) name.now)) (function_value (number_of (functions_of (seen_program code.now.program.now).items) name.now))) }
+    ensures { IfOk result (λ o. option_map seen o ≡
+        or_else (or_else (value_in (variables_of names.now locals.now.items) name.now)
+        (value_in (variables_of code.now.globals store.now.globals.items) name.now))
+        (function_value (number_of (functions_of (seen_program code.now.program.now).items) name.now))) }
 {
     if let Some(value) = read(code.alloc, names, locals, name)? {
         return Ok(Some(value));
@@ -99,7 +111,10 @@ pub fn name_value<S: Drop>(
     locals: &Vec<Value>,
     name: &Str,
 ) -> Result<Value, Exit<S>>
-    ensures { Answers (value_left result) (need (or_else (or_else (value_in (variables_of names.now locals.now.items) name.now) (value_in (variables_of code.now.globals store.now.globals.items) name.now)) (function_value (number_of (functions_of (seen_program code.now.program.now).items) name.now))) TypeError Ok) }
+    ensures { Answers (value_left result)
+        (need (or_else (or_else (value_in (variables_of names.now locals.now.items) name.now)
+        (value_in (variables_of code.now.globals store.now.globals.items) name.now))
+        (function_value (number_of (functions_of (seen_program code.now.program.now).items) name.now))) TypeError Ok) }
 {
     match named(code, store, names, locals, name) {
         Ok(Some(v)) => Ok(v),
@@ -115,7 +130,8 @@ pub fn locals_for(
     names: &Names,
     args: Vec<Value>,
 ) -> Result<Vec<Value>, MemoryFault>
-    ensures { IfOk result (λ vs. (xs ys : List (List ℕ)) → names.now ≡ xs ++ ys → parameters ≡ length xs → variables_of names.now vs.items ≡ parameters_with xs (map seen args.items) ++ unit_variables ys) }
+    ensures { IfOk result (λ vs. (xs ys : List (List ℕ)) → names.now ≡ xs ++ ys → parameters ≡ length xs →
+        variables_of names.now vs.items ≡ parameters_with xs (map seen args.items) ++ unit_variables ys) }
 {
     let mut locals = args;
     locals.truncate(parameters);

@@ -255,7 +255,7 @@ eval-eval_all-requires g t c κs within =
     search rules
 
 pub eval-returns-in_err-vs-in-List : goal.eval-returns-in_err-vs-in-List
-eval-returns-in_err-vs-in-List g t c = let q = err_from_is_err_and c.from_residual-in_err-vs-in-List.result c.from_residual-in_err-vs-in-List.ensures.1 in λ outer. rw (q.1, q.2, c.in-List.is, seen-List) (runs_as (λ left. refl) (c.in_err-vs-in-List.ensures.exit outer (λ vs m. limited (ListValue (values_of vs)) m)))
+eval-returns-in_err-vs-in-List g t c = let q = err_from_is_err_and c.from_residual-in_err-vs-in-List.result c.from_residual-in_err-vs-in-List.ensures.1 in λ outer. rw (q.1, q.2, c.in-List.is, seen-List) (runs_as (λ left. refl) (c.in_err-vs-in-List.ensures.exit (λ vs m. limited (ListValue (values_of vs)) m) outer))
 
 pub eval-returns-then-branch : goal.eval-returns-then-branch
 eval-returns-then-branch g t c = λ outer. rw (c.in-Or.is, seen-Or, ← c.deref.ensures) (runs_then _ (c.in_ok-v-in-Or.ensures outer) (runs_true _ _ _ (c.in_ok-truth-in-Or.ensures.ok ∙ ap Some c.if-branch.true) (runs_at (gives (BoolValue true)) (c.in_ok-v-in-Or.ensures outer).ready tt tt (λ left. refl))))
@@ -477,13 +477,13 @@ pub eval_all-returns-in_err-v-clause-values : goal.eval_all-returns-in_err-v-cla
 eval_all-returns-in_err-v-clause-values g t c = let q = err_from_is_err_and c.from_residual.result c.from_residual.ensures.1 in rw q.1 tt
 
 pub eval_all-returns-in_err-v-clause-exit : goal.eval_all-returns-in_err-v-clause-exit
-eval_all-returns-in_err-v-clause-exit g t c = let q = err_from_is_err_and c.from_residual.result c.from_residual.ensures.1 in rw (q.1, q.2, ← c.deref-expr-items.ensures.value) (λ outer next. (rw (front c.deref-expr-items.result.now c.loop-expr.expr-index c.expr-item.result c.expr-item.is (omega arith)) at (c.loop-expr.invariant.leads outer next)).runs _ _ (runs_first c.in_err-v.field-0.0 _ (c.in_err-v.ensures outer)))
+eval_all-returns-in_err-v-clause-exit g t c = let q = err_from_is_err_and c.from_residual.result c.from_residual.ensures.1 in rw (q.1, q.2, ← c.deref-expr-items.ensures.value) (λ next outer. (rw (front c.deref-expr-items.result.now c.loop-expr.expr-index c.expr-item.result c.expr-item.is (omega arith)) at (c.loop-expr.invariant.leads outer next)).runs _ _ (runs_first c.in_err-v.field-0.0 _ (c.in_err-v.ensures outer)))
 
 pub eval_all-returns-in_err-append-clause-values : goal.eval_all-returns-in_err-append-clause-values
 eval_all-returns-in_err-append-clause-values g t c = let q = err_from_is_err_and c.from_residual-in_err-append.result c.from_residual-in_err-append.ensures.1 in rw q.1 tt
 
 pub eval_all-returns-in_err-append-clause-exit : goal.eval_all-returns-in_err-append-clause-exit
-eval_all-returns-in_err-append-clause-exit g t c = let q = err_from_is_err_and c.from_residual-in_err-append.result c.from_residual-in_err-append.ensures.1 in rw (q.1, q.2, c.in_err-append.ensures.err, ← c.deref-expr-items.ensures.value) (λ outer next. (rw (front c.deref-expr-items.result.now c.loop-expr.expr-index c.expr-item.result c.expr-item.is (omega arith)) at (c.loop-expr.invariant.leads outer next)).runs _ _ (runs_then _ (c.in_ok-v.ensures outer) (no_memory_at (c.in_ok-v.ensures outer).ready)))
+eval_all-returns-in_err-append-clause-exit g t c = let q = err_from_is_err_and c.from_residual-in_err-append.result c.from_residual-in_err-append.ensures.1 in rw (q.1, q.2, c.in_err-append.ensures.err, ← c.deref-expr-items.ensures.value) (λ next outer. (rw (front c.deref-expr-items.result.now c.loop-expr.expr-index c.expr-item.result c.expr-item.is (omega arith)) at (c.loop-expr.invariant.leads outer next)).runs _ _ (runs_then _ (c.in_ok-v.ensures outer) (no_memory_at (c.in_ok-v.ensures outer).ready)))
 
 pub eval_all-loop-expr-preserved : goal.eval_all-loop-expr-preserved
 eval_all-loop-expr-preserved g t c = record {
@@ -507,7 +507,7 @@ eval_call-eval_all-requires g t c κs within =
     search rules
 
 pub eval_call-returns-in_err-vs-in-Some : goal.eval_call-returns-in_err-vs-in-Some
-eval_call-returns-in_err-vs-in-Some g t c = let q = err_from_is_err_and c.from_residual.result c.from_residual.ensures.1 in λ outer. rw (q.1, q.2) (runs_as (λ left. refl) (c.in_err-vs-in-Some.ensures.exit outer (call_of (around_of g.H.Host.rules (seen_program c.args.code.now.program.now) c.args.depth) c.args.name.now.name (asks.limited None (moment_of (seen_program c.args.code.now.program.now) (g.H.Host.now c.args.host.now) c.args.store.now (variables_of c.args.names.now c.args.locals.now.items ∷ outer)).machine))))
+eval_call-returns-in_err-vs-in-Some g t c = let q = err_from_is_err_and c.from_residual.result c.from_residual.ensures.1 in λ outer. rw (q.1, q.2) (runs_as (λ left. refl) (c.in_err-vs-in-Some.ensures.exit (call_of (around_of g.H.Host.rules (seen_program c.args.code.now.program.now) c.args.depth) c.args.name.now.name (asks.limited None (moment_of (seen_program c.args.code.now.program.now) (g.H.Host.now c.args.host.now) c.args.store.now (variables_of c.args.names.now c.args.locals.now.items ∷ outer)).machine)) outer))
 
 pub eval_call-ask-requires : goal.eval_call-ask-requires
 eval_call-ask-requires g t c κs within =
@@ -529,7 +529,7 @@ eval_call-eval_all-requires-in-None g t c κs within =
     search rules
 
 pub eval_call-returns-in_err-vs-in-None : goal.eval_call-returns-in_err-vs-in-None
-eval_call-returns-in_err-vs-in-None g t c = let q = err_from_is_err_and c.from_residual-in_err-vs-in-None.result c.from_residual-in_err-vs-in-None.ensures.1 in λ outer. rw (q.1, q.2) (runs_as (λ left. refl) (c.in_err-vs-in-None.ensures.exit outer (call_of (around_of g.H.Host.rules (seen_program c.args.code.now.program.now) c.args.depth) c.args.name.now.name (asks.limited None (moment_of (seen_program c.args.code.now.program.now) (g.H.Host.now c.args.host.now) c.args.store.now (variables_of c.args.names.now c.args.locals.now.items ∷ outer)).machine))))
+eval_call-returns-in_err-vs-in-None g t c = let q = err_from_is_err_and c.from_residual-in_err-vs-in-None.result c.from_residual-in_err-vs-in-None.ensures.1 in λ outer. rw (q.1, q.2) (runs_as (λ left. refl) (c.in_err-vs-in-None.ensures.exit (call_of (around_of g.H.Host.rules (seen_program c.args.code.now.program.now) c.args.depth) c.args.name.now.name (asks.limited None (moment_of (seen_program c.args.code.now.program.now) (g.H.Host.now c.args.host.now) c.args.store.now (variables_of c.args.names.now c.args.locals.now.items ∷ outer)).machine)) outer))
 
 pub eval_call-call-requires : goal.eval_call-call-requires
 eval_call-call-requires g t c κs within =

@@ -1,4 +1,4 @@
-use Rattle.std.proofs.Common.{◌≡◌, ℕ, List, [], ◌∷◌, ◌+◌, ◌*◌, ◌^◌, drop, map, length}
+use Rattle.std.proofs.Common.{◌≡◌, List, [], ◌∷◌, ◌+◌, ◌*◌, ◌^◌, drop, map, length}
 use Rattle.page_types.specs.Values as Model
 use Rattle.page_values.specs.Seen.{seen}
 use Rattle.page_values.specs.Written.{IsNumbered}

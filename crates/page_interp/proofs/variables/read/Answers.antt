@@ -1,5 +1,4 @@
-use Rattle.std.proofs.Common.{arith, sym, ◌∙◌, ap, Some}
-use Rattle.page_values.specs.Seen.{seen}
+use Rattle.std.proofs.Common.{arith, sym, ◌∙◌}
 use Rattle.page_interp.proofs.Frames.{no_variable, variable_past, variable_at}
 use Rattle.page_interp.proofs.variables.read.Goals as goal
 

@@ -1,4 +1,4 @@
-use Rattle.std.proofs.Common.{arith, sym, ◌∙◌, ap, Some, refl}
+use Rattle.std.proofs.Common.{arith, sym, ◌∙◌, refl}
 use Rattle.page_values.specs.Seen.{seen}
 use Rattle.page_interp.specs.Runs.{variables_of}
 use Rattle.page_interp.proofs.Frames.{no_variable, variable_past, variable_at, variable_set, no_write, is_absent, is_present}

@@ -1,4 +1,4 @@
-use Rattle.std.proofs.Common.{sym, ◌∙◌, arith, ap, rules, ◌<◌, ◌^◌, length}
+use Rattle.std.proofs.Common.{sym, ◌∙◌, ap, rules, ◌<◌, ◌^◌, length}
 use Rattle.lang_meaning.specs.Evaluation.{functions_of}
 use Rattle.lang_ast.specs.SeenProgram.{seen_program}
 use Rattle.page_interp.specs.Places.{place_of}

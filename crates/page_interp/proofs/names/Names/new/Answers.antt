@@ -1,4 +1,4 @@
-use Rattle.std.proofs.Common.{arith, rules, ◌-◌, ◌≡◌, length}
+use Rattle.std.proofs.Common.{arith, ◌-◌}
 use Rattle.page_interp.proofs.NameIndex.{one_more_name, whole_index, no_index}
 use Rattle.page_interp.proofs.names.Names.new.Goals as goal
 
