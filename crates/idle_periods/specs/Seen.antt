@@ -1,12 +1,19 @@
--- The callbacks of the code as those of the definitions, and the order of their handles.
-use Rattle.std.specs.Prelude.{ℕ, ◌<◌, ◌≤◌, List, [], ◌∷◌, map}
+-- The callbacks of the code's map as the lists of the definitions, and the order of their handles.
+use Rattle.std.specs.Prelude.{ℕ, ◌<◌, ◌≤◌, List, [], ◌∷◌, map, filter, nat_le, nat_lt}
 use Rattle.page_parts.specs.Frames.{Callback}
-use Rattle.idle_periods.specs.declared.idle.Callback as code
 
-abbrev pub callbacks_of : List code.Callback → List Callback
-callbacks_of callbacks = map (λ (c : code.Callback). record { handle = c.handle; registration = c.registration }) callbacks
+abbrev pub callbacks_of : List (ℕ × ℕ) → List Callback
+callbacks_of entries = map (λ (entry : ℕ × ℕ). record { handle = entry.0; registration = entry.1 }) entries
 
--- the handles rise from callback to callback; they are above `low`, and not above `high`
-abbrev pub HandlesRise : ℕ → List code.Callback → ℕ → Type 0
+-- the callbacks with handles up to the last runnable one
+abbrev pub up_to : ℕ → List Callback → List Callback
+up_to last callbacks = filter (λ callback. nat_le callback.handle last) callbacks
+
+-- those with greater handles
+abbrev pub beyond : ℕ → List Callback → List Callback
+beyond last callbacks = filter (λ callback. nat_lt last callback.handle) callbacks
+
+-- the handles rise from entry to entry; they are above `low`, and not above `high`
+abbrev pub HandlesRise : ℕ → List (ℕ × ℕ) → ℕ → Type 0
 HandlesRise low [] high = low ≤ high
-HandlesRise low (c ∷ callbacks) high = (low < c.handle) × HandlesRise c.handle callbacks high
+HandlesRise low (entry ∷ entries) high = (low < entry.0) × HandlesRise entry.0 entries high

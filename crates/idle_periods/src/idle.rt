@@ -1,4 +1,4 @@
-ghost use Rattle.std.specs.Prelude.{◌≡◌, ◌==◌, ◌+◌, ◌^◌, ◌<◌, not, find, filter, IfOk, OnOk, OnErr};
+ghost use Rattle.std.specs.Prelude.{◌≡◌, ◌+◌, ◌^◌, ◌<◌, not, IfOk, OnOk, OnErr, IsOk};
 ghost use Rattle.std.specs.Option.{option_map};
 ghost use Rattle.page_parts.specs.Words.{is_empty};
 ghost use Rattle.page_parts.specs.IdleCallbacks.{no_idle, request as requested, cancel as cancelled, waiting_callback, started, waits};
@@ -6,24 +6,19 @@ ghost use Rattle.idle_periods.specs.Runnable.{first_runnable, popped};
 
 use crate::MemoryFault;
 use std::alloc::Global;
-use std::collections::VecDeque;
+use std::collections::BTreeMap;
 use std::marker::Model;
 
 /// The idle callbacks that wait: the pending ones, and those that an idle period made runnable, each in the order of the
 /// requests (requestIdleCallback, "The requestIdleCallback() method").
 ///
-/// A callback is a registration, which is any number. Handles are counted from 1.
+/// A callback is a registration, which is any number. Handles are counted from 1, so their order is that of the requests, and
+/// the runnable callbacks are those with handles up to one. Each call costs the logarithm of the number of callbacks at most.
 #[derive(Drop)]
 pub struct Idle {
-    pending: VecDeque<Callback>,
-    runnable: VecDeque<Callback>,
+    callbacks: BTreeMap<u32, u32>,
+    last_runnable: u32,
     last_handle: u32,
-}
-
-#[derive(Clone, Copy)]
-struct Callback {
-    handle: u32,
-    registration: u32,
 }
 
 impl Model for Idle {
@@ -31,16 +26,16 @@ impl Model for Idle {
 
     ghost Value = { IdleLists };
 
-    ghost use Rattle.std.specs.Prelude.{◌++◌};
-    ghost use Rattle.idle_periods.specs.Seen.{callbacks_of, HandlesRise};
+    ghost use Rattle.std.specs.Prelude.{◌≤◌};
+    ghost use Rattle.idle_periods.specs.Seen.{callbacks_of, up_to, beyond, HandlesRise};
 
     ghost view = { λ idle. record {
-      pending = callbacks_of idle.pending.items;
-      runnable = callbacks_of idle.runnable.items;
+      pending = beyond idle.last_runnable (callbacks_of idle.callbacks.entries);
+      runnable = up_to idle.last_runnable (callbacks_of idle.callbacks.entries);
       made = idle.last_handle;
     } };
 
-    ghost invariant = { λ idle. HandlesRise 0 (idle.runnable.items ++ idle.pending.items) idle.last_handle };
+    ghost invariant = { λ idle. HandlesRise 0 idle.callbacks.entries idle.last_handle × (idle.last_runnable ≤ idle.last_handle) };
 }
 
 impl Idle {
@@ -49,8 +44,8 @@ impl Idle {
         ensures { result ≡ no_idle }
     {
         Idle {
-            pending: VecDeque::new(alloc),
-            runnable: VecDeque::new(alloc),
+            callbacks: BTreeMap::new(alloc),
+            last_runnable: 0,
             last_handle: 0,
         }
     }
@@ -65,11 +60,7 @@ impl Idle {
         ensures err { OnErr result (self.new ≡ self.old) }
     {
         let handle = self.last_handle + 1;
-        let callback = Callback {
-            handle,
-            registration,
-        };
-        self.pending.push_back(callback)?;
+        self.callbacks.insert(handle, registration)?;
         self.last_handle = handle;
         Ok(handle)
     }
@@ -81,10 +72,7 @@ impl Idle {
         ensures registration { result ≡ option_map (λ callback. callback.registration) (waiting_callback handle self.old) }
         ensures gone { self.new ≡ cancelled handle self.old }
     {
-        let registration = self.registration_of(handle);
-        remove_from(&mut self.runnable, handle);
-        remove_from(&mut self.pending, handle);
-        registration
+        self.callbacks.remove(&handle)
     }
 
     /// Takes the callback whose idle timeout came out of both lists, and answers its registration (requestIdleCallback,
@@ -98,14 +86,13 @@ impl Idle {
         self.cancel(handle)
     }
 
-    /// Starts an idle period: the pending callbacks go behind the runnable ones, in their order.
-    ///
-    /// An error leaves all as it was.
+    /// Starts an idle period: the pending callbacks go behind the runnable ones, in their order. It takes no memory, so that
+    /// it always succeeds.
     pub fn start(&mut self) -> Result<(), MemoryFault>
-        ensures started { OnOk result (self.new ≡ started self.old) }
-        ensures err { OnErr result (self.new ≡ self.old) }
+        ensures succeeds { IsOk result }
+        ensures started { self.new ≡ started self.old }
     {
-        self.runnable.append(&mut self.pending)?;
+        self.last_runnable = self.last_handle;
         Ok(())
     }
 
@@ -117,51 +104,36 @@ impl Idle {
         ensures registration { result ≡ option_map (λ callback. callback.registration) (first_runnable self.old) }
         ensures gone { self.new ≡ popped self.old }
     {
-        let callback = self.runnable.pop_front()?;
-        Some(callback.registration)
+        if !self.runnable() {
+            return None;
+        }
+        let (_, registration) = self.callbacks.pop_first()?;
+        Some(registration)
     }
 
     /// Whether a callback waits in either list. Takes no memory.
     pub fn waiting(&self) -> bool
         ensures { result ≡ waits self.now }
     {
-        !(self.pending.is_empty() && self.runnable.is_empty())
+        !self.callbacks.is_empty()
     }
 
     /// Whether a callback is runnable. Takes no memory.
     pub fn runnable(&self) -> bool
         ensures { result ≡ not (is_empty self.now.runnable) }
     {
-        !self.runnable.is_empty()
-    }
-
-    // The registration of the callback with this handle, in either list.
-    fn registration_of(&self, handle: u32) -> Option<u32>
-        ensures { result ≡ option_map (λ callback. callback.registration) (waiting_callback handle self.now) }
-    {
-        let found = find_in(&self.runnable, handle);
-        if found.is_some() {
-            return found;
+        match self.callbacks.first_key_value() {
+            Some((handle, _)) => *handle <= self.last_runnable,
+            None => false,
         }
-        find_in(&self.pending, handle)
     }
-}
 
-// The registration of the callback with this handle.
-fn find_in(callbacks: &VecDeque<Callback>, handle: u32) -> Option<u32>
-    ensures { result ≡ option_map (λ callback. callback.registration) (find (λ callback. callback.handle == handle) callbacks.now.items) }
-{
-    callbacks
-        .iter()
-        .find(|callback| callback.handle == handle)
-        .map(|callback| callback.registration)
-}
-
-// Takes the callback with this handle out.
-fn remove_from(callbacks: &mut VecDeque<Callback>, handle: u32)
-    ensures { callbacks.new.items ≡ filter (λ callback. not (callback.handle == handle)) callbacks.old.items }
-{
-    callbacks.retain(|callback| callback.handle != handle);
+    /// How many handles were ever given. Takes no memory.
+    pub fn made(&self) -> u32
+        ensures { result ≡ self.now.made }
+    {
+        self.last_handle
+    }
 }
 
 #[cfg(test)]
@@ -206,6 +178,7 @@ mod tests {
         assert_eq!(rt; idle.find_timeout(3), None);
         assert_eq!(rt; idle.pop(), Some(3));
         assert!(rt; !idle.waiting());
+        assert_eq!(rt; idle.made(), 3);
         Ok(())
     }
 }

@@ -1,15 +1,18 @@
-use Rattle.std.proofs.Common.{◌++◌, not, eqb, Bool}
-use Rattle.std.proofs.lemmas.List.Elements.{filter-append}
-use Rattle.idle_periods.specs.declared.idle.Callback as code
-use Rattle.idle_periods.proofs.CallbackLemmas.{rise_filtered, without_filtered}
+use Rattle.std.proofs.Common.{◌∙◌, ap, sym}
+use Rattle.std.specs.Option.{option_map}
+use Rattle.page_parts.specs.Frames.{Callback, callback_in}
+use Rattle.idle_periods.proofs.CallbackLemmas.{joined, found_seen, left_removed, rise_removed, filter_without}
 use Rattle.idle_periods.proofs.idle.Idle.cancel.Goals as goal
 
 pub invariant_of-self : goal.invariant_of-self
-invariant_of-self c =
-    let test : code.Callback → Bool = λ callback. not (eqb callback.handle c.args.handle) in
-    rw (c.remove_from.ensures, c.remove_from-2.ensures, ← filter-append test c.self.inside.runnable.items c.self.inside.pending.items)
-    (rise_filtered test 0 c.self.inside.last_handle (c.self.inside.runnable.items ++ c.self.inside.pending.items) c.self.invariant)
+invariant_of-self c = rw c.remove.ensures.entries (rise_removed c.args.handle 0 _ _ c.self.invariant.0, c.self.invariant.1)
+
+pub returns-clause-registration : goal.returns-clause-registration
+returns-clause-registration c =
+    let both = joined c.self.inside.last_runnable 0 _ _ c.self.invariant.0 in
+    rw (← c.self.view_is, both) (c.remove.ensures.value ∙ found_seen c.args.handle _)
 
 pub returns-clause-gone : goal.returns-clause-gone
 returns-clause-gone c =
-    rw (← c.self.view_is, c.remove_from.ensures, c.remove_from-2.ensures, without_filtered c.args.handle c.self.inside.runnable.items, without_filtered c.args.handle c.self.inside.pending.items)
+    let left = left_removed c.args.handle 0 _ _ c.self.invariant.0 in
+    rw (← c.self.view_is, c.remove.ensures.entries, left, filter_without, filter_without)
