@@ -72,12 +72,16 @@ fn note_kind(
     Ok(())
 }
 
-// Forgets the registration of a listener of a kind.
+// Forgets the registration of a listener of a kind, and the kind with its last one.
 fn forget_kind(kinds: &mut Kinds, kind: &Kind, serial: u64)
     ensures { RemovesRegistration kind.now serial kinds.old kinds.new }
 {
-    if let Some(own) = kinds.get_mut(kind) {
-        own.remove(&serial);
+    let Some(own) = kinds.get_mut(kind) else {
+        return;
+    };
+    own.remove(&serial);
+    if own.is_empty() {
+        kinds.remove(kind);
     }
 }
 
