@@ -11,6 +11,7 @@ use task_pool::{MemoryFault, Pool, Steps};
 use task_queues::Queues;
 
 /// What a task source and the scheduler give back: the number and the item of a task, where one waited.
+#[derive(Drop)]
 pub struct Taken<T> {
     pub user: Option<(u64, T)>,
     pub scheduled: Option<(u64, T)>,

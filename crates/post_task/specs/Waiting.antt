@@ -39,6 +39,10 @@ module _ {T : Type 0} where
     pub greatest : (other : Waiting T) → Among other tasks → effective other ≤ effective task
     pub least : (other : Waiting T) → Among other tasks → effective other ≡ effective task → task.order ≤ other.order
 
+  -- this is the order of the first of these tasks
+  abbrev pub IsFirstOrder : ℕ → List (Waiting T) → Type 0
+  IsFirstOrder order tasks = (task : Waiting T) × IsFirst task tasks × (order ≡ task.order)
+
   -- the second list is the first with one task more
   pub record Inserted (task : Waiting T) (tasks more : List (Waiting T)) : Type 0 where
     pub front : List (Waiting T)
@@ -49,6 +53,10 @@ module _ {T : Type 0} where
   -- what is handed out of a task
   abbrev pub ordered : Waiting T → ℕ × T
   ordered task = (task.order, task.item)
+
+  -- the order of what is handed out
+  abbrev pub order_of : ℕ × T → ℕ
+  order_of given = given.0
 
   -- whether a task stands in this cell, or in another one
   abbrev pub has_cell : Cell → Waiting T → Bool

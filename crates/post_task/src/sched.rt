@@ -2,7 +2,7 @@ ghost use Rattle.std.specs.Prelude.{◌≡◌, ◌≢◌, ℕ, ◌+◌, ◌^◌,
 ghost use Rattle.std.specs.List.{filter, find};
 ghost use Rattle.std.specs.Option.{option_map};
 ghost use Rattle.task_pool.specs.Lists.{Lists, list_of, entry_of, without};
-ghost use Rattle.post_task.specs.Waiting.{Waiting, Among, Inserted, IsFirst, ordered, has_cell, lacks_cell, moved};
+ghost use Rattle.post_task.specs.Waiting.{Waiting, Among, Inserted, IsFirstOrder, ordered, order_of, has_cell, lacks_cell, moved};
 ghost use Rattle.post_task.specs.Levels.{all_queues, Lone, waiting, priority_in, has_source, HasRoom, Kept, TakesFirst, new_task, moved_level, Added};
 ghost use Rattle.post_task.specs.Heads.{best_of};
 
@@ -160,7 +160,7 @@ impl<T> SchedQueues<T> {
     /// Takes no memory.
     pub fn select(&self, pool: &Pool<T>) -> Option<u64>
         requires { Kept self.now.levels.items pool.now }
-        ensures { MatchOption result (waiting self.now.levels.items pool.now ≡ []) (λ order. (task : Waiting T) × IsFirst task (waiting self.now.levels.items pool.now) × (order ≡ task.order)) }
+        ensures { MatchOption result (waiting self.now.levels.items pool.now ≡ []) (λ order. IsFirstOrder order (waiting self.now.levels.items pool.now)) }
     {
         match self.first(pool) {
             Some(first) => Some(first.order),
@@ -174,6 +174,7 @@ impl<T> SchedQueues<T> {
         requires { Kept self.old.levels.items pool.old }
         ensures same { self.new.levels.items ≡ self.old.levels.items }
         ensures kept { Kept self.new.levels.items pool.new }
+        ensures order { (order : ℕ) → IsFirstOrder order (waiting self.old.levels.items pool.old) → option_map order_of result ≡ Some order }
         ensures first { MatchOption result (waiting self.old.levels.items pool.old ≡ []) (TakesFirst (waiting self.old.levels.items pool.old) (waiting self.new.levels.items pool.new)) }
         ensures others { (l : ℕ) → Lone l (all_queues self.old.levels.items) → list_of pool.new l ≡ list_of pool.old l }
         ensures count { length pool.new.lists ≡ length pool.old.lists }
