@@ -1,5 +1,5 @@
 -- What is counted of a page, and what changes of it leave within bounds.
-use Rattle.std.proofs.Common.{◌≡◌, ℕ, zero, suc, pred, ◌+◌, ◌≤◌, arith, Bool, true, false, List, [], ◌∷◌, map, length, Some, None, refl, ap, sym, subst, ◌∙◌, cond, ◌&&◌}
+use Rattle.std.proofs.Common.{◌≡◌, ℕ, zero, suc, ◌+◌, ◌≤◌, arith, Bool, true, false, List, [], ◌∷◌, map, length, Some, None, refl, ap, sym, subst, ◌∙◌, cond, ◌&&◌}
 use Rattle.std.specs.Prelude.{filter, slice_get, slice_set, unwrap_or}
 use Rattle.std.proofs.lemmas.List.{length-set}
 use Rattle.page_types.specs.Values.{Value}

@@ -1,10 +1,10 @@
 -- A run ends, or is stuck at a choice that the rules refuse.
-use Rattle.std.proofs.Common.{◌≡◌, inl, inr, ℕ, zero, suc, ◌<◌, lt-suc_self, Bool, true, false, List, [], ◌∷◌, Option, Some, None, option_map, filter_map, refl, ap, sym, subst, ◌∙◌, cond, ℤ, ◌||◌, nat_lt, nat_le, Result, slice_get, find, arith, eqb-true, ltb-true, leb-true, leb-false}
+use Rattle.std.proofs.Common.{◌≡◌, ℕ, zero, suc, ◌<◌, lt-suc_self, Bool, true, false, List, [], ◌∷◌, Option, Some, None, option_map, filter_map, refl, ap, sym, subst, ◌∙◌, cond, ℤ, ◌||◌, nat_lt, nat_le, Result, slice_get, find, arith, eqb-true, ltb-true, leb-true, leb-false}
 use Rattle.std.specs.List.{cons_option}
 use Rattle.page_types.specs.Tree.{Program}
 use Rattle.page_types.specs.declared.Source.{Source}
 use Rattle.page_types.specs.declared.Source.TheVariants.{User, Net, Dom, Timer, Render, Sched, Idle}
-use Rattle.page_types.specs.declared.End.TheVariants.{Done as DoneEnd, Fuel as FuelEnd, Clock as ClockEnd}
+use Rattle.page_types.specs.declared.End.TheVariants.{Fuel as FuelEnd}
 use Rattle.page_parts.specs.Words.{is_empty, is_there}
 use Rattle.page_parts.specs.Sources.{default_list, source_number, same_source}
 use Rattle.page_parts.specs.HostClosures.{HostClosure}

@@ -1,7 +1,6 @@
 -- The operations of a page hold for an order and a property of states.
 use Rattle.std.proofs.Common.{◌≡◌, ℕ, suc, ◌+◌, Bool, true, false, List, [], ◌∷◌, Option, Some, None, refl, ap, ◌∙◌, ℤ, pos, negsuc, ◌&&◌, length, arith}
 use Rattle.std.specs.Prelude.{int_le}
-use Rattle.std.proofs.lemmas.List.{length-set}
 use Rattle.page_types.specs.Values.{Value, IntValue, SignalValue, BoolValue, ListValue, PromiseValue, items_of, values_of}
 use Rattle.page_types.specs.declared.FaultName.TheVariants.{TypeError, RangeError, NotAllowedError}
 use Rattle.page_types.specs.declared.Priority.{Priority}

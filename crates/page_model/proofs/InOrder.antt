@@ -1,5 +1,5 @@
 -- Arrivals stay in the order of time.
-use Rattle.std.proofs.Common.{◌≡◌, ℕ, zero, suc, ◌≤◌, ◌<◌, Bool, true, false, cond, ◌&&◌, List, [], ◌∷◌, Option, Some, None, refl, ap, sym, ◌∙◌, nat_le, arith, leb-true, leb-false, le-leb}
+use Rattle.std.proofs.Common.{◌≡◌, ℕ, zero, suc, Bool, true, false, cond, ◌&&◌, List, [], ◌∷◌, Option, Some, None, refl, ap, ◌∙◌, nat_le, arith, leb-true, leb-false, le-leb}
 use Rattle.page_parts.specs.Words.{without_numbered}
 use Rattle.page_parts.specs.Setup.{Arrival, is_not_after, are_in_order}
 use Rattle.page_types.specs.Events.{Due}

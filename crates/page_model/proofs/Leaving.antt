@@ -1,6 +1,6 @@
 -- What leaves the time, the number of turns, the priorities and the number of signals of a page as they are; and what is asked of an order and a property of states for them to hold through everything that a page does.
 use Rattle.std.proofs.Common.{◌≡◌, ℕ, zero, suc, ◌≤◌, Bool, true, false, List, [], ◌∷◌, map, length, Option, Some, None, refl, ap, ◌∙◌, cond, ◌&&◌, nat_lt, nat_le, ℤ, Result, Ok, Err, slice_get}
-use Rattle.std.specs.Prelude.{◌==◌, pred}
+use Rattle.std.specs.Prelude.{◌==◌}
 use Rattle.std.proofs.lemmas.List.{length-set}
 use Rattle.page_types.specs.Values.{Value, UnitValue, IntValue}
 use Rattle.page_types.specs.declared.Source.TheVariants.{Dom}

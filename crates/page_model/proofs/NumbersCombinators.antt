@@ -1,5 +1,5 @@
 -- What a page does with combinators leaves its numbers given.
-use Rattle.std.proofs.Common.{ℕ, zero, suc, pred, ◌+◌, Bool, true, false, List, [], ◌∷◌, length, map, find, Option, Some, None, option_map, slice_get, cond, ◌&&◌, arith}
+use Rattle.std.proofs.Common.{ℕ, zero, suc, ◌+◌, Bool, true, false, List, [], ◌∷◌, length, map, find, Option, Some, None, option_map, slice_get, cond, ◌&&◌, arith}
 use Rattle.std.specs.Prelude.{◌==◌, nat_le}
 use Rattle.page_types.specs.Values.{Value, ListValue, PromiseValue, values_of, UnitValue}
 use Rattle.page_types.specs.declared.FaultName.TheVariants.{RangeError}

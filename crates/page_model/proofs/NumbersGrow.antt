@@ -1,6 +1,6 @@
 -- What was given out once stays given out: each part of a page that holds such numbers holds such numbers where more were given.
 use Rattle.std.proofs.Common.{◌≡◌, ℕ, zero, suc, ◌<◌, ◌≤◌, Bool, true, false, List, [], ◌∷◌, ◌++◌, length, map, Option, Some, None, refl, sym, ap, ◌∙◌, subst, arith, append_assoc, length-append, slice_get, cond}
-use Rattle.std.specs.Prelude.{pred, find, filter, unwrap_or, slice_set}
+use Rattle.std.specs.Prelude.{find, filter, unwrap_or, slice_set}
 use Rattle.page_types.specs.Values.{Value, UnitValue, BoolValue, IntValue, TextValue, ListValue, FunValue, PromiseValue, SignalValue, ControllerValue, DeadlineValue, FaultValue, Values, no_values, with_value}
 use Rattle.page_parts.specs.Words.{numbered, with_numbered, and_last, without}
 use Rattle.page_parts.specs.Kinds.{Func}

@@ -1,6 +1,6 @@
 -- What the parts of a page do, where their numbers are given.
 use Rattle.std.proofs.Common.{slice_get, ◌≡◌, ℕ, zero, suc, ◌≤◌, Bool, true, false, List, [], ◌∷◌, length, Option, Some, None, refl, ap, ◌∙◌, arith, cond, not}
-use Rattle.std.specs.Prelude.{pred, filter, slice_set, ◌==◌}
+use Rattle.std.specs.Prelude.{filter, slice_set, ◌==◌}
 use Rattle.page_types.specs.Values.{Value, PromiseValue, SignalValue, ControllerValue, ListValue, FunValue, Values, no_values, with_value, items_of, values_of}
 use Rattle.page_types.specs.declared.FaultName.TheVariants.{TypeError}
 use Rattle.page_parts.specs.Words.{without, with_numbered, and_last, has_number, is_empty}
@@ -19,7 +19,7 @@ use Rattle.page_types.specs.declared.RegKind.TheVariants.{Listener as ListenerKi
 use Rattle.page_model.specs.State.{OfKind, HostTask}
 use Rattle.page_model.specs.PageSignals.{closure_dropped, drop_at, drop_closure}
 use Rattle.page_model.specs.Numbers.{IsFor, JobIsGiven, Each, IfThere, Made, IsGiven, HasPromise, IsKnown, AreKnown, ReactionIsGiven, PromiseIsGiven, PromiseJobIsGiven, TodoIsGiven, NoticesAreGiven, SignalIsGiven, PrioIsGiven, ListenerIsGiven}
-use Rattle.page_model.proofs.NumbersGrow.{Each-more, Each-last, Each-cond, Each-without, Each-filter, Each-map, Each-with, Each-numbered, Each-set, Each-find, length-last}
+use Rattle.page_model.proofs.NumbersGrow.{Each-more, Each-last, Each-cond, Each-without, Each-filter, Each-map, Each-with, Each-numbered, Each-find, length-last}
 
 pub length-put : {X : Type 0} (xs : List X) (k : ℕ) (x : X) → length (slice_set xs k x) ≡ length xs
 length-put [] k x = refl

@@ -1,11 +1,11 @@
 -- Where no task is runnable, there is a target exactly where something is pending.
-use Rattle.std.proofs.Common.{◌≡◌, ℕ, ◌+◌, ◌<◌, max, Bool, true, false, not, ◌&&◌, ◌||◌, List, [], ◌∷◌, ◌++◌, map, Option, Some, None, option_map, filter_map, refl, ap, sym, subst, ◌∙◌, cond, nat_lt, arith, lt-ltb}
+use Rattle.std.proofs.Common.{◌≡◌, ℕ, ◌+◌, max, Bool, true, false, not, ◌&&◌, ◌||◌, List, [], ◌∷◌, ◌++◌, map, Option, Some, None, option_map, refl, ap, sym, subst, ◌∙◌, cond, nat_lt, arith, lt-ltb}
 use Rattle.std.specs.List.{cons_option}
 use Rattle.page_types.specs.declared.Source.TheVariants.{User, Render}
 use Rattle.page_parts.specs.Words.{is_empty, is_there, least}
 use Rattle.page_parts.specs.Setup.{Arrival}
 use Rattle.page_parts.specs.Frames.{next_multiple}
-use Rattle.page_parts.specs.Timers.{ActiveTimer, first_of}
+use Rattle.page_parts.specs.Timers.{first_of}
 use Rattle.page_parts.specs.IdleCallbacks.{waits, at_most}
 use Rattle.page_model.specs.State.{Page}
 use Rattle.page_model.specs.PageTime.{first_task, next_frame, deadline, idle_moment}

@@ -1,5 +1,5 @@
 -- Bounds of recursions: with another answer where the bound is 0.
-use Rattle.std.specs.Prelude.{◌≡◌, ℕ, slice_get, zero, suc, ◌+◌, ◌<◌, ◌≤◌, true, false, ◌||◌, [], length, Option, Some, None}
+use Rattle.std.specs.Prelude.{◌≡◌, ℕ, slice_get, zero, suc, ◌+◌, ◌<◌, ◌≤◌, true, false, ◌||◌, [], length, Some, None}
 use Rattle.page_types.specs.declared.Source.{Source}
 use Rattle.page_types.specs.declared.End.{End}
 use Rattle.page_types.specs.declared.End.TheVariants.{Done as DoneEnd, Fuel as FuelEnd, Clock as ClockEnd}

@@ -1,5 +1,5 @@
 -- Timers, frames and idle periods of a page.
-use Rattle.std.specs.Prelude.{ℕ, suc, ◌+◌, ◌-◌, ◌*◌, max, Bool, cond, ◌&&◌, ◌||◌, List, [], ◌∷◌, length, Option, Some, None, ℤ, nat_lt, nat_le, ◌==◌, find, unwrap_or, option_map}
+use Rattle.std.specs.Prelude.{ℕ, suc, ◌+◌, ◌-◌, ◌*◌, max, Bool, cond, ◌&&◌, ◌||◌, List, [], ◌∷◌, Option, Some, None, ℤ, nat_lt, nat_le, ◌==◌, find, option_map}
 use Rattle.page_types.specs.declared.Source.{Source}
 use Rattle.page_types.specs.declared.Source.TheVariants.{Render, Idle}
 use Rattle.page_types.specs.Events.{Arm, Drop, Period}

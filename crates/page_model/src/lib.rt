@@ -21,9 +21,10 @@ ghost use Rattle.page_model.specs.Additions.{TurnAdds};
 
 pub use arrivals::arrivals_stay_in_order;
 pub use bounds::{
-    a_target_is_there_where_something_is_pending, due_items_are_all_taken, following_stays_one_deep, jobs_end_before_their_bound,
-    loops_end_before_their_bound, priority_changes_end_before_their_bound,
-    runs_end_before_their_bound, runs_end_or_are_refused_a_choice, waits_end_before_their_bound,
+    a_target_is_there_where_something_is_pending, due_items_are_all_taken,
+    following_stays_one_deep, jobs_end_before_their_bound, loops_end_before_their_bound,
+    priority_changes_end_before_their_bound, runs_end_before_their_bound,
+    runs_end_or_are_refused_a_choice, waits_end_before_their_bound,
 };
 pub use choices::{choices_are_data, choices_determine_the_run, further_choices_are_left};
 pub use choosing::{ByLists, Choosing};

@@ -6,8 +6,11 @@ use Rattle.page_parts.specs.Setup.{Setup, Rank}
 use Rattle.page_parts.specs.Sources.{default_list}
 use Rattle.page_model.specs.Turns.{run, run_by}
 use Rattle.page_model.specs.PageTrace.{page_trace}
-use Rattle.page_model.proofs.Examples.Sample.{named, four_hosts, logs_of}
+use Rattle.page_model.proofs.Examples.Sample.{named, four_hosts, logs_of, rows}
 
+--     var d = 0;
+--     fn r(n) { d = n; r(n + 1); }
+--     try { r(1); } catch (e) { log(d); log(e); }
 abbrev two_hundred_and_fifty_six_open_calls_script : Program
 two_hundred_and_fifty_six_open_calls_script =
     record {
@@ -23,10 +26,16 @@ abbrev two_hundred_and_fifty_six_open_calls_setup : Setup
 two_hundred_and_fifty_six_open_calls_setup =
     record { form = 1; trace = 1; policy = (Rank default_list); fuel = 257; until = 10000000; refresh = 60; late = []; latencies = []; arrivals = [] }
 
-two_hundred_and_fifty_six_open_calls : logs_of (page_trace two_hundred_and_fifty_six_open_calls_script two_hundred_and_fifty_six_open_calls_setup four_hosts ([])) ≡ codes "0 255\n0 RangeError(\"\")\n"
+two_hundred_and_fifty_six_open_calls : logs_of (page_trace two_hundred_and_fifty_six_open_calls_script two_hundred_and_fifty_six_open_calls_setup four_hosts ([])) ≡ rows (
+    codes "0 255" ∷
+    codes "0 RangeError(\"\")" ∷
+    [])
 unfolding page_trace run run_by
 two_hundred_and_fifty_six_open_calls = refl
 
+--     var d = 0;
+--     fn r(n) { d = n; r(n + 1); }
+--     try { r(1); } catch (e) { log(d); log(e); }
 abbrev open_calls_end_with_the_fuel_script : Program
 open_calls_end_with_the_fuel_script =
     record {

@@ -7,9 +7,12 @@ use Rattle.page_parts.specs.Setup.{Setup, Rank}
 use Rattle.page_parts.specs.Sources.{default_list}
 use Rattle.page_model.specs.Turns.{run, run_by}
 use Rattle.page_model.specs.PageTrace.{page_trace}
-use Rattle.page_model.proofs.Examples.Sample.{named, four_hosts}
+use Rattle.page_model.proofs.Examples.Sample.{named, four_hosts, rows}
 
 -- The script runs up to the last moment. The timer that is due is still taken, so a task is runnable, and the run ends before it is performed.
+--     fn f() { log("f"); }
+--     setTimeout(f, 0);
+--     busy(1000);
 abbrev until_reached_with_a_task_script : Program
 until_reached_with_a_task_script =
     record {
@@ -25,11 +28,23 @@ abbrev until_reached_with_a_task_setup : Setup
 until_reached_with_a_task_setup =
     record { form = 1; trace = 1; policy = (Rank default_list); fuel = 1000000; until = 1000; refresh = 60; late = []; latencies = []; arrivals = [] }
 
-until_reached_with_a_task : page_trace until_reached_with_a_task_script until_reached_with_a_task_setup four_hosts ([]) ≡ codes "trace 1\n0 turn 1 dom\n0 call 1\n0 reg 2 timeout\n0 arm 2 0 1\n1000 ret\n1000 due 2\n1000 end clock\n"
+until_reached_with_a_task : page_trace until_reached_with_a_task_script until_reached_with_a_task_setup four_hosts ([]) ≡ rows (
+    codes "trace 1" ∷
+    codes "0 turn 1 dom" ∷
+    codes "0 call 1" ∷
+    codes "0 reg 2 timeout" ∷
+    codes "0 arm 2 0 1" ∷
+    codes "1000 ret" ∷
+    codes "1000 due 2" ∷
+    codes "1000 end clock" ∷
+    [])
 unfolding page_trace run run_by
 until_reached_with_a_task = refl
 
 -- The script runs up to the last moment, and nothing is due yet: the run ends without a wait.
+--     fn f() { log("f"); }
+--     setTimeout(f, 2);
+--     busy(1000);
 abbrev until_reached_without_a_task_script : Program
 until_reached_without_a_task_script =
     record {
@@ -45,11 +60,21 @@ abbrev until_reached_without_a_task_setup : Setup
 until_reached_without_a_task_setup =
     record { form = 1; trace = 1; policy = (Rank default_list); fuel = 1000000; until = 1000; refresh = 60; late = []; latencies = []; arrivals = [] }
 
-until_reached_without_a_task : page_trace until_reached_without_a_task_script until_reached_without_a_task_setup four_hosts ([]) ≡ codes "trace 1\n0 turn 1 dom\n0 call 1\n0 reg 2 timeout\n0 arm 2 2000 1\n1000 ret\n1000 end clock\n"
+until_reached_without_a_task : page_trace until_reached_without_a_task_script until_reached_without_a_task_setup four_hosts ([]) ≡ rows (
+    codes "trace 1" ∷
+    codes "0 turn 1 dom" ∷
+    codes "0 call 1" ∷
+    codes "0 reg 2 timeout" ∷
+    codes "0 arm 2 2000 1" ∷
+    codes "1000 ret" ∷
+    codes "1000 end clock" ∷
+    [])
 unfolding page_trace run run_by
 until_reached_without_a_task = refl
 
 -- The next timer is due exactly at the last moment: the clock is not asked, no wait is written, and the timer is not taken.
+--     fn f() { log("f"); }
+--     setTimeout(f, 1);
 abbrev until_is_the_moment_that_is_waited_for_script : Program
 until_is_the_moment_that_is_waited_for_script =
     record {
@@ -64,11 +89,20 @@ abbrev until_is_the_moment_that_is_waited_for_setup : Setup
 until_is_the_moment_that_is_waited_for_setup =
     record { form = 1; trace = 1; policy = (Rank default_list); fuel = 1000000; until = 1000; refresh = 60; late = []; latencies = []; arrivals = [] }
 
-until_is_the_moment_that_is_waited_for : page_trace until_is_the_moment_that_is_waited_for_script until_is_the_moment_that_is_waited_for_setup four_hosts ([]) ≡ codes "trace 1\n0 turn 1 dom\n0 call 1\n0 reg 2 timeout\n0 arm 2 1000 1\n0 ret\n1000 end clock\n"
+until_is_the_moment_that_is_waited_for : page_trace until_is_the_moment_that_is_waited_for_script until_is_the_moment_that_is_waited_for_setup four_hosts ([]) ≡ rows (
+    codes "trace 1" ∷
+    codes "0 turn 1 dom" ∷
+    codes "0 call 1" ∷
+    codes "0 reg 2 timeout" ∷
+    codes "0 arm 2 1000 1" ∷
+    codes "0 ret" ∷
+    codes "1000 end clock" ∷
+    [])
 unfolding page_trace run run_by
 until_is_the_moment_that_is_waited_for = refl
 
 -- The wait is for a moment before the last one, and the clock reads one after it. The arrival is taken, and the run ends at the time that was read.
+--     (an empty script)
 abbrev late_reading_past_until_script : Program
 late_reading_past_until_script =
     record {
@@ -81,11 +115,19 @@ abbrev late_reading_past_until_setup : Setup
 late_reading_past_until_setup =
     record { form = 1; trace = 1; policy = (Rank default_list); fuel = 1000000; until = 1000; refresh = 60; late = 1000 ∷ []; latencies = []; arrivals = record { at = 500; source = User; name = codes "a"; value = (IntValue (pos 1)) } ∷ [] }
 
-late_reading_past_until : page_trace late_reading_past_until_script late_reading_past_until_setup four_hosts ([]) ≡ codes "trace 1\n0 turn 1 dom\n0 call 1\n0 ret\n1500 wait 500\n1500 end clock\n"
+late_reading_past_until : page_trace late_reading_past_until_script late_reading_past_until_setup four_hosts ([]) ≡ rows (
+    codes "trace 1" ∷
+    codes "0 turn 1 dom" ∷
+    codes "0 call 1" ∷
+    codes "0 ret" ∷
+    codes "1500 wait 500" ∷
+    codes "1500 end clock" ∷
+    [])
 unfolding page_trace run run_by
 late_reading_past_until = refl
 
 -- With nothing pending the run is done, also at the last moment.
+--     busy(1000);
 abbrev nothing_pending_at_until_script : Program
 nothing_pending_at_until_script =
     record {
@@ -99,11 +141,20 @@ abbrev nothing_pending_at_until_setup : Setup
 nothing_pending_at_until_setup =
     record { form = 1; trace = 1; policy = (Rank default_list); fuel = 1000000; until = 1000; refresh = 60; late = []; latencies = []; arrivals = [] }
 
-nothing_pending_at_until : page_trace nothing_pending_at_until_script nothing_pending_at_until_setup four_hosts ([]) ≡ codes "trace 1\n0 turn 1 dom\n0 call 1\n1000 ret\n1000 end done\n"
+nothing_pending_at_until : page_trace nothing_pending_at_until_script nothing_pending_at_until_setup four_hosts ([]) ≡ rows (
+    codes "trace 1" ∷
+    codes "0 turn 1 dom" ∷
+    codes "0 call 1" ∷
+    codes "1000 ret" ∷
+    codes "1000 end done" ∷
+    [])
 unfolding page_trace run run_by
 nothing_pending_at_until = refl
 
 -- The idle step stands at the end of the turn and looks at no clock: the period starts at the last moment, and the run ends before its task.
+--     fn i(d) { log("i"); }
+--     requestIdleCallback(i, 0);
+--     busy(1000);
 abbrev idle_period_started_at_until_script : Program
 idle_period_started_at_until_script =
     record {
@@ -119,11 +170,22 @@ abbrev idle_period_started_at_until_setup : Setup
 idle_period_started_at_until_setup =
     record { form = 1; trace = 1; policy = (Rank default_list); fuel = 1000000; until = 1000; refresh = 60; late = []; latencies = []; arrivals = [] }
 
-idle_period_started_at_until : page_trace idle_period_started_at_until_script idle_period_started_at_until_setup four_hosts ([]) ≡ codes "trace 1\n0 turn 1 dom\n0 call 1\n0 reg 2 idle\n1000 ret\n1000 period 51000\n1000 end clock\n"
+idle_period_started_at_until : page_trace idle_period_started_at_until_script idle_period_started_at_until_setup four_hosts ([]) ≡ rows (
+    codes "trace 1" ∷
+    codes "0 turn 1 dom" ∷
+    codes "0 call 1" ∷
+    codes "0 reg 2 idle" ∷
+    codes "1000 ret" ∷
+    codes "1000 period 51000" ∷
+    codes "1000 end clock" ∷
+    [])
 unfolding page_trace run run_by
 idle_period_started_at_until = refl
 
 -- Time and fuel are used up together: the run ends by the clock.
+--     fn f() { log("f"); }
+--     setTimeout(f, 0);
+--     busy(10);
 abbrev clock_is_looked_at_before_fuel_script : Program
 clock_is_looked_at_before_fuel_script =
     record {
@@ -139,11 +201,22 @@ abbrev clock_is_looked_at_before_fuel_setup : Setup
 clock_is_looked_at_before_fuel_setup =
     record { form = 1; trace = 1; policy = (Rank default_list); fuel = 3; until = 10; refresh = 60; late = []; latencies = []; arrivals = [] }
 
-clock_is_looked_at_before_fuel : page_trace clock_is_looked_at_before_fuel_script clock_is_looked_at_before_fuel_setup four_hosts ([]) ≡ codes "trace 1\n0 turn 1 dom\n0 call 1\n0 reg 2 timeout\n0 arm 2 0 1\n10 ret\n10 due 2\n10 end clock\n"
+clock_is_looked_at_before_fuel : page_trace clock_is_looked_at_before_fuel_script clock_is_looked_at_before_fuel_setup four_hosts ([]) ≡ rows (
+    codes "trace 1" ∷
+    codes "0 turn 1 dom" ∷
+    codes "0 call 1" ∷
+    codes "0 reg 2 timeout" ∷
+    codes "0 arm 2 0 1" ∷
+    codes "10 ret" ∷
+    codes "10 due 2" ∷
+    codes "10 end clock" ∷
+    [])
 unfolding page_trace run run_by
 clock_is_looked_at_before_fuel = refl
 
 -- Waits and parallel items take no fuel; the turn does, and it has none left.
+--     fn f() { log("f"); }
+--     setTimeout(f, 1);
 abbrev fuel_ends_before_a_turn_script : Program
 fuel_ends_before_a_turn_script =
     record {
@@ -158,11 +231,23 @@ abbrev fuel_ends_before_a_turn_setup : Setup
 fuel_ends_before_a_turn_setup =
     record { form = 1; trace = 1; policy = (Rank default_list); fuel = 2; until = 10000000; refresh = 60; late = []; latencies = []; arrivals = [] }
 
-fuel_ends_before_a_turn : page_trace fuel_ends_before_a_turn_script fuel_ends_before_a_turn_setup four_hosts ([]) ≡ codes "trace 1\n0 turn 1 dom\n0 call 1\n0 reg 2 timeout\n0 arm 2 1000 1\n0 ret\n1000 wait 1000\n1000 due 2\n1000 end fuel\n"
+fuel_ends_before_a_turn : page_trace fuel_ends_before_a_turn_script fuel_ends_before_a_turn_setup four_hosts ([]) ≡ rows (
+    codes "trace 1" ∷
+    codes "0 turn 1 dom" ∷
+    codes "0 call 1" ∷
+    codes "0 reg 2 timeout" ∷
+    codes "0 arm 2 1000 1" ∷
+    codes "0 ret" ∷
+    codes "1000 wait 1000" ∷
+    codes "1000 due 2" ∷
+    codes "1000 end fuel" ∷
+    [])
 unfolding page_trace run run_by
 fuel_ends_before_a_turn = refl
 
 -- The last unit goes to the microtask itself, so its callback is called and has none to begin with.
+--     fn m() { log("m"); queueMicrotask(m); }
+--     queueMicrotask(m);
 abbrev fuel_ends_in_a_microtask_script : Program
 fuel_ends_in_a_microtask_script =
     record {
@@ -177,11 +262,29 @@ abbrev fuel_ends_in_a_microtask_setup : Setup
 fuel_ends_in_a_microtask_setup =
     record { form = 1; trace = 1; policy = (Rank default_list); fuel = 5; until = 10000000; refresh = 60; late = []; latencies = []; arrivals = [] }
 
-fuel_ends_in_a_microtask : page_trace fuel_ends_in_a_microtask_script fuel_ends_in_a_microtask_setup four_hosts ([]) ≡ codes "trace 1\n0 turn 1 dom\n0 call 1\n0 reg 2 micro\n0 job 1 micro 2\n0 ret\n0 run 1\n0 call 2\n0 log \"m\"\n0 reg 3 micro\n0 job 2 micro 3\n0 ret\n0 run 2\n0 call 3\n0 end fuel\n"
+fuel_ends_in_a_microtask : page_trace fuel_ends_in_a_microtask_script fuel_ends_in_a_microtask_setup four_hosts ([]) ≡ rows (
+    codes "trace 1" ∷
+    codes "0 turn 1 dom" ∷
+    codes "0 call 1" ∷
+    codes "0 reg 2 micro" ∷
+    codes "0 job 1 micro 2" ∷
+    codes "0 ret" ∷
+    codes "0 run 1" ∷
+    codes "0 call 2" ∷
+    codes "0 log \"m\"" ∷
+    codes "0 reg 3 micro" ∷
+    codes "0 job 2 micro 3" ∷
+    codes "0 ret" ∷
+    codes "0 run 2" ∷
+    codes "0 call 3" ∷
+    codes "0 end fuel" ∷
+    [])
 unfolding page_trace run run_by
 fuel_ends_in_a_microtask = refl
 
 -- Each entry into the body of a loop takes a unit. The end of fuel is no throw: nothing catches it, and no callback returns.
+--     fn f() { try { while (true) { log("w"); } } catch (e) { log("caught"); } }
+--     setTimeout(f, 0);
 abbrev fuel_ends_in_a_loop_script : Program
 fuel_ends_in_a_loop_script =
     record {
@@ -196,11 +299,31 @@ abbrev fuel_ends_in_a_loop_setup : Setup
 fuel_ends_in_a_loop_setup =
     record { form = 1; trace = 1; policy = (Rank default_list); fuel = 6; until = 10000000; refresh = 60; late = []; latencies = []; arrivals = [] }
 
-fuel_ends_in_a_loop : page_trace fuel_ends_in_a_loop_script fuel_ends_in_a_loop_setup four_hosts ([]) ≡ codes "trace 1\n0 turn 1 dom\n0 call 1\n0 reg 2 timeout\n0 arm 2 0 1\n0 ret\n0 due 2\n0 turn 2 timer\n0 call 2\n0 log \"w\"\n0 log \"w\"\n0 end fuel\n"
+fuel_ends_in_a_loop : page_trace fuel_ends_in_a_loop_script fuel_ends_in_a_loop_setup four_hosts ([]) ≡ rows (
+    codes "trace 1" ∷
+    codes "0 turn 1 dom" ∷
+    codes "0 call 1" ∷
+    codes "0 reg 2 timeout" ∷
+    codes "0 arm 2 0 1" ∷
+    codes "0 ret" ∷
+    codes "0 due 2" ∷
+    codes "0 turn 2 timer" ∷
+    codes "0 call 2" ∷
+    codes "0 log \"w\"" ∷
+    codes "0 log \"w\"" ∷
+    codes "0 end fuel" ∷
+    [])
 unfolding page_trace run run_by
 fuel_ends_in_a_loop = refl
 
 -- Fuel ends in a listener that the script's abort runs: neither the second listener nor the microtask nor the script goes on.
+--     fn m() { log("m"); }
+--     fn b(s) { log("b"); }
+--     fn a(s) { queueMicrotask(m); busy(1); busy(1); log("a"); }
+--     var c = controller();
+--     listen(signal(c), "abort", a);
+--     listen(signal(c), "abort", b);
+--     abort(c, unit);
 abbrev fuel_ends_in_a_listener_of_an_abort_script : Program
 fuel_ends_in_a_listener_of_an_abort_script =
     record {
@@ -220,11 +343,24 @@ abbrev fuel_ends_in_a_listener_of_an_abort_setup : Setup
 fuel_ends_in_a_listener_of_an_abort_setup =
     record { form = 1; trace = 1; policy = (Rank default_list); fuel = 4; until = 10000000; refresh = 60; late = []; latencies = []; arrivals = [] }
 
-fuel_ends_in_a_listener_of_an_abort : page_trace fuel_ends_in_a_listener_of_an_abort_script fuel_ends_in_a_listener_of_an_abort_setup four_hosts ([]) ≡ codes "trace 1\n0 turn 1 dom\n0 call 1\n0 reg 2 listener\n0 reg 3 listener\n0 abort 1\n0 call 2\n0 reg 4 micro\n0 job 1 micro 4\n1 end fuel\n"
+fuel_ends_in_a_listener_of_an_abort : page_trace fuel_ends_in_a_listener_of_an_abort_script fuel_ends_in_a_listener_of_an_abort_setup four_hosts ([]) ≡ rows (
+    codes "trace 1" ∷
+    codes "0 turn 1 dom" ∷
+    codes "0 call 1" ∷
+    codes "0 reg 2 listener" ∷
+    codes "0 reg 3 listener" ∷
+    codes "0 abort 1" ∷
+    codes "0 call 2" ∷
+    codes "0 reg 4 micro" ∷
+    codes "0 job 1 micro 4" ∷
+    codes "1 end fuel" ∷
+    [])
 unfolding page_trace run run_by
 fuel_ends_in_a_listener_of_an_abort = refl
 
 -- The rendering opportunity is the last moment: the run ends there, and no frame is begun.
+--     fn a(t) { log(t); }
+--     requestAnimationFrame(a);
 abbrev frame_at_until_script : Program
 frame_at_until_script =
     record {
@@ -239,11 +375,21 @@ abbrev frame_at_until_setup : Setup
 frame_at_until_setup =
     record { form = 1; trace = 1; policy = (Rank default_list); fuel = 1000000; until = 16666; refresh = 60; late = []; latencies = []; arrivals = [] }
 
-frame_at_until : page_trace frame_at_until_script frame_at_until_setup four_hosts ([]) ≡ codes "trace 1\n0 turn 1 dom\n0 call 1\n0 reg 2 frame\n0 ret\n16666 end clock\n"
+frame_at_until : page_trace frame_at_until_script frame_at_until_setup four_hosts ([]) ≡ rows (
+    codes "trace 1" ∷
+    codes "0 turn 1 dom" ∷
+    codes "0 call 1" ∷
+    codes "0 reg 2 frame" ∷
+    codes "0 ret" ∷
+    codes "16666 end clock" ∷
+    [])
 unfolding page_trace run run_by
 frame_at_until = refl
 
 -- The next idle period could start at the last moment: the run ends there.
+--     fn j(d) { log("j"); }
+--     fn i(d) { log("i"); requestIdleCallback(j, 0); }
+--     requestIdleCallback(i, 0);
 abbrev idle_moment_at_until_script : Program
 idle_moment_at_until_script =
     record {
@@ -259,11 +405,28 @@ abbrev idle_moment_at_until_setup : Setup
 idle_moment_at_until_setup =
     record { form = 1; trace = 1; policy = (Rank default_list); fuel = 1000000; until = 50000; refresh = 60; late = []; latencies = []; arrivals = [] }
 
-idle_moment_at_until : page_trace idle_moment_at_until_script idle_moment_at_until_setup four_hosts ([]) ≡ codes "trace 1\n0 turn 1 dom\n0 call 1\n0 reg 2 idle\n0 ret\n0 period 50000\n0 turn 2 idle\n0 idle 50000\n0 call 2\n0 log \"i\"\n0 reg 3 idle\n0 ret\n50000 end clock\n"
+idle_moment_at_until : page_trace idle_moment_at_until_script idle_moment_at_until_setup four_hosts ([]) ≡ rows (
+    codes "trace 1" ∷
+    codes "0 turn 1 dom" ∷
+    codes "0 call 1" ∷
+    codes "0 reg 2 idle" ∷
+    codes "0 ret" ∷
+    codes "0 period 50000" ∷
+    codes "0 turn 2 idle" ∷
+    codes "0 idle 50000" ∷
+    codes "0 call 2" ∷
+    codes "0 log \"i\"" ∷
+    codes "0 reg 3 idle" ∷
+    codes "0 ret" ∷
+    codes "50000 end clock" ∷
+    [])
 unfolding page_trace run run_by
 idle_moment_at_until = refl
 
 -- The wait for the idle moment ends after the last moment. Nothing is runnable then, and the run ends before the turn that would start the period.
+--     fn j(d) { log("j"); }
+--     fn i(d) { log("i"); requestIdleCallback(j, 0); }
+--     requestIdleCallback(i, 0);
 abbrev idle_moment_read_past_until_script : Program
 idle_moment_read_past_until_script =
     record {
@@ -279,6 +442,21 @@ abbrev idle_moment_read_past_until_setup : Setup
 idle_moment_read_past_until_setup =
     record { form = 1; trace = 1; policy = (Rank default_list); fuel = 1000000; until = 50005; refresh = 60; late = 10 ∷ []; latencies = []; arrivals = [] }
 
-idle_moment_read_past_until : page_trace idle_moment_read_past_until_script idle_moment_read_past_until_setup four_hosts ([]) ≡ codes "trace 1\n0 turn 1 dom\n0 call 1\n0 reg 2 idle\n0 ret\n0 period 50000\n0 turn 2 idle\n0 idle 50000\n0 call 2\n0 log \"i\"\n0 reg 3 idle\n0 ret\n50010 wait 50000\n50010 end clock\n"
+idle_moment_read_past_until : page_trace idle_moment_read_past_until_script idle_moment_read_past_until_setup four_hosts ([]) ≡ rows (
+    codes "trace 1" ∷
+    codes "0 turn 1 dom" ∷
+    codes "0 call 1" ∷
+    codes "0 reg 2 idle" ∷
+    codes "0 ret" ∷
+    codes "0 period 50000" ∷
+    codes "0 turn 2 idle" ∷
+    codes "0 idle 50000" ∷
+    codes "0 call 2" ∷
+    codes "0 log \"i\"" ∷
+    codes "0 reg 3 idle" ∷
+    codes "0 ret" ∷
+    codes "50010 wait 50000" ∷
+    codes "50010 end clock" ∷
+    [])
 unfolding page_trace run run_by
 idle_moment_read_past_until = refl

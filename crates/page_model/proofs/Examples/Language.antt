@@ -7,9 +7,11 @@ use Rattle.page_parts.specs.Setup.{Setup, Rank}
 use Rattle.page_parts.specs.Sources.{default_list}
 use Rattle.page_model.specs.Turns.{run, run_by}
 use Rattle.page_model.specs.PageTrace.{page_trace}
-use Rattle.page_model.proofs.Examples.Sample.{named, four_hosts, logs_of}
+use Rattle.page_model.proofs.Examples.Sample.{named, four_hosts, logs_of, rows}
 
 -- The script and 255 calls are 256 open calls, which is as many as may be.
+--     fn r(n) { if (n == 0) { return 0; } return 1 + r(n - 1); }
+--     log(r(254));
 abbrev recursion_of_256_calls_script : Program
 recursion_of_256_calls_script =
     record {
@@ -29,6 +31,8 @@ unfolding page_trace run run_by
 recursion_of_256_calls = refl
 
 -- One call more throws, through all that are open, and is reported once.
+--     fn r(n) { if (n == 0) { return 0; } return 1 + r(n - 1); }
+--     log(r(255));
 abbrev one_open_call_too_many_script : Program
 one_open_call_too_many_script =
     record {
@@ -43,11 +47,19 @@ abbrev one_open_call_too_many_setup : Setup
 one_open_call_too_many_setup =
     record { form = 1; trace = 1; policy = (Rank default_list); fuel = 1000000; until = 10000000; refresh = 60; late = []; latencies = []; arrivals = [] }
 
-one_open_call_too_many : page_trace one_open_call_too_many_script one_open_call_too_many_setup four_hosts ([]) ≡ codes "trace 1\n0 turn 1 dom\n0 call 1\n0 throw RangeError(\"\")\n0 report RangeError(\"\")\n0 end done\n"
+one_open_call_too_many : page_trace one_open_call_too_many_script one_open_call_too_many_setup four_hosts ([]) ≡ rows (
+    codes "trace 1" ∷
+    codes "0 turn 1 dom" ∷
+    codes "0 call 1" ∷
+    codes "0 throw RangeError(\"\")" ∷
+    codes "0 report RangeError(\"\")" ∷
+    codes "0 end done" ∷
+    [])
 unfolding page_trace run run_by
 one_open_call_too_many = refl
 
 -- A line feed in a text is written as two bytes, also within a list.
+--     log(push([1], "a\n"));
 abbrev text_is_escaped_in_a_list_script : Program
 text_is_escaped_in_a_list_script =
     record {
@@ -61,11 +73,21 @@ abbrev text_is_escaped_in_a_list_setup : Setup
 text_is_escaped_in_a_list_setup =
     record { form = 1; trace = 1; policy = (Rank default_list); fuel = 1000000; until = 10000000; refresh = 60; late = []; latencies = []; arrivals = [] }
 
-text_is_escaped_in_a_list : page_trace text_is_escaped_in_a_list_script text_is_escaped_in_a_list_setup four_hosts ([]) ≡ codes "trace 1\n0 turn 1 dom\n0 call 1\n0 log [1,\"a\\n\"]\n0 ret\n0 end done\n"
+text_is_escaped_in_a_list : page_trace text_is_escaped_in_a_list_script text_is_escaped_in_a_list_setup four_hosts ([]) ≡ rows (
+    codes "trace 1" ∷
+    codes "0 turn 1 dom" ∷
+    codes "0 call 1" ∷
+    codes "0 log [1,\"a\\n\"]" ∷
+    codes "0 ret" ∷
+    codes "0 end done" ∷
+    [])
 unfolding page_trace run run_by
 text_is_escaped_in_a_list = refl
 
 -- Fifty brackets around each of 250 calls take neither calls nor fuel.
+--     fn r(n) { if (n == 0) { return 0; } return ((((((((((((((((((((((((((((((((((((((((((((((((((1 + r(n -
+--         1))))))))))))))))))))))))))))))))))))))))))))))))))); }
+--     log(r(250));
 abbrev deep_brackets_in_deep_calls_script : Program
 deep_brackets_in_deep_calls_script =
     record {
@@ -85,6 +107,7 @@ unfolding page_trace run run_by
 deep_brackets_in_deep_calls = refl
 
 -- A number within 64 brackets is the number.
+--     log((((((((((((((((((((((((((((((((((((((((((((((((((((((((((((((((1))))))))))))))))))))))))))))))))))))))))))))))))))))))))))))))));
 abbrev sixty_four_open_brackets_script : Program
 sixty_four_open_brackets_script =
     record {
@@ -103,6 +126,12 @@ unfolding page_trace run run_by
 sixty_four_open_brackets = refl
 
 -- A variable that is called is read before the arguments, of which one assigns another function to it.
+--     fn a(x) { log("a"); }
+--     fn b(x) { log("b"); }
+--     fn s() { g = b; return 1; }
+--     var g = a;
+--     g(s());
+--     g(1);
 abbrev callee_is_read_before_its_arguments_script : Program
 callee_is_read_before_its_arguments_script =
     record {
@@ -121,11 +150,21 @@ abbrev callee_is_read_before_its_arguments_setup : Setup
 callee_is_read_before_its_arguments_setup =
     record { form = 1; trace = 1; policy = (Rank default_list); fuel = 1000000; until = 10000000; refresh = 60; late = []; latencies = []; arrivals = [] }
 
-callee_is_read_before_its_arguments : page_trace callee_is_read_before_its_arguments_script callee_is_read_before_its_arguments_setup four_hosts ([]) ≡ codes "trace 1\n0 turn 1 dom\n0 call 1\n0 log \"a\"\n0 log \"b\"\n0 ret\n0 end done\n"
+callee_is_read_before_its_arguments : page_trace callee_is_read_before_its_arguments_script callee_is_read_before_its_arguments_setup four_hosts ([]) ≡ rows (
+    codes "trace 1" ∷
+    codes "0 turn 1 dom" ∷
+    codes "0 call 1" ∷
+    codes "0 log \"a\"" ∷
+    codes "0 log \"b\"" ∷
+    codes "0 ret" ∷
+    codes "0 end done" ∷
+    [])
 unfolding page_trace run run_by
 callee_is_read_before_its_arguments = refl
 
 -- A return outside functions ends the script, also inside a loop and a try block; its value goes nowhere.
+--     while (true) { try { log(1); return 2; } catch (e) { log(3); } }
+--     log(4);
 abbrev return_ends_the_script_script : Program
 return_ends_the_script_script =
     record {
@@ -140,6 +179,13 @@ abbrev return_ends_the_script_setup : Setup
 return_ends_the_script_setup =
     record { form = 1; trace = 1; policy = (Rank default_list); fuel = 1000000; until = 10000000; refresh = 60; late = []; latencies = []; arrivals = [] }
 
-return_ends_the_script : page_trace return_ends_the_script_script return_ends_the_script_setup four_hosts ([]) ≡ codes "trace 1\n0 turn 1 dom\n0 call 1\n0 log 1\n0 ret\n0 end done\n"
+return_ends_the_script : page_trace return_ends_the_script_script return_ends_the_script_setup four_hosts ([]) ≡ rows (
+    codes "trace 1" ∷
+    codes "0 turn 1 dom" ∷
+    codes "0 call 1" ∷
+    codes "0 log 1" ∷
+    codes "0 ret" ∷
+    codes "0 end done" ∷
+    [])
 unfolding page_trace run run_by
 return_ends_the_script = refl

@@ -9,8 +9,12 @@ use Rattle.page_parts.specs.Sources.{default_list}
 use Rattle.page_parts.specs.Words.{same_bytes}
 use Rattle.page_model.specs.Turns.{Turned, run, run_by, events_of_run}
 use Rattle.page_parts.specs.TraceText.{choices_in, text_of}
-use Rattle.page_model.proofs.Examples.Sample.{named, four_hosts, has_ended, is_stuck}
+use Rattle.page_model.proofs.Examples.Sample.{named, four_hosts, has_ended, is_stuck, rows}
 
+--     fn t() { log("t"); }
+--     fn a() { log("a"); }
+--     setTimeout(t, 0);
+--     postTask(a, unit, unit, 0);
 abbrev written_rank_serves_the_timer_first_script : Program
 written_rank_serves_the_timer_first_script =
     record {
@@ -54,6 +58,16 @@ unfolding run run_by
 stuck_at_a_pick = refl
 
 lines_before_it :
-    text_of 1 (events_of_run run_with_a_bad_pick) ≡ codes "trace 1\n0 turn 1 dom\n0 call 1\n0 reg 2 timeout\n0 arm 2 0 1\n0 reg 3 post\n0 enq 3 user-visible task 2\n0 ret\n0 due 2\n"
+    text_of 1 (events_of_run run_with_a_bad_pick) ≡ rows (
+    codes "trace 1" ∷
+    codes "0 turn 1 dom" ∷
+    codes "0 call 1" ∷
+    codes "0 reg 2 timeout" ∷
+    codes "0 arm 2 0 1" ∷
+    codes "0 reg 3 post" ∷
+    codes "0 enq 3 user-visible task 2" ∷
+    codes "0 ret" ∷
+    codes "0 due 2" ∷
+    [])
 unfolding run run_by
 lines_before_it = refl

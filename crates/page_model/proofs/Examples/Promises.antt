@@ -5,8 +5,16 @@ use Rattle.page_parts.specs.Setup.{Setup, Rank}
 use Rattle.page_parts.specs.Sources.{default_list}
 use Rattle.page_model.specs.Turns.{run, run_by}
 use Rattle.page_model.specs.PageTrace.{page_trace}
-use Rattle.page_model.proofs.Examples.Sample.{named, four_hosts, logs_of}
+use Rattle.page_model.proofs.Examples.Sample.{named, four_hosts, logs_of, rows}
 
+--     fn a(v) { log("a"); }
+--     fn b(v) { log("b"); }
+--     fn c(v) { log("c"); }
+--     fn x(v) { log("x"); }
+--     var p = promise();
+--     resolve(p, resolved(1));
+--     then(p, x, unit);
+--     then(then(then(resolved(0), a, unit), b, unit), c, unit);
 abbrev resolving_with_a_promise_takes_two_jobs_more_script : Program
 resolving_with_a_promise_takes_two_jobs_more_script =
     record {
@@ -27,10 +35,16 @@ abbrev resolving_with_a_promise_takes_two_jobs_more_setup : Setup
 resolving_with_a_promise_takes_two_jobs_more_setup =
     record { form = 1; trace = 1; policy = (Rank default_list); fuel = 1000000; until = 10000000; refresh = 60; late = []; latencies = []; arrivals = [] }
 
-resolving_with_a_promise_takes_two_jobs_more : logs_of (page_trace resolving_with_a_promise_takes_two_jobs_more_script resolving_with_a_promise_takes_two_jobs_more_setup four_hosts ([])) ≡ codes "0 \"a\"\n0 \"b\"\n0 \"x\"\n0 \"c\"\n"
+resolving_with_a_promise_takes_two_jobs_more : logs_of (page_trace resolving_with_a_promise_takes_two_jobs_more_script resolving_with_a_promise_takes_two_jobs_more_setup four_hosts ([])) ≡ rows (
+    codes "0 \"a\"" ∷
+    codes "0 \"b\"" ∷
+    codes "0 \"x\"" ∷
+    codes "0 \"c\"" ∷
+    [])
 unfolding page_trace run run_by
 resolving_with_a_promise_takes_two_jobs_more = refl
 
+--     rejected("x");
 abbrev rejection_without_handler_is_notified_script : Program
 rejection_without_handler_is_notified_script =
     record {
@@ -44,10 +58,23 @@ abbrev rejection_without_handler_is_notified_setup : Setup
 rejection_without_handler_is_notified_setup =
     record { form = 1; trace = 1; policy = (Rank default_list); fuel = 1000000; until = 10000000; refresh = 60; late = []; latencies = []; arrivals = [] }
 
-rejection_without_handler_is_notified : page_trace rejection_without_handler_is_notified_script rejection_without_handler_is_notified_setup four_hosts ([]) ≡ codes "trace 1\n0 turn 1 dom\n0 call 1\n0 settle 1 err \"x\"\n0 ret\n0 turn 2 dom\n0 unhandled 1\n0 end done\n"
+rejection_without_handler_is_notified : page_trace rejection_without_handler_is_notified_script rejection_without_handler_is_notified_setup four_hosts ([]) ≡ rows (
+    codes "trace 1" ∷
+    codes "0 turn 1 dom" ∷
+    codes "0 call 1" ∷
+    codes "0 settle 1 err \"x\"" ∷
+    codes "0 ret" ∷
+    codes "0 turn 2 dom" ∷
+    codes "0 unhandled 1" ∷
+    codes "0 end done" ∷
+    [])
 unfolding page_trace run run_by
 rejection_without_handler_is_notified = refl
 
+--     var p = rejected("x");
+--     fn g(v) {}
+--     fn h() { then(p, unit, g); }
+--     queueMicrotask(h);
 abbrev rejection_handled_in_a_microtask_script : Program
 rejection_handled_in_a_microtask_script =
     record {
@@ -64,6 +91,24 @@ abbrev rejection_handled_in_a_microtask_setup : Setup
 rejection_handled_in_a_microtask_setup =
     record { form = 1; trace = 1; policy = (Rank default_list); fuel = 1000000; until = 10000000; refresh = 60; late = []; latencies = []; arrivals = [] }
 
-rejection_handled_in_a_microtask : page_trace rejection_handled_in_a_microtask_script rejection_handled_in_a_microtask_setup four_hosts ([]) ≡ codes "trace 1\n0 turn 1 dom\n0 call 1\n0 settle 1 err \"x\"\n0 reg 2 micro\n0 job 1 micro 2\n0 ret\n0 run 1\n0 call 2\n0 reg 3 then\n0 job 2 react 1\n0 ret\n0 run 2\n0 call 3\n0 ret\n0 settle 2 ok unit\n0 end done\n"
+rejection_handled_in_a_microtask : page_trace rejection_handled_in_a_microtask_script rejection_handled_in_a_microtask_setup four_hosts ([]) ≡ rows (
+    codes "trace 1" ∷
+    codes "0 turn 1 dom" ∷
+    codes "0 call 1" ∷
+    codes "0 settle 1 err \"x\"" ∷
+    codes "0 reg 2 micro" ∷
+    codes "0 job 1 micro 2" ∷
+    codes "0 ret" ∷
+    codes "0 run 1" ∷
+    codes "0 call 2" ∷
+    codes "0 reg 3 then" ∷
+    codes "0 job 2 react 1" ∷
+    codes "0 ret" ∷
+    codes "0 run 2" ∷
+    codes "0 call 3" ∷
+    codes "0 ret" ∷
+    codes "0 settle 2 ok unit" ∷
+    codes "0 end done" ∷
+    [])
 unfolding page_trace run run_by
 rejection_handled_in_a_microtask = refl

@@ -8,8 +8,11 @@ use Rattle.page_parts.specs.WrittenChoices.{Choices, Recorded, written}
 use Rattle.page_parts.specs.Sources.{default_list}
 use Rattle.page_parts.specs.TraceText.{choices_in, text_of}
 use Rattle.page_model.specs.Turns.{Turned, run, run_by, events_of_run}
-use Rattle.page_model.proofs.Examples.Sample.{named, four_hosts, has_ended, is_stuck}
+use Rattle.page_model.proofs.Examples.Sample.{named, four_hosts, has_ended, is_stuck, rows}
 
+--     fn f(v) { log(v); }
+--     then(host(0, 7, unit), f, f);
+--     then(host(0, 1, unit), f, f);
 abbrev answered_once_script : Program
 answered_once_script =
     record {
@@ -39,12 +42,68 @@ ends_under_its_own_choices : has_ended (under (choices_in its_events)) ≡ true
 unfolding run run_by
 ends_under_its_own_choices = refl
 
-same_text_under_its_own_choices : text_under (choices_in its_events) ≡ codes "trace 1\n0 turn 1 dom\n0 call 1\n0 reg 2 host\n0 arm 2 3000 0\n0 reg 3 then\n0 settle 3 err NotAllowedError(\"\")\n0 reg 4 then\n0 job 1 react 3\n0 ret\n0 run 1\n0 call 4\n0 log NotAllowedError(\"\")\n0 ret\n0 settle 4 ok unit\n3000 wait 3000\n3000 due 2\n3000 turn 2 net\n3000 host 0 7 ok 49\n3000 settle 1 ok 49\n3000 job 2 react 1\n3000 run 2\n3000 call 3\n3000 log 49\n3000 ret\n3000 settle 2 ok unit\n3000 end done\n"
+same_text_under_its_own_choices : text_under (choices_in its_events) ≡ rows (
+    codes "trace 1" ∷
+    codes "0 turn 1 dom" ∷
+    codes "0 call 1" ∷
+    codes "0 reg 2 host" ∷
+    codes "0 arm 2 3000 0" ∷
+    codes "0 reg 3 then" ∷
+    codes "0 settle 3 err NotAllowedError(\"\")" ∷
+    codes "0 reg 4 then" ∷
+    codes "0 job 1 react 3" ∷
+    codes "0 ret" ∷
+    codes "0 run 1" ∷
+    codes "0 call 4" ∷
+    codes "0 log NotAllowedError(\"\")" ∷
+    codes "0 ret" ∷
+    codes "0 settle 4 ok unit" ∷
+    codes "3000 wait 3000" ∷
+    codes "3000 due 2" ∷
+    codes "3000 turn 2 net" ∷
+    codes "3000 host 0 7 ok 49" ∷
+    codes "3000 settle 1 ok 49" ∷
+    codes "3000 job 2 react 1" ∷
+    codes "3000 run 2" ∷
+    codes "3000 call 3" ∷
+    codes "3000 log 49" ∷
+    codes "3000 ret" ∷
+    codes "3000 settle 2 ok unit" ∷
+    codes "3000 end done" ∷
+    [])
 unfolding run run_by
 same_text_under_its_own_choices = refl
 
 -- A later reading of the clock is as legal: all that follows stands at that time.
-later_reading : text_under (Recorded (Dom ∷ Net ∷ []) (3500 ∷ []) (Ok (pos 49) ∷ [])) ≡ codes "trace 1\n0 turn 1 dom\n0 call 1\n0 reg 2 host\n0 arm 2 3000 0\n0 reg 3 then\n0 settle 3 err NotAllowedError(\"\")\n0 reg 4 then\n0 job 1 react 3\n0 ret\n0 run 1\n0 call 4\n0 log NotAllowedError(\"\")\n0 ret\n0 settle 4 ok unit\n3500 wait 3000\n3500 due 2\n3500 turn 2 net\n3500 host 0 7 ok 49\n3500 settle 1 ok 49\n3500 job 2 react 1\n3500 run 2\n3500 call 3\n3500 log 49\n3500 ret\n3500 settle 2 ok unit\n3500 end done\n"
+later_reading : text_under (Recorded (Dom ∷ Net ∷ []) (3500 ∷ []) (Ok (pos 49) ∷ [])) ≡ rows (
+    codes "trace 1" ∷
+    codes "0 turn 1 dom" ∷
+    codes "0 call 1" ∷
+    codes "0 reg 2 host" ∷
+    codes "0 arm 2 3000 0" ∷
+    codes "0 reg 3 then" ∷
+    codes "0 settle 3 err NotAllowedError(\"\")" ∷
+    codes "0 reg 4 then" ∷
+    codes "0 job 1 react 3" ∷
+    codes "0 ret" ∷
+    codes "0 run 1" ∷
+    codes "0 call 4" ∷
+    codes "0 log NotAllowedError(\"\")" ∷
+    codes "0 ret" ∷
+    codes "0 settle 4 ok unit" ∷
+    codes "3500 wait 3000" ∷
+    codes "3500 due 2" ∷
+    codes "3500 turn 2 net" ∷
+    codes "3500 host 0 7 ok 49" ∷
+    codes "3500 settle 1 ok 49" ∷
+    codes "3500 job 2 react 1" ∷
+    codes "3500 run 2" ∷
+    codes "3500 call 3" ∷
+    codes "3500 log 49" ∷
+    codes "3500 ret" ∷
+    codes "3500 settle 2 ok unit" ∷
+    codes "3500 end done" ∷
+    [])
 unfolding run run_by
 later_reading = refl
 
@@ -53,7 +112,23 @@ stuck_at_an_early_reading : is_stuck (under (Recorded (Dom ∷ Net ∷ []) (2999
 unfolding run run_by
 stuck_at_an_early_reading = refl
 
-lines_before_an_early_reading : text_under (Recorded (Dom ∷ Net ∷ []) (2999 ∷ []) (Ok (pos 49) ∷ [])) ≡ codes "trace 1\n0 turn 1 dom\n0 call 1\n0 reg 2 host\n0 arm 2 3000 0\n0 reg 3 then\n0 settle 3 err NotAllowedError(\"\")\n0 reg 4 then\n0 job 1 react 3\n0 ret\n0 run 1\n0 call 4\n0 log NotAllowedError(\"\")\n0 ret\n0 settle 4 ok unit\n"
+lines_before_an_early_reading : text_under (Recorded (Dom ∷ Net ∷ []) (2999 ∷ []) (Ok (pos 49) ∷ [])) ≡ rows (
+    codes "trace 1" ∷
+    codes "0 turn 1 dom" ∷
+    codes "0 call 1" ∷
+    codes "0 reg 2 host" ∷
+    codes "0 arm 2 3000 0" ∷
+    codes "0 reg 3 then" ∷
+    codes "0 settle 3 err NotAllowedError(\"\")" ∷
+    codes "0 reg 4 then" ∷
+    codes "0 job 1 react 3" ∷
+    codes "0 ret" ∷
+    codes "0 run 1" ∷
+    codes "0 call 4" ∷
+    codes "0 log NotAllowedError(\"\")" ∷
+    codes "0 ret" ∷
+    codes "0 settle 4 ok unit" ∷
+    [])
 unfolding run run_by
 lines_before_an_early_reading = refl
 
@@ -62,15 +137,71 @@ stuck_at_a_wrong_answer : is_stuck (under (Recorded (Dom ∷ Net ∷ []) (3000 �
 unfolding run run_by
 stuck_at_a_wrong_answer = refl
 
-lines_before_a_wrong_answer : text_under (Recorded (Dom ∷ Net ∷ []) (3000 ∷ []) (Ok (pos 48) ∷ [])) ≡ codes "trace 1\n0 turn 1 dom\n0 call 1\n0 reg 2 host\n0 arm 2 3000 0\n0 reg 3 then\n0 settle 3 err NotAllowedError(\"\")\n0 reg 4 then\n0 job 1 react 3\n0 ret\n0 run 1\n0 call 4\n0 log NotAllowedError(\"\")\n0 ret\n0 settle 4 ok unit\n3000 wait 3000\n3000 due 2\n3000 turn 2 net\n"
+lines_before_a_wrong_answer : text_under (Recorded (Dom ∷ Net ∷ []) (3000 ∷ []) (Ok (pos 48) ∷ [])) ≡ rows (
+    codes "trace 1" ∷
+    codes "0 turn 1 dom" ∷
+    codes "0 call 1" ∷
+    codes "0 reg 2 host" ∷
+    codes "0 arm 2 3000 0" ∷
+    codes "0 reg 3 then" ∷
+    codes "0 settle 3 err NotAllowedError(\"\")" ∷
+    codes "0 reg 4 then" ∷
+    codes "0 job 1 react 3" ∷
+    codes "0 ret" ∷
+    codes "0 run 1" ∷
+    codes "0 call 4" ∷
+    codes "0 log NotAllowedError(\"\")" ∷
+    codes "0 ret" ∷
+    codes "0 settle 4 ok unit" ∷
+    codes "3000 wait 3000" ∷
+    codes "3000 due 2" ∷
+    codes "3000 turn 2 net" ∷
+    [])
 unfolding run run_by
 lines_before_a_wrong_answer = refl
 
 -- Where the answer is missing altogether the run stands at the same place, and where the source is missing one line before.
-stuck_without_an_answer : text_under (Recorded (Dom ∷ Net ∷ []) (3000 ∷ []) []) ≡ codes "trace 1\n0 turn 1 dom\n0 call 1\n0 reg 2 host\n0 arm 2 3000 0\n0 reg 3 then\n0 settle 3 err NotAllowedError(\"\")\n0 reg 4 then\n0 job 1 react 3\n0 ret\n0 run 1\n0 call 4\n0 log NotAllowedError(\"\")\n0 ret\n0 settle 4 ok unit\n3000 wait 3000\n3000 due 2\n3000 turn 2 net\n"
+stuck_without_an_answer : text_under (Recorded (Dom ∷ Net ∷ []) (3000 ∷ []) []) ≡ rows (
+    codes "trace 1" ∷
+    codes "0 turn 1 dom" ∷
+    codes "0 call 1" ∷
+    codes "0 reg 2 host" ∷
+    codes "0 arm 2 3000 0" ∷
+    codes "0 reg 3 then" ∷
+    codes "0 settle 3 err NotAllowedError(\"\")" ∷
+    codes "0 reg 4 then" ∷
+    codes "0 job 1 react 3" ∷
+    codes "0 ret" ∷
+    codes "0 run 1" ∷
+    codes "0 call 4" ∷
+    codes "0 log NotAllowedError(\"\")" ∷
+    codes "0 ret" ∷
+    codes "0 settle 4 ok unit" ∷
+    codes "3000 wait 3000" ∷
+    codes "3000 due 2" ∷
+    codes "3000 turn 2 net" ∷
+    [])
 unfolding run run_by
 stuck_without_an_answer = refl
 
-stuck_without_a_source : text_under (Recorded (Dom ∷ []) (3000 ∷ []) (Ok (pos 49) ∷ [])) ≡ codes "trace 1\n0 turn 1 dom\n0 call 1\n0 reg 2 host\n0 arm 2 3000 0\n0 reg 3 then\n0 settle 3 err NotAllowedError(\"\")\n0 reg 4 then\n0 job 1 react 3\n0 ret\n0 run 1\n0 call 4\n0 log NotAllowedError(\"\")\n0 ret\n0 settle 4 ok unit\n3000 wait 3000\n3000 due 2\n"
+stuck_without_a_source : text_under (Recorded (Dom ∷ []) (3000 ∷ []) (Ok (pos 49) ∷ [])) ≡ rows (
+    codes "trace 1" ∷
+    codes "0 turn 1 dom" ∷
+    codes "0 call 1" ∷
+    codes "0 reg 2 host" ∷
+    codes "0 arm 2 3000 0" ∷
+    codes "0 reg 3 then" ∷
+    codes "0 settle 3 err NotAllowedError(\"\")" ∷
+    codes "0 reg 4 then" ∷
+    codes "0 job 1 react 3" ∷
+    codes "0 ret" ∷
+    codes "0 run 1" ∷
+    codes "0 call 4" ∷
+    codes "0 log NotAllowedError(\"\")" ∷
+    codes "0 ret" ∷
+    codes "0 settle 4 ok unit" ∷
+    codes "3000 wait 3000" ∷
+    codes "3000 due 2" ∷
+    [])
 unfolding run run_by
 stuck_without_a_source = refl

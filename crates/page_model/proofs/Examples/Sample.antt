@@ -30,6 +30,11 @@ six_hosts =
     record { kind = Square; low = neg_ℤ (pos 3037000499); high = pos 3037000499; mark = Live } ∷
     record { kind = Double; low = neg_ℤ (pos 4611686018427387903); high = pos 4611686018427387903; mark = Live } ∷ []
 
+-- a text of these lines
+abbrev pub rows : List (List ℕ) → List ℕ
+rows [] = []
+rows (line ∷ more) = line ++ 10 ∷ rows more
+
 -- the lines of a text
 abbrev pub lines_from : List ℕ → List ℕ → List (List ℕ)
 lines_from line [] = []

@@ -10,6 +10,18 @@ use Rattle.page_model.specs.Turns.{turns, first_state, events_of_run}
 use Rattle.page_model.specs.Hosted.{call_by_steps}
 use Rattle.page_model.proofs.Examples.Sample.{named, four_hosts}
 
+--     fn l1(s) { log("L1"); abort(d, unit); log("L1 ends"); }
+--     fn l2(s) { log("L2"); }
+--     fn k1(s) { log("K1"); }
+--     fn k2(s) { log("K2"); }
+--     var c = controller();
+--     var d = controller();
+--     listen(signal(c), "abort", l1);
+--     listen(signal(c), "abort", l2);
+--     listen(signal(d), "abort", k1);
+--     listen(signal(d), "abort", k2);
+--     abort(c, unit);
+--     log("end");
 abbrev abort_within_an_abort_script : Program
 abort_within_an_abort_script =
     record {

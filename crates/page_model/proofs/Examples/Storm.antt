@@ -7,8 +7,17 @@ use Rattle.page_types.specs.declared.SumSign.TheVariants.{Plus}
 use Rattle.page_parts.specs.Setup.{Setup, Rank}
 use Rattle.page_parts.specs.Sources.{default_list}
 use Rattle.page_model.specs.Turns.{run, run_by}
-use Rattle.page_model.proofs.Examples.Sample.{named, four_hosts, summary_text}
+use Rattle.page_model.proofs.Examples.Sample.{named, four_hosts, summary_text, rows}
 
+--     var i = 0;
+--     var s = 1;
+--     var k = 0;
+--     var c = unit;
+--     fn f() { return 1; }
+--     fn g(v) {}
+--     while (i < 4) { s = (s * 1103515245 + 12345) % 2147483648; k = (s / 65536) % 4; if (k == 0) { setTimeout(f, (s / 262144) % 1000); } if
+--         (k == 1) { queueMicrotask(f); } if (k == 2) { postTask(f, "background", unit, 0); } if (k == 3) { c = controller(); then(postTask(f,
+--         unit, signal(c), 0), unit, g); abort(c, unit); } i = i + 1; }
 abbrev storm_4_script : Program
 storm_4_script =
     record {
@@ -28,10 +37,24 @@ abbrev storm_4_setup : Setup
 storm_4_setup =
     record { form = 1; trace = 1; policy = (Rank default_list); fuel = 10000000; until = 1000000000000; refresh = 60; late = []; latencies = []; arrivals = [] }
 
-storm_4 : summary_text storm_4_script storm_4_setup four_hosts ([]) ≡ codes "turns 3\ncalls 5\ndrops 1\nsettles 4\n"
+storm_4 : summary_text storm_4_script storm_4_setup four_hosts ([]) ≡ rows (
+    codes "turns 3" ∷
+    codes "calls 5" ∷
+    codes "drops 1" ∷
+    codes "settles 4" ∷
+    [])
 unfolding run run_by
 storm_4 = refl
 
+--     var i = 0;
+--     var s = 1;
+--     var k = 0;
+--     var c = unit;
+--     fn f() { return 1; }
+--     fn g(v) {}
+--     while (i < 10) { s = (s * 1103515245 + 12345) % 2147483648; k = (s / 65536) % 4; if (k == 0) { setTimeout(f, (s / 262144) % 1000); } if
+--         (k == 1) { queueMicrotask(f); } if (k == 2) { postTask(f, "background", unit, 0); } if (k == 3) { c = controller(); then(postTask(f,
+--         unit, signal(c), 0), unit, g); abort(c, unit); } i = i + 1; }
 abbrev storm_10_script : Program
 storm_10_script =
     record {
@@ -51,6 +74,11 @@ abbrev storm_10_setup : Setup
 storm_10_setup =
     record { form = 1; trace = 1; policy = (Rank default_list); fuel = 10000000; until = 1000000000000; refresh = 60; late = []; latencies = []; arrivals = [] }
 
-storm_10 : summary_text storm_10_script storm_10_setup four_hosts ([]) ≡ codes "turns 6\ncalls 11\ndrops 4\nsettles 12\n"
+storm_10 : summary_text storm_10_script storm_10_setup four_hosts ([]) ≡ rows (
+    codes "turns 6" ∷
+    codes "calls 11" ∷
+    codes "drops 4" ∷
+    codes "settles 12" ∷
+    [])
 unfolding run run_by
 storm_10 = refl

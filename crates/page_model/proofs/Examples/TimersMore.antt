@@ -7,8 +7,10 @@ use Rattle.page_parts.specs.Setup.{Setup, Rank}
 use Rattle.page_parts.specs.Sources.{default_list}
 use Rattle.page_model.specs.Turns.{run, run_by}
 use Rattle.page_model.specs.PageTrace.{page_trace}
-use Rattle.page_model.proofs.Examples.Sample.{named, four_hosts, logs_of}
+use Rattle.page_model.proofs.Examples.Sample.{named, four_hosts, logs_of, rows}
 
+--     fn f() { log(now()); setTimeout(f, 0); }
+--     setTimeout(f, 0);
 abbrev timeout_clamped_above_nesting_5_script : Program
 timeout_clamped_above_nesting_5_script =
     record {
@@ -23,10 +25,21 @@ abbrev timeout_clamped_above_nesting_5_setup : Setup
 timeout_clamped_above_nesting_5_setup =
     record { form = 1; trace = 1; policy = (Rank default_list); fuel = 1000000; until = 10000; refresh = 60; late = []; latencies = []; arrivals = [] }
 
-timeout_clamped_above_nesting_5 : logs_of (page_trace timeout_clamped_above_nesting_5_script timeout_clamped_above_nesting_5_setup four_hosts ([])) ≡ codes "0 0\n0 0\n0 0\n0 0\n0 0\n0 0\n4000 4000\n8000 8000\n"
+timeout_clamped_above_nesting_5 : logs_of (page_trace timeout_clamped_above_nesting_5_script timeout_clamped_above_nesting_5_setup four_hosts ([])) ≡ rows (
+    codes "0 0" ∷
+    codes "0 0" ∷
+    codes "0 0" ∷
+    codes "0 0" ∷
+    codes "0 0" ∷
+    codes "0 0" ∷
+    codes "4000 4000" ∷
+    codes "8000 8000" ∷
+    [])
 unfolding page_trace run run_by
 timeout_clamped_above_nesting_5 = refl
 
+--     fn f() { log(now()); }
+--     setInterval(f, 0);
 abbrev interval_clamped_above_nesting_5_script : Program
 interval_clamped_above_nesting_5_script =
     record {
@@ -41,10 +54,21 @@ abbrev interval_clamped_above_nesting_5_setup : Setup
 interval_clamped_above_nesting_5_setup =
     record { form = 1; trace = 1; policy = (Rank default_list); fuel = 1000000; until = 10000; refresh = 60; late = []; latencies = []; arrivals = [] }
 
-interval_clamped_above_nesting_5 : logs_of (page_trace interval_clamped_above_nesting_5_script interval_clamped_above_nesting_5_setup four_hosts ([])) ≡ codes "0 0\n0 0\n0 0\n0 0\n0 0\n0 0\n4000 4000\n8000 8000\n"
+interval_clamped_above_nesting_5 : logs_of (page_trace interval_clamped_above_nesting_5_script interval_clamped_above_nesting_5_setup four_hosts ([])) ≡ rows (
+    codes "0 0" ∷
+    codes "0 0" ∷
+    codes "0 0" ∷
+    codes "0 0" ∷
+    codes "0 0" ∷
+    codes "0 0" ∷
+    codes "4000 4000" ∷
+    codes "8000 8000" ∷
+    [])
 unfolding page_trace run run_by
 interval_clamped_above_nesting_5 = refl
 
+--     fn f() { log(now()); }
+--     setTimeout(f, 2147483648);
 abbrev timeout_of_2_to_the_31_fires_at_once_script : Program
 timeout_of_2_to_the_31_fires_at_once_script =
     record {
@@ -63,6 +87,8 @@ timeout_of_2_to_the_31_fires_at_once : logs_of (page_trace timeout_of_2_to_the_3
 unfolding page_trace run run_by
 timeout_of_2_to_the_31_fires_at_once = refl
 
+--     fn f() { log(now()); }
+--     setTimeout(f, 2147483647);
 abbrev greatest_timeout_is_past_until_script : Program
 greatest_timeout_is_past_until_script =
     record {
@@ -77,10 +103,25 @@ abbrev greatest_timeout_is_past_until_setup : Setup
 greatest_timeout_is_past_until_setup =
     record { form = 1; trace = 1; policy = (Rank default_list); fuel = 1000000; until = 10000000; refresh = 60; late = []; latencies = []; arrivals = [] }
 
-greatest_timeout_is_past_until : page_trace greatest_timeout_is_past_until_script greatest_timeout_is_past_until_setup four_hosts ([]) ≡ codes "trace 1\n0 turn 1 dom\n0 call 1\n0 reg 2 timeout\n0 arm 2 2147483647000 1\n0 ret\n10000000 end clock\n"
+greatest_timeout_is_past_until : page_trace greatest_timeout_is_past_until_script greatest_timeout_is_past_until_setup four_hosts ([]) ≡ rows (
+    codes "trace 1" ∷
+    codes "0 turn 1 dom" ∷
+    codes "0 call 1" ∷
+    codes "0 reg 2 timeout" ∷
+    codes "0 arm 2 2147483647000 1" ∷
+    codes "0 ret" ∷
+    codes "10000000 end clock" ∷
+    [])
 unfolding page_trace run run_by
 greatest_timeout_is_past_until = refl
 
+--     try { throw 5; } catch (e) { log(e); }
+--     log([1, "a", [true]]);
+--     fn h(a, b) { log(a + b); }
+--     var k = bind(h, ["x"]);
+--     log(k);
+--     k("y");
+--     log(7 / 0);
 abbrev values_and_faults_script : Program
 values_and_faults_script =
     record {
@@ -100,6 +141,17 @@ abbrev values_and_faults_setup : Setup
 values_and_faults_setup =
     record { form = 1; trace = 1; policy = (Rank default_list); fuel = 1000000; until = 10000000; refresh = 60; late = []; latencies = []; arrivals = [] }
 
-values_and_faults : page_trace values_and_faults_script values_and_faults_setup four_hosts ([]) ≡ codes "trace 1\n0 turn 1 dom\n0 call 1\n0 log 5\n0 log [1,\"a\",[true]]\n0 log fn:h(\"x\")\n0 log \"xy\"\n0 throw RangeError(\"\")\n0 report RangeError(\"\")\n0 end done\n"
+values_and_faults : page_trace values_and_faults_script values_and_faults_setup four_hosts ([]) ≡ rows (
+    codes "trace 1" ∷
+    codes "0 turn 1 dom" ∷
+    codes "0 call 1" ∷
+    codes "0 log 5" ∷
+    codes "0 log [1,\"a\",[true]]" ∷
+    codes "0 log fn:h(\"x\")" ∷
+    codes "0 log \"xy\"" ∷
+    codes "0 throw RangeError(\"\")" ∷
+    codes "0 report RangeError(\"\")" ∷
+    codes "0 end done" ∷
+    [])
 unfolding page_trace run run_by
 values_and_faults = refl

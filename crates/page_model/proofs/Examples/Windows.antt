@@ -5,7 +5,7 @@ use Rattle.page_types.specs.declared.Source.TheVariants.{Dom}
 use Rattle.page_types.specs.Tree.{Number, TextLiteral, UnitLiteral, Name, Call, no_exprs, with_expr, ExprStmt, no_stmts, with_stmt, FnItem, StmtItem, Program}
 use Rattle.page_parts.specs.Setup.{Setup, Rank}
 use Rattle.page_parts.specs.Sources.{default_list}
-use Rattle.page_model.proofs.Examples.Sample.{named, is_stuck}
+use Rattle.page_model.proofs.Examples.Sample.{named, is_stuck, rows}
 use Rattle.page_parts.specs.Channels.{Channel, message_value}
 use Rattle.page_parts.specs.TraceText.{text_of}
 use Rattle.page_parts.specs.WrittenChoices.{written}
@@ -15,6 +15,8 @@ use Rattle.page_model.specs.Windows.{Script, first_windows, rounds}
 use Rattle.page_model.specs.Loops.{first_loops, loop_steps}
 use Rattle.page_model.specs.Turns.{events_of_run}
 
+--     postMessage(1, 5);
+--     postMessage(1, 6);
 abbrev posts_two_messages_script : Program
 posts_two_messages_script =
     record {
@@ -25,6 +27,8 @@ posts_two_messages_script =
       names = [];
     }
 
+--     fn m(v) { log(v); }
+--     listen(unit, "message", m);
 abbrev logs_its_messages_script : Program
 logs_its_messages_script =
     record {
@@ -35,6 +39,8 @@ logs_its_messages_script =
       names = codes "m" ∷ [];
     }
 
+--     fn f() { log(now()); }
+--     setTimeout(f, 1);
 abbrev logs_its_time_after_a_millisecond_script : Program
 logs_its_time_after_a_millisecond_script =
     record {
@@ -45,6 +51,7 @@ logs_its_time_after_a_millisecond_script =
       names = codes "f" ∷ [];
     }
 
+--     busy(5000);
 abbrev is_busy_for_five_milliseconds_script : Program
 is_busy_for_five_milliseconds_script =
     record {
@@ -73,10 +80,33 @@ two_windows cs a b = (rounds cs 100 (first_windows (plain a ∷ plain b ∷ []))
 abbrev two_loops : List Channel → Program → Program → List PageRun
 two_loops cs a b = loop_steps cs 100 (first_loops (plain a ∷ plain b ∷ []))
 
-messages_are_posted : text_at 1 (two_windows one_channel posts_two_messages_script logs_its_messages_script) ≡ codes "trace 1\n0 turn 1 dom\n0 call 1\n0 send 1 5\n0 send 1 6\n0 ret\n1000 end done\n"
+messages_are_posted : text_at 1 (two_windows one_channel posts_two_messages_script logs_its_messages_script) ≡ rows (
+    codes "trace 1" ∷
+    codes "0 turn 1 dom" ∷
+    codes "0 call 1" ∷
+    codes "0 send 1 5" ∷
+    codes "0 send 1 6" ∷
+    codes "0 ret" ∷
+    codes "1000 end done" ∷
+    [])
 messages_are_posted = refl
 
-messages_arrive_in_order : text_at 2 (two_windows one_channel posts_two_messages_script logs_its_messages_script) ≡ codes "trace 1\n0 turn 1 dom\n0 call 1\n0 reg 2 listener\n0 ret\n1000 turn 2 dom\n1000 call 2\n1000 log [1,5]\n1000 ret\n1000 turn 3 dom\n1000 call 2\n1000 log [1,6]\n1000 ret\n1000 end done\n"
+messages_arrive_in_order : text_at 2 (two_windows one_channel posts_two_messages_script logs_its_messages_script) ≡ rows (
+    codes "trace 1" ∷
+    codes "0 turn 1 dom" ∷
+    codes "0 call 1" ∷
+    codes "0 reg 2 listener" ∷
+    codes "0 ret" ∷
+    codes "1000 turn 2 dom" ∷
+    codes "1000 call 2" ∷
+    codes "1000 log [1,5]" ∷
+    codes "1000 ret" ∷
+    codes "1000 turn 3 dom" ∷
+    codes "1000 call 2" ∷
+    codes "1000 log [1,6]" ∷
+    codes "1000 ret" ∷
+    codes "1000 end done" ∷
+    [])
 messages_arrive_in_order = refl
 
 abbrev setup_with_messages : Setup
@@ -93,7 +123,22 @@ acts_of_the_second =
     Pass 0 ∷ Pass 0 ∷ Serve ∷ Rest 0 ∷ Pass 0 ∷ Pass 1000 ∷ Serve ∷ Pass 1000 ∷ Serve ∷ Rest 1000 ∷ Pass 1000 ∷ Stop 1000 ∷ []
 
 second_window_by_its_acts :
-    text_of 1 (events_of_run (run_gaps logs_its_messages_script setup_with_messages acts_of_the_second (written setup_with_messages []))) ≡ codes "trace 1\n0 turn 1 dom\n0 call 1\n0 reg 2 listener\n0 ret\n1000 turn 2 dom\n1000 call 2\n1000 log [1,5]\n1000 ret\n1000 turn 3 dom\n1000 call 2\n1000 log [1,6]\n1000 ret\n1000 end done\n"
+    text_of 1 (events_of_run (run_gaps logs_its_messages_script setup_with_messages acts_of_the_second (written setup_with_messages []))) ≡ rows (
+    codes "trace 1" ∷
+    codes "0 turn 1 dom" ∷
+    codes "0 call 1" ∷
+    codes "0 reg 2 listener" ∷
+    codes "0 ret" ∷
+    codes "1000 turn 2 dom" ∷
+    codes "1000 call 2" ∷
+    codes "1000 log [1,5]" ∷
+    codes "1000 ret" ∷
+    codes "1000 turn 3 dom" ∷
+    codes "1000 call 2" ∷
+    codes "1000 log [1,6]" ∷
+    codes "1000 ret" ∷
+    codes "1000 end done" ∷
+    [])
 unfolding run_gaps run_gaps_by
 second_window_by_its_acts = refl
 
@@ -109,14 +154,65 @@ stopping_before_the_end_is_stuck : is_stuck (run_gaps logs_its_messages_script s
 unfolding run_gaps run_gaps_by
 stopping_before_the_end_is_stuck = refl
 
-windows_share_one_clock : text_at 1 (two_windows [] logs_its_time_after_a_millisecond_script is_busy_for_five_milliseconds_script) ≡ codes "trace 1\n0 turn 1 dom\n0 call 1\n0 reg 2 timeout\n0 arm 2 1000 1\n0 ret\n5000 due 2\n5000 turn 2 timer\n5000 call 2\n5000 log 5000\n5000 ret\n5000 end done\n"
+windows_share_one_clock : text_at 1 (two_windows [] logs_its_time_after_a_millisecond_script is_busy_for_five_milliseconds_script) ≡ rows (
+    codes "trace 1" ∷
+    codes "0 turn 1 dom" ∷
+    codes "0 call 1" ∷
+    codes "0 reg 2 timeout" ∷
+    codes "0 arm 2 1000 1" ∷
+    codes "0 ret" ∷
+    codes "5000 due 2" ∷
+    codes "5000 turn 2 timer" ∷
+    codes "5000 call 2" ∷
+    codes "5000 log 5000" ∷
+    codes "5000 ret" ∷
+    codes "5000 end done" ∷
+    [])
 windows_share_one_clock = refl
 
-loop_ends_where_it_has_nothing_to_do : text_at 1 (two_loops one_channel posts_two_messages_script logs_its_messages_script) ≡ codes "trace 1\n0 turn 1 dom\n0 call 1\n0 send 1 5\n0 send 1 6\n0 ret\n0 end done\n"
+loop_ends_where_it_has_nothing_to_do : text_at 1 (two_loops one_channel posts_two_messages_script logs_its_messages_script) ≡ rows (
+    codes "trace 1" ∷
+    codes "0 turn 1 dom" ∷
+    codes "0 call 1" ∷
+    codes "0 send 1 5" ∷
+    codes "0 send 1 6" ∷
+    codes "0 ret" ∷
+    codes "0 end done" ∷
+    [])
 loop_ends_where_it_has_nothing_to_do = refl
 
-loop_waits_for_its_messages : text_at 2 (two_loops one_channel posts_two_messages_script logs_its_messages_script) ≡ codes "trace 1\n0 turn 1 dom\n0 call 1\n0 reg 2 listener\n0 ret\n1000 wait 1000\n1000 turn 2 dom\n1000 call 2\n1000 log [1,5]\n1000 ret\n1000 turn 3 dom\n1000 call 2\n1000 log [1,6]\n1000 ret\n1000 end done\n"
+loop_waits_for_its_messages : text_at 2 (two_loops one_channel posts_two_messages_script logs_its_messages_script) ≡ rows (
+    codes "trace 1" ∷
+    codes "0 turn 1 dom" ∷
+    codes "0 call 1" ∷
+    codes "0 reg 2 listener" ∷
+    codes "0 ret" ∷
+    codes "1000 wait 1000" ∷
+    codes "1000 turn 2 dom" ∷
+    codes "1000 call 2" ∷
+    codes "1000 log [1,5]" ∷
+    codes "1000 ret" ∷
+    codes "1000 turn 3 dom" ∷
+    codes "1000 call 2" ∷
+    codes "1000 log [1,6]" ∷
+    codes "1000 ret" ∷
+    codes "1000 end done" ∷
+    [])
 loop_waits_for_its_messages = refl
 
-loops_have_clocks_of_their_own : text_at 1 (two_loops [] logs_its_time_after_a_millisecond_script is_busy_for_five_milliseconds_script) ≡ codes "trace 1\n0 turn 1 dom\n0 call 1\n0 reg 2 timeout\n0 arm 2 1000 1\n0 ret\n1000 wait 1000\n1000 due 2\n1000 turn 2 timer\n1000 call 2\n1000 log 1000\n1000 ret\n1000 end done\n"
+loops_have_clocks_of_their_own : text_at 1 (two_loops [] logs_its_time_after_a_millisecond_script is_busy_for_five_milliseconds_script) ≡ rows (
+    codes "trace 1" ∷
+    codes "0 turn 1 dom" ∷
+    codes "0 call 1" ∷
+    codes "0 reg 2 timeout" ∷
+    codes "0 arm 2 1000 1" ∷
+    codes "0 ret" ∷
+    codes "1000 wait 1000" ∷
+    codes "1000 due 2" ∷
+    codes "1000 turn 2 timer" ∷
+    codes "1000 call 2" ∷
+    codes "1000 log 1000" ∷
+    codes "1000 ret" ∷
+    codes "1000 end done" ∷
+    [])
 loops_have_clocks_of_their_own = refl
