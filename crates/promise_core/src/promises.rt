@@ -73,6 +73,14 @@ impl Promises {
         Ok(number)
     }
 
+    /// How many promises were ever made. Takes no memory.
+    pub fn made(&self) -> u32
+        requires { length self.now.promises < 2 ^ 32 }
+        ensures { result ≡ length self.now.promises }
+    {
+        self.records.len() as u32
+    }
+
     /// Resolves a promise with a value; the first resolution wins. With the promise itself it rejects with a TypeError of
     /// empty text, and with another promise it queues one job, which subscribes to that one (ECMA-262, "Promise Resolve
     /// Functions"). For want of memory nothing changes.
