@@ -170,7 +170,7 @@ waits_seen last (e ∷ es) = by (nat_le e.0 last) refl (nat_lt last e.0) refl
   where
     by : (b : Bool) → nat_le e.0 last ≡ b → (c : Bool) → nat_lt last e.0 ≡ c
         → true ≡ not (is_empty (cond c (record { handle = e.0; registration = e.1 } ∷ beyond last (callbacks_of es)) (beyond last (callbacks_of es)))
-            && is_empty (cond b (record { handle = e.0; registration = e.1 } ∷ up_to last (callbacks_of es)) (up_to last (callbacks_of es))))
+        && is_empty (cond b (record { handle = e.0; registration = e.1 } ∷ up_to last (callbacks_of es)) (up_to last (callbacks_of es))))
     by b t true f = refl
     by false t false f = let never : ⊥ = grind (arith, t, f) in absurd never
     by true t false f = both (is_empty (beyond last (callbacks_of es)))

@@ -1,6 +1,4 @@
-use Rattle.std.proofs.Common.{◌∙◌, ap, sym}
-use Rattle.std.specs.Option.{option_map}
-use Rattle.page_parts.specs.Frames.{Callback, callback_in}
+use Rattle.std.proofs.Common.{◌∙◌}
 use Rattle.idle_periods.proofs.CallbackLemmas.{joined, found_seen, left_removed, rise_removed, filter_without}
 use Rattle.idle_periods.proofs.idle.Idle.cancel.Goals as goal
 

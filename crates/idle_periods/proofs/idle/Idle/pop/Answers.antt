@@ -1,10 +1,10 @@
-use Rattle.std.proofs.Common.{◌≡◌, ◌∙◌, ap, sym, true, not}
+use Rattle.std.proofs.Common.{◌∙◌, ap, sym, not}
 use Rattle.std.specs.Option.{option_map}
 use Rattle.page_parts.specs.Frames.{Callback}
 use Rattle.page_parts.specs.IdleCallbacks.{Idle}
 use Rattle.page_parts.specs.Words.{is_empty}
 use Rattle.idle_periods.specs.Runnable.{first_in, popped}
-use Rattle.idle_periods.proofs.CallbackLemmas.{rise_popped, first_popped, left_popped, taken}
+use Rattle.idle_periods.proofs.CallbackLemmas.{rise_popped, first_popped, taken}
 use Rattle.idle_periods.proofs.idle.Idle.pop.Goals as goal
 
 pub invariant_of-self-2 : goal.invariant_of-self-2

@@ -1,5 +1,5 @@
 use Rattle.std.proofs.Common.{◌∙◌, ap, not}
-use Rattle.page_parts.specs.IdleCallbacks.{Idle, waits}
+use Rattle.page_parts.specs.IdleCallbacks.{waits}
 use Rattle.idle_periods.proofs.CallbackLemmas.{empty_test, waits_seen}
 use Rattle.idle_periods.proofs.idle.Idle.waiting.Goals as goal
 
