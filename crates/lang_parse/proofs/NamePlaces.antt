@@ -181,9 +181,9 @@ items_places n [] = refl
 items_places n (FnItem f xs body ∷ items) =
     let head = in_brackets (names_spelling xs) ++ in_braces (stmts_spelling body) in
     let named = both (in_brackets (names_spelling xs)) (in_braces (stmts_spelling body)) (map (mention role.Parameter) xs) (in_block body)
-        (brackets (names_spelling xs) (map (mention role.Parameter) xs) (parameters_places xs)) (braces (stmts_spelling body) (in_block body) (stmts_places body)) in
+    (brackets (names_spelling xs) (map (mention role.Parameter) xs) (parameters_places xs)) (braces (stmts_spelling body) (in_block body) (stmts_places body)) in
     ap (λ z. f.at ∷ z) (append_places head (script_spelling items) ∙ ap (λ z. z ++ places_in (script_spelling items)) named
-        ∙ ap (λ z. bytes (in_function xs body) ++ z) (items_places (suc n) items) ∙ sym (inside_bytes (Some n) (in_function xs body) (in_items (suc n) items)))
+    ∙ ap (λ z. bytes (in_function xs body) ++ z) (items_places (suc n) items) ∙ sym (inside_bytes (Some n) (in_function xs body) (in_items (suc n) items)))
 items_places n (StmtItem s ∷ items) =
     append_places (stmt_spelling s) (script_spelling items) ∙ ap (λ z. z ++ places_in (script_spelling items)) (stmt_places s)
     ∙ ap (λ z. bytes (in_stmt s) ++ z) (items_places n items) ∙ sym (inside_bytes None (in_stmt s) (in_items n items))
