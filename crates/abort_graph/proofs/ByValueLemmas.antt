@@ -1,5 +1,5 @@
 -- Signals whose reasons are numbers, and those whose reasons are values.
-use Rattle.std.proofs.Common.{◌≡◌, ℕ, pred, Bool, cond, not, List, [], ◌∷◌, filter, Option, None, Some, refl, sym, ap, ◌∙◌}
+use Rattle.std.proofs.Common.{◌≡◌, ℕ, zero, suc, Bool, cond, not, List, [], ◌∷◌, filter, Option, None, Some, refl, sym, ap, ◌∙◌}
 use Rattle.std.specs.Prelude.{slice_get, slice_set, unwrap_or, option_map, length, map, ◌==◌}
 use Rattle.std.proofs.lemmas.Option.{slice_get-map}
 use Rattle.std.proofs.lemmas.List.{map-set, map-append, length-map}
@@ -14,7 +14,8 @@ module _ {A B : Type 0} (f : A → B) where
 
   -- each signal is the one of its number
   pub signal_by : (ss : Signals A) (s : ℕ) → the_signal (by_value f ss) s ≡ record_by f (the_signal ss s)
-  signal_by ss s = ap (λ o. unwrap_or o fresh_signal) (slice_get-map (record_by f) ss (pred s)) ∙ or_fresh (slice_get ss (pred s))
+  signal_by ss zero = refl
+  signal_by ss (suc n) = ap (λ o. unwrap_or o fresh_signal) (slice_get-map (record_by f) ss n) ∙ or_fresh (slice_get ss n)
 
   pub reason_by : (ss : Signals A) (s : ℕ) → reason_of (by_value f ss) s ≡ option_map f (reason_of ss s)
   reason_by ss s = ap (λ q. q.reason) (signal_by ss s)
@@ -30,7 +31,8 @@ module _ {A B : Type 0} (f : A → B) where
 
   -- a signal is changed
   with_by : (ss : Signals A) (s : ℕ) (q : SignalRecord A) → by_value f (with_numbered ss s q) ≡ with_numbered (by_value f ss) s (record_by f q)
-  with_by ss s q = map-set (record_by f) ss (pred s) q
+  with_by ss zero q = refl
+  with_by ss (suc n) q = map-set (record_by f) ss n q
 
   pub with_reason_by : (r : A) (signals : List ℕ) (ss : Signals A) → by_value f (with_reason r signals ss) ≡ with_reason (f r) signals (by_value f ss)
   with_reason_by r [] ss = refl

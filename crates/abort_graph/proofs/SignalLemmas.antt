@@ -1,5 +1,5 @@
 -- The signals of the code at their numbers.
-use Rattle.std.proofs.Common.{◌≡◌, ℕ, zero, suc, pred, ◌-◌, ◌+◌, ◌<◌, ◌≤◌, List, [], ◌∷◌, ◌++◌, length, take, Some, Result, Ok, Err, OnErr, get_or, slice_set, slice_index_or, refl, sym, ap, ◌∙◌, arith}
+use Rattle.std.proofs.Common.{◌≡◌, ℕ, zero, suc, add-one, ◌-◌, ◌+◌, ◌<◌, ◌≤◌, List, [], ◌∷◌, ◌++◌, length, take, Some, Result, Ok, Err, OnErr, get_or, slice_set, slice_index_or, refl, sym, ap, ◌∙◌, arith}
 use Rattle.std.specs.Prelude.{slice_get, unwrap_or, ◌==◌}
 use Rattle.std.specs.Option.{option_map}
 use Rattle.std.proofs.Common.{◌⊎◌, inl, inr}
@@ -19,27 +19,32 @@ leaves (Ok x) p = tt
 leaves (Err e) p = p
 
 -- the signal that is read at the place of its number
-pub signal_there : {R : Type 0} (ss : List (Signal R)) (s i : ℕ) (r : Signal R) → i ≡ pred s → slice_get ss i ≡ Some r → the_signal (signals_of ss) s ≡ signal_seen r
+pub signal_there : {R : Type 0} (ss : List (Signal R)) (s i : ℕ) (r : Signal R) → s ≡ i + 1 → slice_get ss i ≡ Some r → the_signal (signals_of ss) s ≡ signal_seen r
 signal_there ss s i r at found =
-    ap (λ k. unwrap_or (slice_get (signals_of ss) k) fresh_signal) (sym at)
+    ap (the_signal (signals_of ss)) (at ∙ add-one i)
     ∙ ap (λ o. unwrap_or o fresh_signal) (slice_get-map signal_seen ss i ∙ ap (option_map signal_seen) found)
 
+pub signal_read : {R : Type 0} (ss : List (Signal R)) (s i : ℕ) (r : Signal R) → s ≡ i + 1 → i < length ss → r ≡ slice_index_or ss i r → the_signal (signals_of ss) s ≡ signal_seen r
+signal_read ss s i r at within read = signal_there ss s i r at (slice_get_read ss (length ss) i r refl within read)
+
 -- where no signal is there
-pub signal_absent : {R : Type 0} (ss : List (Signal R)) (s i : ℕ) → i ≡ pred s → length ss ≤ i → the_signal (signals_of ss) s ≡ fresh_signal
-signal_absent ss s i at past =
-    ap (λ k. unwrap_or (slice_get (signals_of ss) k) fresh_signal) (sym at)
-    ∙ ap (λ o. unwrap_or o fresh_signal) (slice_get-map signal_seen ss i ∙ ap (option_map signal_seen) (slice_get_past ss i past))
+pub signal_absent : {R : Type 0} (ss : List (Signal R)) (s : ℕ) → (1 ≤ s → length ss < s) → the_signal (signals_of ss) s ≡ fresh_signal
+signal_absent ss zero past = refl
+signal_absent ss (suc n) past =
+    ap (λ o. unwrap_or o fresh_signal) (slice_get-map signal_seen ss n ∙ ap (option_map signal_seen) (slice_get_past ss n (omega (arith, past (omega arith)))))
 
 -- nothing is written where no signal is
-pub nothing_written : {R : Type 0} (ss : Signals R) (s : ℕ) (q : SignalRecord R) → length ss ≤ pred s → ss ≡ with_numbered ss s q
-nothing_written ss s q past = sym (set_past ss (pred s) q past)
+pub nothing_written : {R : Type 0} (ss : List (Signal R)) (s : ℕ) (q : SignalRecord R) → (1 ≤ s → length ss < s) → signals_of ss ≡ with_numbered (signals_of ss) s q
+nothing_written ss zero q past = refl
+nothing_written ss (suc n) q past = sym (set_past (signals_of ss) n q (omega (arith, past (omega arith), length-map ss signal_seen)))
 
 -- a signal is changed at its place
-pub changed : {R : Type 0} (f : SignalRecord R → SignalRecord R) (ss : List (Signal R)) (s i : ℕ) (r new : Signal R) → i ≡ pred s → i < length ss → r ≡ slice_index_or ss i r
+pub changed : {R : Type 0} (f : SignalRecord R → SignalRecord R) (ss : List (Signal R)) (s i : ℕ) (r new : Signal R) → s ≡ i + 1 → i < length ss → r ≡ slice_index_or ss i r
     → signal_seen new ≡ f (signal_seen r) → signals_of (slice_set ss i new) ≡ with_numbered (signals_of ss) s (f (the_signal (signals_of ss) s))
 changed f ss s i r new at within read made =
     let known = signal_there ss s i r at (slice_get_read ss (length ss) i r refl within read) in
-    map-set signal_seen ss i new ∙ ap (λ k. slice_set (signals_of ss) k (signal_seen new)) at ∙ ap (slice_set (signals_of ss) (pred s)) (made ∙ ap f (sym known))
+    map-set signal_seen ss i new ∙ ap (slice_set (signals_of ss) i) (made ∙ ap f (sym known))
+    ∙ sym (ap (λ n. with_numbered (signals_of ss) n (f (the_signal (signals_of ss) s))) (at ∙ add-one i))
 
 -- a signal that is seen as the one that stood there leaves all as it was
 pub same_there : {R : Type 0} (ss : List (Signal R)) (i : ℕ) (r new : Signal R) → r ≡ slice_index_or ss i r → signal_seen new ≡ signal_seen r → signals_of (slice_set ss i new) ≡ signals_of ss
@@ -94,17 +99,18 @@ get_set (z ∷ zs) (suc i) x d within = get_set zs i x d (omega (arith, within))
 -- who joined last leaves, and all is as it was
 pub left_again : {R : Type 0} (ss joined : Signals R) (s d : ℕ) → joined ≡ with_numbered ss s (with_last d (the_signal ss s))
     → with_numbered joined s (without_last (the_signal joined s)) ≡ ss
-left_again ss joined s d is = by (cases_lt (pred s) (length ss))
+left_again ss joined zero d is = is
+left_again ss joined (suc n) d is = by (cases_lt n (length ss))
   where
-    by : (pred s < length ss) ⊎ (length ss ≤ pred s) → with_numbered joined s (without_last (the_signal joined s)) ≡ ss
+    by : (n < length ss) ⊎ (length ss ≤ n) → with_numbered joined (suc n) (without_last (the_signal joined (suc n))) ≡ ss
     by (inr past) =
-        let unchanged : joined ≡ ss = is ∙ set_past ss (pred s) _ past in
-        ap (λ x. with_numbered x s (without_last (the_signal x s))) unchanged ∙ set_past ss (pred s) _ past
+        let unchanged : joined ≡ ss = is ∙ set_past ss n _ past in
+        ap (λ x. with_numbered x (suc n) (without_last (the_signal x (suc n)))) unchanged ∙ set_past ss n _ past
     by (inl within) =
-        let there : the_signal joined s ≡ with_last d (the_signal ss s) = ap (λ x. the_signal x s) is ∙ get_set ss (pred s) _ _ within in
-        let back : without_last (the_signal joined s) ≡ the_signal ss s =
-        ap without_last there ∙ ap (λ ds. record (the_signal ss s) { dependents = ds }) (take_most (the_signal ss s).dependents d) in
-        ap (with_numbered joined s) back ∙ ap (λ x. with_numbered x s (the_signal ss s)) is ∙ set_over ss (pred s) _ _ ∙ set_own ss (pred s) fresh_signal
+        let there : the_signal joined (suc n) ≡ with_last d (the_signal ss (suc n)) = ap (λ x. the_signal x (suc n)) is ∙ get_set ss n _ _ within in
+        let back : without_last (the_signal joined (suc n)) ≡ the_signal ss (suc n) =
+        ap without_last there ∙ ap (λ ds. record (the_signal ss (suc n)) { dependents = ds }) (take_most (the_signal ss (suc n)).dependents d) in
+        ap (with_numbered joined (suc n)) back ∙ ap (λ x. with_numbered x (suc n) (the_signal ss (suc n))) is ∙ set_over ss n _ _ ∙ set_own ss n fresh_signal
 
 -- one more source
 pub with_dependent-last : {R : Type 0} (d : ℕ) (xs : List ℕ) (x : ℕ) (ss : Signals R)

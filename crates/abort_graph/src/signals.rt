@@ -1,8 +1,9 @@
-ghost use Rattle.std.specs.Prelude.{◌≡◌, ◌+◌, ◌^◌, ◌<◌, ◌-◌, [], List, ℕ, pred, take, length, Some, IfOk, OnOk, OnErr};
+ghost use Rattle.std.specs.Prelude.{◌≡◌, ◌+◌, ◌^◌, ◌<◌, ◌≤◌, ◌-◌, [], List, ℕ, take, length, Some, IfOk, IfSome, IfNone, OnOk, OnErr};
 ghost use Rattle.std.specs.Option.{option_copied};
 ghost use Rattle.page_parts.specs.Words.{with_numbered, and_last, has_number};
 ghost use Rattle.page_parts.specs.AbortGraph as parts;
-ghost use Rattle.page_parts.specs.AbortGraph.{the_signal, reason_of};
+ghost use Rattle.page_parts.specs.AbortGraph.{the_signal, reason_of, fresh_signal};
+ghost use Rattle.abort_graph.specs.Seen.{signal_seen};
 
 #[cfg(test)]
 mod tests;
@@ -118,10 +119,10 @@ impl<R: Copy> Signals<R> {
         ensures added { OnOk result (self.new ≡ parts.add_algorithm s a self.old) }
         ensures err { OnErr result (self.new ≡ self.old) }
     {
-        let at = index_of(s);
-        if at < self.signals.len() {
-            self.signals[at].algorithms.add(a)?;
-        }
+        let Some(at) = place_of(s, self.signals.len()) else {
+            return Ok(());
+        };
+        self.signals[at].algorithms.add(a)?;
         Ok(())
     }
 
@@ -132,10 +133,9 @@ impl<R: Copy> Signals<R> {
         ensures was { result ≡ has_number (the_signal self.old s).algorithms a }
         ensures gone { self.new ≡ parts.remove_algorithm s a self.old }
     {
-        let at = index_of(s);
-        if at >= self.signals.len() {
+        let Some(at) = place_of(s, self.signals.len()) else {
             return false;
-        }
+        };
         self.signals[at].algorithms.remove(a)
     }
 
@@ -144,10 +144,9 @@ impl<R: Copy> Signals<R> {
         ensures all { result.items ≡ (the_signal self.old s).algorithms }
         ensures none { self.new ≡ parts.with_algorithms s [] self.old }
     {
-        let at = index_of(s);
-        if at >= self.signals.len() {
+        let Some(at) = place_of(s, self.signals.len()) else {
             return Vec::new(self.alloc);
-        }
+        };
         self.signals[at].algorithms.take()
     }
 
@@ -155,10 +154,19 @@ impl<R: Copy> Signals<R> {
     pub fn reason(&self, s: u32) -> Option<&R>
         ensures { option_copied result ≡ reason_of self.now s }
     {
-        match self.signals.get(index_of(s)) {
+        match self.signal(s) {
             Some(signal) => signal.reason.as_ref(),
             None => None,
         }
+    }
+
+    // The signal with a number, none exactly where there is none.
+    fn signal(&self, s: u32) -> Option<&Signal<R>>
+        ensures there { IfSome result (λ q. the_signal self.now s ≡ signal_seen q.now) }
+        ensures none { IfNone result (the_signal self.now s ≡ fresh_signal) }
+    {
+        let at = place_of(s, self.signals.len())?;
+        Some(&self.signals[at])
     }
 
     // A new signal, at the end.
@@ -236,7 +244,7 @@ impl<R: Copy> Signals<R> {
     fn sources(&self, s: u32) -> &[u32]
         ensures { result.now ≡ (the_signal self.now s).sources }
     {
-        match self.signals.get(index_of(s)) {
+        match self.signal(s) {
             Some(signal) => &signal.sources,
             None => &[],
         }
@@ -246,7 +254,7 @@ impl<R: Copy> Signals<R> {
     fn dependents(&self, s: u32) -> &[u32]
         ensures { result.now ≡ (the_signal self.now s).dependents }
     {
-        match self.signals.get(index_of(s)) {
+        match self.signal(s) {
             Some(signal) => &signal.dependents,
             None => &[],
         }
@@ -281,8 +289,7 @@ impl<R: Copy> Signals<R> {
         ensures added { OnOk result (self.new ≡ with_numbered self.old s (record (the_signal self.old s) { dependents = and_last (the_signal self.old s).dependents d })) }
         ensures err { OnErr result (self.new ≡ self.old) }
     {
-        let at = index_of(s);
-        if at < self.signals.len() {
+        if let Some(at) = place_of(s, self.signals.len()) {
             self.signals[at].dependents.push(d)?;
         }
         Ok(())
@@ -291,8 +298,7 @@ impl<R: Copy> Signals<R> {
     fn drop_dependent(&mut self, s: u32)
         ensures { self.new ≡ with_numbered self.old s (record (the_signal self.old s) { dependents = take (length (the_signal self.old s).dependents - 1) (the_signal self.old s).dependents }) }
     {
-        let at = index_of(s);
-        if at < self.signals.len() {
+        if let Some(at) = place_of(s, self.signals.len()) {
             self.signals[at].dependents.pop();
         }
     }
@@ -326,16 +332,17 @@ impl<R: Copy> Signals<R> {
     fn set_reason(&mut self, s: u32, reason: R)
         ensures { self.new ≡ with_numbered self.old s (record (the_signal self.old s) { reason = Some reason }) }
     {
-        let at = index_of(s);
-        if at < self.signals.len() {
+        if let Some(at) = place_of(s, self.signals.len()) {
             self.signals[at].reason = Some(reason);
         }
     }
 }
 
-// Where the signal with a number is.
-fn index_of(s: u32) -> usize
-    ensures { result ≡ pred s }
+// Where the signal with a number is, of so many. None exactly where there is none.
+fn place_of(s: u32, made: usize) -> Option<usize>
+    ensures there { IfSome result (λ at. (s ≡ at + 1) × (at < made)) }
+    ensures none { IfNone result (1 ≤ s → made < s) }
 {
-    s.saturating_sub(1) as usize
+    let at = s.checked_sub(1)? as usize;
+    if at < made { Some(at) } else { None }
 }

@@ -1,13 +1,32 @@
-use Rattle.std.proofs.Common.{◌<◌, ℕ, List, [], length, ap, ◌∙◌, arith}
-use Rattle.std.proofs.lemmas.Bool.Decides.{nat_tests}
+use Rattle.std.proofs.Common.{◌≡◌, ◌<◌, ◌≤◌, ◌-◌, ℕ, List, [], length, take, refl, sym, ap, ◌∙◌, arith}
+use Rattle.page_parts.specs.Words.{with_numbered, without, has_number}
 use Rattle.page_parts.specs.AbortGraph as parts
 use Rattle.abort_graph.specs.Seen.{signal_seen}
-use Rattle.abort_graph.proofs.SignalLemmas.{changed, with_none}
+use Rattle.abort_graph.proofs.SignalLemmas.{changed, nothing_written, signal_absent, signal_read, leaves, same_there, with_none}
 use Rattle.abort_graph.proofs.signals.Signals.take_algorithms.Goals as goal
+
+pub returns-in_default-clause-all : goal.returns-in_default-clause-all
+returns-in_default-clause-all g c =
+    let past : 1 ≤ c.args.s → length c.self.inside.signals.items < c.args.s = λ h. omega (arith, c.in_default.ensures.none h, c.len.ensures, c.self.inside.signals.ok.0) in
+    c.new.ensures.items
+    ∙ sym (ap (λ ss. (parts.the_signal ss c.args.s).algorithms) (sym c.self.view_is) ∙ ap (λ (q : parts.SignalRecord _). q.algorithms) (signal_absent c.self.inside.signals.items c.args.s past))
+
+pub returns-in_default-clause-none : goal.returns-in_default-clause-none
+returns-in_default-clause-none g c =
+    let past : 1 ≤ c.args.s → length c.self.inside.signals.items < c.args.s = λ h. omega (arith, c.in_default.ensures.none h, c.len.ensures, c.self.inside.signals.ok.0) in
+    sym c.self.view_is ∙ nothing_written c.self.inside.signals.items c.args.s _ past ∙ ap (parts.with_algorithms c.args.s []) c.self.view_is
+
+pub returns-clause-all : goal.returns-clause-all
+returns-clause-all g c =
+    let r = c.index_mut.result.now in
+    let within : c.in-Some.at < length c.self.inside.signals.items = grind (arith, c.in-Some.ensures.there.1, c.len.ensures, c.self.inside.signals.ok.0) in
+    c.take.ensures.all
+    ∙ sym (ap (λ ss. (parts.the_signal ss c.args.s).algorithms) (sym c.self.view_is)
+    ∙ ap (λ (q : parts.SignalRecord _). q.algorithms) (signal_read c.self.inside.signals.items c.args.s c.in-Some.at r c.in-Some.ensures.there.0 within c.index_mut.ensures.value))
 
 pub returns-clause-none : goal.returns-clause-none
 returns-clause-none g c =
     let r = c.index_mut.result.now in
-    let within : c.index_of-at.result < length c.self.inside.signals.items = grind (arith, nat_tests, c.if-at-len.false, c.len.ensures, c.self.inside.signals.ok.0) in
-    changed with_none c.self.inside.signals.items c.args.s c.index_of-at.result r _ c.index_of-at.ensures within c.index_mut.ensures.value (ap (λ (xs : List ℕ). record (signal_seen r) { algorithms = xs }) c.take.ensures.none)
+    let within : c.in-Some.at < length c.self.inside.signals.items = grind (arith, c.in-Some.ensures.there.1, c.len.ensures, c.self.inside.signals.ok.0) in
+    changed with_none c.self.inside.signals.items c.args.s c.in-Some.at r _ c.in-Some.ensures.there.0 within c.index_mut.ensures.value (ap (λ (xs : List ℕ). record (signal_seen r) { algorithms = xs }) c.take.ensures.none)
     ∙ ap (parts.with_algorithms c.args.s []) c.self.view_is
