@@ -155,7 +155,7 @@ module _ (es : List Stamped) where
 
   -- ---- turns
 
-  choose_turned-adds : {C : Type 0} (b : Bool) (then else : State → Turned C) → TurnAdds es then → TurnAdds es else → TurnAdds es (choose_turned b then else)
+  pub choose_turned-adds : {C : Type 0} (b : Bool) (then else : State → Turned C) → TurnAdds es then → TurnAdds es else → TurnAdds es (choose_turned b then else)
   choose_turned-adds true then else h k m = h m
   choose_turned-adds false then else h k m = k m
 
@@ -172,7 +172,7 @@ module _ (es : List Stamped) where
   goes_on-adds c (Throws v m) = refl
   goes_on-adds c (OutOfFuel m) = refl
 
-  next_turn-adds : {C : Type 0} (next : State → C → Turned C) → ((c : C) → TurnAdds es (λ m. next m c)) → (t : Turned C) → next_turn (turned_after es t) next ≡ turned_after es (next_turn t next)
+  pub next_turn-adds : {C : Type 0} (next : State → C → Turned C) → ((c : C) → TurnAdds es (λ m. next m c)) → (t : Turned C) → next_turn (turned_after es t) next ≡ turned_after es (next_turn t next)
   next_turn-adds next k (GoesOn m c) = k c m
   next_turn-adds next k (Ended end m c) = refl
   next_turn-adds next k (Stuck at m c) = refl
@@ -223,7 +223,7 @@ module _ (es : List Stamped) where
     with_turn_fuel-adds zero c m = refl
     with_turn_fuel-adds (suc left) c m = step_four-adds (view m.host) c (counted_turn left m)
 
-    step_three-adds : (until : ℕ) (c : C) → TurnAdds es (step_three rules call until c)
+    pub step_three-adds : (until : ℕ) (c : C) → TurnAdds es (step_three rules call until c)
     step_three-adds until c m = choose_turned-adds (nat_le until m.host.now) _ _ (λ m. refl) (λ m. with_turn_fuel-adds m.fuel c m) m
 
     from_step_three-adds : (until : ℕ) (c : C) → TurnAdds es (from_step_three rules call until c)
@@ -246,7 +246,7 @@ module _ (es : List Stamped) where
     step_two-adds : (until : ℕ) (again : State → C → Turned C) (next : State → Turned C) (c : C) → ((c : C) → TurnAdds es (λ m. again m c)) → TurnAdds es next → TurnAdds es (step_two rules until again next c)
     step_two-adds until again next c k h m = choose_turned-adds (is_pending m.host) _ _ (step_two_by-adds until (target m.host) again next c k h) (λ m. refl) m
 
-    step_one-adds : (m : State) → step_one (hosted (after es) m) ≡ hosted (after es) (step_one m)
+    pub step_one-adds : (m : State) → step_one (hosted (after es) m) ≡ hosted (after es) (step_one m)
     step_one-adds m = by_turns (m.host.turns == 0)
       where
         by_turns : (b : Bool) → cond b (hosted (after es) m) (on_page parallel (hosted (after es) m)) ≡ hosted (after es) (cond b m (on_page parallel m))

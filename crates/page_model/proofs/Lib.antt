@@ -7,6 +7,7 @@ pub mod AddingRuns
 pub mod Noticing
 pub mod AddingOperations
 pub mod AddingTurns
+pub mod AddingActs
 pub mod NumbersGrow
 pub mod NumbersParts
 pub mod NumbersPages

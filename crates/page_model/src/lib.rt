@@ -2,6 +2,7 @@
 //! runs, the trace of a run and legal traces. Definitions in `specs/`, and laws above them as functions with empty bodies.
 #![tactic(auto)]
 
+mod acts;
 mod arrivals;
 mod bounds;
 mod choices;
@@ -19,6 +20,7 @@ ghost use Rattle.page_model.specs.Operations.{page_operations};
 ghost use Rattle.page_model.specs.Turns.{turns};
 ghost use Rattle.page_model.specs.Additions.{TurnAdds};
 
+pub use acts::acts_only_give_lines;
 pub use arrivals::arrivals_stay_in_order;
 pub use bounds::{
     a_target_is_there_where_something_is_pending, due_items_are_all_taken,
