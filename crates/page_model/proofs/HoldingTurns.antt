@@ -27,7 +27,8 @@ use Rattle.page_model.specs.Tasks.{where_live, timer_goes_on, run_timer, frame_c
 use Rattle.page_model.specs.Parallel.{item_count, parallel}
 use Rattle.page_model.specs.Choosing.{Rules, Chosen, legal, is_reading, chosen_source, chosen_reading, chosen_answer}
 use Rattle.page_model.specs.View.{view}
-use Rattle.page_model.specs.Turns.{Turned, GoesOn, Ended, Stuck, ends, goes_on, choose_turned, step_five, task_done, without_task, not_dropped, host_answered, perform_host, perform_task, perform_first, perform_first_sched, perform, turn_line, perform_picked, step_four, counted_turn, with_turn_fuel, step_three, from_step_three, is_pending, target, at_time, waited, step_two_at, step_two_by, step_two, step_one, after_step_one, from_step_one, turn, next_turn, turns, state_of}
+use Rattle.page_model.specs.Gaps.{Act, Pass, Serve, Rest, Stop, at_moment, pass, serve, rest, stop_by_clock, stop, act, acts}
+use Rattle.page_model.specs.Turns.{NoAct, Turned, GoesOn, Ended, Stuck, ends, goes_on, choose_turned, step_five, task_done, without_task, not_dropped, host_answered, perform_host, perform_task, perform_first, perform_first_sched, perform, turn_line, perform_picked, step_four, counted_turn, with_turn_fuel, step_three, from_step_three, is_pending, target, at_time, waited, step_two_at, step_two_by, step_two, step_one, after_step_one, from_step_one, turn, next_turn, turns, state_of}
 use Rattle.page_model.proofs.Holding.{Holds, afterwards-holds, branch-holds, finish-holds}
 use Rattle.page_model.proofs.Leaving.{PageKeeping, with_page, unwatch-leaves, idle_step-leaves, invoke_idle_again-leaves, continued-leaves, answer_host-leaves, parallel-leaves}
 use Rattle.page_model.proofs.HoldingRuns.{K, Kept, Goes, CallsGo, WaysGo, kept-then, finish-leaves, then-leaves, invoke-goes, in_task-goes, checkpoint-goes, settle_derived-goes, each_in_turn-goes, dispatch-goes, abort-goes}
@@ -320,3 +321,59 @@ module _ (program : Program) (k : PageKeeping) where
       pub turns-kept : (until n : ℕ) (m : State) (c : C) → k.states.Good m → Kept program k m (state_of (turns rules call until n m c))
       turns-kept until zero m c g = (k.states.same m, g)
       turns-kept until (suc n) m c g = next_turn-kept m (turn rules call until m c) (turns rules call until n) (turn-kept until m c g) (turns-kept until n)
+
+      -- ---- a run in pieces
+
+      state_kept : (m : State) (t : Turned C) → TurnKept m t → Kept program k m (state_of t)
+      state_kept m (GoesOn n c) h = (h.0, h.1)
+      state_kept m (Ended end n c) h = h
+      state_kept m (Stuck at n c) h = h
+
+      at_moment-kept : (t : ℕ) (next : State → Turned C) (c : C) (m : State) → ((m : State) → k.states.Good m → Kept program k m (state_of (next m))) → k.states.Good m → Kept program k m (state_of (at_moment t next c m))
+      at_moment-kept t next c m q g = by_time (nat_le m.host.now t) refl
+        where
+          by_time : (b : Bool) → nat_le m.host.now t ≡ b → Kept program k m (state_of (choose_turned b (λ m. next (on_page (at_time t) m)) (λ m. Stuck NoAct m c) m))
+          by_time true e =
+              let there = on_page (at_time t) m in
+              kept-then program k m there (state_of (next there)) (k.pass m t (leb-true m.host.now t e) g) (q there)
+          by_time false e = (k.states.same m, g)
+
+      pub serve-kept : (until : ℕ) (c : C) (m : State) → k.states.Good m → TurnKept m (serve rules call until c m)
+      serve-kept until c m g = choose-kept (is_empty (view m.host)) _ _ m (λ e. (k.states.same m, g)) (λ e. step_three-kept until c m g)
+
+      rest-kept : (c : C) (m : State) → k.states.Good m → Kept program k m (state_of (rest c m))
+      rest-kept c m g = by_view (is_empty (view m.host))
+        where
+          by_view : (b : Bool) → Kept program k m (state_of (choose_turned b (λ m. GoesOn (on_page idle_step m) c) (λ m. Stuck NoAct m c) m))
+          by_view true = k.leave m (idle_step m.host) (idle_step-leaves m.host) g
+          by_view false = (k.states.same m, g)
+
+      stop_by_clock-kept : (until : ℕ) (c : C) (m : State) → k.states.Good m → Kept program k m (state_of (stop_by_clock until c m))
+      stop_by_clock-kept until c m g = by_clock (nat_le until m.host.now)
+        where
+          by_clock : (b : Bool) → Kept program k m (state_of (choose_turned b (ends ClockEnd c) (λ m. Stuck NoAct m c) m))
+          by_clock true = k.leave m (emit (EndLine ClockEnd) m.host) refl g
+          by_clock false = (k.states.same m, g)
+
+      stop-kept : (until : ℕ) (c : C) (m : State) → k.states.Good m → Kept program k m (state_of (stop until c m))
+      stop-kept until c m g = by_view (is_empty (view m.host)) (is_pending m.host) (stop_by_clock-kept until c m g)
+        where
+          by_view : (a b : Bool) → Kept program k m (state_of (stop_by_clock until c m)) → Kept program k m (state_of (choose_turned a (choose_turned b (stop_by_clock until c) (ends DoneEnd c)) (stop_by_clock until c) m))
+          by_view true true h = h
+          by_view true false h = k.leave m (emit (EndLine DoneEnd) m.host) refl g
+          by_view false b h = h
+
+      act-kept : (until : ℕ) (a : Act) (m : State) (c : C) → k.states.Good m → Kept program k m (state_of (act rules call until a m c))
+      act-kept until (Pass t) m c g = at_moment-kept t (pass c) c m step_one-kept g
+      act-kept until Serve m c g = state_kept m (serve rules call until c m) (serve-kept until c m g)
+      act-kept until (Rest t) m c g = at_moment-kept t (rest c) c m (rest-kept c) g
+      act-kept until (Stop t) m c g = at_moment-kept t (stop until c) c m (stop-kept until c) g
+
+      then_kept : (m : State) (t : Turned C) (next : State → C → Turned C) → Kept program k m (state_of t) → ((n : State) (c : C) → k.states.Good n → Kept program k n (state_of (next n c))) → Kept program k m (state_of (next_turn t next))
+      then_kept m (GoesOn n c) next h q = kept-then program k m n (state_of (next n c)) h (q n c)
+      then_kept m (Ended end n c) next h q = h
+      then_kept m (Stuck at n c) next h q = h
+
+      pub acts-kept : (until : ℕ) (list : List Act) (m : State) (c : C) → k.states.Good m → Kept program k m (state_of (acts rules call until list m c))
+      acts-kept until [] m c g = (k.states.same m, g)
+      acts-kept until (a ∷ more) m c g = then_kept m (act rules call until a m c) (acts rules call until more) (act-kept until a m c g) (acts-kept until more)

@@ -25,7 +25,8 @@ use Rattle.page_model.specs.Tasks.{perform_steps, perform_sched, answer_host, af
 use Rattle.page_model.specs.Parallel.{item_count, parallel}
 use Rattle.page_model.specs.View.{view}
 use Rattle.page_model.specs.Choosing.{Rules, Chosen, chosen_source, chosen_reading, chosen_answer}
-use Rattle.page_model.specs.Turns.{Turned, GoesOn, Ended, Stuck, state_of, ends, goes_on, choose_turned, step_five, task_done, without_task, not_dropped, host_answered, perform_host, perform_task, perform_first, perform_first_sched, perform, turn_line, perform_picked, step_four, counted_turn, with_turn_fuel, step_three, from_step_three, is_pending, target, at_time, waited, step_two_at, step_two_by, step_two, step_one, after_step_one, from_step_one, turn, next_turn, turns, first_page, first_state}
+use Rattle.page_model.specs.Gaps.{Act, Pass, Serve, Rest, Stop, at_moment, pass, serve, rest, stop_by_clock, stop, act, acts}
+use Rattle.page_model.specs.Turns.{NoAct, Turned, GoesOn, Ended, Stuck, state_of, ends, goes_on, choose_turned, step_five, task_done, without_task, not_dropped, host_answered, perform_host, perform_task, perform_first, perform_first_sched, perform, turn_line, perform_picked, step_four, counted_turn, with_turn_fuel, step_three, from_step_three, is_pending, target, at_time, waited, step_two_at, step_two_by, step_two, step_one, after_step_one, from_step_one, turn, next_turn, turns, first_page, first_state}
 use Rattle.page_model.specs.Numbers.{TaskIsGiven, Each, IfThere, Made, made_by, Grows, HasPromise, IsKnown, StepsAreGiven, SchedTaskIsGiven, VariablesAreKnown, AllAreGiven, nothing_made, HoldsNoNumbers, IsAfter}
 use Rattle.page_model.proofs.NumbersGrow.{Each-more, Each-without, Each-find, Grows-same, Grows-then, IsKnown-grows, InRegistrations, InNotices, InTasks, InSchedTasks, InTimers, InIdle, InArrivals, Held, Onward, stays}
 use Rattle.page_model.proofs.NumbersPages.{without_sched-held, idle_step-held}
@@ -233,6 +234,38 @@ module _ {C : Type 0} (program : Program) where
     turns-lands until zero m c g = here_reached m g
     turns-lands until (suc n) m c g = next_turn-lands m (turn rules call until m c) (turns rules call until n) (turn-lands until m c g) (turns-lands until n)
 
+    -- ---- a run in pieces
+
+    at_moment-lands : (t : ℕ) (next : State → Turned C) (c : C) (m : State) → LandsNext next → Good m → Lands m (at_moment t next c m)
+    at_moment-lands t next c m k g =
+        let there = on_page (at_time t) m in
+        choose-lands (nat_le m.host.now t) (λ m. next (on_page (at_time t) m)) (λ m. Stuck NoAct m c) m (lands-then m there (next there) (on_page-good m (at_time t) g (stays m.host g.0)) (k there)) (here_reached m g)
+
+    rest-lands : (c : C) → LandsNext (rest c)
+    rest-lands c m g =
+        choose-lands (is_empty (view m.host)) (λ m. GoesOn (on_page idle_step m) c) (λ m. Stuck NoAct m c) m (on_page-good m idle_step g (idle_step-held m.host g.0)) (here_reached m g)
+
+    serve-lands : (until : ℕ) (c : C) → LandsNext (serve rules call until c)
+    serve-lands until c m g = choose-lands (is_empty (view m.host)) (λ m. Stuck NoAct m c) (step_three rules call until c) m (here_reached m g) (step_three-lands until c m g)
+
+    stop_by_clock-lands : (until : ℕ) (c : C) → LandsNext (stop_by_clock until c)
+    stop_by_clock-lands until c m g = choose-lands (nat_le until m.host.now) (ends ClockEnd c) (λ m. Stuck NoAct m c) m (ends-lands ClockEnd c m g) (here_reached m g)
+
+    stop-lands : (until : ℕ) (c : C) → LandsNext (stop until c)
+    stop-lands until c m g =
+        choose-lands (is_empty (view m.host)) (choose_turned (is_pending m.host) (stop_by_clock until c) (ends DoneEnd c)) (stop_by_clock until c) m
+        (choose-lands (is_pending m.host) (stop_by_clock until c) (ends DoneEnd c) m (stop_by_clock-lands until c m g) (ends-lands DoneEnd c m g)) (stop_by_clock-lands until c m g)
+
+    act-lands : (until : ℕ) (a : Act) (m : State) (c : C) → Good m → Lands m (act rules call until a m c)
+    act-lands until (Pass t) m c g = at_moment-lands t (pass c) c m (λ r gr. step_one-reaches r gr) g
+    act-lands until Serve m c g = serve-lands until c m g
+    act-lands until (Rest t) m c g = at_moment-lands t (rest c) c m (rest-lands c) g
+    act-lands until (Stop t) m c g = at_moment-lands t (stop until c) c m (stop-lands until c) g
+
+    pub acts-lands : (until : ℕ) (list : List Act) (m : State) (c : C) → Good m → Lands m (acts rules call until list m c)
+    acts-lands until [] m c g = here_reached m g
+    acts-lands until (a ∷ more) m c g = next_turn-lands m (act rules call until a m c) (acts rules call until more) (act-lands until a m c g) (acts-lands until more)
+
 -- ---- the first state
 
 unit_variables-known : (n : Made) (xs : List (List ℕ)) → VariablesAreKnown n (unit_variables xs)
@@ -285,6 +318,12 @@ module _ {C : Type 0} (rules : Rules C) (program : Program) where
   turns-keep until most m c h =
       let t = turns rules (call_from_outside program page_operations) until most m c in
       let lands : Lands program m t = turns-lands program rules (call_from_outside program page_operations) (outside-goes program) until most m c (good m h) in
+      is_after m (state_of t) lands.0 lands.1
+
+  pub acts-keep : (until : ℕ) (list : List Act) (m : State) (c : C) → AllAreGiven m → IsAfter (made_by m.host) (state_of (acts rules (call_from_outside program page_operations) until list m c))
+  acts-keep until list m c h =
+      let t = acts rules (call_from_outside program page_operations) until list m c in
+      let lands : Lands program m t = acts-lands program rules (call_from_outside program page_operations) (outside-goes program) until list m c (good m h) in
       is_after m (state_of t) lands.0 lands.1
 
 pub first_state-given : (program : Program) (setup : Setup) (hosts : List HostClosure) → HoldsNoNumbers setup → AllAreGiven (first_state program setup hosts)

@@ -21,14 +21,15 @@ use Rattle.page_model.specs.ChoicesAreData.{with_left, no_choices}
 use Rattle.page_model.specs.Invoke.{in_task}
 use Rattle.page_model.specs.Operations.{page_operations}
 use Rattle.page_model.specs.PageSignals.{host_task_of}
-use Rattle.page_model.specs.PageTime.{first_task}
+use Rattle.page_model.specs.PageTime.{idle_step, first_task}
 use Rattle.page_model.specs.SchedulerTasks.{first_sched, without_sched}
 use Rattle.page_model.specs.Parallel.{item_count}
 use Rattle.page_model.specs.State.{Page, State, HostTask, Task, SchedTask, on_page, emit}
 use Rattle.page_model.specs.Tasks.{perform_steps, perform_sched, answer_host, after_task}
-use Rattle.page_model.specs.Turns.{Refusal, NoSource, NoReading, NoAnswer, AtBound, Turned, GoesOn, Ended, Stuck, ends, goes_on, choose_turned, step_five, task_done, without_task, not_dropped, host_answered, perform_host, perform_task, perform_first, perform_first_sched, perform, turn_line, perform_picked, step_four, counted_turn, with_turn_fuel, step_three, from_step_three, is_pending, target, at_time, waited, step_two_at, step_two_by, step_two, step_one, after_step_one, from_step_one, turn, next_turn, turns, first_state, run, run_by, state_of, events_of_run}
+use Rattle.page_model.specs.Gaps.{Act, Pass, Serve, Rest, Stop, at_moment, pass, rest, stop_by_clock, stop, act, acts, run_gaps_by, run_gaps}
+use Rattle.page_model.specs.Turns.{Refusal, NoSource, NoReading, NoAnswer, NoAct, AtBound, Turned, GoesOn, Ended, Stuck, ends, goes_on, choose_turned, step_five, task_done, without_task, not_dropped, host_answered, perform_host, perform_task, perform_first, perform_first_sched, perform, turn_line, perform_picked, step_four, counted_turn, with_turn_fuel, step_three, from_step_three, is_pending, target, at_time, waited, step_two_at, step_two_by, step_two, step_one, after_step_one, from_step_one, turn, next_turn, turns, first_state, run, run_by, state_of, events_of_run}
 use Rattle.page_model.specs.View.{view}
-use Rattle.page_model.proofs.Silent.{Has, DoneHas, CallsKeep, afterwards-keeps}
+use Rattle.page_model.proofs.Silent.{idle_step-keeps, Has, DoneHas, CallsKeep, afterwards-keeps}
 use Rattle.page_model.proofs.SilentRuns.{in_task-keeps}
 use Rattle.page_model.proofs.SilentOperations.{outside-keeps}
 use Rattle.page_model.proofs.SilentTasks.{perform_steps-keeps, perform_sched-keeps, answer_host-has, after_task-keeps, step_one-keeps, step_five-keeps}
@@ -346,6 +347,52 @@ module _ {C : Type 0} where
     turns-replays until (suc n) m c =
         next_turn-replays m (turn rules call until m c) (λ x. turn choice_rules call until m x) (turns rules call until n) (turns choice_rules call until n)
         (from_step_one-replays until (suc (suc (item_count m.host))) m c) (turns-replays until n)
+
+    -- ---- a run in pieces
+
+    not_done-replays : (m : State) (c : C) → Replays m (Stuck NoAct m c) (λ x. Stuck NoAct m x)
+    not_done-replays m c = silent-replays m (Stuck NoAct m c) (λ x. Stuck NoAct m x) (λ x h. h) (λ x. refl)
+
+    at_moment-replays : (t : ℕ) (next : C → State → Turned C) (next' : Choices → State → Turned Choices) (m : State) (c : C) → ((m : State) → Replays m (next c m) (λ x. next' x m)) → Replays m (at_moment t (next c) c m) (λ x. at_moment t (next' x) x m)
+    at_moment-replays t next next' m c k =
+        let there : State = on_page (at_time t) m in
+        choose-replays (nat_le m.host.now t) m (λ m. next c (on_page (at_time t) m)) (λ m. Stuck NoAct m c) (λ x m. next' x (on_page (at_time t) m)) (λ x m. Stuck NoAct m x)
+        (stepped-replays m there (next c there) (λ x. next' x there) (λ x h. h) (k there)) (not_done-replays m c)
+
+    stop_by_clock-replays : (until : ℕ) (m : State) (c : C) → Replays m (stop_by_clock until c m) (λ x. stop_by_clock until x m)
+    stop_by_clock-replays until m c =
+        choose-replays (nat_le until m.host.now) m (ends ClockEnd c) (λ m. Stuck NoAct m c) (λ x. ends ClockEnd x) (λ x m. Stuck NoAct m x) (ends-replays ClockEnd c m m (λ x h. h)) (not_done-replays m c)
+
+    stop-replays : (until : ℕ) (m : State) (c : C) → Replays m (stop until c m) (λ x. stop until x m)
+    stop-replays until m c =
+        choose-replays (is_empty (view m.host)) m (choose_turned (is_pending m.host) (stop_by_clock until c) (ends DoneEnd c)) (stop_by_clock until c) (λ x n. choose_turned (is_pending m.host) (stop_by_clock until x) (ends DoneEnd x) n) (λ x. stop_by_clock until x)
+        (choose-replays (is_pending m.host) m (stop_by_clock until c) (ends DoneEnd c) (λ x. stop_by_clock until x) (λ x. ends DoneEnd x) (stop_by_clock-replays until m c) (ends-replays DoneEnd c m m (λ x h. h)))
+        (stop_by_clock-replays until m c)
+
+    act-replays : (until : ℕ) (a : Act) (m : State) (c : C) → Replays m (act rules call until a m c) (λ x. act choice_rules call until a m x)
+    act-replays until (Pass t) m c = at_moment-replays t pass pass m c (λ m. silent-replays m (GoesOn (step_one m) c) (λ x. GoesOn (step_one m) x) (λ x h. step_one-keeps x m h) (λ x. refl))
+    act-replays until Serve m c =
+        choose-replays (is_empty (view m.host)) m (λ m. Stuck NoAct m c) (step_three rules call until c) (λ x m. Stuck NoAct m x) (λ x. step_three choice_rules call until x) (not_done-replays m c) (step_three-replays until m c)
+    act-replays until (Rest t) m c =
+        at_moment-replays t rest rest m c
+        (λ m. choose-replays (is_empty (view m.host)) m (λ m. GoesOn (on_page idle_step m) c) (λ m. Stuck NoAct m c) (λ x m. GoesOn (on_page idle_step m) x) (λ x m. Stuck NoAct m x)
+        (silent-replays m (GoesOn (on_page idle_step m) c) (λ x. GoesOn (on_page idle_step m) x) (λ x h. idle_step-keeps x m.host h) (λ x. refl)) (not_done-replays m c))
+    act-replays until (Stop t) m c = at_moment-replays t (stop until) (stop until) m c (λ m. stop-replays until m c)
+
+    acts-replays : (until : ℕ) (list : List Act) (m : State) (c : C) → Replays m (acts rules call until list m c) (λ x. acts choice_rules call until list m x)
+    acts-replays until [] m c = silent-replays m (GoesOn m c) (λ x. GoesOn m x) (λ x h. h) (λ x. refl)
+    acts-replays until (a ∷ more) m c =
+        next_turn-replays m (act rules call until a m c) (λ x. act choice_rules call until a m x) (acts rules call until more) (acts choice_rules call until more) (act-replays until a m c) (acts-replays until more)
+
+  pub gaps-again : (rules : Rules C) (program : Program) (setup : Setup) (list : List Act) (c : C) → run_gaps program setup list (choices_in (events_of_run (run_gaps_by rules program setup list c))) ≡ with_left no_choices (run_gaps_by rules program setup list c)
+  unfolding run_gaps run_gaps_by
+  gaps-again rules program setup list c =
+      let call : Caller Page = call_from_outside program page_operations in
+      let first : State = first_state program setup [] in
+      let t : Turned C = acts rules call setup.until list first c in
+      let r : Replays first t (λ x. acts choice_rules call setup.until list first x) = acts-replays rules call (λ x. outside-keeps x program) setup.until list first c in
+      ap (λ (x : Choices). acts choice_rules call setup.until list first x) (in_order r.picks (state_of t).host.events (r.lines no_lists refl))
+      ∙ r.same no_lists (λ s. refl)
 
   -- ---- a whole run
 

@@ -21,7 +21,9 @@ use Rattle.page_model.specs.SchedulerTasks.{first_sched, without_sched}
 use Rattle.page_model.specs.Parallel.{item_count}
 use Rattle.page_model.specs.State.{Page, State, HostTask, Task, SchedTask, on_page, emit}
 use Rattle.page_model.specs.Tasks.{perform_steps, perform_sched, answer_host, after_task}
-use Rattle.page_model.specs.Turns.{Turned, GoesOn, Ended, Stuck, ends, goes_on, choose_turned, step_five, task_done, without_task, not_dropped, host_answered, perform_host, perform_task, perform_first, perform_first_sched, perform, turn_line, perform_picked, step_four, counted_turn, with_turn_fuel, step_three, from_step_three, is_pending, target, at_time, waited, step_two_at, step_two_by, step_two, step_one, after_step_one, from_step_one, turn, next_turn, turns, first_state, run_by, events_of_run}
+use Rattle.page_model.specs.PageTime.{idle_step}
+use Rattle.page_model.specs.Gaps.{Act, Pass, Serve, Rest, Stop, at_moment, pass, rest, stop_by_clock, stop, act, acts, run_gaps_by}
+use Rattle.page_model.specs.Turns.{NoAct, Turned, GoesOn, Ended, Stuck, ends, goes_on, choose_turned, step_five, task_done, without_task, not_dropped, host_answered, perform_host, perform_task, perform_first, perform_first_sched, perform, turn_line, perform_picked, step_four, counted_turn, with_turn_fuel, step_three, from_step_three, is_pending, target, at_time, waited, step_two_at, step_two_by, step_two, step_one, after_step_one, from_step_one, turn, next_turn, turns, first_state, run_by, events_of_run}
 use Rattle.page_model.specs.View.{view}
 
 module _ {C D : Type 0} (Together : C → D → Type 0) where
@@ -153,6 +155,40 @@ module _ {C D : Type 0} (Together : C → D → Type 0) where
     turns-alike until (suc n) m c d h =
         next_turn-alike (turns rules call until n) (turns others call until n) (turns-alike until n) (turn rules call until m c) (turn others call until m d)
         (from_step_one-alike until (suc (suc (item_count m.host))) m c d h)
+
+    -- ---- a run in pieces
+
+    at_moment-alike : (t : ℕ) (next : C → State → Turned C) (next' : D → State → Turned D) (m : State) (c : C) (d : D) → Together c d → ((m : State) → EndAlike Together (next c m) (next' d m)) → EndAlike Together (at_moment t (next c) c m) (at_moment t (next' d) d m)
+    at_moment-alike t next next' m c d h k =
+        choose-alike (nat_le m.host.now t) m (λ m. next c (on_page (at_time t) m)) (λ m. Stuck NoAct m c) (λ m. next' d (on_page (at_time t) m)) (λ m. Stuck NoAct m d) (k (on_page (at_time t) m)) (d, refl, h)
+
+    stop_by_clock-alike : (until : ℕ) (m : State) (c : C) (d : D) → Together c d → EndAlike Together (stop_by_clock until c m) (stop_by_clock until d m)
+    stop_by_clock-alike until m c d h =
+        choose-alike (nat_le until m.host.now) m (ends ClockEnd c) (λ m. Stuck NoAct m c) (ends ClockEnd d) (λ m. Stuck NoAct m d) (d, refl, h) (d, refl, h)
+
+    stop-alike : (until : ℕ) (m : State) (c : C) (d : D) → Together c d → EndAlike Together (stop until c m) (stop until d m)
+    stop-alike until m c d h =
+        choose-alike (is_empty (view m.host)) m (choose_turned (is_pending m.host) (stop_by_clock until c) (ends DoneEnd c)) (stop_by_clock until c) (choose_turned (is_pending m.host) (stop_by_clock until d) (ends DoneEnd d)) (stop_by_clock until d)
+        (choose-alike (is_pending m.host) m (stop_by_clock until c) (ends DoneEnd c) (stop_by_clock until d) (ends DoneEnd d) (stop_by_clock-alike until m c d h) (d, refl, h))
+        (stop_by_clock-alike until m c d h)
+
+    act-alike : (until : ℕ) (a : Act) (m : State) (c : C) (d : D) → Together c d → EndAlike Together (act rules call until a m c) (act others call until a m d)
+    act-alike until (Pass t) m c d h = at_moment-alike t pass pass m c d h (λ m. (d, refl, h))
+    act-alike until Serve m c d h =
+        choose-alike (is_empty (view m.host)) m (λ m. Stuck NoAct m c) (step_three rules call until c) (λ m. Stuck NoAct m d) (step_three others call until d) (d, refl, h) (step_three-alike until m c d h)
+    act-alike until (Rest t) m c d h =
+        at_moment-alike t rest rest m c d h
+        (λ m. choose-alike (is_empty (view m.host)) m (λ m. GoesOn (on_page idle_step m) c) (λ m. Stuck NoAct m c) (λ m. GoesOn (on_page idle_step m) d) (λ m. Stuck NoAct m d) (d, refl, h) (d, refl, h))
+    act-alike until (Stop t) m c d h = at_moment-alike t (stop until) (stop until) m c d h (λ m. stop-alike until m c d h)
+
+    acts-alike : (until : ℕ) (list : List Act) (m : State) (c : C) (d : D) → Together c d → EndAlike Together (acts rules call until list m c) (acts others call until list m d)
+    acts-alike until [] m c d h = (d, refl, h)
+    acts-alike until (a ∷ more) m c d h =
+        next_turn-alike (acts rules call until more) (acts others call until more) (acts-alike until more) (act rules call until a m c) (act others call until a m d) (act-alike until a m c d h)
+
+  pub gaps-alike : (rules : Rules C) (others : Rules D) → ChooseAlike rules others Together → (program : Program) (setup : Setup) (list : List Act) (c : C) (d : D) → Together c d → EndAlike Together (run_gaps_by rules program setup list c) (run_gaps_by others program setup list d)
+  unfolding run_gaps_by
+  gaps-alike rules others alike program setup list c d h = acts-alike rules others alike (call_from_outside program page_operations) setup.until list (first_state program setup []) c d h
 
   pub runs-alike : (rules : Rules C) (others : Rules D) → ChooseAlike rules others Together → (program : Program) (setup : Setup) (hosts : List HostClosure) (c : C) (d : D) → Together c d → EndAlike Together (run_by rules program setup hosts c) (run_by others program setup hosts d)
   unfolding run_by

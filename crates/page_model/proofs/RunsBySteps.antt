@@ -21,6 +21,7 @@ use Rattle.page_model.specs.Tasks.{answer_host, after_task}
 use Rattle.page_model.specs.Parallel.{ItemKind, ArrivalItem, HostItem, TimerItem, IdleItem, FrameItem, complete, complete_at, take_item, due_item, first_item, take_due, item_count, parallel}
 use Rattle.page_model.specs.Choosing.{Rules, Chosen, chosen_source, chosen_reading, chosen_answer}
 use Rattle.page_model.specs.View.{view}
+use Rattle.page_model.specs.Gaps.{Act, Pass, Serve, Rest, Stop, at_moment, pass, rest, stop_by_clock, stop, act, acts}
 use Rattle.page_model.specs.Turns.{Turned, GoesOn, Ended, Stuck, goes_on, choose_turned, step_five, task_done, without_task, not_dropped, host_answered, perform_host, perform_task, perform_first, perform_first_sched, perform, turn_line, perform_picked, step_four, counted_turn, with_turn_fuel, step_three, from_step_three, is_pending, target, at_time, waited, step_two_at, step_two_by, step_one, after_step_one, from_step_one, turn, next_turn, turns}
 use Rattle.page_model.specs.PageHost.{Hosting}
 use Rattle.page_model.specs.FoldBounds.{counted, IsBounded}
@@ -195,6 +196,32 @@ module _ {C : Type 0} (rules : Rules C) (call call' : Caller Page) (agree : Call
   turns-agree until (suc n) c m b =
       next_turn-agrees (turns rules call until n) (turns rules call' until n) (turns-agree until n) (turn rules call until m c) (turn rules call' until m c)
       (from_step_one-agrees until (suc (suc (item_count m.host))) c m b)
+
+  -- ---- a run in pieces
+
+  at_moment-agrees : (t : ℕ) (next next' : State → Turned C) (c : C) → TurnsAgree next next' → TurnsAgree (at_moment t next c) (at_moment t next' c)
+  at_moment-agrees t next next' c k m b = choose-agrees (nat_le m.host.now t) _ _ _ _ m (k (on_page (at_time t) m) b) (refl, b)
+
+  stop_by_clock-agrees : (until : ℕ) (c : C) → TurnsAgree (stop_by_clock until c) (stop_by_clock until c)
+  stop_by_clock-agrees until c m b = choose-agrees (nat_le until m.host.now) _ _ _ _ m (refl, b) (refl, b)
+
+  stop-agrees : (until : ℕ) (c : C) → TurnsAgree (stop until c) (stop until c)
+  stop-agrees until c m b =
+      choose-agrees (is_empty (view m.host)) _ _ _ _ m (choose-agrees (is_pending m.host) _ _ _ _ m (stop_by_clock-agrees until c m b) (refl, b)) (stop_by_clock-agrees until c m b)
+
+  rest-agrees : (c : C) → TurnsAgree (rest c) (rest c)
+  rest-agrees c m b = choose-agrees (is_empty (view m.host)) _ _ _ _ m (refl, (leaves-kept idle_step idle_step-leaves m.host b).0) (refl, b)
+
+  act-agrees : (until : ℕ) (a : Act) (c : C) → TurnsAgree (λ m. act rules call until a m c) (λ m. act rules call' until a m c)
+  act-agrees until (Pass t) c m b = at_moment-agrees t (pass c) (pass c) c (λ m b. (refl, step_one-bounded m b)) m b
+  act-agrees until Serve c m b = choose-agrees (is_empty (view m.host)) _ _ _ _ m (refl, b) (step_three-agrees until c m b)
+  act-agrees until (Rest t) c m b = at_moment-agrees t (rest c) (rest c) c (rest-agrees c) m b
+  act-agrees until (Stop t) c m b = at_moment-agrees t (stop until c) (stop until c) c (stop-agrees until c) m b
+
+  pub acts-agree : (until : ℕ) (list : List Act) (c : C) → TurnsAgree (λ m. acts rules call until list m c) (λ m. acts rules call' until list m c)
+  acts-agree until [] c m b = (refl, b)
+  acts-agree until (a ∷ more) c m b =
+      next_turn-agrees (acts rules call until more) (acts rules call' until more) (acts-agree until more) (act rules call until a m c) (act rules call' until a m c) (act-agrees until a c m b)
 
 -- ---- the callers
 

@@ -74,7 +74,8 @@ change_or other w priority (suc n) s m =
 
 -- ---- Prioritized Task Scheduling, "The TaskSignal Interface": a signal that is followed follows none
 
--- Following is one deep: a follower follows, it is among the followers of the signal that it follows, and a signal that follows has no followers. No number beyond those of the signals has a priority.
+-- Following is one deep: a follower follows, it is among the followers of the signal that it follows, and a signal that follows has no
+-- followers. No number beyond those of the signals has a priority.
 pub record FollowsOnce (ps : Prios) (signals : ℕ) : Type 0 where
   pub follow : (s t : ℕ) → has_number (followers ps s) t ≡ true → is_there (followed ps t) ≡ true
   pub back : (s t : ℕ) → followed ps s ≡ Some t → has_number (followers ps t) s ≡ true
@@ -93,7 +94,8 @@ pub record SourceIsRefused {C : Type 0} (rules : Rules C) (until : ℕ) (m : Sta
   pub runnable : is_empty (view m.host) ≡ false
   pub refused : chosen_source rules (view m.host) c ≡ None
 
--- The reading is refused: in step 2, where no task is runnable and something is pending, for the target, which is after now and before the time is up.
+-- The reading is refused: in step 2, where no task is runnable and something is pending, for the target, which is after now and before
+-- the time is up.
 pub record ReadingIsRefused {C : Type 0} (rules : Rules C) (until t : ℕ) (m : State) (c : C) : Type 0 where
   pub idle : is_empty (view m.host) ≡ true
   pub pending : is_pending m.host ≡ true
@@ -102,7 +104,8 @@ pub record ReadingIsRefused {C : Type 0} (rules : Rules C) (until t : ℕ) (m : 
   pub in_time : t < until
   pub refused : chosen_reading rules t c ≡ None
 
--- The answer to a host task is refused: in step 4, before the time is up. The task was the first one of the source that was chosen; it has been taken out, behind the line of
+-- The answer to a host task is refused: in step 4, before the time is up. The task was the first one of the source that was chosen; it
+-- has been taken out, behind the line of
 -- the turn, and its closure was not dropped.
 pub record AnswerIsRefused {C : Type 0} (rules : Rules C) (until : ℕ) (t : HostTask) (m : State) (c : C) : Type 0 where
   pub before : State

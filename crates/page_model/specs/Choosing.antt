@@ -12,7 +12,8 @@ pub record Chosen (X C : Type 0) : Type 0 where
   pub choice : X
   pub left : C
 
--- How choices are made by whatever is held. Each rule chooses or refuses: which source is served, what the clock reads when a target is waited for, what a host closure answers on a number.
+-- How choices are made by whatever is held. Each rule chooses or refuses: which source is served, what the clock reads when a target is
+-- waited for, what a host closure answers on a number.
 pub record Rules (C : Type 0) : Type 0 where
   pub source : List Runnable → C → Option (Chosen Source C)
   pub reading : ℕ → C → Option (Chosen ℕ C)
@@ -53,8 +54,10 @@ as_reading p = record { choice = p.reading; left = p.left }
 abbrev pub as_answer : PickedAnswer → Chosen (Result ℤ ℤ) Choices
 as_answer p = record { choice = p.answer; left = p.left }
 
--- Recorded lists and the written policy as rules. What recorded lists give is legal. Where some task is runnable, `fifo` and `fair` give a source that has one, and so does a
--- ranking that has all seven sources. A written reading is the target plus a lateness, never below the target; it is legal where it is below 2 ^ 63.
+-- Recorded lists and the written policy as rules. What recorded lists give is legal. Where some task is runnable, `fifo` and `fair` give
+-- a source that has one, and so does a
+-- ranking that has all seven sources. A written reading is the target plus a lateness, never below the target; it is legal where it is
+-- below 2 ^ 63.
 abbrev pub choice_rules : Rules Choices
 choice_rules =
     record {

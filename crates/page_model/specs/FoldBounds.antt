@@ -38,7 +38,8 @@ pub record Counted : Type 0 where
 abbrev pub counted : Page → Counted
 counted p = record { registrations = length p.registrations; listeners = p.listeners; signals = p.signals; prios = p.prios }
 
--- how many callbacks may still come after the listeners: those that hear the aborts; and of a priority change fewer than 2 ^ 32 for each signal that has another priority,
+-- how many callbacks may still come after the listeners: those that hear the aborts; and of a priority change fewer than 2 ^ 32 for each
+-- signal that has another priority,
 -- since each change that is not passed over gives the priority to one more signal
 abbrev pub rest_left : Counted → Rest → ℕ
 rest_left c (AbortsLeft ss) = all_heard c.listeners ss
@@ -73,7 +74,8 @@ abbrev pub times : List ℕ → ℕ → ℕ
 times [] n = 0
 times (m ∷ ms) n = cond (n == m) 1 0 + times ms n
 
--- fewer than 2 ^ 32 registrations, each listener with its own; fewer than 2 ^ 32 signals, each of which depends on another one at most once; each with a priority at most once;
+-- fewer than 2 ^ 32 registrations, each listener with its own; fewer than 2 ^ 32 signals, each of which depends on another one at most
+-- once; each with a priority at most once;
 -- and each signal that follows another has a priority.
 pub record AreBounded (c : Counted) : Type 0 where
   pub registrations : c.registrations ≤ 4294967295

@@ -22,7 +22,8 @@ pub data Rest : Type 0 where
   AbortsLeft : List ℕ → Rest
   ChangesLeft : Priority → List ChangePiece → Rest
 
--- An open fold, while a callback of it runs: when a throw of that callback is reported; the arguments of the listeners, and those registrations that are left; and what comes then
+-- An open fold, while a callback of it runs: when a throw of that callback is reported; the arguments of the listeners, and those
+-- registrations that are left; and what comes then
 pub record Fold : Type 0 where
   pub when : WhenReported
   pub args : List Value
@@ -65,7 +66,8 @@ abbrev pub each_change : (ℕ → List ChangePiece → (Page → Reached) → Pa
 each_change one chain [] more next p = next p
 each_change one chain (s ∷ ss) more next p = one s (changes_of chain ss more) (each_change one chain ss more next) p
 
--- the change of one signal, before other pieces: it is passed over, or its priority is set, `prioritychange` is fired, and then come its followers and the change's end
+-- the change of one signal, before other pieces: it is passed over, or its priority is set, `prioritychange` is fired, and then come its
+-- followers and the change's end
 abbrev pub change_from : Priority → ℕ → ℕ → List ChangePiece → (Page → Reached) → Page → Reached
 change_from priority zero s more next p = next p
 change_from priority (suc n) s more next p =

@@ -40,7 +40,8 @@ TurnForward m (GoesOn n c) = Later m n × (suc n.fuel ≤ m.fuel)
 TurnForward m (Ended end n c) = Later m n
 TurnForward m (Stuck at n c) = Later m n
 
--- a turn that begins again after a wait begins at a time that is not before the target and is after now: what it would do at any other state does not count
+-- a turn that begins again after a wait begins at a time that is not before the target and is after now: what it would do at any other
+-- state does not count
 abbrev pub BeginsAgainLater : {C : Type 0} → Rules C → Type 0
 BeginsAgainLater {C} rules =
     (until t : ℕ) (again other : State → C → Turned C) (next : State → Turned C) (m : State) (c : C)

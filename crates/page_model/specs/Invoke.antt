@@ -17,7 +17,8 @@ use Rattle.lang_meaning.specs.Machine.{Done, Gives, Throws, Returns, OutOfFuel, 
 use Rattle.lang_meaning.specs.Evaluation.{without_first}
 use Rattle.page_model.specs.State.{Role, ScriptRole, OfKind, Registration, NotifyRejected, Page, State, on_page, the_registration, caller, emit, queue_task}
 
--- How functions are called here, and what is done when a callback has returned: a checkpoint exactly where no script call is open (HTML, "Calling scripts: clean up after running script").
+-- How functions are called here, and what is done when a callback has returned: a checkpoint exactly where no script call is open (HTML,
+-- "Calling scripts: clean up after running script").
 pub record Ways : Type 0 where
   pub call : Caller Page
   pub after : State → Done Page
@@ -34,7 +35,8 @@ register kind f g p = register_as kind (record { role = OfKind kind; callback = 
 
 -- ---- HTML, "Calling scripts: clean up after running script", and when an exception is reported. Ours: the lines
 
--- when a throw is reported: of the script before the checkpoint; of a `then` handler or a posted callback never; of any other after the checkpoint
+-- when a throw is reported: of the script before the checkpoint; of a `then` handler or a posted callback never; of any other after the
+-- checkpoint
 pub data WhenReported : Type 0 where
   BeforeCheckpoint AfterCheckpoint Never : WhenReported
 
@@ -132,7 +134,8 @@ react_then call r (Some f) x how m =
     settle_by (resolve_derived (the_registration m.host r) x.into how) x.into
     (invoke (in_checkpoint call) r (has_failed how) (handler_arguments (the_registration m.host r) how) (with_scheduling x.state m))
 
--- a reaction: that of an inner subscription settles the promise that was resolved with this one, or reports to the combinator whose element that is; any other is a `then` reaction
+-- a reaction: that of an inner subscription settles the promise that was resolved with this one, or reports to the combinator whose
+-- element that is; any other is a `then` reaction
 abbrev pub react_by : Caller Page → Option ℕ → Reaction → Settled → State → Done Page
 react_by call None x how m = finish (on_page (lead_into x.into how) m)
 react_by call (Some r) x how m = react_then call r (callback_of (has_failed how) (the_registration m.host r)) x how m
@@ -148,7 +151,8 @@ run_job call (Micro r) m = invoke (in_checkpoint call) r false [] m
 run_job call (OfPromise (React of x)) m = react call x (promise_at m.host of).outcome m
 run_job call (OfPromise (Adopt into from)) m = finish (on_page (promises.subscribe from (inner_subscription into)) m)
 
--- Ours: the nesting level and the scheduling state of a microtask. In form 1 it has level 0 and no state, in form 2 those that were current when it was queued
+-- Ours: the nesting level and the scheduling state of a microtask. In form 1 it has level 0 and no state, in form 2 those that were
+-- current when it was queued
 abbrev pub context_of_job : ℕ → WaitingJob → Context
 context_of_job form job = cond (form == 2) job.context no_context
 
@@ -174,7 +178,8 @@ abbrev pub run_jobs : Caller Page → ℕ → State → Done Page
 run_jobs call zero m = OutOfFuel m
 run_jobs call (suc n) m = run_oldest call m.host.notices.jobs (run_jobs call n) m
 
--- HTML, "Unhandled promise rejections" (notify about rejected promises): the promises about to be notified about, if there are any, are taken by a task
+-- HTML, "Unhandled promise rejections" (notify about rejected promises): the promises about to be notified about, if there are any, are
+-- taken by a task
 abbrev pub notify_rejected : Page → Page
 notify_rejected p =
     cond (is_empty p.notices.rejected) p

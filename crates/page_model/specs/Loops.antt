@@ -36,7 +36,8 @@ key_of until (Stuck at m c) = None
 abbrev pub takes_item : Page → Bool
 takes_item p = not (p.turns == 0) && is_there (due_item p.now (first_item p))
 
--- One pass through the steps of a turn. A pass that waits ends once the parallel items are taken at the reading; one whose step 1 took an item and left no task runnable ends there.
+-- One pass through the steps of a turn. A pass that waits ends once the parallel items are taken at the reading; one whose step 1 took an
+-- item and left no task runnable ends there.
 abbrev pub one_pass : Caller Page → (until : ℕ) → State → Choices → Turned Choices
 one_pass call until m c =
     let after = step_one m in

@@ -34,7 +34,8 @@ pub record GoesOnFrom {X : Type 0} (before after : List X) : Type 0 where
   pub rest : List X
   pub whole : after ≡ before ++ rest
 
--- what was given out: how many promises, signals and scheduling states were made; the registrations; how many timer ids, timer handles and start numbers, frame handles, idle handles, task numbers and
+-- what was given out: how many promises, signals and scheduling states were made; the registrations; how many timer ids, timer handles
+-- and start numbers, frame handles, idle handles, task numbers and
 -- job numbers were given; how many host closures and combinators there are
 pub record Made : Type 0 where
   pub promises : ℕ

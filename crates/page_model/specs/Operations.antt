@@ -406,7 +406,8 @@ continuation_queued s p =
     let made = promised YieldKind None s.abort_source p in
     enqueue (last_registration made) s.prio_source true made
 
--- `yieldTask` in a scheduling state: its abort source, where it is aborted, rejects the promise. Ours: what a continuation inherits, since the draft still moves
+-- `yieldTask` in a scheduling state: its abort source, where it is aborted, rejects the promise. Ours: what a continuation inherits,
+-- since the draft still moves
 abbrev pub yield_in : SchedulingState → State → Done Page
 yield_in s m =
     branch (is_aborted_source m.host s.abort_source) m
@@ -629,6 +630,7 @@ all_known promises signals (v ∷ vs) = is_known promises signals v && all_known
 abbrev pub may_operate : Page → Op → List Value → Bool
 may_operate p op args = is_busy op || all_known (length p.notices.promises) (length p.signals) args
 
--- The operations of a page: a callback within one is called in that place, and no checkpoint follows it. With a number that was not given out they throw TypeError and do nothing.
+-- The operations of a page: a callback within one is called in that place, and no checkpoint follows it. With a number that was not given
+-- out they throw TypeError and do nothing.
 abbrev pub page_operations : Caller Page → Op → List Value → State → Done Page
 page_operations call op args m = branch (may_operate m.host op args) m (operation (in_script call) op args) (throw_fault TypeError)

@@ -108,7 +108,8 @@ promises_for v = elim (promise_in v) [ Some n ↦ 0 | None ↦ 1 ]
 abbrev pub are_promises_left : ℕ → Page → Bool
 are_promises_left n p = nat_le (length p.notices.promises + n) 4294967295
 
--- the value is waited for, and then the outcome is passed on: the promise is resolved with the result of a combinator that has the value as its one item
+-- the value is waited for, and then the outcome is passed on: the promise is resolved with the result of a combinator that has the value
+-- as its one item
 abbrev pub passed_on : ℕ → Settled → Value → Page → Page
 passed_on into how v p =
     let item = item_made v p in

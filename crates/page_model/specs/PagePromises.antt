@@ -25,7 +25,8 @@ reject n v p = settle n (Failed v) p
 abbrev pub follow : ℕ → Settled → Page → Page
 follow n how p = on_notices (follow_promise (context p) p.names n how) p
 
--- ECMA-262, "PerformPromiseThen"; HTML, "Unhandled promise rejections": a promise gets a handler; where it was outstanding, a task is queued which fires `rejectionhandled`
+-- ECMA-262, "PerformPromiseThen"; HTML, "Unhandled promise rejections": a promise gets a handler; where it was outstanding, a task is
+-- queued which fires `rejectionhandled`
 abbrev pub subscribe : ℕ → Reaction → Page → Page
 subscribe n r p = cond (is_outstanding n p.notices) (queue_task Dom (NotifyHandled n)) (λ q. q) (on_notices (subscribe_promise (context p) n r) p)
 

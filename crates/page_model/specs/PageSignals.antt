@@ -111,7 +111,8 @@ abbrev pub task_in_net : Option Task → Option HostTask
 task_in_net None = None
 task_in_net (Some t) = host_task_of t.steps
 
--- A registration is dropped: its scheduler task leaves the queue; its host answer is no longer pending and the closure is dropped. A delay stays an active timer, and a net task stays in its queue.
+-- A registration is dropped: its scheduler task leaves the queue; its host answer is no longer pending and the closure is dropped. A
+-- delay stays an active timer, and a net task stays in its queue.
 abbrev pub drop_registration : ℕ → Page → Page
 drop_registration r p =
     emit (Drop r)
@@ -121,7 +122,8 @@ drop_registration r p =
       host_answers = without (λ a. a.task.registration == r) p.host_answers;
     }))
 
--- Prioritized Task Scheduling, "Scheduling Tasks and Continuations": the abort steps of a registration: its promise is rejected with the reason, and it is dropped where it had not begun
+-- Prioritized Task Scheduling, "Scheduling Tasks and Continuations": the abort steps of a registration: its promise is rejected with the
+-- reason, and it is dropped where it had not begun
 abbrev pub abort_registration : Value → ℕ → Page → Page
 abort_registration reason r p =
     cond (has_not_begun r p) (drop_registration r) (λ q. q) (promises.reject (the_registration p r).promise reason p)
@@ -180,7 +182,8 @@ change_begun s priority p = emit (Prio s priority) (record p { prios = TaskSigna
 abbrev pub change_ended : ℕ → Page → Page
 change_ended s p = record p { prios = TaskSignals.ended s p.prios }
 
--- a change of s that does something: the priority is set, `prioritychange` is fired, and the same is done for each signal that followed s then, by `each`.
+-- a change of s that does something: the priority is set, `prioritychange` is fired, and the same is done for each signal that followed s
+-- then, by `each`.
 -- Ours: this order, and that the change of s is in progress until those of its followers are done
 abbrev pub change_through : Ways → ℕ → Priority → (ℕ → State → Done Page) → State → Done Page
 change_through w s priority each m =

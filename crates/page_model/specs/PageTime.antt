@@ -103,7 +103,8 @@ idle_moment p =
 abbrev pub period_begun : ℕ → Page → Page
 period_begun end p = queue_task Idle InvokeIdle (emit (Period end) (record p { idle = IdleCallbacks.started p.idle; idle_period_end = end }))
 
--- an idle period starts, unless its start is delayed: no idle callback waits, the deadline is not after now, or the period before has not ended
+-- an idle period starts, unless its start is delayed: no idle callback waits, the deadline is not after now, or the period before has not
+-- ended
 abbrev pub start_period : Page → Page
 start_period p =
     cond (waits p.idle && nat_lt p.now (deadline p.last_idle_start p) && nat_le p.idle_period_end p.now) (period_begun (deadline p.last_idle_start p) p) p
@@ -136,7 +137,8 @@ without_idle handle p = record p { idle = IdleCallbacks.cancel handle p.idle }
 abbrev pub cancel_idle : ℕ → Page → Page
 cancel_idle handle p = elim (idle_callback handle p) [ None ↦ p | Some c ↦ emit (Drop c.registration) (without_idle handle p) ]
 
--- requestIdleCallback, "The IdleDeadline interface": microseconds that are left of a deadline, never below 0; a period's deadline is computed again
+-- requestIdleCallback, "The IdleDeadline interface": microseconds that are left of a deadline, never below 0; a period's deadline is
+-- computed again
 abbrev pub time_remaining : Option ℕ → Page → ℕ
 time_remaining None p = deadline p.last_idle_start p - p.now
 time_remaining (Some t) p = t - p.now

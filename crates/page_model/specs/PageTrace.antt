@@ -38,7 +38,8 @@ told_more setup = record setup { trace = 2 }
 unfoldable pub migrated : Program → Setup → List HostClosure → List Stamped → List Stamped
 migrated program setup hosts es = events_of_run (run program (told_more setup) hosts (choices_in es))
 
--- what migrating legal events gives is legal in the second form; without what the first form leaves out they are the events themselves, where those are of the first form
+-- what migrating legal events gives is legal in the second form; without what the first form leaves out they are the events themselves,
+-- where those are of the first form
 pub record Migrates (program : Program) (setup : Setup) (hosts : List HostClosure) (es : List Stamped) : Type 0 where
   pub legal : IsLegal program (told_more setup) hosts (migrated program setup hosts es)
   pub same : setup.trace ≡ 1 → all_without_by (migrated program setup hosts es) ≡ es

@@ -12,7 +12,8 @@ use Rattle.page_model.specs.SchedulerTasks.{enqueue}
 
 -- ---- HTML, "Event loops: processing model": what goes on in parallel. Ours: its order, and that it is done only at the top of a turn
 
--- what goes on beside the script: an arrival with its number among those that are left, a host answer, an active timer, an idle timeout, a rendering opportunity
+-- what goes on beside the script: an arrival with its number among those that are left, a host answer, an active timer, an idle timeout,
+-- a rendering opportunity
 pub data ItemKind : Type 0 where
   ArrivalItem : (number : ℕ) → Arrival → ItemKind
   HostItem : HostAnswer → ItemKind
@@ -44,7 +45,8 @@ abbrev pub arrival_items : ℕ → List Arrival → List Item
 arrival_items n [] = []
 arrival_items n (a ∷ more) = record { due = a.at; what = ArrivalItem n a } ∷ arrival_items (suc n) more
 
--- all items, class after class: arrivals in line order, host answers, active timers and idle timeouts in order of start, the next rendering opportunity
+-- all items, class after class: arrivals in line order, host answers, active timers and idle timeouts in order of start, the next
+-- rendering opportunity
 abbrev pub items_in_order : Page → List Item
 items_in_order p =
     arrival_items 1 p.arrivals

@@ -27,7 +27,8 @@ pub data Role : Type 0 where
   ScriptRole : Role
   OfKind : RegKind → Role
 
--- A registration: what it is for, its callbacks, and where it has one its timer id, its promise and the signal that can abort it. A handler that is no function is absent.
+-- A registration: what it is for, its callbacks, and where it has one its timer id, its promise and the signal that can abort it. A
+-- handler that is no function is absent.
 -- A handler of `finally` is called with no argument and passes the outcome on.
 pub record Registration : Type 0 where
   pub role : Role
@@ -55,7 +56,8 @@ pub record HostTask : Type 0 where
   pub closure : ℕ
   pub number : ℤ
 
--- the steps of a task: run the script; the task of a timer; abort a signal by its timeout; fire an arrival's event at the window; answer a host; a frame with its timestamp;
+-- the steps of a task: run the script; the task of a timer; abort a signal by its timeout; fire an arrival's event at the window; answer
+-- a host; a frame with its timestamp;
 -- invoke idle callbacks; an idle timeout by its handle; notify about rejected promises, or about one that was handled after all
 pub data Steps : Type 0 where
   RunScript : Steps
@@ -91,7 +93,8 @@ pub record SchedTask : Type 0 where
 
 -- ---- HTML, "Timers": run steps after a timeout: completion steps
 
--- what an active timer does when it completes: it queues the task of a timer, enqueues a delayed `postTask`, or queues the task that aborts a signal by its timeout
+-- what an active timer does when it completes: it queues the task of a timer, enqueues a delayed `postTask`, or queues the task that
+-- aborts a signal by its timeout
 pub data Completion : Type 0 where
   QueueTimer : TimerTask → Completion
   EnqueuePost : (registration : ℕ) → PrioSource → Completion
@@ -113,7 +116,8 @@ pub record HostAnswer : Type 0 where
   pub due : ℕ
   pub task : HostTask
 
--- Prioritized Task Scheduling, "Scheduling Tasks and Continuations": the scheduling state: the signal that aborts what is scheduled under it, and its priority source
+-- Prioritized Task Scheduling, "Scheduling Tasks and Continuations": the scheduling state: the signal that aborts what is scheduled under
+-- it, and its priority source
 pub record SchedulingState : Type 0 where
   pub abort_source : Option ℕ
   pub prio_source : PrioSource
@@ -125,7 +129,8 @@ pub record Combining : Type 0 where
   pub combine : Combine
   pub result : ℕ
 
--- an element of a combinator: the promise into which an item is subscribed and which is never settled, the combinator's number and the place there
+-- an element of a combinator: the promise into which an item is subscribed and which is never settled, the combinator's number and the
+-- place there
 pub record Element : Type 0 where
   pub promise : ℕ
   pub combinator : ℕ

@@ -38,7 +38,8 @@ use Rattle.page_model.specs.View.{view}
 -- 4: the first task of the chosen source is performed, and then a microtask checkpoint.
 -- 5: where no task is runnable then, an idle period may start.
 
--- The choice at which a run is stuck, since the rules give none or none that is legal: the source that is served, the reading for a target, the answer to a host task.
+-- The choice at which a run is stuck, since the rules give none or none that is legal: the source that is served, the reading for a
+-- target, the answer to a host task.
 -- A run in pieces is stuck at an act that cannot be done then. At the bound of its waits or turns no run is stuck.
 pub data Refusal : Type 0 where
   NoSource : Refusal

@@ -10,7 +10,8 @@ use Rattle.page_model.specs.PageRuns.{PageRun, first_run, caller_of, is_live, ha
 
 -- ---- HTML, "Event loops: processing model": similar-origin windows share an event loop. Ours: they are served in a circle
 
--- the windows of a loop, its time, the moment at which it ends at the latest, how late each further wait is, and the number of the window that was served last, 0 at first
+-- the windows of a loop, its time, the moment at which it ends at the latest, how late each further wait is, and the number of the window
+-- that was served last, 0 at first
 pub record Windows : Type 0 where
   pub windows : List PageRun
   pub now : ℕ

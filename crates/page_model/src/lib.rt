@@ -20,7 +20,11 @@ ghost use Rattle.page_model.specs.Operations.{page_operations};
 ghost use Rattle.page_model.specs.Turns.{turns};
 ghost use Rattle.page_model.specs.Additions.{TurnAdds};
 
-pub use acts::acts_only_give_lines;
+pub use acts::{
+    acts_by_steps_are_the_acts, acts_go_forward, acts_keep_numbers_given, acts_only_give_lines,
+    choices_determine_a_run_by_acts, choices_of_acts_are_data, following_stays_one_deep_by_acts,
+    runs_by_acts_are_alike,
+};
 pub use arrivals::arrivals_stay_in_order;
 pub use bounds::{
     a_target_is_there_where_something_is_pending, due_items_are_all_taken,
