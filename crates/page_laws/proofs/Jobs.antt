@@ -229,7 +229,7 @@ moves-fit here f = f
 moves-fit (changing a c) f = change-fits c (moves-fit a f)
 moves-fit (calling {q = q} a b w i) f = silent-fits (Call (called_by b)) (taken b q).now (taken b q).notices (taken b q).events refl (begins-fit b q w (moves-fit a f))
 moves-fit (ending {q = q} a e h) f = silent-fits e q.now q.notices q.events (end-silent e h) (moves-fit a f)
-moves-fit (flagging {q = q} {r = r} a x y z w u) f = subst (λ (s : Notices). JobsFit s r.events) (sym x) (subst (JobsFit q.notices) (sym y) (moves-fit a f))
+moves-fit (flagging {q = q} {r = r} a x y z w u v) f = subst (λ (s : Notices). JobsFit s r.events) (sym x) (subst (JobsFit q.notices) (sym y) (moves-fit a f))
 moves-fit (running {q = q} a j others x y) f = run-fits q.now q.notices q.events j others x (moves-fit a f)
 
 -- from a page with no lines and no jobs on, jobs go in order

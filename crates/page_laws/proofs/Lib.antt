@@ -20,5 +20,6 @@ pub mod Totals
 pub mod Claims
 pub mod Once
 pub mod Answering
+pub mod OpenCalls
 mod LawExamples
 mod LawBreaks

@@ -139,3 +139,44 @@ begins-same (APost t) p = (refl, refl)
 begins-same (AContinuation t) p = (refl, refl)
 begins-same (AMicro job others r) p = (refl, refl)
 begins-same (AReaction job others of x r) p = (refl, refl)
+
+-- ---- the open calls of the page
+
+emit_each-calls : (es : List Event) (p : Page) → (emit_each es p).calls ≡ p.calls
+emit_each-calls [] p = refl
+emit_each-calls (e ∷ es) p = emit_each-calls es (emit e p)
+
+notices-calls : (f : Notices → Noticed) (p : Page) → (on_notices f p).calls ≡ p.calls
+notices-calls f p = emit_each-calls (f p.notices).lines (record p { notices = (f p.notices).notices })
+
+pub change-calls : {p q : Page} → PageChange p q → q.calls ≡ p.calls
+change-calls (elsewhere c b) = b.calls
+change-calls (told e h) = refl
+change-calls (rested e h x y) = refl
+change-calls (answered source task t answer x y z b) = b.calls
+change-calls (registered kind x e u b) = b.calls
+change-calls (dropped r d b) = b.calls
+change-calls (frame_dropped handle c e) = refl
+change-calls (frame_asked f) = refl
+change-calls (frame_gone handle) = refl
+change-calls promised = refl
+change-calls {p = p} (settled n how x y) = notices-calls (λ s. changed (context p) p.names n (Promises.settle n (the_promise p.notices.promises n) how) s) p
+change-calls {p = p} (followed n how x y) = notices-calls (λ s. changed (context p) p.names n (Promises.settle n (the_promise p.notices.promises n) how) s) p
+change-calls {p = p} (adopted n from x y) = notices-calls (λ s. changed (context p) p.names n (Promises.adopt n (the_promise p.notices.promises n) from) s) p
+change-calls {p = p} (subscribed n r x y) = notices-calls (subscribe_promise (context p) n r) p
+change-calls {p = p} (then_asked n x r e g y) = notices-calls (subscribe_promise (context p) n r) (register_as kind.Then x p)
+change-calls {p = p} (micro_asked x r e y) = notices-calls (queue_micro (context p) r) (register_as kind.Micro x p)
+change-calls rejected_taken = refl
+change-calls (noted n) = refl
+
+pub begins-calls : (b : Beginning) (p : Page) → (taken b p).calls ≡ p.calls
+begins-calls (TheScript source task) p = refl
+begins-calls (ATimer source task t) p = refl
+begins-calls (AFrame key c) p = refl
+begins-calls (AnIdle c others) p = refl
+begins-calls (ALateIdle handle c) p = refl
+begins-calls (AListener r) p = refl
+begins-calls (APost t) p = refl
+begins-calls (AContinuation t) p = refl
+begins-calls (AMicro job others r) p = refl
+begins-calls (AReaction job others of x r) p = refl

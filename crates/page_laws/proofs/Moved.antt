@@ -50,18 +50,18 @@ use Rattle.page_laws.proofs.Moving.{changes-then}
 -- ---- ways to put changes together
 
 -- a change of the places, and of what is not named otherwise
-pub placed : (p q : Page) → PlaceChange p.registrations (places p) (places q) → q.notices ≡ p.notices → q.performing ≡ p.performing → q.events ≡ p.events → q.registrations ≡ p.registrations → q.frames ≡ p.frames → Changes p q
-placed p q c x y z w v = with_change nothing (elsewhere c (record { notices = x; performing = y; events = z; registrations = w; frames = v }))
+pub placed : (p q : Page) → PlaceChange p.registrations (places p) (places q) → q.notices ≡ p.notices → q.performing ≡ p.performing → q.events ≡ p.events → q.registrations ≡ p.registrations → q.frames ≡ p.frames → q.calls ≡ p.calls → Changes p q
+placed p q c x y z w v u = with_change nothing (elsewhere c (record { notices = x; performing = y; events = z; registrations = w; frames = v; calls = u }))
 
-pub quietly : (p q : Page) → places q ≡ places p → q.notices ≡ p.notices → q.performing ≡ p.performing → q.events ≡ p.events → q.registrations ≡ p.registrations → q.frames ≡ p.frames → Changes p q
-quietly p q s x y z w v = placed p q (subst (PlaceChange p.registrations (places p)) (sym s) places_stay) x y z w v
+pub quietly : (p q : Page) → places q ≡ places p → q.notices ≡ p.notices → q.performing ≡ p.performing → q.events ≡ p.events → q.registrations ≡ p.registrations → q.frames ≡ p.frames → q.calls ≡ p.calls → Changes p q
+quietly p q s x y z w v u = placed p q (subst (PlaceChange p.registrations (places p)) (sym s) places_stay) x y z w v u
 
 -- the same with a line
-pub lined_placed : (e : Event) (p q : Page) → is_aside e ≡ true → PlaceChange p.registrations (places p) (places q) → q.notices ≡ p.notices → q.performing ≡ p.performing → q.events ≡ (emit e p).events → q.registrations ≡ p.registrations → q.frames ≡ p.frames → Changes p q
-lined_placed e p q h c x y z w v = with_change {q = emit e p} (with_change nothing (told e h)) (elsewhere c (record { notices = x; performing = y; events = z; registrations = w; frames = v }))
+pub lined_placed : (e : Event) (p q : Page) → is_aside e ≡ true → PlaceChange p.registrations (places p) (places q) → q.notices ≡ p.notices → q.performing ≡ p.performing → q.events ≡ (emit e p).events → q.registrations ≡ p.registrations → q.frames ≡ p.frames → q.calls ≡ p.calls → Changes p q
+lined_placed e p q h c x y z w v u = with_change {q = emit e p} (with_change nothing (told e h)) (elsewhere c (record { notices = x; performing = y; events = z; registrations = w; frames = v; calls = u }))
 
-pub lined : (e : Event) (p q : Page) → is_aside e ≡ true → places q ≡ places p → q.notices ≡ p.notices → q.performing ≡ p.performing → q.events ≡ (emit e p).events → q.registrations ≡ p.registrations → q.frames ≡ p.frames → Changes p q
-lined e p q h s x y z w v = lined_placed e p q h (subst (PlaceChange p.registrations (places p)) (sym s) places_stay) x y z w v
+pub lined : (e : Event) (p q : Page) → is_aside e ≡ true → places q ≡ places p → q.notices ≡ p.notices → q.performing ≡ p.performing → q.events ≡ (emit e p).events → q.registrations ≡ p.registrations → q.frames ≡ p.frames → q.calls ≡ p.calls → Changes p q
+lined e p q h s x y z w v u = lined_placed e p q h (subst (PlaceChange p.registrations (places p)) (sym s) places_stay) x y z w v u
 
 pub cond_of-changes : (b : Bool) (f g : Page → Page) (p q : Page) → Changes q (f p) → Changes q (g p) → Changes q (cond b f g p)
 cond_of-changes true f g p q h k = h
@@ -79,7 +79,7 @@ elim-changes (Some x) p q f h k = k x
 
 -- a change that changes nothing
 unchanged : (n : ℕ) (p : Page) → Changes p (promise_changes n (no_change (the_promise p.notices.promises n)) p)
-unchanged n p = quietly p (promise_changes n (no_change (the_promise p.notices.promises n)) p) refl (ap {A = List PromiseRecord} {B = Notices} (λ qs. record p.notices { promises = qs }) (with_numbered-own p.notices.promises n pending_promise)) refl refl refl refl
+unchanged n p = quietly p (promise_changes n (no_change (the_promise p.notices.promises n)) p) refl (ap {A = List PromiseRecord} {B = Notices} (λ qs. record p.notices { promises = qs }) (with_numbered-own p.notices.promises n pending_promise)) refl refl refl refl refl
 
 by_lock : (n : ℕ) (p : Page) (c : Promises.Change) (b : Bool) → (the_promise p.notices.promises n).locked ≡ b → ((the_promise p.notices.promises n).locked ≡ false → Changes p (promise_changes n c p)) → Changes p (promise_changes n (cond b (no_change (the_promise p.notices.promises n)) c) p)
 by_lock n p c true e k = unchanged n p
@@ -109,7 +109,7 @@ follow-changes n how p x = by_outcome (the_promise p.notices.promises n).outcome
     by_outcome (Some before) e = unchanged n p
 
 pub queue_task-changes : (source : Source) (steps : Steps) (p : Page) → is_free steps ≡ true → Changes p (queue_task source steps p)
-queue_task-changes source steps p h = placed p (queue_task source steps p) (task_queued (record { number = suc p.tasks_made; source = source; steps = steps }) h) refl refl refl refl refl
+queue_task-changes source steps p h = placed p (queue_task source steps p) (task_queued (record { number = suc p.tasks_made; source = source; steps = steps }) h) refl refl refl refl refl refl
 
 -- a reaction was added, and where the promise was outstanding a task is queued
 handled-changes : (n : ℕ) (b : Bool) (p q : Page) → Changes p q → Changes p (cond b (queue_task Dom (NotifyHandled n)) (λ q. q) q)
@@ -144,7 +144,7 @@ made_last kind x p = length-last p.registrations x
 
 -- a registration is made and waits nowhere
 pub register-changes : (kind : RegKind) (x : Registration) (p : Page) → x.role ≡ OfKind kind → Changes p (register_as kind x p)
-register-changes kind x p e = with_change nothing (registered kind x e nowhere (record { notices = refl; performing = refl; events = refl; registrations = refl; frames = refl }))
+register-changes kind x p e = with_change nothing (registered kind x e nowhere (record { notices = refl; performing = refl; events = refl; registrations = refl; frames = refl; calls = refl }))
 
 -- it is made and waits at its first place, and its line is given
 register_at-changes : (kind : RegKind) (x : Registration) (e : Event) (p q : Page) → x.role ≡ OfKind kind → is_aside e ≡ true → FirstPlace (suc (length p.registrations)) (places p) (places q) → AsBefore (register_as kind x p) q → Changes p (emit e q)
@@ -157,10 +157,10 @@ pub init_again-changes : (id r : ℕ) (timeout : ℤ) (p : Page) → (numbered p
 init_again-changes id r timeout p e there =
     let a = armed (Some id) timeout p.level p.now p.timers in
     let t : TimerTask = record { registration = r; id = a.id; handle = a.handle; level = a.level; repeats = true; timeout = timeout } in
-    lined_placed (Arm r a.due a.level) p (init_timer (Some id) r true timeout p) refl (armed_again a t e there) refl refl refl refl refl
+    lined_placed (Arm r a.due a.level) p (init_timer (Some id) r true timeout p) refl (armed_again a t e there) refl refl refl refl refl refl
 
 pub clear_id-changes : (id : ℕ) (p : Page) → Changes p (clear_id id p)
-clear_id-changes id p = placed p (clear_id id p) (id_cleared id) refl refl refl refl refl
+clear_id-changes id p = placed p (clear_id id p) (id_cleared id) refl refl refl refl refl refl
 
 pub clear_timer-changes : (id : ℕ) (p : Page) → Changes p (clear_timer id p)
 clear_timer-changes id p = by_id (Timers.has_id id p.timers) refl
@@ -169,7 +169,7 @@ clear_timer-changes id p = by_id (Timers.has_id id p.timers) refl
     r = registration_with_id id 1 p.registrations
 
     by_id : (b : Bool) → Timers.has_id id p.timers ≡ b → Changes p (cond b (emit (Drop r) (clear_id id p)) p)
-    by_id true e = with_change nothing (dropped r (timer_dropped id e refl) (record { notices = refl; performing = refl; events = refl; registrations = refl; frames = refl }))
+    by_id true e = with_change nothing (dropped r (timer_dropped id e refl) (record { notices = refl; performing = refl; events = refl; registrations = refl; frames = refl; calls = refl }))
     by_id false e = nothing
 
 pub without_frame-changes : (handle : ℕ) (p : Page) → Changes p (without_frame handle p)
@@ -190,38 +190,38 @@ idle_step-changes p x y =
     let begun : Changes p told_one = with_change nothing (rested (Period end) refl x y) in
     let started : Page = record told_one { last_idle_start = p.now; idle = IdleCallbacks.started p.idle; idle_period_end = end } in
     cond-changes (waits here.idle && nat_lt here.now (deadline here.last_idle_start here) && nat_le here.idle_period_end here.now) p (period_begun end here) here
-    (changes-then (changes-then begun (placed told_one started idle_started refl refl refl refl refl)) (queue_task-changes IdleSource InvokeIdle started refl)) (quietly p here refl refl refl refl refl refl)
+    (changes-then (changes-then begun (placed told_one started idle_started refl refl refl refl refl refl)) (queue_task-changes IdleSource InvokeIdle started refl)) (quietly p here refl refl refl refl refl refl refl)
 
 pub idle_timeout-changes : (ms r : ℕ) (p : Page) → Changes p (idle_timeout ms r p)
-idle_timeout-changes ms r p = lined_placed (Arm r (p.now + ms * 1000) 0) p (idle_timeout ms r p) refl (idle_armed (record { due = p.now + ms * 1000; handle = p.idle.made; registration = r })) refl refl refl refl refl
+idle_timeout-changes ms r p = lined_placed (Arm r (p.now + ms * 1000) 0) p (idle_timeout ms r p) refl (idle_armed (record { due = p.now + ms * 1000; handle = p.idle.made; registration = r })) refl refl refl refl refl refl
 
 pub without_idle-changes : (handle : ℕ) (p : Page) → Changes p (without_idle handle p)
-without_idle-changes handle p = placed p (without_idle handle p) (idle_left handle) refl refl refl refl refl
+without_idle-changes handle p = placed p (without_idle handle p) (idle_left handle) refl refl refl refl refl refl
 
 pub cancel_idle-changes : (handle : ℕ) (p : Page) → Changes p (cancel_idle handle p)
 cancel_idle-changes handle p = by_callback (idle_callback handle p) refl
   where
     by_callback : (o : Option Callback) → idle_callback handle p ≡ o → Changes p (elim o [ None ↦ p | Some c ↦ emit (Drop c.registration) (without_idle handle p) ])
     by_callback None e = nothing
-    by_callback (Some c) e = with_change nothing (dropped c.registration (idle_dropped handle c e refl) (record { notices = refl; performing = refl; events = refl; registrations = refl; frames = refl }))
+    by_callback (Some c) e = with_change nothing (dropped c.registration (idle_dropped handle c e refl) (record { notices = refl; performing = refl; events = refl; registrations = refl; frames = refl; calls = refl }))
 
 -- ---- scheduler tasks, signals, hosts
 
 pub without_sched-changes : (r : ℕ) (p : Page) → Changes p (without_sched r p)
-without_sched-changes r p = placed p (without_sched r p) (sched_left r) refl refl refl refl refl
+without_sched-changes r p = placed p (without_sched r p) (sched_left r) refl refl refl refl refl refl
 
 pub with_state-changes : (s : SchedulingState) (p : Page) → Changes p (with_state s p)
-with_state-changes s p = quietly p (with_state s p) refl refl refl refl refl refl
+with_state-changes s p = quietly p (with_state s p) refl refl refl refl refl refl refl
 
 pub watch-changes : (signal : Option ℕ) (r : ℕ) (p : Page) → Changes p (watch signal r p)
 watch-changes None r p = nothing
-watch-changes (Some s) r p = quietly p (watch (Some s) r p) refl refl refl refl refl refl
+watch-changes (Some s) r p = quietly p (watch (Some s) r p) refl refl refl refl refl refl refl
 
 pub unwatch-changes : (r : ℕ) (p : Page) → Changes p (unwatch r p)
-unwatch-changes r p = elim-changes (the_registration p r).signal p p _ nothing (λ s. quietly p (record p { signals = AbortGraph.remove_algorithm s r p.signals }) refl refl refl refl refl refl)
+unwatch-changes r p = elim-changes (the_registration p r).signal p p _ nothing (λ s. quietly p (record p { signals = AbortGraph.remove_algorithm s r p.signals }) refl refl refl refl refl refl refl)
 
 pub drop-changes : (r : ℕ) (p : Page) → Changes p (drop_registration r p)
-drop-changes r p = with_change nothing (dropped r (task_dropped (task_in_answer (waiting_answer r p)) (task_in_net (waiting_net_task r p))) (record { notices = refl; performing = refl; events = refl; registrations = refl; frames = refl }))
+drop-changes r p = with_change nothing (dropped r (task_dropped (task_in_answer (waiting_answer r p)) (task_in_net (waiting_net_task r p))) (record { notices = refl; performing = refl; events = refl; registrations = refl; frames = refl; calls = refl }))
 
 pub abort_registration-changes : (reason : Value) (r : ℕ) (p : Page) → IsGiven (length p.notices.promises) (the_registration p r).promise → Changes p (abort_registration reason r p)
 abort_registration-changes reason r p x =
@@ -236,16 +236,16 @@ emit_aborts (s ∷ ss) p = changes-then (with_change nothing (told (Abort s) ref
 pub reason_set-changes : (reason : Value) (ss : List ℕ) (p : Page) → Changes p (reason_set reason ss p)
 reason_set-changes reason ss p =
     let q : Page = record p { signals = with_reason reason ss p.signals } in
-    changes-then (quietly p q refl refl refl refl refl refl) (emit_aborts ss q)
+    changes-then (quietly p q refl refl refl refl refl refl refl) (emit_aborts ss q)
 
 pub give_priority-changes : (s : ℕ) (priority : Priority) (p : Page) → Changes p (give_priority s priority p)
-give_priority-changes s priority p = lined (Prio s priority) p (give_priority s priority p) refl refl refl refl refl refl refl
+give_priority-changes s priority p = lined (Prio s priority) p (give_priority s priority p) refl refl refl refl refl refl refl refl
 
 pub change_begun-changes : (s : ℕ) (priority : Priority) (p : Page) → Changes p (change_begun s priority p)
-change_begun-changes s priority p = lined (Prio s priority) p (change_begun s priority p) refl refl refl refl refl refl refl
+change_begun-changes s priority p = lined (Prio s priority) p (change_begun s priority p) refl refl refl refl refl refl refl refl
 
 pub change_ended-changes : (s : ℕ) (p : Page) → Changes p (change_ended s p)
-change_ended-changes s p = quietly p (change_ended s p) refl refl refl refl refl refl
+change_ended-changes s p = quietly p (change_ended s p) refl refl refl refl refl refl refl
 
 -- ---- operations
 
@@ -255,7 +255,7 @@ micro_registered-changes f p =
     with_change nothing (micro_asked x (last_registration (register_as MicroKind x p)) refl (made_last MicroKind x p))
 
 pub script_promise-changes : (p : Page) → Changes p (script_promise p)
-script_promise-changes p = changes-then (new_promise-changes p) (quietly (new_promise p) (script_promise p) refl refl refl refl refl refl)
+script_promise-changes p = changes-then (new_promise-changes p) (quietly (new_promise p) (script_promise p) refl refl refl refl refl refl refl)
 
 -- a promise gets a reaction with handlers that are registered
 then_asked-changes : (n : ℕ) (x : Registration) (p : Page) → x.role ≡ OfKind ThenKind → IsGiven (length p.notices.promises) n
@@ -278,7 +278,7 @@ finally_made-changes n f p x =
     changes-then (new_promise-changes p) (then_asked-changes n r new refl x)
 
 pub posted-changes : (port : ℕ) (v : Value) (p : Page) → Changes p (posted port v p)
-posted-changes port v p = lined (Send port (spelled p.names v)) p (posted port v p) refl refl refl refl refl refl refl
+posted-changes port v p = lined (Send port (spelled p.names v)) p (posted port v p) refl refl refl refl refl refl refl refl
 
 pub timer_set-changes : (kind : RegKind) (repeats : Bool) (f : Func) (timeout : ℤ) (p : Page) → Changes p (timer_set kind repeats f timeout p)
 timer_set-changes kind repeats f timeout p =
@@ -288,7 +288,7 @@ timer_set-changes kind repeats f timeout p =
     let a = armed None timeout p.level p.now p.timers in
     let t : TimerTask = record { registration = r; id = a.id; handle = a.handle; level = a.level; repeats = repeats; timeout = timeout } in
     let set : Page = record made { timers = with_armed None a made.timers; completions = and_last made.completions (record { start = a.start; completion = QueueTimer t }) } in
-    register_at-changes kind x (Arm r a.due a.level) p set refl refl (at_timer a t (made_last kind x p)) (record { notices = refl; performing = refl; events = refl; registrations = refl; frames = refl })
+    register_at-changes kind x (Arm r a.due a.level) p set refl refl (at_timer a t (made_last kind x p)) (record { notices = refl; performing = refl; events = refl; registrations = refl; frames = refl; calls = refl })
 
 pub frame_requested-changes : (f : Func) (p : Page) → Changes p (frame_requested f p)
 frame_requested-changes f p = with_change nothing (frame_asked f)
@@ -299,11 +299,11 @@ idle_requested-changes f ms p =
     let made = register_as IdleKind x p in
     let r = last_registration made in
     let q : Page = record made { idle = IdleCallbacks.request r made.idle } in
-    let first : Changes p q = with_change nothing (registered IdleKind x refl (at_idle r (made_last IdleKind x p)) (record { notices = refl; performing = refl; events = refl; registrations = refl; frames = refl })) in
+    let first : Changes p q = with_change nothing (registered IdleKind x refl (at_idle r (made_last IdleKind x p)) (record { notices = refl; performing = refl; events = refl; registrations = refl; frames = refl; calls = refl })) in
     cond_of-changes (ms == 0) (λ q. q) (idle_timeout ms r) q p first (changes-then first (idle_timeout-changes ms r q))
 
 pub with_signals-changes : (f : AbortGraph.Signals Value → AbortGraph.Signals Value) (p : Page) → Changes p (with_signals f p)
-with_signals-changes f p = quietly p (with_signals f p) refl refl refl refl refl refl
+with_signals-changes f p = quietly p (with_signals f p) refl refl refl refl refl refl refl
 
 pub task_signal_made-changes : (priority : Priority) (p : Page) → Changes p (task_signal_made priority p)
 task_signal_made-changes priority p =
@@ -315,7 +315,7 @@ any_made-changes ss priority follows p =
     let made = with_signals (AbortGraph.any ss) p in
     let given_one = give_priority (last_signal made) priority made in
     let first : Changes p given_one = changes-then (with_signals-changes (AbortGraph.any ss) p) (give_priority-changes (last_signal made) priority made) in
-    elim-changes follows p given_one _ first (λ on. changes-then first (quietly given_one (record given_one { prios = TaskSignals.depend (last_signal made) on given_one.prios }) refl refl refl refl refl refl))
+    elim-changes follows p given_one _ first (λ on. changes-then first (quietly given_one (record given_one { prios = TaskSignals.depend (last_signal made) on given_one.prios }) refl refl refl refl refl refl refl))
 
 pub timeout_signal_made-changes : (ms : ℕ) (p : Page) → Changes p (timeout_signal_made ms p)
 timeout_signal_made-changes ms p =
@@ -323,19 +323,19 @@ timeout_signal_made-changes ms p =
     let made = register SignalKind None None new in
     let told_one = emit (Arm (last_registration made) (made.now + ms * 1000) 0) made in
     changes-then (with_change {q = made} (changes-then (with_signals-changes AbortGraph.make p) (register-changes SignalKind _ new refl)) (told _ refl))
-    (placed told_one (timeout_signal_made ms p) (signal_armed ms made.now (last_registration made) (last_signal made)) refl refl refl refl refl)
+    (placed told_one (timeout_signal_made ms p) (signal_armed ms made.now (last_registration made) (last_signal made)) refl refl refl refl refl refl)
 
 pub listener_added-changes : (target : Target) (name : List ℕ) (f : Func) (p : Page) → Changes p (listener_added target name f p)
 listener_added-changes target name f p =
     let x : Registration = record { role = OfKind ListenerKind; callback = Some f; second_callback = None; timer_id = 0; promise = 0; signal = None; finally = false } in
     let made = register_as ListenerKind x p in
-    with_change nothing (registered ListenerKind x refl (at_listener target name (last_registration made) (made_last ListenerKind x p)) (record { notices = refl; performing = refl; events = refl; registrations = refl; frames = refl }))
+    with_change nothing (registered ListenerKind x refl (at_listener target name (last_registration made) (made_last ListenerKind x p)) (record { notices = refl; performing = refl; events = refl; registrations = refl; frames = refl; calls = refl }))
 
 pub listener_removed-changes : (r : ℕ) (p : Page) → Changes p (listener_removed r p)
 listener_removed-changes r p = by_there (is_listening r p.listeners) refl
   where
     by_there : (b : Bool) → is_listening r p.listeners ≡ b → Changes p (cond b (emit (Drop r) (record p { listeners = off r p.listeners })) p)
-    by_there true e = with_change nothing (dropped r (listener_dropped e) (record { notices = refl; performing = refl; events = refl; registrations = refl; frames = refl }))
+    by_there true e = with_change nothing (dropped r (listener_dropped e) (record { notices = refl; performing = refl; events = refl; registrations = refl; frames = refl; calls = refl }))
     by_there false e = nothing
 
 -- the registration of a task, a delay or a host answer
@@ -361,7 +361,7 @@ enqueued-changes kind x source continuation p e =
     let r = last_registration made in
     let t : SchedTask = record { registration = r; source = source; continuation = continuation; order = suc p.tasks_made } in
     let q : Page = record made { tasks_made = suc p.tasks_made; sched_tasks = and_last made.sched_tasks t } in
-    register_at-changes kind x (Enq r (queue_name source) continuation (suc p.tasks_made)) p q e refl (at_queue t (made_last kind x p)) (record { notices = refl; performing = refl; events = refl; registrations = refl; frames = refl })
+    register_at-changes kind x (Enq r (queue_name source) continuation (suc p.tasks_made)) p q e refl (at_queue t (made_last kind x p)) (record { notices = refl; performing = refl; events = refl; registrations = refl; frames = refl; calls = refl })
 
 -- a delayed post of a new registration
 delayed-changes : (x : Registration) (source : PrioSource) (ms : ℕ) (p : Page) → x.role ≡ OfKind PostKind → Changes p (post_delayed ms (last_registration (register_as PostKind x p)) source (register_as PostKind x p))
@@ -370,7 +370,7 @@ delayed-changes x source ms p e =
     let r = last_registration made in
     let timers = Timers.run_after ms made.now made.timers in
     let q : Page = record made { timers = timers; completions = and_last made.completions (record { start = timers.starts_made; completion = EnqueuePost r source }) } in
-    register_at-changes PostKind x (Arm r (made.now + ms * 1000) 0) p q e refl (at_delay ms made.now r source (made_last PostKind x p)) (record { notices = refl; performing = refl; events = refl; registrations = refl; frames = refl })
+    register_at-changes PostKind x (Arm r (made.now + ms * 1000) 0) p q e refl (at_delay ms made.now r source (made_last PostKind x p)) (record { notices = refl; performing = refl; events = refl; registrations = refl; frames = refl; calls = refl })
 
 pub post_queued-changes : (f : Func) (source : PrioSource) (signal : Option ℕ) (ms : ℕ) (p : Page) → Changes p (post_queued f source signal ms p)
 post_queued-changes f source signal ms p =
@@ -400,7 +400,7 @@ asked-changes k c x e p role there live =
     let due = made.now + latency_of made.latencies k in
     let a : HostAnswer = record { due = due; task = record { registration = r; closure = k; number = x } } in
     let q : Page = record made { hosts = slice_set made.hosts k (queued_mark c); host_answers = and_last made.host_answers a } in
-    register_at-changes HostKind e (Arm r due 0) p q role refl (at_host c a (made_last HostKind e p) there live) (record { notices = refl; performing = refl; events = refl; registrations = refl; frames = refl })
+    register_at-changes HostKind e (Arm r due 0) p q role refl (at_host c a (made_last HostKind e p) there live) (record { notices = refl; performing = refl; events = refl; registrations = refl; frames = refl; calls = refl })
 
 ready-hosts : (kind : RegKind) (f : Option Func) (signal : Option ℕ) (p : Page) → (ready kind f signal p).hosts ≡ p.hosts
 ready-hosts kind f None p = refl
@@ -439,17 +439,17 @@ answer_task-changes source task t answer p e e1 x = by_closure (slice_get p.host
     rest q x h = changes-then (changes-then h (settle_answer-changes into answer q x)) (unwatch-changes t.registration (settle_answer into answer q))
 
     by_closure : (c : Option HostClosure) → slice_get p.hosts t.closure ≡ c → Changes p (unwatch t.registration (settle_answer into answer (fire_closure t.closure c told_one)))
-    by_closure None k = rest told_one x (with_change nothing (answered source task t answer e e1 (ap {A = Option HostClosure} {B = Places} (λ o. record (places told_one) { hosts = fired_at t.closure o p.hosts }) (sym k)) (record { notices = refl; performing = refl; events = refl; registrations = refl; frames = refl })))
+    by_closure None k = rest told_one x (with_change nothing (answered source task t answer e e1 (ap {A = Option HostClosure} {B = Places} (λ o. record (places told_one) { hosts = fired_at t.closure o p.hosts }) (sym k)) (record { notices = refl; performing = refl; events = refl; registrations = refl; frames = refl; calls = refl })))
     by_closure (Some c) k =
         let fired = fire_closure t.closure (Some c) told_one in
-        rest fired x (with_change nothing (answered source task t answer e e1 (ap {A = Option HostClosure} {B = Places} (λ o. record (places told_one) { hosts = fired_at t.closure o p.hosts }) (sym k)) (record { notices = refl; performing = refl; events = refl; registrations = refl; frames = refl })))
+        rest fired x (with_change nothing (answered source task t answer e e1 (ap {A = Option HostClosure} {B = Places} (λ o. record (places told_one) { hosts = fired_at t.closure o p.hosts }) (sym k)) (record { notices = refl; performing = refl; events = refl; registrations = refl; frames = refl; calls = refl })))
 
 -- ---- parallel items
 
 -- the steps of an active timer complete, which were found by its start
 complete-changes : (start : ℕ) (c : Completion) (p : Page) → completion_of p.completions start ≡ Some c → Changes p (complete c (without_timer start p))
 complete-changes start (QueueTimer t) p e =
-    lined_placed (Due t.registration) p (complete (QueueTimer t) (without_timer start p)) refl (timer_due start (suc p.tasks_made) Timer t e) refl refl refl refl refl
+    lined_placed (Due t.registration) p (complete (QueueTimer t) (without_timer start p)) refl (timer_due start (suc p.tasks_made) Timer t e) refl refl refl refl refl refl
 complete-changes start (EnqueuePost r source) p e = by_abort (is_aborted_source p (the_registration p r).signal)
   where
     told_one : Page
@@ -462,14 +462,14 @@ complete-changes start (EnqueuePost r source) p e = by_abort (is_aborted_source 
     posted_one = enqueue r source false (emit (Due r) (without_timer start p))
 
     by_abort : (b : Bool) → Changes p (cond b (λ q. q) (enqueue r source false) (emit (Due r) (without_timer start p)))
-    by_abort true = lined_placed (Due r) p (emit (Due r) (without_timer start p)) refl (completed start) refl refl refl refl refl
-    by_abort false = changes-then {q = told_one} (with_change nothing (told (Due r) refl)) (lined_placed (Enq r (queue_name source) false (suc p.tasks_made)) told_one posted_one refl (post_due start source t e) refl refl refl refl refl)
+    by_abort true = lined_placed (Due r) p (emit (Due r) (without_timer start p)) refl (completed start) refl refl refl refl refl refl
+    by_abort false = changes-then {q = told_one} (with_change nothing (told (Due r) refl)) (lined_placed (Enq r (queue_name source) false (suc p.tasks_made)) told_one posted_one refl (post_due start source t e) refl refl refl refl refl refl)
 complete-changes start (QueueSignal r s) p e =
     let gone = emit (Due r) (without_timer start p) in
-    changes-then (lined_placed (Due r) p gone refl (completed start) refl refl refl refl refl) (queue_task-changes Timer (TimeOutSignal s) gone refl)
+    changes-then (lined_placed (Due r) p gone refl (completed start) refl refl refl refl refl refl) (queue_task-changes Timer (TimeOutSignal s) gone refl)
 
 complete_at-changes : (start : ℕ) (c : Option Completion) (p : Page) → completion_of p.completions start ≡ c → Changes p (complete_at c (without_timer start p))
-complete_at-changes start None p e = placed p (without_timer start p) (completed start) refl refl refl refl refl
+complete_at-changes start None p e = placed p (without_timer start p) (completed start) refl refl refl refl refl refl
 complete_at-changes start (Some c) p e = complete-changes start c p e
 
 -- an answer that is pending: the ones before it and behind it
@@ -486,15 +486,15 @@ Stands p what = Unit {0}
 take_item-changes : (what : ItemKind) (p : Page) → Stands p what → Changes p (take_item what p)
 take_item-changes (ArrivalItem n a) p h =
     let q : Page = record p { arrivals = without_numbered n p.arrivals } in
-    changes-then (quietly p q refl refl refl refl refl refl) (queue_task-changes a.source (FireAtWindow a.name a.value) q refl)
-take_item-changes (HostItem a) p h = lined_placed (Due a.task.registration) p (take_item (HostItem a) p) refl (answer_due h.before a h.after (suc p.tasks_made) Net h.whole) refl refl refl refl refl
+    changes-then (quietly p q refl refl refl refl refl refl refl) (queue_task-changes a.source (FireAtWindow a.name a.value) q refl)
+take_item-changes (HostItem a) p h = lined_placed (Due a.task.registration) p (take_item (HostItem a) p) refl (answer_due h.before a h.after (suc p.tasks_made) Net h.whole) refl refl refl refl refl refl
 take_item-changes (TimerItem t) p h = complete_at-changes t.start (completion_of p.completions t.start) p refl
 take_item-changes (IdleItem t) p h =
     let q : Page = emit (Due t.registration) (record p { idle_timers = without (λ u. u.handle == t.handle) p.idle_timers }) in
-    changes-then (lined_placed (Due t.registration) p q refl (idle_due t.handle) refl refl refl refl refl) (queue_task-changes IdleSource (IdleTimeout t.handle) q refl)
+    changes-then (lined_placed (Due t.registration) p q refl (idle_due t.handle) refl refl refl refl refl refl) (queue_task-changes IdleSource (IdleTimeout t.handle) q refl)
 take_item-changes FrameItem p h =
     let q : Page = record p { last_opportunity = p.now } in
-    changes-then (quietly p q refl refl refl refl refl refl) (queue_task-changes Render (RunFrame p.now) q refl)
+    changes-then (quietly p q refl refl refl refl refl refl refl) (queue_task-changes Render (RunFrame p.now) q refl)
 
 -- ---- the items that stand in a page
 

@@ -106,5 +106,5 @@ moves-kept here k = k
 moves-kept (changing a c) k = change-kept c (moves-kept a k)
 moves-kept (calling {q = q} a b w i) k = (refl, begins-kept b q w (moves-kept a k))
 moves-kept (ending {q = q} a e h) k = (end-passes e h q.events, moves-kept a k)
-moves-kept (flagging a x y z w u) k = subst (Kept nesting) (sym y) (moves-kept a k)
+moves-kept (flagging a x y z w u v) k = subst (Kept nesting) (sym y) (moves-kept a k)
 moves-kept (running {q = q} a j others x y) k = (ap is_nil y, moves-kept a k)

@@ -521,7 +521,7 @@ moves-fit here f = f
 moves-fit (changing a c) f = change-fits c (moves-fit a f)
 moves-fit (calling {q = q} a b w i) f = call-fits b q w i (moves-fit a f)
 moves-fit (ending {q = q} a e h) f = silent-fits e q.now q.registrations (claims_of (places q) q.notices q.frames.callbacks) q.events (end-silent e h) (moves-fit a f)
-moves-fit (flagging {q = q} {r = r} a x y z w u) f =
+moves-fit (flagging {q = q} {r = r} a x y z w u v) f =
     subst (λ (y : Places). FitsBy r.registrations y r.notices r.frames.callbacks r.events) (sym u)
     (subst (λ (fr : Frames). FitsBy r.registrations (places q) r.notices fr.callbacks r.events) (sym w)
     (subst (λ (s : Notices). FitsBy r.registrations (places q) s q.frames.callbacks r.events) (sym x)

@@ -177,7 +177,7 @@ run_algorithms-onto s p h =
     let q : Page = record p { signals = with_algorithms s [] p.signals } in
     let next : Onward (made_by p) q = with_algorithms-held s [] p h tt in (
       run_algorithms-held s p h,
-      changes-then (quietly p q refl refl refl refl refl refl)
+      changes-then (quietly p q refl refl refl refl refl refl refl)
           (abort_registrations-changes (reason_value p s) (the_signal p.signals s).algorithms q next.1
           (IsKnown-grows (made_by p) (made_by q) next.0 (reason_value p s) (reason_value-known p s h))
           (Each-more (HasPromise (made_by p)) (HasPromise (made_by q)) (HasPromise-grows (made_by p) (made_by q) next.0) (the_signal p.signals s).algorithms (algorithms-given s p h))),

@@ -197,7 +197,7 @@ module _ (program : Program) where
   busy-goes v m g =
       take_unit-holds (keeping program) m _ g (λ r le gr. given_any-goes (int_in v) r busy_for gr
       (λ i. branch-goes program (int_within (pos 0) (pos 1000000000) i) r (does (λ p. record p { now = p.now + not_below_zero i })) (throw_fault RangeError)
-      (finish_page program r (λ p. record p { now = p.now + not_below_zero i }) gr (stays r.host gr.0, quietly r.host (record r.host { now = r.host.now + not_below_zero i }) refl refl refl refl refl refl)) (fault-holds (keeping program) r RangeError gr)))
+      (finish_page program r (λ p. record p { now = p.now + not_below_zero i }) gr (stays r.host gr.0, quietly r.host (record r.host { now = r.host.now + not_below_zero i }) refl refl refl refl refl refl refl)) (fault-holds (keeping program) r RangeError gr)))
 
   queue_microtask-goes : (f : Value) (m : State) → Good m → IsKnown (made_by m.host) f → Ends m (queue_microtask f m)
   queue_microtask-goes f m g h =

@@ -299,7 +299,7 @@ moves-fit (calling {q = q} a b w i) f =
     subst (λ (xs : List Registration). KindsFit xs (record { time = (taken b q).now; event = Call (called_by b) } ∷ (taken b q).events)) (sym same)
     (call-fits b (taken b q).now q (taken b q).events i (subst (λ (xs : List Registration). KindsFit xs (taken b q).events) same (begins-fit b q (moves-fit a f))))
 moves-fit (ending {q = q} a e h) f = silent-fits e q.now q.registrations q.events (end-silent e h) (moves-fit a f)
-moves-fit (flagging {q = q} {r = r} a x y z w u) f = subst (λ (xs : List Registration). KindsFit xs r.events) (sym z) (subst (KindsFit q.registrations) (sym y) (moves-fit a f))
+moves-fit (flagging {q = q} {r = r} a x y z w u v) f = subst (λ (xs : List Registration). KindsFit xs r.events) (sym z) (subst (KindsFit q.registrations) (sym y) (moves-fit a f))
 moves-fit (running {q = q} a j others x y) f = silent-fits (Run j.number) q.now q.registrations q.events refl (moves-fit a f)
 
 -- before the first line only the script is registered

@@ -255,7 +255,7 @@ module _ (program : Program) where
       by_kind false = (resolve-onto into v p h g y).1
 
   pub scheduling-onto : (s : Option ℕ) (p : Page) → Held (made_by p) p → IfThere (IsGiven (made_by p).states) s → Onto p (record p { scheduling = s })
-  scheduling-onto s p h x = (stays (record p { scheduling = s }) (put_scheduling (made_by p) p s x h), quietly p (record p { scheduling = s }) refl refl refl refl refl refl)
+  scheduling-onto s p h x = (stays (record p { scheduling = s }) (put_scheduling (made_by p) p s x h), quietly p (record p { scheduling = s }) refl refl refl refl refl refl refl)
 
   abbrev JobsGiven : Made → List WaitingJob → Type 0
   JobsGiven n jobs = Each (JobIsGiven n) jobs
@@ -340,14 +340,14 @@ module _ (program : Program) where
           let notified = notify_rejected r.host in
           let a = numbers.on_page-good r (checkpoint_ended m.host) h.1 (checkpoint_ended-held m.host r.host h.1.0 (if_state-grows (made_by m.host) (made_by r.host) h.0.0 m.host.scheduling (g.0 InScheduling))) in
           let row : Moves m.host (checkpoint_ended m.host r.host) =
-          flagging (moves-then (moves-then (flagging here refl refl refl refl refl) h.0.1) (moves_of (notify_rejected-changes r.host))) refl refl refl refl refl in (
+          flagging (moves-then (moves-then (flagging here refl refl refl refl refl refl) h.0.1) (moves_of (notify_rejected-changes r.host))) refl refl refl refl refl refl in (
             (Grows-then (made_by m.host) (made_by r.host) (made_by (checkpoint_ended m.host r.host)) h.0.0 a.0, row, ((changes-same (notify_rejected-changes r.host)).0 ∙ h.0.2.0, sym z.1)),
             a.1,
             tt,
           )
       by_end (Throws v r) h k = elim k [ ]
       by_end (Returns v r) h k = elim k [ ]
-      by_end (OutOfFuel r) h k = moves-then (flagging here refl refl refl refl refl) h
+      by_end (OutOfFuel r) h k = moves-then (flagging here refl refl refl refl refl refl) h
 
   pub checkpoint-goes : (call : Caller Page) → CallsGo call → (m : State) → Good m → AtTop m → Goes m (checkpoint call m)
   checkpoint-goes call c m g z = branch-goes m.host.performing m finish (perform_checkpoint call) (finish-goes m g) (perform_checkpoint-goes call c m g z)

@@ -299,7 +299,7 @@ moves-fit here f = f
 moves-fit (changing a c) f = change-fits c (moves-fit a f)
 moves-fit (calling {q = q} a b w i) f = silent-fits (Call (called_by b)) (taken b q).now (taken b q).notices.promises (taken b q).events refl (begins-fit b q (moves-fit a f))
 moves-fit (ending {q = q} a e h) f = silent-fits e q.now q.notices.promises q.events (end-silent e h) (moves-fit a f)
-moves-fit (flagging {q = q} {r = r} a x y z w u) f = subst (λ (s : Notices). SettlesFit s.promises r.events) (sym x) (subst (SettlesFit q.notices.promises) (sym y) (moves-fit a f))
+moves-fit (flagging {q = q} {r = r} a x y z w u v) f = subst (λ (s : Notices). SettlesFit s.promises r.events) (sym x) (subst (SettlesFit q.notices.promises) (sym y) (moves-fit a f))
 moves-fit (running {q = q} a j others x y) f = silent-fits (Run j.number) q.now q.notices.promises q.events refl (moves-fit a f)
 
 -- from a page with no lines and no promises on, no promise is settled twice

@@ -287,7 +287,7 @@ module _ {C : Type 0} (program : Program) where
     with_turn_fuel-lands zero m c g x = ends-lands FuelEnd c m g x
     with_turn_fuel-lands (suc left) m c g x =
         let counted = counted_turn left m in
-        lands-then m counted (step_four rules call (view m.host) counted c) (Grows-same (made_by m.host), changing here (elsewhere places_stay (record { notices = refl; performing = refl; events = refl; registrations = refl; frames = refl })), (refl, refl)) (step_four-lands (view m.host) counted c g x)
+        lands-then m counted (step_four rules call (view m.host) counted c) (Grows-same (made_by m.host), changing here (elsewhere places_stay (record { notices = refl; performing = refl; events = refl; registrations = refl; frames = refl; calls = refl })), (refl, refl)) (step_four-lands (view m.host) counted c g x)
 
     pub step_three-lands : (until : ℕ) (c : C) (m : State) → Good m → Rests m → Lands m (step_three rules call until c m)
     step_three-lands until c m g x =
@@ -310,7 +310,7 @@ module _ {C : Type 0} (program : Program) where
     LandsNext next = (r : State) → Good r → Rests r → Lands r (next r)
 
     pub at_time-comes : (t : ℕ) (m : State) → Good m → Rests m → Comes m (on_page (λ p. at_time t p) m)
-    at_time-comes t m g x = comes_by m (λ p. at_time t p) g x (stays m.host g.0, quietly m.host (at_time t m.host) refl refl refl refl refl refl) refl
+    at_time-comes t m g x = comes_by m (λ p. at_time t p) g x (stays m.host g.0, quietly m.host (at_time t m.host) refl refl refl refl refl refl refl) refl
 
     waited-lands : (t : ℕ) (x : Option (Chosen ℕ C)) (again : State → C → Turned C) (c : C) (m : State) → LandsAgain again → Good m → Rests m → Lands m (waited t x again c m)
     waited-lands t None again c m k g z = here

@@ -200,13 +200,14 @@ pub data FirstPlace (r : ℕ) : Places → Places → Type 0 where
       → c.mark ≡ Live
       → FirstPlace r x (record x { hosts = slice_set x.hosts a.task.closure (queued_mark c); host_answers = and_last x.host_answers a })
 
--- promises, jobs, the flag of the checkpoint, lines, registrations and frame callbacks are as in p
+-- promises, jobs, the flag of the checkpoint, lines, registrations, frame callbacks and open calls are as in p
 pub record AsBefore (p q : Page) : Type 0 where
   pub notices : q.notices ≡ p.notices
   pub performing : q.performing ≡ p.performing
   pub events : q.events ≡ p.events
   pub registrations : q.registrations ≡ p.registrations
   pub frames : q.frames ≡ p.frames
+  pub calls : q.calls ≡ p.calls
 
 -- ---- Ours: a change, with which no call begins or ends
 
@@ -354,6 +355,6 @@ pub data Moves : Page → Page → Type 0 where
   ending : {p q : Page} → Moves p q → (e : Event) → is_end e ≡ true → Moves p (call_ended e q)
   -- the flag of the checkpoint
   flagging : {p q r : Page} → Moves p q → r.notices ≡ q.notices → r.events ≡ q.events → r.registrations ≡ q.registrations
-      → r.frames ≡ q.frames → places r ≡ places q → Moves p r
+      → r.frames ≡ q.frames → places r ≡ places q → r.calls ≡ q.calls → Moves p r
   running : {p q : Page} → Moves p q → (job : WaitingJob) (others : List WaitingJob) → q.notices.jobs ≡ job ∷ others
       → open_registrations q.events ≡ [] → Moves p (job_begun job others q)

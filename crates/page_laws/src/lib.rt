@@ -2,7 +2,7 @@
 //! the run stops: at its end, for fuel, or stuck at a choice.
 #![tactic(auto)]
 
-ghost use Rattle.std.specs.Prelude.{ℕ, List, []};
+ghost use Rattle.std.specs.Prelude.{◌≡◌, ℕ, List, []};
 ghost use Rattle.page_types.specs.Tree.{Program};
 ghost use Rattle.page_parts.specs.Setup.{Setup};
 ghost use Rattle.page_parts.specs.HostClosures.{HostClosure};
@@ -11,6 +11,7 @@ ghost use Rattle.page_model.specs.Operations.{page_operations};
 ghost use Rattle.page_model.specs.Turns.{turns, run_by, state_of, first_state, first_page, events_of_run};
 ghost use Rattle.page_model.specs.Numbers.{HoldsNoNumbers};
 ghost use Rattle.page_laws.specs.CallLaws.{Once, SettleOnce, JobsInOrder, NoNesting};
+ghost use Rattle.page_laws.specs.History.{open_registrations};
 ghost use Rattle.page_laws.specs.Moves.{Moves};
 ghost use Rattle.page_model.specs.Gaps.{Act, run_gaps_by};
 
@@ -41,6 +42,12 @@ pub fn jobs_run_in_no_call<R: Choosing>()
 /// hosts and timeout signals are never called, and no host closure answers twice.
 pub fn callbacks_run_once<R: Choosing>()
     ensures { (program : Program) (setup : Setup) (hosts : List HostClosure) (c : R.Held) → HoldsNoNumbers setup → Once (events_of_run (run_by R.rules program setup hosts c)) }
+{}
+
+/// The open calls that a page keeps are those that its lines tell, the innermost first, wherever a run stops.
+pub fn open_calls_are_told<R: Choosing>()
+    ensures in_runs { (program : Program) (setup : Setup) (hosts : List HostClosure) (c : R.Held) → HoldsNoNumbers setup → let page = (state_of (run_by R.rules program setup hosts c)).host in page.calls ≡ open_registrations page.events }
+    ensures in_pieces { (program : Program) (setup : Setup) (c : R.Held) (list : List Act) → HoldsNoNumbers setup → let page = (state_of (run_gaps_by R.rules program setup list c)).host in page.calls ≡ open_registrations page.events }
 {}
 
 /// The same of a run in pieces, in which another loop says when time passes, when a task is served and when the page rests.
