@@ -26,7 +26,10 @@ use Rattle.page_model.specs.SchedulerTasks.{first_sched, without_sched}
 use Rattle.page_model.specs.Parallel.{item_count}
 use Rattle.page_model.specs.State.{Page, State, HostTask, Task, SchedTask, on_page, emit}
 use Rattle.page_model.specs.Tasks.{perform_steps, perform_sched, answer_host, after_task}
-use Rattle.page_model.specs.Turns.{Turned, GoesOn, Ended, Stuck, ends, goes_on, choose_turned, step_five, task_done, without_task, not_dropped, host_answered, perform_host, perform_task, perform_first, perform_first_sched, perform, turn_line, perform_picked, step_four, counted_turn, with_turn_fuel, step_three, from_step_three, is_pending, target, at_time, waited, step_two_at, step_two_by, step_two, step_one, after_step_one, from_step_one, turn, next_turn, turns, first_state, run, run_by, state_of}
+use Rattle.page_model.specs.PageTime.{idle_step}
+use Rattle.page_model.specs.Gaps.{Act, Pass, Serve, Rest, Stop, at_moment, pass, rest, stop_by_clock, stop, act, acts, run_gaps_by, run_gaps}
+use Rattle.page_model.proofs.AddingActs.{acts-adds}
+use Rattle.page_model.specs.Turns.{NoAct, Turned, GoesOn, Ended, Stuck, ends, goes_on, choose_turned, step_five, task_done, without_task, not_dropped, host_answered, perform_host, perform_task, perform_first, perform_first_sched, perform, turn_line, perform_picked, step_four, counted_turn, with_turn_fuel, step_three, from_step_three, is_pending, target, at_time, waited, step_two_at, step_two_by, step_two, step_one, after_step_one, from_step_one, turn, next_turn, turns, first_state, run, run_by, state_of}
 use Rattle.page_model.specs.View.{view}
 use Rattle.page_model.proofs.AddingOperations.{outside-adds}
 use Rattle.page_model.proofs.AddingTurns.{step_five-adds, host_answered-adds, perform_picked-adds, waited-adds, from_step_one-adds, turns-adds}
@@ -248,6 +251,37 @@ module _ (more_sources : List Source) (more_readings : List ℕ) (more_answers :
         next_turn-further (turns choice_rules call until n) (λ es c. turns-adds es choice_rules call (adds es) until n c) (turns-further until n) (turn choice_rules call until m c) (turn choice_rules call until m (longer c))
         (from_step_one-further until (suc (suc (item_count m.host))) m c)
 
+    -- ---- a run in pieces
+
+    at_moment-further : (t : ℕ) (next : Choices → State → Turned Choices) (m : State) (c : Choices) → ((m : State) → Further (next c m) (next (longer c) m)) → Further (at_moment t (next c) c m) (at_moment t (next (longer c)) (longer c) m)
+    at_moment-further t next m c k =
+        choose-further (nat_le m.host.now t) m (λ m. next c (on_page (at_time t) m)) (λ m. Stuck NoAct m c) (λ m. next (longer c) (on_page (at_time t) m)) (λ m. Stuck NoAct m (longer c)) (k (on_page (at_time t) m)) ([], refl)
+
+    stop_by_clock-further : (until : ℕ) (m : State) (c : Choices) → Further (stop_by_clock until c m) (stop_by_clock until (longer c) m)
+    stop_by_clock-further until m c =
+        choose-further (nat_le until m.host.now) m (ends ClockEnd c) (λ m. Stuck NoAct m c) (ends ClockEnd (longer c)) (λ m. Stuck NoAct m (longer c)) refl ([], refl)
+
+    stop-further : (until : ℕ) (m : State) (c : Choices) → Further (stop until c m) (stop until (longer c) m)
+    stop-further until m c =
+        choose-further (is_empty (view m.host)) m (choose_turned (is_pending m.host) (stop_by_clock until c) (ends DoneEnd c)) (stop_by_clock until c) (choose_turned (is_pending m.host) (stop_by_clock until (longer c)) (ends DoneEnd (longer c))) (stop_by_clock until (longer c))
+        (choose-further (is_pending m.host) m (stop_by_clock until c) (ends DoneEnd c) (stop_by_clock until (longer c)) (ends DoneEnd (longer c)) (stop_by_clock-further until m c) refl)
+        (stop_by_clock-further until m c)
+
+    act-further : (until : ℕ) (a : Act) (m : State) (c : Choices) → Further (act choice_rules call until a m c) (act choice_rules call until a m (longer c))
+    act-further until (Pass t) m c = at_moment-further t pass m c (λ m. refl)
+    act-further until Serve m c =
+        choose-further (is_empty (view m.host)) m (λ m. Stuck NoAct m c) (step_three choice_rules call until c) (λ m. Stuck NoAct m (longer c)) (step_three choice_rules call until (longer c)) ([], refl) (step_three-further until m c)
+    act-further until (Rest t) m c =
+        at_moment-further t rest m c
+        (λ m. choose-further (is_empty (view m.host)) m (λ m. GoesOn (on_page idle_step m) c) (λ m. Stuck NoAct m c) (λ m. GoesOn (on_page idle_step m) (longer c)) (λ m. Stuck NoAct m (longer c)) refl ([], refl))
+    act-further until (Stop t) m c = at_moment-further t (stop until) m c (λ m. stop-further until m c)
+
+    acts-further : (until : ℕ) (list : List Act) (m : State) (c : Choices) → Further (acts choice_rules call until list m c) (acts choice_rules call until list m (longer c))
+    acts-further until [] m c = refl
+    acts-further until (a ∷ more) m c =
+        next_turn-further (acts choice_rules call until more) (λ es c. acts-adds es choice_rules call (adds es) until more c) (acts-further until more) (act choice_rules call until a m c) (act choice_rules call until a m (longer c))
+        (act-further until a m c)
+
   -- ---- a whole run
 
   continues : (t t' : Turned Choices) → Further t t' → Continues more_sources more_readings more_answers t t'
@@ -260,3 +294,9 @@ module _ (more_sources : List Source) (more_readings : List ℕ) (more_answers :
   run-further program setup hosts c =
       let call : Caller Page = call_from_outside program page_operations in
       continues _ _ (turns-further call (λ es. outside-adds es program) setup.until (suc setup.fuel) (first_state program setup hosts) c)
+
+  pub gaps-further : (program : Program) (setup : Setup) (list : List Act) (c : Choices) → Continues more_sources more_readings more_answers (run_gaps program setup list c) (run_gaps program setup list (longer c))
+  unfolding run_gaps run_gaps_by
+  gaps-further program setup list c =
+      let call : Caller Page = call_from_outside program page_operations in
+      continues _ _ (acts-further call (λ es. outside-adds es program) setup.until list (first_state program setup []) c)

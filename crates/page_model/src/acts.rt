@@ -1,9 +1,11 @@
 //! The laws of turns, for runs in pieces.
 
-ghost use Rattle.std.specs.Prelude.{◌≡◌, ℕ, List, []};
+ghost use Rattle.std.specs.Prelude.{◌≡◌, ℕ, ℤ, List, [], Result};
 ghost use Rattle.page_types.specs.Tree.{Program};
 ghost use Rattle.page_types.specs.Events.{Stamped};
+ghost use Rattle.page_types.specs.declared.Source.{Source};
 ghost use Rattle.page_parts.specs.Setup.{Setup};
+ghost use Rattle.page_parts.specs.WrittenChoices.{Choices};
 ghost use Rattle.page_parts.specs.TraceText.{choices_in};
 ghost use Rattle.lang_meaning.specs.Evaluation.{call_from_outside};
 ghost use Rattle.page_model.specs.State.{State};
@@ -11,7 +13,7 @@ ghost use Rattle.page_model.specs.Operations.{page_operations};
 ghost use Rattle.page_model.specs.Turns.{first_state, state_of, events_of_run};
 ghost use Rattle.page_model.specs.Gaps.{Act, serve, acts, run_gaps, run_gaps_by};
 ghost use Rattle.page_model.specs.Additions.{ActsAdd};
-ghost use Rattle.page_model.specs.ChoicesAreData.{with_left, no_choices};
+ghost use Rattle.page_model.specs.ChoicesAreData.{with_left, no_choices, with_further, Continues};
 ghost use Rattle.page_model.specs.Likeness.{EndAlike};
 ghost use Rattle.page_model.specs.FuelAndTime.{Later, TurnForward};
 ghost use Rattle.page_model.specs.Numbers.{AllAreGiven, IsAfter, HoldsNoNumbers, made_by};
@@ -53,6 +55,11 @@ pub fn choices_of_acts_are_data<R: Choosing>()
 /// So the choices that stand in the lines of a run in pieces determine it, whatever the rules.
 pub fn choices_determine_a_run_by_acts<R: Choosing, S: Choosing>()
     ensures { (program : Program) (setup : Setup) (list : List Act) (c : R.Held) (d : S.Held) → choices_in (events_of_run (run_gaps_by R.rules program setup list c)) ≡ choices_in (events_of_run (run_gaps_by S.rules program setup list d)) → with_left no_choices (run_gaps_by R.rules program setup list c) ≡ with_left no_choices (run_gaps_by S.rules program setup list d) }
+{}
+
+/// Further choices behind the lists are left over where a run in pieces has ended or goes on, and where it is stuck its lines come first.
+pub fn further_choices_of_acts_are_left()
+    ensures { (program : Program) (setup : Setup) (list : List Act) (c : Choices) (more_sources : List Source) (more_readings : List ℕ) (more_answers : List (Result ℤ ℤ)) → Continues more_sources more_readings more_answers (run_gaps program setup list c) (run_gaps program setup list (with_further more_sources more_readings more_answers c)) }
 {}
 
 /// By rules that choose alike, runs in pieces go alike.

@@ -23,7 +23,7 @@ ghost use Rattle.page_model.specs.Additions.{TurnAdds};
 pub use acts::{
     acts_by_steps_are_the_acts, acts_go_forward, acts_keep_numbers_given, acts_only_give_lines,
     choices_determine_a_run_by_acts, choices_of_acts_are_data, following_stays_one_deep_by_acts,
-    runs_by_acts_are_alike,
+    further_choices_of_acts_are_left, runs_by_acts_are_alike,
 };
 pub use arrivals::arrivals_stay_in_order;
 pub use bounds::{
