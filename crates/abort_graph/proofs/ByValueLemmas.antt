@@ -1,13 +1,16 @@
 -- Signals whose reasons are numbers, and those whose reasons are values.
-use Rattle.std.proofs.Common.{◌≡◌, ℕ, zero, suc, Bool, cond, not, List, [], ◌∷◌, filter, Option, None, Some, refl, sym, ap, ◌∙◌}
-use Rattle.std.specs.Prelude.{slice_get, slice_set, unwrap_or, option_map, length, map, ◌==◌}
+use Rattle.std.proofs.Common.{◌≡◌, ℕ, zero, suc, cond, not, List, [], ◌∷◌, filter, Option, None, Some, refl, sym, ap, ◌∙◌}
+use Rattle.std.specs.Prelude.{slice_get, unwrap_or, option_map, length, ◌==◌}
 use Rattle.std.proofs.lemmas.Option.{slice_get-map}
 use Rattle.std.proofs.lemmas.List.{map-set, map-append, length-map}
-use Rattle.page_parts.specs.Words.{and_last, without, numbered, with_numbered, is_empty, is_there}
+use Rattle.page_parts.specs.Words.{and_last, without, with_numbered, is_empty, is_there}
 use Rattle.page_parts.specs.AbortGraph.{SignalRecord, Signals, fresh_signal, the_signal, reason_of, is_aborted, make, make_aborted, first_reason, sources_through, and_new, all_sources, with_dependent, depend_on, any, marked, with_reason, with_algorithms, add_algorithm, remove_algorithm}
 use Rattle.abort_graph.specs.ByValue.{record_by, by_value, SameReasons}
 
 module _ {A B : Type 0} (f : A → B) where
+  pub count_by_value : (ss : Signals A) → length (by_value f ss) ≡ length ss
+  count_by_value ss = length-map ss (record_by f)
+
   or_fresh : (o : Option (SignalRecord A)) → unwrap_or (option_map (record_by f) o) fresh_signal ≡ record_by f (unwrap_or o fresh_signal)
   or_fresh None = refl
   or_fresh (Some q) = refl
@@ -103,7 +106,7 @@ module _ {A B : Type 0} (f : A → B) where
   there_by None = refl
   there_by (Some v) = refl
 
-  aborted_by : (ss : Signals A) (s : ℕ) → is_aborted (by_value f ss) s ≡ is_aborted ss s
+  pub aborted_by : (ss : Signals A) (s : ℕ) → is_aborted (by_value f ss) s ≡ is_aborted ss s
   aborted_by ss s = ap is_there (reason_by ss s) ∙ there_by (reason_of ss s)
 
   left_by : (ss : Signals A) (ds : List ℕ) → filter (λ d. not (is_aborted (by_value f ss) d)) ds ≡ filter (λ d. not (is_aborted ss d)) ds

@@ -2,3 +2,4 @@ pub mod ByValueLemmas
 pub mod IndexLemmas
 pub mod NumberLemmas
 pub mod SignalLemmas
+pub mod AmongLemmas

@@ -36,7 +36,8 @@ impl Model for Algorithms {
 
     ghost view = { λ algorithms. values algorithms.listed };
 
-    ghost invariant = { λ algorithms. IsIndexed algorithms.listed.entries algorithms.serials algorithms.next × (algorithms.room.items ≡ []) × (btree_map_len algorithms.listed ≤ vec_capacity algorithms.room) };
+    ghost invariant = { λ algorithms. IsIndexed algorithms.listed.entries algorithms.serials algorithms.next × (algorithms.room.items ≡ [])
+        × (btree_map_len algorithms.listed ≤ vec_capacity algorithms.room) };
 }
 
 impl Algorithms {

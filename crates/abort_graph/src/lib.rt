@@ -12,7 +12,7 @@ mod numbers;
 mod signal;
 mod signals;
 
-pub use by_value::reasons_by_number_are_reasons_by_value;
+pub use by_value::{reasons_are_among_the_values, reasons_by_number_are_reasons_by_value};
 pub use fault::MemoryFault;
 pub use marked::Marked;
 pub use signals::Signals;

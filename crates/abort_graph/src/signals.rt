@@ -173,7 +173,8 @@ impl<R: Copy> Signals<R> {
     fn put(&mut self, reason: Option<R>, sources: Vec<u32>) -> Result<u32, MemoryFault>
         requires { length self.old + 1 < 2 ^ 32 }
         ensures number { IfOk result (λ s. s ≡ length self.old + 1) }
-        ensures made { OnOk result (self.new ≡ and_last self.old (record { reason = reason; sources = sources.items; dependents = []; algorithms = [] })) }
+        ensures made { OnOk result (self.new ≡ and_last self.old
+            (record { reason = reason; sources = sources.items; dependents = []; algorithms = [] })) }
         ensures err { OnErr result (self.new ≡ self.old) }
     {
         let number = self.made() + 1;
@@ -286,7 +287,8 @@ impl<R: Copy> Signals<R> {
     }
 
     fn add_dependent(&mut self, s: u32, d: u32) -> Result<(), MemoryFault>
-        ensures added { OnOk result (self.new ≡ with_numbered self.old s (record (the_signal self.old s) { dependents = and_last (the_signal self.old s).dependents d })) }
+        ensures added { OnOk result (self.new ≡ with_numbered self.old s
+            (record (the_signal self.old s) { dependents = and_last (the_signal self.old s).dependents d })) }
         ensures err { OnErr result (self.new ≡ self.old) }
     {
         if let Some(at) = place_of(s, self.signals.len()) {
@@ -296,7 +298,11 @@ impl<R: Copy> Signals<R> {
     }
 
     fn drop_dependent(&mut self, s: u32)
-        ensures { self.new ≡ with_numbered self.old s (record (the_signal self.old s) { dependents = take (length (the_signal self.old s).dependents - 1) (the_signal self.old s).dependents }) }
+        ensures { self.new ≡ with_numbered self.old s
+            (record (the_signal self.old s) {
+              dependents = take (length (the_signal self.old s).dependents - 1)
+                  (the_signal self.old s).dependents;
+            }) }
     {
         if let Some(at) = place_of(s, self.signals.len()) {
             self.signals[at].dependents.pop();

@@ -9,11 +9,21 @@ use Rattle.arrivals_text.specs.Fields.{number_in, policy_at, late_at, latency_at
 use Rattle.arrivals_text.specs.declared.place.Place.{Place}
 use Rattle.arrivals_text.specs.declared.place.Place.TheVariants as place
 
--- The setup of a file that sets nothing: form 1 and a trace of form 1, the default rank, 1,000,000 units of fuel, 10,000,000 microseconds, 60 frames
--- a second, and no lateness, latency or arrival.
+-- The setup of a file that sets nothing: form 1 and a trace of form 1, the default rank, 1,000,000 units of fuel, 10,000,000 microseconds,
+-- 60 frames a second, and no lateness, latency or arrival.
 abbrev pub default_setup : Setup
 default_setup =
-    record { form = 1; trace = 1; policy = Rank default_list; fuel = 1000000; until = 10000000; refresh = 60; late = []; latencies = []; arrivals = [] }
+    record {
+      form = 1;
+      trace = 1;
+      policy = Rank default_list;
+      fuel = 1000000;
+      until = 10000000;
+      refresh = 60;
+      late = [];
+      latencies = [];
+      arrivals = [];
+    }
 
 -- ---- Ours: lines
 

@@ -17,7 +17,8 @@ is_below k (host ∷ hosts) = nat_lt k host.closure
 -- closures are at most 4095 and rise, latencies are at most 1,000,000,000 microseconds
 abbrev pub are_latencies : List Latency → Bool
 are_latencies [] = true
-are_latencies (host ∷ hosts) = (nat_le host.closure 4095 && nat_le host.latency 1000000000) && (is_below host.closure hosts && are_latencies hosts)
+are_latencies (host ∷ hosts) =
+    (nat_le host.closure 4095 && nat_le host.latency 1000000000) && (is_below host.closure hosts && are_latencies hosts)
 
 -- unit, a Bool, an integer, or a text of at most 65,535 bytes
 abbrev pub may_arrive : Value → Bool

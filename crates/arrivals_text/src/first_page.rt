@@ -24,26 +24,3 @@ pub fn read_first_page(bytes: &[u8]) -> Result<(), BadLine>
         _ => Err(BadLine { line: 1 }),
     }
 }
-
-#[cfg(test)]
-mod tests {
-    use super::*;
-
-    #[test]
-    fn only_the_line_page_1_is_taken(rt: HostRuntime) {
-        let files: [(&[u8], Result<(), BadLine>); 9] = [
-            (b"page 1", Ok(())),
-            (b"page 1\n", Ok(())),
-            (b"", Err(BadLine { line: 1 })),
-            (b"\n", Err(BadLine { line: 1 })),
-            (b"page", Err(BadLine { line: 1 })),
-            (b"page 2", Err(BadLine { line: 1 })),
-            (b"page 1 \n", Err(BadLine { line: 1 })),
-            (b"page 10\nfuel 5\n", Err(BadLine { line: 1 })),
-            (b"page 1\nfuel 5\n", Err(BadLine { line: 2 })),
-        ];
-        for (file, wanted) in files {
-            assert_eq!(rt; read_first_page(file), wanted, "of {file:?}");
-        }
-    }
-}

@@ -12,8 +12,6 @@ mod order;
 mod place;
 mod reading;
 mod setup;
-#[cfg(test)]
-mod tests;
 mod values;
 
 pub use arrival::Arrival;

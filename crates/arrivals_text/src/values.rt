@@ -94,7 +94,8 @@ fn read_parts(alloc: Global, parts: &[u8]) -> Result<Option<Vec<u8>>, AllocError
 // The byte that a part stands for, and what follows the part.
 fn read_part(byte: u8, after: &[u8]) -> Option<(u8, &[u8])>
     requires { byte ≢ 34 }
-    ensures part { MatchOption result (parts_at (byte ∷ after.now) ≡ None) (λ part. parts_at (byte ∷ after.now) ≡ option_map (λ text. part.0 ∷ text) (parts_at part.1.now)) }
+    ensures part { MatchOption result (parts_at (byte ∷ after.now) ≡ None)
+        (λ part. parts_at (byte ∷ after.now) ≡ option_map (λ text. part.0 ∷ text) (parts_at part.1.now)) }
     ensures text { IfSome result (λ part. IsTrue (is_text_byte part.0)) }
     ensures shorter { IfSome result (λ part. length part.1.now ≤ length after.now) }
 {

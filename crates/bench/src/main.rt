@@ -4,6 +4,8 @@
 mod frames;
 mod idle;
 mod kind;
+mod scheduler;
+mod signals;
 mod timers;
 
 use kind::Kind;
@@ -34,6 +36,13 @@ fn answered(alloc: Global, kind: Kind, n: u32) -> Option<u32> {
         Kind::IntervalsAgain => timers::again(alloc, n).ok(),
         Kind::FramesTaken => frames::taken(alloc, n).ok(),
         Kind::IdleTimedOut => idle::timed_out(alloc, n).ok(),
+        Kind::SignalsDispatched => signals::dispatched(alloc, n).ok(),
+        Kind::ListenersAgain => signals::again(alloc, n).ok(),
+        Kind::SignalsAborted => signals::aborted(alloc, n).ok(),
+        Kind::SchedulerRoom => scheduler::room(alloc, n).ok(),
+        Kind::SchedulerEnqueued => scheduler::enqueued(alloc, n).ok(),
+        Kind::SchedulerTaken => scheduler::taken(alloc, n).ok(),
+        Kind::SchedulerMoved => scheduler::moved(alloc, n).ok(),
     }
 }
 

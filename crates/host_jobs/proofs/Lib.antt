@@ -1,3 +1,4 @@
 pub mod Changes
 pub mod FiringCases
 pub mod Kept
+pub mod OverlayLemmas

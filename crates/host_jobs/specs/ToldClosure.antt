@@ -11,5 +11,6 @@ abbrev pub told : Closure → HostClosure
 told c = record { kind = c.kind; low = c.low; high = c.high; mark = c.mark }
 
 -- a closure that is handed in, whatever Rust closure it holds: it is live
-abbrev pub told_once : {X : Type 0} {F : X → Type 0} {calls : Mut ((x : X) × F x) (ℤ × Unit {0}) (Result ℤ ℤ)} → HostOnce X F calls → HostClosure
+abbrev pub told_once : {X : Type 0} {F : X → Type 0} {calls : Mut ((x : X) × F x) (ℤ × Unit {0}) (Result ℤ ℤ)} → HostOnce X F calls
+    → HostClosure
 told_once once = record { kind = once.kind; low = once.low; high = once.high; mark = Live }

@@ -7,6 +7,7 @@
 mod answer;
 mod closure;
 mod once;
+mod overlay;
 mod port;
 mod recorded_hosts;
 mod slot;
@@ -14,6 +15,7 @@ mod table;
 
 pub use answer::{Fired, NoHost, Recorded};
 pub use once::HostOnce;
+pub use overlay::asked_closures_are_queued;
 pub use page_types::{HostKind, HostMark};
 pub use port::HostPort;
 pub use recorded_hosts::RecordedHosts;

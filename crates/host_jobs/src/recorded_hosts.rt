@@ -42,7 +42,11 @@ impl RecordedHosts {
         table: &HostTable,
         answers: Vec<Recorded>,
     ) -> Result<RecordedHosts, AllocError>
-        ensures { IfOk result (λ port. port ≡ record { closures = closures_of table.now; answers = answers_of answers.items; refusals = 0 }) }
+        ensures { IfOk result (λ port. port ≡ record {
+          closures = closures_of table.now;
+          answers = answers_of answers.items;
+          refusals = 0;
+        }) }
     {
         Ok(RecordedHosts {
             closures: slot::closures(alloc, &table.slots)?,

@@ -42,7 +42,8 @@ same_scope s t = false
 -- whether one of these names x as something of this kind, in this scope
 abbrev pub names_as : (Role → Bool) → List Occurrence → Option ℕ → List ℕ → Bool
 names_as kind [] scope x = false
-names_as kind (o ∷ os) scope x = (kind o.mention.role && same_scope o.scope scope && same_bytes o.mention.name x) || names_as kind os scope x
+names_as kind (o ∷ os) scope x =
+    (kind o.mention.role && same_scope o.scope scope && same_bytes o.mention.name x) || names_as kind os scope x
 
 -- whether a function has this name
 abbrev pub names_function : List Occurrence → List ℕ → Bool

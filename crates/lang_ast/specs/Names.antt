@@ -96,7 +96,8 @@ in_function xs body = map (mention role.Parameter) xs ++ in_block body
 -- the names in items, where the next function has the number n
 abbrev pub in_items : ℕ → List Item → List Occurrence
 in_items n [] = []
-in_items n (FnItem f xs body ∷ items) = inside None (mention role.Function f ∷ []) ++ inside (Some n) (in_function xs body) ++ in_items (suc n) items
+in_items n (FnItem f xs body ∷ items) =
+    inside None (mention role.Function f ∷ []) ++ inside (Some n) (in_function xs body) ++ in_items (suc n) items
 in_items n (StmtItem s ∷ items) = inside None (in_stmt s) ++ in_items n items
 
 -- all names of a script

@@ -1,6 +1,6 @@
 //! The host, which answers operations and may call back into the script.
 
-ghost use Rattle.std.specs.Prelude.{◌≡◌, ℕ, List, ◌∷◌, ◌+◌, ◌<◌, ◌≤◌, Option, Some, IfOk, IfErr, map, length};
+ghost use Rattle.std.specs.Prelude.{◌≡◌, ℕ, List, ◌∷◌, ◌+◌, ◌<◌, ◌≤◌, Option, Some, IfOk, IfErr, OnErr, map, length};
 ghost use Rattle.page_types.specs.Counts.{HasCause};
 ghost use Rattle.page_values.specs.Seen.{seen};
 
@@ -32,10 +32,10 @@ pub enum Outcome {
 /// Its calls take no allocator: a host that needs one keeps it. A function that a value names has a number below the count
 /// of functions that the host tells, in what is handed in and in what is answered.
 pub trait Host {
-    ghost use Rattle.lang_meaning.specs.HostSteps.{HostRules, Ask, AskOp, AskResume, on_ask, is_busy};
+    ghost use Rattle.lang_meaning.specs.HostSteps.{HostRules, Ask, is_busy};
     ghost use Rattle.lang_ast.specs.Operations.{count_of};
-    ghost use Rattle.lang_ast.specs.Hosts.{HostNow};
-    ghost use Rattle.lang_ast.specs.Steps.{seen_step, seen_outcome, tickets_after, Falls, AreFew, AllNumbered, StepIsNumbered, EndIsNumbered, room_taken};
+    ghost use Rattle.lang_ast.specs.Hosts.{HostNow, ask_op, ask_end, Does, Opens, Reopens, HasFewer};
+    ghost use Rattle.lang_ast.specs.Steps.{seen_step, seen_outcome, AreFew, AllNumbered, StepIsNumbered, EndIsNumbered, room_taken};
 
     /// Why a host refuses to go on.
     type Stop: Drop;
@@ -62,9 +62,8 @@ pub trait Host {
         requires count { length args.items ≡ count_of op }
         requires numbered { AllNumbered (now self.old).functions (map seen args.items) }
         requires room { room_taken (is_busy op) ≤ (now self.old).room }
-        ensures rule { IfOk result (λ step. on_ask rules (AskOp op (map seen args.items)) (now self.old).told ≡
-            record { step = seen_step step; host = (now self.new).told }) }
-        ensures open_tickets { IfOk result (λ step. (now self.new).tickets ≡ tickets_after (seen_step step) (now self.old).tickets) }
+        ensures rule { IfOk result (Does rules (ask_op op args) (now self.old) (now self.new)) }
+        ensures open_tickets { IfOk result (Opens (now self.old).tickets (now self.new).tickets) }
         ensures few { IfOk result (λ step. AreFew (left (now self.new).told) (seen_step step)) }
         ensures numbered { IfOk result (λ step. StepIsNumbered (now self.old).functions (seen_step step)) }
         ensures functions { (now self.new).functions ≡ (now self.old).functions }
@@ -72,7 +71,7 @@ pub trait Host {
         ensures cause { HasCause (now self.old).refusals (now self.new).refusals result }
         ensures no_refusal { IfOk result (λ _. (now self.new).refusals ≡ (now self.old).refusals) }
         ensures refused { IfErr result (λ stop. (now self.new).last_stop ≡ Some stop) }
-        ensures leaves { IfErr result (λ _. leaves (AskOp op (map seen args.items)) (now self.old).told (now self.new).told) };
+        ensures leaves { OnErr result (leaves (ask_op op args) (now self.old).told (now self.new).told) };
 
     /// Goes on after the callback of the last ticket that was not yet resumed.
     ///
@@ -80,11 +79,9 @@ pub trait Host {
     fn resume(&mut self, ticket: u64, outcome: Outcome) -> Result<HostStep, Self::Stop>
         requires open_ticket { (rest : List ℕ) × ((now self.old).tickets ≡ ticket ∷ rest) }
         requires numbered { EndIsNumbered (now self.old).functions (seen_outcome outcome) }
-        ensures rule { IfOk result (λ step. on_ask rules (AskResume ticket (seen_outcome outcome)) (now self.old).told ≡
-            record { step = seen_step step; host = (now self.new).told }) }
-        ensures open_tickets { IfOk result (λ step. (rest : List ℕ) → (now self.old).tickets ≡ ticket ∷ rest →
-            (now self.new).tickets ≡ tickets_after (seen_step step) rest) }
-        ensures falls { IfOk result (λ step. Falls (left (now self.new).told) (left (now self.old).told ticket) (seen_step step)) }
+        ensures rule { IfOk result (Does rules (ask_end ticket outcome) (now self.old) (now self.new)) }
+        ensures open_tickets { IfOk result (Reopens ticket (now self.old).tickets (now self.new).tickets) }
+        ensures falls { IfOk result (HasFewer left ticket (now self.old).told (now self.new).told) }
         ensures few { IfOk result (λ step. AreFew (left (now self.new).told) (seen_step step)) }
         ensures numbered { IfOk result (λ step. StepIsNumbered (now self.old).functions (seen_step step)) }
         ensures functions { (now self.new).functions ≡ (now self.old).functions }
@@ -92,5 +89,5 @@ pub trait Host {
         ensures cause { HasCause (now self.old).refusals (now self.new).refusals result }
         ensures no_refusal { IfOk result (λ _. (now self.new).refusals ≡ (now self.old).refusals) }
         ensures refused { IfErr result (λ stop. (now self.new).last_stop ≡ Some stop) }
-        ensures leaves { IfErr result (λ _. leaves (AskResume ticket (seen_outcome outcome)) (now self.old).told (now self.new).told) };
+        ensures leaves { OnErr result (leaves (ask_end ticket outcome) (now self.old).told (now self.new).told) };
 }

@@ -251,7 +251,8 @@ abbrev mutual
   exec w (VarStmt x e) m = and_then (eval w e m) (λ v m. finish (assigned m x.name v))
   exec w (AssignStmt x e) m = and_then (eval w e m) (λ v m. finish (assigned m x.name v))
   exec w (ExprStmt e) m = and_then (eval w e m) (λ v m. finish m)
-  exec w (IfStmt e block others last) m = and_then (eval w e m) (λ v m. tested v m (exec_block w block) (exec_others w others (exec_else w last)))
+  exec w (IfStmt e block others last) m =
+      and_then (eval w e m) (λ v m. tested v m (exec_block w block) (exec_others w others (exec_else w last)))
   exec w (WhileStmt e block) m = loop_turns (suc m.fuel) (eval w e) (exec_block w block) m
   exec w (ReturnStmt e) m = opt_eval w e m
   exec w (ThrowStmt e) m = and_then (eval w e m) Throws
@@ -265,7 +266,8 @@ abbrev mutual
   -- the `else if` parts in a row, and where none applies what comes last
   pub exec_others : {H : Type 0} → Around H → ElseIfs → (Machine H → Done H) → Machine H → Done H
   exec_others w no_else_ifs last m = last m
-  exec_others w (with_else_if e block others) last m = and_then (eval w e m) (λ v m. tested v m (exec_block w block) (exec_others w others last))
+  exec_others w (with_else_if e block others) last m =
+      and_then (eval w e m) (λ v m. tested v m (exec_block w block) (exec_others w others last))
 
   -- the `else` part, where there is one
   pub exec_else : {H : Type 0} → Around H → ElsePart → Machine H → Done H
@@ -332,7 +334,8 @@ end_of_call (OutOfFuel m) = OutOfFuel (closed m)
 -- the body of a function, or of the script, which has the number after the last one
 abbrev pub body_of_call : {H : Type 0} → Around H → Option Function → List Value → Machine H → Done H
 body_of_call w None args m = end_of_call (exec_block w (own_body w.program.items) (opened [] m))
-body_of_call w (Some f) args m = end_of_call (exec_block w f.body (opened (parameters_with f.parameters args ++ unit_variables (names_in f.body)) m))
+body_of_call w (Some f) args m =
+    end_of_call (exec_block w f.body (opened (parameters_with f.parameters args ++ unit_variables (names_in f.body)) m))
 
 -- what stands around the body of a call: the program, how functions are called there, and what operations do there
 abbrev pub around : {H : Type 0} → Program → Operations H → Caller H → Around H
@@ -342,7 +345,8 @@ around program operations call = record { program = program; call = call; operat
 abbrev pub calls : {H : Type 0} → Program → Operations H → ℕ → Caller H
 calls program operations zero f args m = throw_fault RangeError m
 calls program operations (suc n) f args m =
-    take_unit m (λ m. body_of_call (around program operations (calls program operations n)) (slice_get (functions_of program.items) f) args m)
+    take_unit m (λ m. body_of_call (around program operations (calls program operations n))
+    (slice_get (functions_of program.items) f) args m)
 
 -- how a function is called where no call is open
 abbrev pub call_from_outside : {H : Type 0} → Program → Operations H → Caller H

@@ -15,5 +15,6 @@ abbrev pub CallsFollow : {H K : Type 0} → (H → K) → Caller H → Caller K 
 CallsFollow φ call call' = (f : ℕ) (args : List Value) → Follows φ (call f args) (call' f args)
 
 -- the same of what operations do
-abbrev pub OperateFollow : {H K : Type 0} → (H → K) → (Op → List Value → Machine H → Done H) → (Op → List Value → Machine K → Done K) → Type 0
+abbrev pub OperateFollow : {H K : Type 0} → (H → K) → (Op → List Value → Machine H → Done H) → (Op → List Value → Machine K → Done K)
+    → Type 0
 OperateFollow φ operate operate' = (op : Op) (args : List Value) → Follows φ (operate op args) (operate' op args)

@@ -29,4 +29,6 @@ byte_of (ArityAt at) = at
 
 -- where the names stand at rising bytes, no fault stands before the first one
 abbrev pub FirstIsLeast : Type 0
-FirstIsLeast = (all : List Occurrence) (first other : Fault) (place : ℕ) → Rise all → IsFirstFault all first → fault_at all place ≡ Some other → byte_of first ≤ byte_of other
+FirstIsLeast =
+    (all : List Occurrence) (first other : Fault) (place : ℕ) → Rise all → IsFirstFault all first → fault_at all place ≡ Some other
+    → byte_of first ≤ byte_of other

@@ -31,7 +31,8 @@ fn knows_variable<'a>(all: &Names<'a>, scope: Option<usize>, name: &'a Str) -> b
 
 /// Whether the name of a variable clashes with a function's.
 fn clashes<'a>(all: &Names<'a>, before: &Names<'a>, scope: Option<usize>, name: &'a Str) -> bool
-    ensures { (os : List OccurrenceSeen) (us : List OccurrenceSeen) → Knows all.now os → Knows before.now us → result ≡ clashes os us scope name.now }
+    ensures { (os : List OccurrenceSeen) (us : List OccurrenceSeen) → Knows all.now os → Knows before.now us
+        → result ≡ clashes os us scope name.now }
 {
     match scope {
         None => before.has_function(name),
@@ -41,7 +42,8 @@ fn clashes<'a>(all: &Names<'a>, before: &Names<'a>, scope: Option<usize>, name: 
 
 /// Whether the name of a parameter or a variable was given before, or is an operation's or a function's.
 fn is_declared<'a>(all: &Names<'a>, before: &Names<'a>, scope: Option<usize>, name: &'a Str) -> bool
-    ensures { (os : List OccurrenceSeen) (us : List OccurrenceSeen) → Knows all.now os → Knows before.now us → result ≡ is_twice os us role.Variable scope name.now }
+    ensures { (os : List OccurrenceSeen) (us : List OccurrenceSeen) → Knows all.now os → Knows before.now us
+        → result ≡ is_twice os us role.Variable scope name.now }
 {
     is_operation(name) || clashes(all, before, scope, name) || before.has_declared(scope, name)
 }
@@ -55,13 +57,15 @@ fn is_function_twice<'a>(before: &Names<'a>, name: &'a Str) -> bool
 
 /// Whether a name is an operation, a variable where it stands, or a function.
 fn is_callable<'a>(all: &Names<'a>, scope: Option<usize>, name: &'a Str) -> bool
-    ensures { (os : List OccurrenceSeen) → Knows all.now os → result ≡ (is_operation name.now || knows_variable os scope name.now || names_function os name.now) }
+    ensures { (os : List OccurrenceSeen) → Knows all.now os
+        → result ≡ (is_operation name.now || knows_variable os scope name.now || names_function os name.now) }
 {
     is_operation(name) || knows_variable(all, scope, name) || all.has_function(name)
 }
 
 fn is_twice<'a>(all: &Names<'a>, before: &Names<'a>, occurrence: &Occurrence<'a>) -> bool
-    ensures { (os : List OccurrenceSeen) (us : List OccurrenceSeen) → Knows all.now os → Knows before.now us → result ≡ is_twice os us occurrence.now.role occurrence.now.scope occurrence.now.name.now }
+    ensures { (os : List OccurrenceSeen) (us : List OccurrenceSeen) → Knows all.now os → Knows before.now us
+        → result ≡ is_twice os us occurrence.now.role occurrence.now.scope occurrence.now.name.now }
 {
     let scope = occurrence.scope;
     let name = occurrence.name;
@@ -77,7 +81,8 @@ fn is_twice<'a>(all: &Names<'a>, before: &Names<'a>, occurrence: &Occurrence<'a>
 }
 
 fn is_unknown<'a>(all: &Names<'a>, occurrence: &Occurrence<'a>) -> bool
-    ensures { (os : List OccurrenceSeen) → Knows all.now os → result ≡ is_unknown os occurrence.now.role occurrence.now.scope occurrence.now.name.now }
+    ensures { (os : List OccurrenceSeen) → Knows all.now os
+        → result ≡ is_unknown os occurrence.now.role occurrence.now.scope occurrence.now.name.now }
 {
     let scope = occurrence.scope;
     let name = occurrence.name;
@@ -113,7 +118,8 @@ fn fault_of<'a>(
     before: &Names<'a>,
     occurrence: &Occurrence<'a>,
 ) -> Option<NameFault>
-    ensures { (os : List OccurrenceSeen) (us : List OccurrenceSeen) → Knows all.now os → Knows before.now us → option_map seen_fault result ≡ fault_of os us (seen_occurrence occurrence.now) }
+    ensures { (os : List OccurrenceSeen) (us : List OccurrenceSeen) → Knows all.now os → Knows before.now us
+        → option_map seen_fault result ≡ fault_of os us (seen_occurrence occurrence.now) }
 {
     let at = occurrence.at;
     if is_twice(all, before, occurrence) {

@@ -218,7 +218,8 @@ fn in_parameters<'a>(
     scope: Option<usize>,
     into: &mut Vec<Occurrence<'a>>,
 ) -> Result<(), AllocError>
-    ensures { IfOk result (λ _. Adds scope into.old.items into.new.items (map (mention role.Parameter) (map seen_name parameters.now.items))) }
+    ensures { IfOk result (λ _. Adds scope into.old.items into.new.items
+        (map (mention role.Parameter) (map seen_name parameters.now.items))) }
 {
     for parameter in parameters {
         add(Role::Parameter, parameter, scope, into)?;
@@ -232,7 +233,8 @@ fn in_function<'a>(
     scope: Option<usize>,
     into: &mut Vec<Occurrence<'a>>,
 ) -> Result<(), AllocError>
-    ensures { IfOk result (λ _. Adds scope into.old.items into.new.items (in_function (map seen_name function.now.parameters.items) (seen_block function.now.body.items))) }
+    ensures { IfOk result (λ _. Adds scope into.old.items into.new.items
+        (in_function (map seen_name function.now.parameters.items) (seen_block function.now.body.items))) }
 {
     in_parameters(&function.parameters, scope, into)?;
     in_block(&function.body, scope, into)

@@ -11,8 +11,6 @@ mod name_set;
 mod names;
 mod occurrence;
 mod resolving;
-#[cfg(test)]
-mod tests;
 
 pub use fault::{NameFault, ResolveFault};
 pub use laws::{first_fault_is_at_the_least_byte, resolved_names_are_known};

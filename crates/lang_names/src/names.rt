@@ -35,7 +35,8 @@ impl<'a> Names<'a> {
 
     /// Adds the name of an occurrence, where it names something.
     pub fn add(&mut self, occurrence: &Occurrence<'a>) -> Result<(), AllocError>
-        ensures { IfOk result (λ _. (os : List OccurrenceSeen) → Knows self.old os → Knows self.new (os ++ seen_occurrence occurrence.now ∷ [])) }
+        ensures { IfOk result (λ _. (os : List OccurrenceSeen) → Knows self.old os
+            → Knows self.new (os ++ seen_occurrence occurrence.now ∷ [])) }
     {
         let scope = occurrence.scope;
         let name = occurrence.name;

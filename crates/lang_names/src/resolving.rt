@@ -32,7 +32,8 @@ pub fn resolve(alloc: Global, tree: Tree) -> Result<Program, ResolveFault>
     ensures resolved { IfOk result (λ _. IsResolved (seen_tree tree)) }
 
     // The fault is want of memory or this one.
-    ensures refused { (fault : NameFault) → result ≡ Err (ResolveFault.Is fault) → IsFirstFault (occurrences (seen_tree tree)) (seen_fault fault) }
+    ensures refused { (fault : NameFault) → result ≡ Err (ResolveFault.Is fault)
+        → IsFirstFault (occurrences (seen_tree tree)) (seen_fault fault) }
 {
     match first_fault_of(alloc, &tree)? {
         Some(fault) => Err(ResolveFault::Is(fault)),

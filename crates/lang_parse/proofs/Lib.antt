@@ -23,3 +23,4 @@ pub mod NameSteps
 pub mod Trees
 pub mod NamedTexts
 pub mod NamePlaces
+pub mod ScriptForms

@@ -3,7 +3,7 @@ use Rattle.lang_tokens.specs.Seen.{TokenSeen}
 use Rattle.std.specs.Prelude.{◌==◌, IfErr}
 use Rattle.std.proofs.lemmas.Bool.Decides.{nat_tests}
 use Rattle.std.specs.Result.{IsErrAnd}
-use Rattle.lang_parse.specs.declared.fault.ParseFault.{ParseFault}
+use Rattle.lang_parse.specs.declared.fault.TreeFault.{TreeFault}
 use Rattle.lang_parse.specs.declared.log_script.LogStatement.{LogStatement as CodeStatement}
 use Rattle.std.proofs.Common.{◌≡◌, ◌<◌, ℕ, ℤ, List, [], ◌∷◌, ◌++◌, length, refl, sym, ◌∙◌, ap, subst, arith, Bool, true, false, Result, Ok, Err, append_assoc, append-nil, codes, length-append}
 use Rattle.std.proofs.lemmas.List.{length-map, map-append}
@@ -12,7 +12,7 @@ use Rattle.lang_meaning.specs.Evaluation.{names_in, own_body, functions_of}
 use Rattle.lang_parse.specs.Symbols.{symbol_of, symbols_of, Symbol, NameAt, NumberOf, TextOf, SignOf}
 use Rattle.lang_parse.specs.Grammar.{HasTree, AreItems, IsExpr, AreTerms, IsShallow, terms, script_spelling}
 use Rattle.lang_parse.specs.LogScript.{IsLogTree, Logged, LogText, LogSum, LogStatement, plus_each, logged_tree, log_tree}
-use Rattle.lang_parse.specs.LogSeen.{logged_symbols, statement_symbols, plus_symbols, statement_seen, statements_seen, IsNoParse}
+use Rattle.lang_parse.specs.LogSeen.{logged_symbols, statement_symbols, plus_symbols, statement_seen, statements_seen, IsNoTree}
 use Rattle.lang_parse.specs.Readings.{NoNumberFollows, LoggedEnds, NothingLogged, StatementEnds, NoStatement}
 
 -- ---- forms
@@ -249,12 +249,12 @@ is_empty (t ∷ ts) h = absurd (let z = is_zero (length (t ∷ ts)) h in omega (
 -- ---- how `parse` answers
 
 -- the exit behind a statement that was not read
-pub parse_fails : {X : Type 0} (whole rest : List Symbol) (done : List LogStatement) → Parsing whole done rest → (rest ≡ [] → ⊥) → (r : Result X ParseFault) (e : ParseFault) → IsErrAnd r (λ x. x ≡ e) → (IsNoParse e → NoStatement rest) →
-    IfErr r (λ x. IsNoParse x → (tree : List Item) → IsLogTree tree → HasTree whole tree → ⊥)
+pub parse_fails : {X : Type 0} (whole rest : List Symbol) (done : List LogStatement) → Parsing whole done rest → (rest ≡ [] → ⊥) → (r : Result X TreeFault) (e : TreeFault) → IsErrAnd r (λ x. x ≡ e) → (IsNoTree e → NoStatement rest) →
+    IfErr r (λ x. IsNoTree x → (tree : List Item) → IsLogTree tree → HasTree whole tree → ⊥)
 parse_fails whole rest done p some (Ok x) e is h = absurd is
 parse_fails whole rest done p some (Err x) e is h = λ none tree log has.
     let P : List Item → Type 0 = λ t. whole ≡ script_spelling t in
-    parsing_stops whole rest done p some (h (subst IsNoParse is none)) log.0 (subst P log.1 has.spelled)
+    parsing_stops whole rest done p some (h (subst IsNoTree is none)) log.0 (subst P log.1 has.spelled)
 
 pub parsing_more : (whole rest after : List Symbol) (done : List LogStatement) (code more : List CodeStatement) (s : CodeStatement) → Parsing whole done rest → done ≡ statements_seen code → (rest ≡ [] → ⊥) → rest ≡ statement_symbols (statement_seen s) ++ after → StatementEnds rest after → more ≡ code ++ s ∷ [] →
     Parsing whole (statements_seen more) after

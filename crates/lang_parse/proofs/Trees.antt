@@ -4,7 +4,7 @@ use Rattle.std.specs.Prelude.{IfErr}
 use Rattle.std.specs.Result.{IsErrAnd}
 use Rattle.page_types.specs.Tree.{Item}
 use Rattle.lang_meaning.specs.Evaluation.{names_in, own_body, functions_of}
-use Rattle.lang_parse.specs.declared.fault.ParseFault.{ParseFault}
+use Rattle.lang_parse.specs.declared.fault.TreeFault.{TreeFault}
 use Rattle.lang_parse.specs.declared.error.ParseError.{ParseError}
 use Rattle.lang_parse.specs.declared.error.ParseError.TheVariants as error
 use Rattle.lang_parse.specs.Symbols.{Symbol}
@@ -12,7 +12,7 @@ use Rattle.lang_parse.specs.Grammar.{HasTree, IsShallow, distinct, script_spelli
 use Rattle.lang_parse.specs.Parts.{Many, ItemRead, AtEnd}
 use Rattle.lang_parse.specs.Deciding.{Never, Fails}
 use Rattle.lang_parse.specs.Faults.{IsFaultOf}
-use Rattle.lang_parse.specs.LogSeen.{IsNoParse}
+use Rattle.lang_parse.specs.LogSeen.{IsNoTree}
 use Rattle.lang_parse.proofs.Script.{script_read, script_unique, items_are, items_spelled}
 
 -- no tree has the symbols
@@ -34,15 +34,15 @@ too_many_functions ks items m many tree has = let e = same_items ks items tree m
 pub too_many_globals : (ks : List Symbol) (items : List Item) → Many ItemRead items ks [] → 4096 < length (distinct (names_in (own_body items))) → NoTree ks
 too_many_globals ks items m many tree has = let e = same_items ks items tree m has in omega (arith, many, has.globals, ap (λ t. length (distinct (names_in (own_body t)))) e)
 
-by_error : (ks : List Symbol) (e : ParseError) (f : ParseFault) → IsFaultOf e f → Fails (Many ItemRead) AtEnd ks e → IsNoParse f → NoTree ks
+by_error : (ks : List Symbol) (e : ParseError) (f : TreeFault) → IsFaultOf e f → Fails (Many ItemRead) AtEnd ks e → IsNoTree f → NoTree ks
 by_error ks (error.NoParse left) f is n none = not_read ks n
-by_error ks error.OutOfMemory f is n none = absurd (subst IsNoParse is none)
+by_error ks error.OutOfMemory f is n none = absurd (subst IsNoTree is none)
 
 -- how the fault of an error is answered
-pub answered : {X : Type 0} (ks : List Symbol) (r : Result X ParseFault) (e : ParseError) → IsErrAnd r (λ f. IsFaultOf e f) → Fails (Many ItemRead) AtEnd ks e → IfErr r (λ f. IsNoParse f → NoTree ks)
+pub answered : {X : Type 0} (ks : List Symbol) (r : Result X TreeFault) (e : ParseError) → IsErrAnd r (λ f. IsFaultOf e f) → Fails (Many ItemRead) AtEnd ks e → IfErr r (λ f. IsNoTree f → NoTree ks)
 answered ks (Ok x) e is n = absurd is
 answered ks (Err f) e is n = λ none. by_error ks e f is n none
 
-pub unanswered : {X : Type 0} (ks : List Symbol) (r : Result X ParseFault) (e : ParseError) → IsErrAnd r (λ f. IsFaultOf e f) → e ≡ error.OutOfMemory → IfErr r (λ f. IsNoParse f → NoTree ks)
+pub unanswered : {X : Type 0} (ks : List Symbol) (r : Result X TreeFault) (e : ParseError) → IsErrAnd r (λ f. IsFaultOf e f) → e ≡ error.OutOfMemory → IfErr r (λ f. IsNoTree f → NoTree ks)
 unanswered ks (Ok x) e is m = absurd is
-unanswered ks (Err f) e is m = let h = subst (λ z. IsFaultOf z f) m is in λ none. absurd (subst IsNoParse h none)
+unanswered ks (Err f) e is m = let h = subst (λ z. IsFaultOf z f) m is in λ none. absurd (subst IsNoTree h none)

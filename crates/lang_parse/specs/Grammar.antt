@@ -166,7 +166,8 @@ abbrev mutual
   stmt_spelling (ReturnStmt e) = WordOf (codes "return") ∷ return_spelling e ++ SignOf (codes ";") ∷ []
   stmt_spelling (ThrowStmt e) = WordOf (codes "throw") ∷ spelling e ++ SignOf (codes ";") ∷ []
   stmt_spelling (TryStmt block x handler) =
-      WordOf (codes "try") ∷ in_braces (stmts_spelling block) ++ WordOf (codes "catch") ∷ in_brackets (name_symbol x ∷ []) ++ in_braces (stmts_spelling handler)
+      WordOf (codes "try") ∷ in_braces (stmts_spelling block) ++ WordOf (codes "catch") ∷ in_brackets (name_symbol x ∷ []) ++ in_braces
+      (stmts_spelling handler)
 
   -- {stmt}
   pub stmts_spelling : Block → List Symbol

@@ -4,8 +4,8 @@ use Rattle.lang_parse.specs.declared.log_script.Logged.{Logged}
 use Rattle.lang_parse.specs.declared.log_script.Logged.TheVariants.{Text, Sum}
 use Rattle.lang_parse.specs.declared.log_script.LogStatement.{LogStatement}
 use Rattle.lang_parse.specs.declared.log_script.LogScript.{LogScript}
-use Rattle.lang_parse.specs.declared.fault.ParseFault.{ParseFault}
-use Rattle.lang_parse.specs.declared.fault.ParseFault.TheVariants.{Is, OutOfMemory}
+use Rattle.lang_parse.specs.declared.fault.TreeFault.{TreeFault}
+use Rattle.lang_parse.specs.declared.fault.TreeFault.TheVariants.{Is, OutOfMemory}
 use Rattle.lang_parse.specs.Symbols.{Symbol, SignOf, NumberOf}
 use Rattle.lang_parse.specs.Grammar.{spelling, stmt_spelling}
 use Rattle.lang_parse.specs.LogScript as spec
@@ -24,9 +24,9 @@ statements_seen ss = map statement_seen ss
 abbrev pub script_seen : LogScript → List spec.LogStatement
 script_seen s = statements_seen s.statements.items
 
-abbrev pub IsNoParse : ParseFault → Type 0
-IsNoParse (Is fault) = ⊤
-IsNoParse OutOfMemory = ⊥
+abbrev pub IsNoTree : TreeFault → Type 0
+IsNoTree (Is fault) = ⊤
+IsNoTree OutOfMemory = ⊥
 
 -- the symbols of what is logged, and of a statement
 abbrev pub logged_symbols : spec.Logged → List Symbol

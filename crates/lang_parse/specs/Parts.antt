@@ -63,7 +63,8 @@ pub record Closed {X : Type 0} (R : X → List Symbol → List Symbol → Type 0
   pub inner : R x ks (k ∷ end)
 
 -- a part, and another one
-pub record Both {X Y : Type 0} (A : X → List Symbol → List Symbol → Type 0) (B : Y → List Symbol → List Symbol → Type 0) (p : X × Y) (ks end : List Symbol) : Type 0 where
+pub record Both {X Y : Type 0} (A : X → List Symbol → List Symbol → Type 0) (B : Y → List Symbol → List Symbol → Type 0) (p : X × Y)
+    (ks end : List Symbol) : Type 0 where
   pub mid : List Symbol
   pub first : A p.0 ks mid
   pub second : B p.1 mid end
@@ -119,7 +120,8 @@ abbrev pub CommaItem : Expr → List Symbol → List Symbol → Type 0
 CommaItem = Behind (SignOf (codes ",")) (Reads 0)
 
 -- [part {item}]
-abbrev pub Separated : {X : Type 0} → (X → List Symbol → List Symbol → Type 0) → (X → List Symbol → List Symbol → Type 0) → List X → List Symbol → List Symbol → Type 0
+abbrev pub Separated : {X : Type 0} → (X → List Symbol → List Symbol → Type 0) → (X → List Symbol → List Symbol → Type 0) → List X
+    → List Symbol → List Symbol → Type 0
 Separated R item [] ks end = ks ≡ end
 Separated R item (x ∷ xs) ks end = (mid : List Symbol) × R x ks mid × Many item xs mid end
 

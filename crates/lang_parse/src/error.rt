@@ -4,7 +4,7 @@ ghost use Rattle.std.specs.Prelude.{◌≡◌};
 ghost use Rattle.lang_parse.specs.declared.error.ParseError.TheVariants.{OutOfMemory};
 ghost use Rattle.lang_parse.specs.Faults.{IsFaultOf};
 
-use crate::fault::{NoParse, ParseFault};
+use crate::fault::{NoTree, TreeFault};
 use std::alloc::{AllocError, AllocFailed};
 
 /// The parser's own error.
@@ -31,13 +31,13 @@ impl<T: Drop> From<AllocFailed<T>> for ParseError {
     }
 }
 
-impl From<ParseError> for ParseFault {
+impl From<ParseError> for TreeFault {
     ghost from_gives = { λ e f. IsFaultOf e f };
 
-    fn from(error: ParseError) -> ParseFault {
+    fn from(error: ParseError) -> TreeFault {
         match error {
-            ParseError::NoParse(_) => ParseFault::Is(NoParse),
-            ParseError::OutOfMemory => ParseFault::OutOfMemory,
+            ParseError::NoParse(_) => TreeFault::Is(NoTree),
+            ParseError::OutOfMemory => TreeFault::OutOfMemory,
         }
     }
 }

@@ -157,7 +157,8 @@ fn items<'a>(
     close: &[u8],
 ) -> Result<(Vec<Expr>, &'a [Token]), ParseError>
     requires { IsCloser close.now }
-    ensures { Decides (Closed Listed (SignOf close.now)) Anything (symbols_of tokens.now) (λ r. (map seen_expr r.0.items, symbols_of r.1.now)) result }
+    ensures { Decides (Closed Listed (SignOf close.now)) Anything (symbols_of tokens.now)
+        (λ r. (map seen_expr r.0.items, symbols_of r.1.now)) result }
 {
     if let Some(rest) = after_sign(tokens, close) {
         let none = Vec::new(alloc);

@@ -1,15 +1,49 @@
 //! Why a script has no tree.
 
 ghost use Rattle.std.specs.Prelude.{◌≡◌};
-ghost use Rattle.lang_parse.specs.declared.fault.ParseFault.TheVariants.{OutOfMemory};
+ghost use Rattle.lang_parse.specs.declared.fault.TreeFault.TheVariants.{OutOfMemory};
+ghost use Rattle.lang_parse.specs.declared.fault.ParseFault.TheVariants as parse;
 
 use std::alloc::{AllocError, AllocFailed};
 use thiserror::Error;
 
 /// No tree has these tokens.
 #[derive(Clone, Copy, Debug, PartialEq, Eq, Error)]
-#[error("no parse")]
-pub struct NoParse;
+#[error("no tree")]
+pub struct NoTree;
+
+/// Why [`parse_log_script`](crate::parse_log_script) gave no script.
+#[derive(Clone, Copy, Debug, PartialEq, Eq, Error)]
+pub enum TreeFault {
+    #[error(transparent)]
+    Is(NoTree),
+    #[error("out of memory")]
+    OutOfMemory,
+}
+
+impl From<AllocError> for TreeFault {
+    ghost from_gives = { λ _ e. e ≡ OutOfMemory };
+
+    fn from(_e: AllocError) -> TreeFault {
+        TreeFault::OutOfMemory
+    }
+}
+
+impl<T: Drop> From<AllocFailed<T>> for TreeFault {
+    ghost from_gives = { λ _ e. e ≡ OutOfMemory };
+
+    fn from(_e: AllocFailed<T>) -> TreeFault {
+        TreeFault::OutOfMemory
+    }
+}
+
+/// No tree has these tokens. Up to this byte they begin a script, and with the token at it they do not; where all of
+/// them begin one, it is the script's end.
+#[derive(Clone, Copy, Debug, PartialEq, Eq, Error)]
+#[error("no parse at byte {at}")]
+pub struct NoParse {
+    pub at: usize,
+}
 
 /// Why [`parse`](crate::parse) gave no script.
 #[derive(Clone, Copy, Debug, PartialEq, Eq, Error)]
@@ -21,17 +55,9 @@ pub enum ParseFault {
 }
 
 impl From<AllocError> for ParseFault {
-    ghost from_gives = { λ _ e. e ≡ OutOfMemory };
+    ghost from_gives = { λ _ e. e ≡ parse.OutOfMemory };
 
     fn from(_e: AllocError) -> ParseFault {
-        ParseFault::OutOfMemory
-    }
-}
-
-impl<T: Drop> From<AllocFailed<T>> for ParseFault {
-    ghost from_gives = { λ _ e. e ≡ OutOfMemory };
-
-    fn from(_e: AllocFailed<T>) -> ParseFault {
         ParseFault::OutOfMemory
     }
 }

@@ -4,6 +4,7 @@
 //! their own.
 #![tactic(auto)]
 
+mod begins;
 mod building;
 mod error;
 mod expressions;
@@ -24,7 +25,8 @@ mod statements;
 mod tests;
 mod toplevel;
 
-pub use fault::{NoParse, ParseFault};
+pub use begins::a_script_begins;
+pub use fault::{NoParse, NoTree, ParseFault, TreeFault};
 pub use log_parser::parse_log_script;
 pub use log_script::{LogScript, LogStatement, Logged};
 pub use parser::{MOST_FUNCTIONS, MOST_GLOBALS, names_rise, one_tree, parse};

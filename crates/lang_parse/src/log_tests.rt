@@ -1,4 +1,4 @@
-use crate::{LogStatement, Logged, NoParse, ParseFault, parse_log_script};
+use crate::{LogStatement, Logged, NoTree, TreeFault, parse_log_script};
 use lang_tokens::tokens;
 use std::test::Fail;
 
@@ -53,7 +53,7 @@ fn other_scripts_have_no_parse(rt: HostRuntime) -> Result<(), Fail> {
     ];
     for script in scripts {
         let found = parse_log_script(rt.alloc(), &tokens(rt.alloc(), script)?);
-        assert_eq!(rt; found.err(), Some(ParseFault::Is(NoParse)), "in {script:?}");
+        assert_eq!(rt; found.err(), Some(TreeFault::Is(NoTree)), "in {script:?}");
     }
     Ok(())
 }

@@ -92,7 +92,8 @@ fn else_ifs(
     alloc: Global,
     tokens: &[Token],
 ) -> Result<(Vec<(Expr, Vec<Stmt>)>, &[Token]), ParseError>
-    ensures { Decides (Many ElseIf) NotElseIf (symbols_of tokens.now) (λ r. (map (λ p. (seen_expr p.0, map seen_stmt p.1.items)) r.0.items, symbols_of r.1.now)) result }
+    ensures { Decides (Many ElseIf) NotElseIf (symbols_of tokens.now)
+        (λ r. (map (λ p. (seen_expr p.0, map seen_stmt p.1.items)) r.0.items, symbols_of r.1.now)) result }
 {
     let mut others = Vec::new(alloc);
     let mut rest = tokens;
@@ -108,7 +109,8 @@ fn else_ifs(
 /// The `else` part of an `if`, where there is one.
 #[cycle(statement)]
 fn else_part(alloc: Global, tokens: &[Token]) -> Result<(Option<Vec<Stmt>>, &[Token]), ParseError>
-    ensures { Decides (Perhaps Else) NotElse (symbols_of tokens.now) (λ r. (option_map (λ b. map seen_stmt b.items) r.0, symbols_of r.1.now)) result }
+    ensures { Decides (Perhaps Else) NotElse (symbols_of tokens.now)
+        (λ r. (option_map (λ b. map seen_stmt b.items) r.0, symbols_of r.1.now)) result }
 {
     let Some(next) = after_word(tokens, b"else") else {
         return Ok((None, tokens));

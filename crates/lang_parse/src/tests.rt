@@ -1,4 +1,4 @@
-use crate::{NoParse, ParseFault, parse};
+use crate::{ParseFault, parse};
 use lang_ast::{Expr, Item, Stmt, Tree};
 use lang_tokens::tokens;
 use std::alloc::Global;
@@ -10,7 +10,7 @@ fn tree_of(alloc: Global, script: &[u8]) -> Result<Tree, Fail> {
 
 fn has_no_tree(alloc: Global, script: &[u8]) -> Result<bool, Fail> {
     let found = parse(alloc, &tokens(alloc, script)?);
-    Ok(matches!(found, Err(ParseFault::Is(NoParse))))
+    Ok(matches!(found, Err(ParseFault::Is(_))))
 }
 
 /// The bytes, so many times.

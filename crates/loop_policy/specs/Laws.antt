@@ -13,7 +13,8 @@ with_source choices answer = record { source = answer.0; left = choices answer.1
 -- A recorded list gives the source that the run takes, and leaves what the run leaves.
 abbrev pub RecordedSources : Type 0
 RecordedSources = (readings : List ℕ) (answers : List (Result ℤ ℤ)) (sources : List Source) (rs : List Runnable) →
-    next_source rs (Recorded sources readings answers) ≡ option_map (with_source (λ left. Recorded left readings answers)) (kept_choice sources rs)
+    next_source rs (Recorded sources readings answers)
+    ≡ option_map (with_source (λ left. Recorded left readings answers)) (kept_choice sources rs)
 
 -- the sources that a policy gives, one after another
 abbrev pub sources_by_policy : PolicyState → List (List Runnable) → List Source
@@ -23,7 +24,8 @@ sources_by_policy held (rs ∷ views) = elim (policy_choice held rs) [ None ↦ 
 -- the sources that a run takes, one after another
 abbrev pub sources_by_choices : Choices → List (List Runnable) → List Source
 sources_by_choices choices [] = []
-sources_by_choices choices (rs ∷ views) = elim (next_source rs choices) [ None ↦ [] | Some picked ↦ picked.source ∷ sources_by_choices picked.left views ]
+sources_by_choices choices (rs ∷ views) =
+    elim (next_source rs choices) [ None ↦ [] | Some picked ↦ picked.source ∷ sources_by_choices picked.left views ]
 
 -- Whatever is runnable at one choice after another, the policy gives the sources that the written choices of the setup give.
 abbrev pub WrittenSources : Type 0

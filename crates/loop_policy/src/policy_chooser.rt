@@ -103,7 +103,8 @@ fn choose_oldest(view: &View) -> Source
 }
 
 fn older(oldest: Option<Waiting>, other: Waiting) -> Waiting
-    ensures { (rs : List Runnable) → fifo_behind (Some result) rs ≡ fifo_behind oldest (record { source = other.source; first = other.first } ∷ rs) }
+    ensures { (rs : List Runnable) → fifo_behind (Some result) rs
+        ≡ fifo_behind oldest (record { source = other.source; first = other.first } ∷ rs) }
 {
     match oldest {
         Some(oldest) if oldest.first <= other.first => oldest,
@@ -145,7 +146,8 @@ fn choose_fairly(view: &View, most: u32, counts: &[u32; 7]) -> Source
 
 // The earlier one where the counts are equal.
 fn more_passed_over(counts: &[u32; 7], chosen: Option<Source>, other: Source) -> Source
-    ensures { (sources : List Source) → greatest_behind counts.now (Some result) sources ≡ greatest_behind counts.now chosen (other ∷ sources) }
+    ensures { (sources : List Source) → greatest_behind counts.now (Some result) sources
+        ≡ greatest_behind counts.now chosen (other ∷ sources) }
 {
     match chosen {
         Some(chosen) if counts[place_of(other)] <= counts[place_of(chosen)] => chosen,
@@ -196,7 +198,8 @@ fn counts_after(view: &View, chosen: Source, counts: &[u32; 7]) -> [u32; 7]
 
 fn count_after(view: &View, chosen: Source, counts: &[u32; 7], source: Source) -> u32
     requires { count_of counts.now source + 1 < 2 ^ 32 }
-    ensures { result ≡ cond (same_source source chosen) 0 (cond (is_runnable (runnables view.now) source) (suc (count_of counts.now source)) 0) }
+    ensures { result ≡ cond (same_source source chosen) 0
+        (cond (is_runnable (runnables view.now) source) (suc (count_of counts.now source)) 0) }
 {
     if place_of(source) == place_of(chosen) {
         return 0;

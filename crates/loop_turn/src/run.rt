@@ -93,7 +93,8 @@ fn run_statements<L: Lines>(
     statements: &[LogStatement],
     lines: &mut L,
 ) -> Result<(), NoLine>
-    ensures { Gives L.keeping (L.seen lines.old) (map Of (statement_events (statements_seen statements.now))) (result_err result) (L.seen lines.new) }
+    ensures { Gives L.keeping (L.seen lines.old) (map Of (statement_events (statements_seen statements.now))) (result_err result)
+        (L.seen lines.new) }
 {
     for statement in statements {
         match printed(alloc, &statement.what)? {
@@ -107,7 +108,8 @@ fn run_statements<L: Lines>(
 
 /// The whole run: its one turn performs the script.
 fn run_script<L: Lines>(alloc: Global, script: &LogScript, lines: &mut L) -> Result<(), NoLine>
-    ensures { Gives L.keeping (L.seen lines.old) (default_lines (log_tree (script_seen script.now))) (result_err result) (L.seen lines.new) }
+    ensures { Gives L.keeping (L.seen lines.old) (default_lines (log_tree (script_seen script.now))) (result_err result)
+        (L.seen lines.new) }
 {
     lines.head(1)?;
     emit(
@@ -126,7 +128,8 @@ fn run_script<L: Lines>(alloc: Global, script: &LogScript, lines: &mut L) -> Res
 /// With an end all lines were given, and the run ends so. With a stop the lines before the one that was at fault were
 /// given, and no more.
 pub fn run_page<L: Lines>(alloc: Global, script: &LogScript, lines: L) -> Ended<L>
-    ensures lines { Gives L.keeping (L.seen lines) (default_lines (log_tree (script_seen script.now))) (line_fault result.outcome) (L.seen result.lines) }
+    ensures lines { Gives L.keeping (L.seen lines) (default_lines (log_tree (script_seen script.now))) (line_fault result.outcome)
+        (L.seen result.lines) }
     ensures ends { IfOk result.outcome (λ end. EndsAs end (default_run (log_tree (script_seen script.now)))) }
 {
     let mut lines = lines;

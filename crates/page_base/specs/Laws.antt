@@ -11,10 +11,13 @@ with_reading choices answer = record { reading = answer.0; left = choices answer
 
 -- The rule gives the reading that the run takes, and leaves what the run leaves.
 abbrev pub ReadsAs : (List ℕ → ℕ → Option (ℕ × List ℕ)) → (List ℕ → Choices) → Type 0
-ReadsAs rule choices = (held : List ℕ) (target : ℕ) → next_reading target (choices held) ≡ option_map (with_reading choices) (rule held target)
+ReadsAs rule choices =
+    (held : List ℕ) (target : ℕ) → next_reading target (choices held) ≡ option_map (with_reading choices) (rule held target)
 
 abbrev pub WrittenReadings : Type 0
-WrittenReadings = (policy : Policy) (counts : List ℕ) (answers : List (Result ℤ ℤ)) → ReadsAs late_reading (λ late. Written policy counts late answers)
+WrittenReadings =
+    (policy : Policy) (counts : List ℕ) (answers : List (Result ℤ ℤ)) → ReadsAs late_reading (λ late. Written policy counts late answers)
 
 abbrev pub RecordedReadings : Type 0
-RecordedReadings = (sources : List Source) (answers : List (Result ℤ ℤ)) → ReadsAs kept_reading (λ readings. Recorded sources readings answers)
+RecordedReadings =
+    (sources : List Source) (answers : List (Result ℤ ℤ)) → ReadsAs kept_reading (λ readings. Recorded sources readings answers)

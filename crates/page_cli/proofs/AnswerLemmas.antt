@@ -22,7 +22,12 @@ use Rattle.lang_parse.specs.declared.fault.ParseFault.{ParseFault}
 use Rattle.lang_parse.specs.declared.fault.ParseFault.TheVariants as parse
 use Rattle.lang_parse.specs.Symbols.{symbols_of}
 use Rattle.lang_parse.specs.Grammar.{HasTree}
-use Rattle.lang_parse.specs.LogSeen.{IsNoParse}
+use Rattle.lang_parse.specs.LogSeen.{IsNoTree}
+use Rattle.lang_parse.specs.Faults.{IsNoParse, IsPlaced}
+use Rattle.lang_place.specs.Place.{IsPlace}
+use Rattle.lang_tokens.specs.Tokens.{TokenList}
+use Rattle.lang_parse.specs.declared.fault.TreeFault.{TreeFault}
+use Rattle.lang_parse.specs.declared.fault.TreeFault.TheVariants as tree
 use Rattle.lang_ast.specs.declared.role.Role.TheVariants as role
 use Rattle.lang_ast.specs.Names.{Occurrence, mention, in_expr, in_terms, in_stmt, in_items, inside}
 use Rattle.lang_ast.specs.NameFaults.{fault_of, fault_in, fault_at, IsResolved}
@@ -34,13 +39,13 @@ use Rattle.loop_turn.specs.Stops.{line_fault}
 use Rattle.loop_turn.proofs.LogLaw.{run-events, run-ends}
 use Rattle.page_model.specs.Turns.{events_of_run}
 use Rattle.page_cli.specs.declared.answer.Answer.{Answer}
-use Rattle.page_cli.specs.declared.answer.Answer.TheVariants.{Done, Usage, NoParse, BadName, BadArrivals, TooLong, ReadFault, WriteFault, OutOfMemory}
+use Rattle.page_cli.specs.declared.answer.Answer.TheVariants.{Done, Usage, NoParse, NotRun, BadName, BadArrivals, TooLong, ReadFault, WriteFault, OutOfMemory}
 use Rattle.page_cli.specs.declared.answer.WhichFile.TheVariants.{Script, Arrivals}
 use Rattle.page_cli.specs.declared.reading.FileFault.{FileFault}
 use Rattle.page_cli.specs.declared.reading.FileFault.TheVariants as file
 use Rattle.page_cli.specs.declared.script_fault.ScriptFault.{ScriptFault}
 use Rattle.page_cli.specs.declared.script_fault.ScriptFault.TheVariants as script
-use Rattle.page_cli.specs.Refusals.{Refuses, GivesFile, of_tokens, of_parse, refusal, answer_to_file}
+use Rattle.page_cli.specs.Refusals.{Refuses, GivesFile, of_tokens, of_parse, of_log, refusal, answer_to_file}
 use Rattle.page_cli.specs.Answering.{Fits, IsRun, HasNoTree, HasLogTree, WroteStart, AnswersFiles, AnswersTold, AnswersRun, CanStop, answer_to}
 
 -- ---- the names in a log script
@@ -122,7 +127,8 @@ log-run ss script arrivals is fits set = record { is_script = is; is_resolved = 
 pub files-answers : (ss : List LogStatement) (answer : Answer) (script arrivals : List ℕ) (old new : Option (List ℕ)) → IsScript script (log_tree ss) → Fits arrivals → setup_of arrivals ≡ Ok default_setup → AnswersRun (log_tree ss) answer old new → AnswersFiles answer script arrivals old new
 files-answers ss Done script arrivals old new is fits set h = record { tree = log_tree ss; setup = default_setup; is_run = log-run ss script arrivals is fits set; ended = λ hosts. run-ends hosts ss; trace = any_trace ss old new h.1 }
 files-answers ss Usage script arrivals old new is fits set h = h
-files-answers ss NoParse script arrivals old new is fits set h = absurd h
+files-answers ss (NoParse at) script arrivals old new is fits set h = absurd h
+files-answers ss NotRun script arrivals old new is fits set h = absurd h
 files-answers ss (BadName fault) script arrivals old new is fits set h = absurd h
 files-answers ss (BadArrivals line) script arrivals old new is fits set h = absurd h
 files-answers ss (TooLong file) script arrivals old new is fits set h = absurd h
@@ -135,13 +141,13 @@ log-tree ss script is = record { tree = log_tree ss; is_script = is; is_resolved
 
 -- a script without tokens
 pub tokens-refuse : (e : TokensFault) (bytes : List ℕ) → ((at : ℕ) → (let r : Result Tokens TokensFault = Err e in r) ≡ Err (token.Is (record { at = at })) → tokens_of bytes ≡ Err at) → Refuses (of_tokens e) bytes
-tokens-refuse (token.Is bad) bytes h = inl (no_tokens bytes bad.at (h bad.at refl))
+tokens-refuse (token.Is bad) bytes h = record { none = no_tokens bytes bad.at (h bad.at refl); place = inl (h bad.at refl) }
 tokens-refuse token.OutOfMemory bytes h = tt
 
 -- a script that has a tree and is no log script
-pub log-refuses : (e : ParseFault) (bytes : List ℕ) (tree : List Item) → IsScript bytes tree → IsResolved tree → (IsNoParse e → (other : List Item) → IsScript bytes other → IsLogTree other → ⊥) → Refuses (of_parse e) bytes
-log-refuses (parse.Is fault) bytes tree is resolved none = inr (record { tree = tree; is_script = is; is_resolved = resolved; no_log = none tt })
-log-refuses parse.OutOfMemory bytes tree is resolved none = tt
+pub log-refuses : (e : TreeFault) (bytes : List ℕ) (tree : List Item) → IsScript bytes tree → IsResolved tree → (IsNoTree e → (other : List Item) → IsScript bytes other → IsLogTree other → ⊥) → Refuses (of_log e) bytes
+log-refuses (tree.Is fault) bytes tree is resolved none = record { tree = tree; is_script = is; is_resolved = resolved; no_log = none tt }
+log-refuses tree.OutOfMemory bytes tree is resolved none = tt
 
 -- a tree that is told of tokens is told of the bytes
 pub script-of : (bytes : List ℕ) (tokens : List TokenSeen) (tree : List Item) → length bytes ≤ 1048576 → tokens_of bytes ≡ Ok tokens → HasTree (symbols_of tokens) tree → IsScript bytes tree
@@ -150,13 +156,23 @@ script-of bytes tokens tree size e h = record { size = size; tokens = tokens; to
 same_ok : (tokens others : List TokenSeen) → (let r : Result (List TokenSeen) ℕ = Ok tokens in r) ≡ Ok others → others ≡ tokens
 same_ok tokens others e = cc
 
+-- a script whose tokens have no tree
+pub parse-refuses : (e : ParseFault) (bytes : List ℕ) (tokens : TokenList) → tokens_of bytes ≡ Ok tokens.items → tokens.length ≡ length bytes →
+    (IsNoParse e → (tree : List Item) → HasTree (symbols_of tokens.items) tree → ⊥) → IsPlaced tokens e → Refuses (of_parse e) bytes
+parse-refuses (parse.Is fault) bytes tokens ok size none place = record {
+  none = λ other is. none tt other (let P : List TokenSeen → Type 0 = λ ts. HasTree (symbols_of ts) other in subst P (same_ok tokens.items is.tokens (sym ok ∙ is.tokens_are)) is.has_tree);
+  place = inr (tokens.items, ok, subst (λ n. IsPlace tokens.items n fault.at) size place);
+}
+parse-refuses parse.OutOfMemory bytes tokens ok size none place = tt
+
 -- no tree of the tokens is none of the bytes
 pub none-of : (bytes : List ℕ) (tokens : List TokenSeen) → tokens_of bytes ≡ Ok tokens → ((other : List Item) → IsLogTree other → HasTree (symbols_of tokens) other → ⊥) → (other : List Item) → IsScript bytes other → IsLogTree other → ⊥
 none-of bytes tokens e none other is log = none other log (let P : List TokenSeen → Type 0 = λ ts. HasTree (symbols_of ts) other in subst P (same_ok tokens is.tokens (sym e ∙ is.tokens_are)) is.has_tree)
 
 -- the answer to a script that is not run
 pub refused-answers : (fault : ScriptFault) (script arrivals : List ℕ) (told : Option (List ℕ)) → Fits script → Fits arrivals → Refuses fault script → AnswersFiles (refusal fault) script arrivals told told
-refused-answers script.NoParse script arrivals told fits also h = (fits, also, h, refl)
+refused-answers (script.NoParse at) script arrivals told fits also h = (fits, also, h, refl)
+refused-answers script.NotRun script arrivals told fits also h = (fits, also, h, refl)
 refused-answers (script.Name fault) script arrivals told fits also h = (also, h, refl)
 refused-answers script.OutOfMemory script arrivals told fits also h = inl refl
 

@@ -12,6 +12,9 @@ use Rattle.page_model.specs.Turns.{run, events_of_run}
 use Rattle.page_model.specs.PageTrace.{page_trace}
 use Rattle.arrivals_text.specs.Arrivals.{default_setup}
 use Rattle.arrivals_text.specs.FirstPage.{setup_of}
+use Rattle.lang_tokens.specs.Seen.{TokenSeen}
+use Rattle.lang_tokens.specs.Tokens.{tokens_of}
+use Rattle.lang_place.specs.Place.{IsPlace}
 use Rattle.lang_parse.specs.LogScript.{IsScript, IsLogTree, program_of}
 use Rattle.loop_turn.specs.declared.stop.RunStop.{RunStop}
 use Rattle.loop_turn.specs.declared.stop.RunStop.TheVariants as stop
@@ -23,7 +26,7 @@ use Rattle.lang_names.specs.declared.fault.NameFault.{NameFault}
 use Rattle.page_cli.specs.declared.answer.WhichFile.{WhichFile}
 use Rattle.page_cli.specs.declared.answer.WhichFile.TheVariants.{Script, Arrivals}
 use Rattle.page_cli.specs.declared.answer.Answer.{Answer}
-use Rattle.page_cli.specs.declared.answer.Answer.TheVariants.{Done, Usage, NoParse, BadName, BadArrivals, TooLong, ReadFault, WriteFault, OutOfMemory}
+use Rattle.page_cli.specs.declared.answer.Answer.TheVariants.{Done, Usage, NoParse, NotRun, BadName, BadArrivals, TooLong, ReadFault, WriteFault, OutOfMemory}
 
 -- a file within its limit
 abbrev pub Fits : List ℕ → Type 0
@@ -41,6 +44,16 @@ pub record IsRun (script arrivals : List ℕ) (tree : List Item) (setup : Setup)
 -- the script has no tree
 abbrev pub HasNoTree : List ℕ → Type 0
 HasNoTree script = (tree : List Item) → IsScript script tree → ⊥
+
+-- the script's first bad byte, or the place of the first token with which its tokens stop to be the beginning of a script
+abbrev pub IsSyntaxPlace : List ℕ → ℕ → Type 0
+IsSyntaxPlace script at =
+    (tokens_of script ≡ Err at) ⊎ ((tokens : List TokenSeen) × (tokens_of script ≡ Ok tokens) × IsPlace tokens (length script) at)
+
+-- the script has no tree, and the error is at this byte
+pub record IsSyntaxError (script : List ℕ) (at : ℕ) : Type 0 where
+  pub none : HasNoTree script
+  pub place : IsSyntaxPlace script at
 
 -- the script has a tree and its names are resolved, but it is not of the kind that is run so far
 pub record IsNotRun (script : List ℕ) : Type 0 where
@@ -88,7 +101,8 @@ IsTooLong Arrivals script arrivals = Fits script × (1048576 < length arrivals)
 abbrev pub AnswersFiles : Answer → List ℕ → List ℕ → Option (List ℕ) → Option (List ℕ) → Type 0
 AnswersFiles Done script arrivals old new = WroteTrace script arrivals old new
 AnswersFiles Usage script arrivals old new = ⊥
-AnswersFiles NoParse script arrivals old new = Fits script × Fits arrivals × (HasNoTree script ⊎ IsNotRun script) × (new ≡ old)
+AnswersFiles (NoParse at) script arrivals old new = Fits script × Fits arrivals × IsSyntaxError script at × (new ≡ old)
+AnswersFiles NotRun script arrivals old new = Fits script × Fits arrivals × IsNotRun script × (new ≡ old)
 AnswersFiles (BadName fault) script arrivals old new = Fits arrivals × HasBadName script fault × (new ≡ old)
 AnswersFiles (BadArrivals line) script arrivals old new = Fits arrivals × HasLogTree script × (setup_of arrivals ≡ Err line) × (new ≡ old)
 AnswersFiles (TooLong file) script arrivals old new = IsTooLong file script arrivals × (new ≡ old)
@@ -104,7 +118,8 @@ AnswersTold answer script arrivals old new = IfSome script (λ s. IfSome arrival
 abbrev pub IsRefusal : Answer → Type 0
 IsRefusal Done = ⊥
 IsRefusal Usage = ⊤
-IsRefusal NoParse = ⊤
+IsRefusal (NoParse at) = ⊤
+IsRefusal NotRun = ⊤
 IsRefusal (BadName fault) = ⊤
 IsRefusal (BadArrivals line) = ⊤
 IsRefusal (TooLong file) = ⊤
@@ -135,7 +150,8 @@ default_text tree = text_of default_setup.trace (events_of_run (default_run tree
 abbrev pub AnswersRun : List Item → Answer → Option (List ℕ) → Option (List ℕ) → Type 0
 AnswersRun tree Done old new = EndsAs end.Done (default_run tree) × (new ≡ appended old (default_text tree))
 AnswersRun tree Usage old new = ⊥
-AnswersRun tree NoParse old new = ⊥
+AnswersRun tree (NoParse at) old new = ⊥
+AnswersRun tree NotRun old new = ⊥
 AnswersRun tree (BadName fault) old new = ⊥
 AnswersRun tree (BadArrivals line) old new = ⊥
 AnswersRun tree (TooLong file) old new = ⊥

@@ -6,7 +6,7 @@ use Rattle.page_parts.specs.Words.{decimal_of}
 use Rattle.lang_names.specs.declared.fault.NameFault.{NameFault}
 use Rattle.lang_names.specs.declared.fault.NameFault.TheVariants as fault
 use Rattle.page_cli.specs.declared.answer.Answer.{Answer}
-use Rattle.page_cli.specs.declared.answer.Answer.TheVariants.{Done, Usage, NoParse, BadName, BadArrivals, TooLong, ReadFault, WriteFault, OutOfMemory}
+use Rattle.page_cli.specs.declared.answer.Answer.TheVariants.{Done, Usage, NoParse, NotRun, BadName, BadArrivals, TooLong, ReadFault, WriteFault, OutOfMemory}
 use Rattle.page_cli.specs.Forms.{RunForm, name_of}
 
 abbrev pub name_in : Option RunForm → (RunForm → List ℕ) → List ℕ
@@ -23,7 +23,8 @@ name_complaint (fault.Arity at) = codes "pageloop: wrong argument count at byte 
 abbrev pub complaint : Option RunForm → Answer → List ℕ
 complaint form Done = []
 complaint form Usage = codes "usage: pageloop run S A | check S A T | storm N | stat T\n"
-complaint form NoParse = codes "pageloop: script: no parse\n"
+complaint form (NoParse at) = codes "pageloop: script: no parse at byte " ++ (decimal_of at ++ codes "\n")
+complaint form NotRun = codes "pageloop: script: no parse\n"
 complaint form (BadArrivals line) = codes "pageloop: arrivals: line " ++ (decimal_of line ++ codes "\n")
 complaint form (BadName fault) = name_complaint fault
 complaint form (TooLong file) = codes "pageloop: too long: " ++ (name_in form (name_of file) ++ codes "\n")
@@ -32,7 +33,8 @@ complaint form WriteFault = codes "pageloop: write fault\n"
 complaint form OutOfMemory = codes "pageloop: out of memory\n"
 
 -- A piece was put: the whole of it; or a start, where the count of faults rose.
-pub record Puts {E : Type 0} (old : Option (List ℕ)) (before : ℕ) (piece : List ℕ) (result : Result (Unit {0}) E) (new : Option (List ℕ)) (now : ℕ) : Type 0 where
+pub record Puts {E : Type 0} (old : Option (List ℕ)) (before : ℕ) (piece : List ℕ) (result : Result (Unit {0}) E) (new : Option (List ℕ))
+    (now : ℕ) : Type 0 where
   pub later : before ≤ now
   pub whole : OnOk result (new ≡ appended old piece)
   pub start : OnErr result (Rose before now × AppendsStartOf old new piece)

@@ -1,12 +1,13 @@
 -- The status of each answer.
 use Rattle.std.specs.Prelude.{ℕ}
 use Rattle.page_cli.specs.declared.answer.Answer.{Answer}
-use Rattle.page_cli.specs.declared.answer.Answer.TheVariants.{Done, Usage, NoParse, BadName, BadArrivals, TooLong, ReadFault, WriteFault, OutOfMemory}
+use Rattle.page_cli.specs.declared.answer.Answer.TheVariants.{Done, Usage, NoParse, NotRun, BadName, BadArrivals, TooLong, ReadFault, WriteFault, OutOfMemory}
 
 abbrev pub status_of : Answer → ℕ
 status_of Done = 0
 status_of Usage = 2
-status_of NoParse = 3
+status_of (NoParse at) = 3
+status_of NotRun = 3
 status_of (BadArrivals line) = 4
 status_of (BadName fault) = 5
 status_of (TooLong file) = 6

@@ -19,8 +19,11 @@ pub enum Answer {
     Done,
     /// The words are of no form.
     Usage,
-    /// The script has no tree, or one of a kind that is not run so far.
-    NoParse,
+    /// The script has no tree. At this byte stands its first bad byte or, where none is bad, the first token with which
+    /// it stops to be the beginning of a script.
+    NoParse { at: usize },
+    /// The script has a tree of a kind that is not run so far.
+    NotRun,
     /// A name in the script is at fault.
     BadName { fault: NameFault },
     /// The arrivals are refused at this line, counted from 1.
@@ -43,7 +46,8 @@ impl Answer {
         match self {
             Answer::Done => 0,
             Answer::Usage => 2,
-            Answer::NoParse => 3,
+            Answer::NoParse { .. } => 3,
+            Answer::NotRun => 3,
             Answer::BadArrivals { .. } => 4,
             Answer::BadName { .. } => 5,
             Answer::TooLong { .. } => 6,

@@ -29,7 +29,8 @@ fn put_decimal<E: Sink>(err: &mut E, n: usize) -> Result<(), Failed>
 }
 
 fn put_digits<E: Sink>(err: &mut E, n: usize) -> Result<(), Failed>
-    ensures { (most : ℕ) → n < 10 ^ (most + 1) → Puts (E.bytes err.old) (E.faults err.old) (digits most n) result (E.bytes err.new) (E.faults err.new) }
+    ensures { (most : ℕ) → n < 10 ^ (most + 1) → Puts (E.bytes err.old) (E.faults err.old) (digits most n) result (E.bytes err.new)
+        (E.faults err.new) }
 {
     if n < 10 {
         return put(err, &[b'0' + n as u8]);
@@ -40,7 +41,8 @@ fn put_digits<E: Sink>(err: &mut E, n: usize) -> Result<(), Failed>
 
 /// Puts the line of an answer.
 fn put_complaint<E: Sink>(err: &mut E, answer: Answer, names: Option<Names>) -> Result<(), Failed>
-    ensures { Puts (E.bytes err.old) (E.faults err.old) (complaint (names_seen names.entry) answer) result (E.bytes err.new) (E.faults err.new) }
+    ensures { Puts (E.bytes err.old) (E.faults err.old) (complaint (names_seen names.entry) answer) result (E.bytes err.new)
+        (E.faults err.new) }
 {
     match answer {
         Answer::Done => Ok(()),
@@ -48,7 +50,8 @@ fn put_complaint<E: Sink>(err: &mut E, answer: Answer, names: Option<Names>) -> 
             err,
             b"usage: pageloop run S A | check S A T | storm N | stat T\n",
         ),
-        Answer::NoParse => put(err, b"pageloop: script: no parse\n"),
+        Answer::NoParse { at } => { put_numbered(err, b"pageloop: script: no parse at byte ", at) }
+        Answer::NotRun => put(err, b"pageloop: script: no parse\n"),
         Answer::BadName { fault } => put_bad_name(err, fault),
         Answer::BadArrivals { line } => put_numbered(err, b"pageloop: arrivals: line ", line),
         Answer::TooLong { file } => put_named(
@@ -81,7 +84,8 @@ fn put_bad_name<E: Sink>(err: &mut E, fault: NameFault) -> Result<(), Failed>
 
 /// Puts a line that ends with a number.
 fn put_numbered<E: Sink>(err: &mut E, words: &[u8], n: usize) -> Result<(), Failed>
-    ensures { Puts (E.bytes err.old) (E.faults err.old) (words.now ++ (decimal_of n ++ codes "\n")) result (E.bytes err.new) (E.faults err.new) }
+    ensures { Puts (E.bytes err.old) (E.faults err.old) (words.now ++ (decimal_of n ++ codes "\n")) result (E.bytes err.new)
+        (E.faults err.new) }
 {
     put(err, words)?;
     put_decimal(err, n)?;
@@ -90,7 +94,8 @@ fn put_numbered<E: Sink>(err: &mut E, words: &[u8], n: usize) -> Result<(), Fail
 
 /// Puts a line that ends with a name.
 fn put_named<E: Sink>(err: &mut E, words: &[u8], name: &[u8]) -> Result<(), Failed>
-    ensures { Puts (E.bytes err.old) (E.faults err.old) (words.now ++ (name.now ++ codes "\n")) result (E.bytes err.new) (E.faults err.new) }
+    ensures { Puts (E.bytes err.old) (E.faults err.old) (words.now ++ (name.now ++ codes "\n")) result (E.bytes err.new)
+        (E.faults err.new) }
 {
     put(err, words)?;
     put(err, name)?;
@@ -110,7 +115,8 @@ fn name_of<'a>(file: WhichFile, names: Option<Names<'a>>) -> &'a str
 
 /// Gives the line of an answer to the error output. A fault of that changes no answer.
 pub(crate) fn complain<E: Sink>(err: &mut E, answer: Answer, names: Option<Names>)
-    ensures { PutsOrFails (E.bytes err.old) (E.faults err.old) (complaint (names_seen names.entry) answer) (E.bytes err.new) (E.faults err.new) }
+    ensures { PutsOrFails (E.bytes err.old) (E.faults err.old) (complaint (names_seen names.entry) answer) (E.bytes err.new)
+        (E.faults err.new) }
 {
     let _ = put_complaint(err, answer, names);
 }

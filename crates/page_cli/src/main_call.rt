@@ -56,10 +56,12 @@ fn answer_to(fault: FileFault, file: WhichFile) -> Answer
 
 /// Fetches the two files in the order of the words, and runs them.
 fn run_named<F: Folder, O: Sink>(alloc: Global, folder: &mut F, names: Names, out: O) -> Answered<O>
-    ensures answers { AnswersTold result.answer (F.file folder.old names.entry.script.now) (F.file folder.old names.entry.arrivals.now) (O.bytes out) (O.bytes result.out) }
+    ensures answers { AnswersTold result.answer (F.file folder.old names.entry.script.now) (F.file folder.old names.entry.arrivals.now)
+        (O.bytes out) (O.bytes result.out) }
     ensures refused { IsRefusal result.answer → O.bytes result.out ≡ O.bytes out }
     ensures read { (file : WhichFile) → result.answer ≡ Answer.ReadFault file →
-        Rose (F.faults folder.old (name_of file (record { script = names.entry.script.now; arrivals = names.entry.arrivals.now }))) (F.faults folder.new (name_of file (record { script = names.entry.script.now; arrivals = names.entry.arrivals.now }))) }
+        Rose (F.faults folder.old (name_of file (record { script = names.entry.script.now; arrivals = names.entry.arrivals.now })))
+        (F.faults folder.new (name_of file (record { script = names.entry.script.now; arrivals = names.entry.arrivals.now }))) }
     ensures write { result.answer ≡ Answer.WriteFault → Rose (O.faults out) (O.faults result.out) }
     ensures usage { result.answer ≡ Answer.Usage → ⊥ }
 {
@@ -111,9 +113,9 @@ fn answer_to_words<F: Folder, O: Sink>(
 /// All that the program does. The words are those behind the program's name.
 ///
 /// `run S A` fetches the script S and the arrivals A, runs the script, and writes the trace to `out`. The order of
-/// refusals is: words, the fetch of S and its length, the fetch of A and its length, script, names, arrivals, writes. A refusal writes nothing to `out`. The
-/// line of the answer goes to `err`, whose faults change no answer. Want of memory may come at any point. The host table
-/// stays as it is, since a log script asks for no answer of a host.
+/// refusals is: words, the fetch of S and its length, the fetch of A and its length, script, names, arrivals, writes. A refusal writes
+/// nothing to `out`. The line of the answer goes to `err`, whose faults change no answer. Want of memory may come at any point. The host
+/// table stays as it is, since a log script asks for no answer of a host.
 pub fn page_main<F: Folder, O: Sink, E: Sink>(
     alloc: Global,
     words: &Vec<String>,
@@ -142,7 +144,8 @@ pub fn page_main<F: Folder, O: Sink, E: Sink>(
     ensures hosts { closures_of _hosts.new ≡ closures_of _hosts.old }
 
     // The line of the answer whole, or a start of it where the count of faults of `err` rose.
-    ensures err { PutsOrFails (E.bytes err.old) (E.faults err.old) (complaint (form_of (map string_bytes words.now.items)) result.answer) (E.bytes err.new) (E.faults err.new) }
+    ensures err { PutsOrFails (E.bytes err.old) (E.faults err.old) (complaint (form_of (map string_bytes words.now.items)) result.answer)
+        (E.bytes err.new) (E.faults err.new) }
 {
     let names = names_in(words);
     let answered = answer_to_words(alloc, folder, names, out);

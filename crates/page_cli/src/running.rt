@@ -46,7 +46,8 @@ fn refusal(fault: ScriptFault) -> Answer
     ensures other { (file : WhichFile) → result ≡ Answer.ReadFault file → ⊥ }
 {
     match fault {
-        ScriptFault::NoParse => Answer::NoParse,
+        ScriptFault::NoParse { at } => Answer::NoParse { at },
+        ScriptFault::NotRun => Answer::NotRun,
         ScriptFault::Name(fault) => Answer::BadName { fault },
         ScriptFault::OutOfMemory => Answer::OutOfMemory,
     }

@@ -1,17 +1,19 @@
 //! Why a script is not run.
 
-ghost use Rattle.page_cli.specs.Refusals.{of_tokens, of_parse, of_resolve};
+ghost use Rattle.page_cli.specs.Refusals.{of_tokens, of_parse, of_log, of_resolve};
 ghost use Rattle.std.specs.Prelude.{◌≡◌};
 
 use lang_names::{NameFault, ResolveFault};
-use lang_parse::ParseFault;
+use lang_parse::{ParseFault, TreeFault};
 use lang_tokens::TokensFault;
 
 /// Why a script is not run.
 #[derive(Clone, Copy, Debug, PartialEq, Eq)]
 pub(crate) enum ScriptFault {
-    /// It has no tree, or one of a kind that is not run so far.
-    NoParse,
+    /// It has no tree: the error is at this byte.
+    NoParse { at: usize },
+    /// It has a tree of a kind that is not run so far.
+    NotRun,
     /// This name is at fault.
     Name(NameFault),
     OutOfMemory,
@@ -22,7 +24,7 @@ impl From<TokensFault> for ScriptFault {
 
     fn from(e: TokensFault) -> ScriptFault {
         match e {
-            TokensFault::Is(_) => ScriptFault::NoParse,
+            TokensFault::Is(bad) => ScriptFault::NoParse { at: bad.at },
             TokensFault::OutOfMemory => ScriptFault::OutOfMemory,
         }
     }
@@ -33,8 +35,19 @@ impl From<ParseFault> for ScriptFault {
 
     fn from(e: ParseFault) -> ScriptFault {
         match e {
-            ParseFault::Is(_) => ScriptFault::NoParse,
+            ParseFault::Is(fault) => ScriptFault::NoParse { at: fault.at },
             ParseFault::OutOfMemory => ScriptFault::OutOfMemory,
+        }
+    }
+}
+
+impl From<TreeFault> for ScriptFault {
+    ghost from_gives = { λ e f. f ≡ of_log e };
+
+    fn from(e: TreeFault) -> ScriptFault {
+        match e {
+            TreeFault::Is(_) => ScriptFault::NotRun,
+            TreeFault::OutOfMemory => ScriptFault::OutOfMemory,
         }
     }
 }

@@ -28,7 +28,8 @@ serials_in es r = keys_of (filter (λ (e : ℕ × Listener). e.1.registration ==
 
 -- the registrations for events of this name at this signal or the window, with their serial numbers
 abbrev pub registrations_in : List (ℕ × Listener) → Option ℕ → List ℕ → List (ℕ × ℕ)
-registrations_in es signal name = map (λ (e : ℕ × Listener). (e.0, e.1.registration)) (filter (λ (e : ℕ × Listener). is_for signal name e.1) es)
+registrations_in es signal name =
+    map (λ (e : ℕ × Listener). (e.0, e.1.registration)) (filter (λ (e : ℕ × Listener). is_for signal name e.1) es)
 
 -- what the index by registrations has
 abbrev pub serials_of : BTreeMap ℕ (Vec ℕ Global) → ℕ → List ℕ
@@ -55,7 +56,8 @@ abbrev pub AreKinds : List (ℕ × Listener) → BTreeMap Kind (BTreeMap ℕ ℕ
 AreKinds es m = (q : Kind) → registrations_of m q ≡ registrations_in es q.signal q.name.items
 
 -- listeners in the order of their serial numbers, all below the next one, and both indexes
-pub record IsIndexed (es : List (ℕ × Listener)) (serials : BTreeMap ℕ (Vec ℕ Global)) (kinds : BTreeMap Kind (BTreeMap ℕ ℕ)) (next : ℕ) : Type 0 where
+pub record IsIndexed (es : List (ℕ × Listener)) (serials : BTreeMap ℕ (Vec ℕ Global)) (kinds : BTreeMap Kind (BTreeMap ℕ ℕ))
+    (next : ℕ) : Type 0 where
   pub ordered : AreOrdered es
   pub below : AreBelow next es
   pub by_registration : AreSerials es serials
@@ -75,12 +77,14 @@ SameSerials old new = (r : ℕ) → serials_of new r ≡ serials_of old r
 -- a kind has one more registration
 abbrev pub AddsRegistration : (kind : Kind) (serial registration : ℕ) (old new : BTreeMap Kind (BTreeMap ℕ ℕ)) → Type 0
 AddsRegistration kind serial registration old new =
-    (q : Kind) → registrations_of new q ≡ (if is_at (kind_cmp kind) q then insert_entry nat_cmp (registrations_of old kind) serial registration else registrations_of old q)
+    (q : Kind) → registrations_of new q ≡ (if is_at (kind_cmp kind) q then insert_entry nat_cmp
+    (registrations_of old kind) serial registration else registrations_of old q)
 
 -- a kind has one registration less
 abbrev pub RemovesRegistration : (kind : Kind) (serial : ℕ) (old new : BTreeMap Kind (BTreeMap ℕ ℕ)) → Type 0
 RemovesRegistration kind serial old new =
-    (q : Kind) → registrations_of new q ≡ (if is_at (kind_cmp kind) q then remove_entry (is_at (nat_cmp serial)) (registrations_of old kind) else registrations_of old q)
+    (q : Kind) → registrations_of new q ≡ (if is_at (kind_cmp kind) q then remove_entry (is_at (nat_cmp serial)) (registrations_of old kind)
+    else registrations_of old q)
 
 -- nothing changes
 abbrev pub SameRegistrations : (old new : BTreeMap Kind (BTreeMap ℕ ℕ)) → Type 0

@@ -12,6 +12,16 @@ use Rattle.lang_meaning.specs.Asks.{Limited, limited_host, limited, limited_oper
 use Rattle.lang_meaning.proofs.Unlimited.{unlimited-follows}
 use Rattle.lang_ast.specs.Hosts.{HostNow}
 use Rattle.page_interp.specs.declared.exit.Store.{Store}
+use Rattle.page_interp.specs.declared.machine.Ran.{Ran}
+use Rattle.page_interp.specs.declared.machine.Stopped.{Stopped}
+use Rattle.page_interp.specs.MachineNow.{MachineNow}
+use Rattle.page_interp.specs.Machines.{bound_args, ran_left, Means}
+use Rattle.page_interp.specs.Variables.{globals_of}
+use Rattle.page_values.specs.declared.Func.{Func}
+use Rattle.lang_ast.specs.declared.program.Program.{Program as Script}
+use Rattle.lang_ast.specs.SeenProgram.{seen_program}
+use Rattle.std.specs.declared.alloc.Global.{Global}
+use Rattle.std.specs.Prelude.{Vec, Result}
 use Rattle.page_interp.specs.Runs.{Ended, done, Left, ends, refused, no_memory, gives, throws, returns, no_fuel, Is, more, Comes, Stands, IsDry, WhereSettled, Refuses, LeftIsNumbered, AreNumberedIn, outside, count_of_functions, global_names, variables_of, IsReady, moment_of, machine_of, Runs, caller_of, as_called}
 use Rattle.page_interp.proofs.Numbered.{units_numbered}
 
@@ -125,6 +135,16 @@ module _ {T S : Type 0} (R : HostRules T) (p : Program) where
       subst (λ l. Is (calls p (host_operations R) 256 f args (machine_of p h.told store [])) l (machine_of p h'.told store' [])) (sym q)
       (called_meaning l _ _ (λ v. never_returns p (host_operations R) 256 f args (machine_of p h.told store []) v (machine_of p h'.told store' []))
       (subst (λ vs. Is (calls p (host_operations R) 256 f vs (machine_of p h.told store [])) l (machine_of p h'.told store' [])) e (itself_meaning f all (machine_of p h.told store []) (machine_of p h'.told store' []) l r.meaning)))
+
+  -- the same of a machine that is seen so
+  pub outside_means : {leaves : Ask → T → T → Type 0} (script : Script) (before : MachineNow) (h h' : HostNow T S) (store store' : Store) (fun : Func) (args : Vec Value Global) (all : List Model.Value) (result : Result Ran (Stopped S)) (l : Left S)
+      → p ≡ seen_program script → record { script = script; globals = globals_of script store } ≡ before → all ≡ bound_args fun args → ran_left result ≡ as_called l
+      → Runs (outside R leaves p) (caller_of R p 0 fun.function all) (moment_of p h store []) l (moment_of p h' store' [])
+      → Means R before store.fuel h fun args result (record { script = script; globals = globals_of script store' }) store'.fuel h'
+  outside_means script before h h' store store' fun args all result l s v e q r =
+      subst (λ m. Means R m store.fuel h fun args result (record { script = script; globals = globals_of script store' }) store'.fuel h') v
+      (subst (λ p. Is (calls p (host_operations R) 256 fun.function (bound_args fun args) (machine_of p h.told store [])) (ran_left result) (machine_of p h'.told store' [])) s
+      (outside_meaning h h' store store' fun.function (bound_args fun args) all l (ran_left result) e q r))
 
   pub outside_stands : {leaves : Ask → T → T → Type 0} (h h' : HostNow T S) (store store' : Store) (f : ℕ) (args all : List Model.Value) (l left : Left S) → all ≡ args → left ≡ as_called l
       → Runs (outside R leaves p) (caller_of R p 0 f all) (moment_of p h store []) l (moment_of p h' store' [])

@@ -9,13 +9,13 @@ use Rattle.lang_meaning.specs.Machine.{Machine, Done, Caller}
 use Rattle.lang_meaning.specs.Evaluation.{Around}
 use Rattle.lang_meaning.specs.HostSteps.{HostRules, Ask}
 use Rattle.lang_meaning.specs.Asks.{Limited}
-use Rattle.page_interp.specs.declared.code.Code.{Code}
+use Rattle.lang_ast.specs.declared.program.Program as Code
 use Rattle.page_interp.specs.declared.exit.Store.{Store}
 use Rattle.page_interp.specs.Runs.{Left, Moment, moment_of, variables_of, inside, outside, caller_of, around_of, IsReady, Runs}
 
--- the script of the machine
-abbrev pub script : Code → Program
-script code = seen_program code.program.now
+-- the script of the machine's code
+abbrev pub script : Code.Program → Program
+script code = seen_program code
 
 -- What stays the same while a body runs: what the host does, and what it may leave where it refuses; the script, how many calls
 -- are open, and the names of the local variables.
@@ -26,7 +26,7 @@ pub record Body (T : Type 0) : Type 1 where
   pub depth : ℕ
   pub names : List (List ℕ)
 
-abbrev pub body : {T : Type 0} → HostRules T → (Ask → T → T → Type 0) → Code → ℕ → List (List ℕ) → Body T
+abbrev pub body : {T : Type 0} → HostRules T → (Ask → T → T → Type 0) → Code.Program → ℕ → List (List ℕ) → Body T
 body rules leaves code depth names =
     record { rules = rules; leaves = leaves; script = script code; depth = depth; names = names }
 
@@ -46,11 +46,11 @@ RunsIn b f h store values l h' store' values' =
     (moment_in b h store values outer) l (moment_in b h' store' values' outer)
 
 -- a function or an operation can be called
-abbrev pub CanCall : {T S : Type 0} → HostRules T → (Ask → T → T → Type 0) → Code → HostNow T S → Store → Type 0
+abbrev pub CanCall : {T S : Type 0} → HostRules T → (Ask → T → T → Type 0) → Code.Program → HostNow T S → Store → Type 0
 CanCall rules leaves code h store = IsReady (outside rules leaves (script code)) (moment_of (script code) h store [])
 
 -- from the first of these moments to the second one a call runs with this meaning, where so many calls are open
-abbrev pub Calls : {T S : Type 0} → HostRules T → (Ask → T → T → Type 0) → Code → ℕ
+abbrev pub Calls : {T S : Type 0} → HostRules T → (Ask → T → T → Type 0) → Code.Program → ℕ
     → (Caller (Limited T) → Machine (Limited T) → Done (Limited T))
     → HostNow T S → Store → Left S → HostNow T S → Store → Type 0
 Calls rules leaves code depth f h store l h' store' =

@@ -4,5 +4,8 @@ pub mod Runs
 pub mod Answers
 pub mod Sizes
 pub mod NumberTests
+pub mod Variables
+pub mod CodeNames
+pub mod MachineNow
 pub mod Machines
 pub mod Clauses

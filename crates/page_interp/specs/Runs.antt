@@ -7,6 +7,7 @@ use Rattle.page_types.specs.Tree.{Program, Exprs}
 use Rattle.page_types.specs.declared.FaultName.TheVariants.{TypeError}
 use Rattle.page_parts.specs.Kinds.{Func, func_in}
 use Rattle.page_values.specs.declared.Value.{Value}
+use Rattle.page_values.specs.declared.Func.{Func as HeldFunc}
 use Rattle.page_values.specs.Seen.{seen}
 use Rattle.page_values.specs.Written.{IsNumbered}
 use Rattle.lang_ast.specs.Steps.{AllNumbered}
@@ -256,6 +257,10 @@ called_by_name w x es m = eval_all w es [] (call_of w x m) m
 abbrev pub func_of : Option Model.Value → Option Func
 func_of None = None
 func_of (Some v) = func_in v
+
+-- a function of the code, as a value names it
+abbrev pub func_seen : HeldFunc → Func
+func_seen f = record { function = f.function; bound = f.bound }
 
 -- a call of what a name stands for
 abbrev pub call_given : {T : Type 0} → Caller T → Option Model.Value → List Model.Value → Machine T → Done T

@@ -5,7 +5,7 @@ ghost use Rattle.page_types.specs.Values.{items_of};
 ghost use Rattle.page_values.specs.Seen.{seen};
 ghost use Rattle.lang_ast.specs.SeenProgram.{seen_program};
 ghost use Rattle.page_interp.specs.Machines.{ran_left};
-ghost use Rattle.page_interp.specs.Runs.{count_of_functions, value_left, as_called};
+ghost use Rattle.page_interp.specs.Runs.{value_left, as_called};
 
 use crate::code::Code;
 use crate::exit::{Exit, Store};
@@ -20,19 +20,17 @@ use std::alloc::Global;
 impl<'p> Machine<'p> {
     ghost use Rattle.page_values.specs.Written.{AreNumbered};
     ghost use Rattle.lang_ast.specs.Steps.{AllNumbered};
-    ghost use Rattle.lang_meaning.specs.Evaluation.{call_from_outside, first_globals};
-    ghost use Rattle.lang_meaning.specs.HostSteps.{host_operations};
-    ghost use Rattle.lang_meaning.specs.Asks.{limited_operations};
-    ghost use Rattle.page_interp.specs.Runs.{Is, Stands, IsDry, Refuses, WhereSettled, LeftIsNumbered};
-    ghost use Rattle.page_interp.specs.Machines.{program_in, globals_in, machine_with, bound_args};
+    ghost use Rattle.lang_meaning.specs.Evaluation.{first_globals};
+    ghost use Rattle.page_interp.specs.Runs.{IsDry, LeftIsNumbered};
+    ghost use Rattle.page_interp.specs.Machines.{functions_in, Means, Stands, Refuses, UsesTickets};
 
     /// The machine of a script. Its global variables are unit.
     pub fn new(alloc: Global, program: &'p Program) -> Result<Machine<'p>, MemoryFault>
-        ensures program { IfOk result (λ m. program_in m ≡ seen_program program.now) }
-        ensures globals { IfOk result (λ m. globals_in m ≡ first_globals (seen_program program.now)) }
+        ensures script { IfOk result (λ m. m.script ≡ program.now) }
+        ensures globals { IfOk result (λ m. m.globals ≡ first_globals (seen_program program.now)) }
     {
         let code = Code::new(alloc, program)?;
-        let globals = locals_for(0, &code.globals, Vec::new(alloc))?;
+        let globals = locals_for(0, code.globals(), Vec::new(alloc))?;
         let store = Store { globals, fuel: 0 };
         Ok(Machine { code, store })
     }
@@ -54,28 +52,24 @@ impl<'p> Machine<'p> {
         args: Vec<Value>,
         fuel: &mut u64,
     ) -> Result<Ran, Stopped<H::Stop>>
-        requires functions { (H.now host.old).functions ≡ count_of_functions (program_in self.old) }
+        requires functions { (H.now host.old).functions ≡ functions_in self.old }
         requires room { fuel.old ≤ (H.now host.old).room }
-        requires bound { AreNumbered (count_of_functions (program_in self.old)) fun.now.bound }
-        requires args { AllNumbered (count_of_functions (program_in self.old)) (map seen args.items) }
-        ensures meaning { Is (call_from_outside (program_in self.old) (host_operations H.rules)
-            fun.now.function (bound_args fun.now.bound args.items)
-            (machine_with (globals_in self.old) fuel.old (H.now host.old).told)) (ran_left result)
-            (machine_with (globals_in self.new) fuel.new (H.now host.new).told) }
-        ensures stands { Stands H.rules H.leaves (ran_left result)
-            (call_from_outside (program_in self.old) (limited_operations H.rules)
-            fun.now.function (bound_args fun.now.bound args.items))
-            (machine_with (globals_in self.old) fuel.old (H.now host.old).told) (H.now host.new).told }
-        ensures refusals { Refuses (ran_left result) (H.now host.old).refusals (H.now host.new).refusals (H.now host.new).last_stop }
-        ensures tickets { WhereSettled (ran_left result) ((H.now host.new).tickets ≡ (H.now host.old).tickets) }
-        ensures numbered { LeftIsNumbered (count_of_functions (program_in self.old)) (ran_left result) }
-        ensures program { program_in self.new ≡ program_in self.old }
+        requires bound { AreNumbered (functions_in self.old) fun.now.bound }
+        requires args { AllNumbered (functions_in self.old) (map seen args.items) }
+        ensures meaning { Means H.rules self.old fuel.old (H.now host.old) fun.now args result
+            self.new fuel.new (H.now host.new) }
+        ensures stands { Stands H.rules H.leaves self.old fuel.old (H.now host.old) fun.now args result
+            (H.now host.new) }
+        ensures refusals { Refuses result (H.now host.old) (H.now host.new) }
+        ensures tickets { UsesTickets result (H.now host.old) (H.now host.new) }
+        ensures numbered { LeftIsNumbered (functions_in self.old) (ran_left result) }
+        ensures program { self.new.script ≡ self.old.script }
         ensures functions { (H.now host.new).functions ≡ (H.now host.old).functions }
         ensures fuel { fuel.new ≤ fuel.old }
         ensures no_fuel { IsDry (ran_left result) fuel.new }
         ensures room { fuel.new ≤ (H.now host.new).room }
     {
-        let all = match bound_first(self.code.alloc, fun, args) {
+        let all = match bound_first(self.code.alloc(), fun, args) {
             Ok(all) => all,
             Err(_) => return Err(Stopped::OutOfMemory),
         };

@@ -1,41 +1,48 @@
 //! A script as the machine has it: with an index of its names.
 
-ghost use Rattle.std.specs.Prelude.{◌≡◌, ◌<◌, ◌^◌, [], length, map, Some, IfSome, slice_get};
+ghost use Rattle.std.specs.Prelude.{◌≡◌, ◌<◌, [], IfOk, IfSome, Some, slice_get};
 ghost use Rattle.std.specs.Option.{option_map};
-ghost use Rattle.lang_meaning.specs.Evaluation.{functions_of, number_of};
+ghost use Rattle.lang_meaning.specs.Evaluation.{functions_of, number_of, own_body};
 ghost use Rattle.lang_ast.specs.SeenProgram.{seen_program};
-ghost use Rattle.lang_ast.specs.Programs.{function_names};
-ghost use Rattle.page_interp.specs.Runs.{frame_names, global_names, count_of_functions};
+ghost use Rattle.page_interp.specs.Runs.{global_names, count_of_functions};
+ghost use Rattle.page_interp.specs.CodeNames.{function_at, names_of_frames};
 
 use crate::gathering::{all_frame_names, global_names, same_names};
 use crate::names::Names;
-use lang_ast::{Function, Program};
+use lang_ast::{Function, Item, Program};
 use page_values::{MemoryFault, Str};
 use std::alloc::Global;
+use std::marker::Model;
 
 /// A script, and the names of its functions, of its global variables, and of the variables of each function.
 #[derive(Drop)]
 pub struct Code<'p> {
-    pub alloc: Global,
-    pub program: &'p Program,
-    pub functions: Names,
-    pub globals: Names,
-    /// No names: those of the variables of the script's own body, which are global ones.
-    pub no_names: Names,
-    pub locals: Vec<Names>,
-    ghost functions_named: { functions ≡ function_names (seen_program program.now).items },
-    ghost globals_named: { globals ≡ global_names (seen_program program.now) },
-    ghost locals_named: { locals.items ≡ map frame_names (functions_of (seen_program program.now).items) },
-    ghost none: { no_names ≡ [] },
-    ghost few: { length functions < 2 ^ 32 },
+    alloc: Global,
+    program: &'p Program,
+    functions: Names,
+    globals: Names,
+    no_names: Names,
+    locals: Vec<Names>,
+}
+
+impl<'p> Model for Code<'p> {
+    ghost use Rattle.lang_ast.specs.declared.program.Program.{Program};
+    ghost use Rattle.page_interp.specs.CodeNames.{AreNamesOf};
+    ghost use Rattle.lang_ast.specs.contracts.program.Program as program_code;
+
+    ghost Value = { Program };
+
+    ghost coded = { program_code.the_row.coded };
+
+    ghost view = { λ c. c.program.now };
+
+    ghost invariant = { λ c. AreNamesOf c.program.now c.functions c.globals c.no_names c.locals.items };
 }
 
 impl<'p> Code<'p> {
-    ghost use Rattle.std.specs.Prelude.{IfOk};
-
     /// The script with an index of its names.
     pub fn new(alloc: Global, program: &'p Program) -> Result<Code<'p>, MemoryFault>
-        ensures { IfOk result (λ c. seen_program c.program.now ≡ seen_program program.now) }
+        ensures { IfOk result (λ c. c ≡ program.now) }
     {
         let functions = same_names(alloc, program.names().names())?;
         let globals = global_names(alloc, program.items())?;
@@ -54,13 +61,40 @@ impl<'p> Code<'p> {
 }
 
 impl Code<'_> {
-    ghost use Rattle.lang_ast.specs.Seen.{seen_function, seen_block};
+    ghost use Rattle.lang_ast.specs.Seen.{seen_function, seen_block, seen_items};
     ghost use Rattle.lang_ast.specs.Names.{in_block};
     ghost use Rattle.lang_ast.specs.Calls.{CallsFit};
 
+    /// Where memory is taken.
+    pub fn alloc(&self) -> Global {
+        self.alloc
+    }
+
+    /// The script's items, in the order of the text.
+    pub fn items(&self) -> &[Item]
+        ensures items { seen_items result.now ≡ (seen_program self.now).items }
+        ensures fits { CallsFit (in_block (own_body (seen_program self.now).items)) }
+    {
+        self.program.items()
+    }
+
+    /// The names of the global variables.
+    pub fn globals(&self) -> &Names
+        ensures { result.now ≡ global_names (seen_program self.now) }
+    {
+        &self.globals
+    }
+
+    /// The names of the variables of the script's own body besides the global ones: there are none.
+    pub fn no_names(&self) -> &Names
+        ensures { result.now ≡ [] }
+    {
+        &self.no_names
+    }
+
     /// The number of the function with this name.
     pub fn number_of(&self, name: &Str) -> Option<u32>
-        ensures { result ≡ number_of (functions_of (seen_program self.now.program.now).items) name.now }
+        ensures { result ≡ number_of (functions_of (seen_program self.now).items) name.now }
     {
         match self.functions.place(name) {
             Some(place) => Some(place as u32),
@@ -70,8 +104,7 @@ impl Code<'_> {
 
     /// The function with this number.
     pub fn function(&self, number: u32) -> Option<&Function>
-        ensures found { option_map (λ f. seen_function f.now) result ≡
-            slice_get (functions_of (seen_program self.now.program.now).items) number }
+        ensures found { option_map (λ f. seen_function f.now) result ≡ function_at self.now number }
         ensures fits { IfSome result (λ f. CallsFit (in_block (seen_block f.now.body.items))) }
     {
         self.program.function(number)
@@ -79,8 +112,8 @@ impl Code<'_> {
 
     /// The names of the variables of the function with this number.
     pub fn locals_of(&self, number: u32) -> &Names
-        requires { number < count_of_functions (seen_program self.now.program.now) }
-        ensures { slice_get (map frame_names (functions_of (seen_program self.now.program.now).items)) number ≡ Some result.now }
+        requires { number < count_of_functions (seen_program self.now) }
+        ensures { slice_get (names_of_frames self.now) number ≡ Some result.now }
     {
         &self.locals[number as usize]
     }

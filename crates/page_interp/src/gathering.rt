@@ -1,9 +1,10 @@
 //! The names that a script gives.
 
-ghost use Rattle.std.specs.Prelude.{◌≡◌, ◌++◌, IfOk, map};
+ghost use Rattle.std.specs.Prelude.{◌≡◌, IfOk, OnOk, map};
 ghost use Rattle.lang_meaning.specs.Evaluation.{names_in, names_in_stmt, names_in_others, names_in_else, functions_of, own_body};
 ghost use Rattle.lang_ast.specs.Seen.{seen_stmt, seen_block, seen_others, seen_else, seen_items, seen_function};
 ghost use Rattle.page_interp.specs.Runs.{frame_names};
+ghost use Rattle.page_interp.specs.CodeNames.{Appends};
 
 use crate::names::Names;
 use lang_ast::{Expr, Function, Item, Stmt};
@@ -14,7 +15,7 @@ use std::alloc::Global;
 #[cycle(gathering)]
 #[tactic(auto, using(lang_ast::proofs::Trees::seen_stmts_by, lang_ast::proofs::Sizes::in_block, lang_ast::proofs::Sizes::in_others))]
 fn names_in(alloc: Global, block: &Vec<Stmt>, into: &mut Vec<Str>) -> Result<(), MemoryFault>
-    ensures { IfOk result (λ _. into.new.items ≡ into.old.items ++ names_in (seen_block block.now.items)) }
+    ensures { OnOk result (Appends into.old into.new (names_in (seen_block block.now.items))) }
 {
     for stmt in block {
         names_in_stmt(alloc, stmt, into)?;
@@ -25,7 +26,7 @@ fn names_in(alloc: Global, block: &Vec<Stmt>, into: &mut Vec<Str>) -> Result<(),
 #[cycle(gathering)]
 #[tactic(auto, using(lang_ast::proofs::Trees::seen_stmts_by, lang_ast::proofs::Sizes::in_block, lang_ast::proofs::Sizes::in_others))]
 fn names_in_stmt(alloc: Global, stmt: &Stmt, into: &mut Vec<Str>) -> Result<(), MemoryFault>
-    ensures { IfOk result (λ _. into.new.items ≡ into.old.items ++ names_in_stmt (seen_stmt stmt.now)) }
+    ensures { OnOk result (Appends into.old into.new (names_in_stmt (seen_stmt stmt.now))) }
 {
     match stmt {
         Stmt::Var(name, _) => {
@@ -57,7 +58,7 @@ fn names_in_others(
     others: &Vec<(Expr, Vec<Stmt>)>,
     into: &mut Vec<Str>,
 ) -> Result<(), MemoryFault>
-    ensures { IfOk result (λ _. into.new.items ≡ into.old.items ++ names_in_others (seen_others others.now.items)) }
+    ensures { OnOk result (Appends into.old into.new (names_in_others (seen_others others.now.items))) }
 {
     for other in others {
         names_in(alloc, &other.1, into)?;
@@ -72,7 +73,7 @@ fn names_in_else(
     last: &Option<Vec<Stmt>>,
     into: &mut Vec<Str>,
 ) -> Result<(), MemoryFault>
-    ensures { IfOk result (λ _. into.new.items ≡ into.old.items ++ names_in_else (seen_else last.now)) }
+    ensures { OnOk result (Appends into.old into.new (names_in_else (seen_else last.now))) }
 {
     match last {
         Some(block) => names_in(alloc, block, into),

@@ -1,13 +1,9 @@
 //! The machine of a script, and how its calls end.
 
-ghost use Rattle.std.specs.Prelude.{IsTrue};
-ghost use Rattle.lang_ast.specs.SeenProgram.{seen_program};
-ghost use Rattle.page_interp.specs.NumberTests.{are_numbered_in};
-ghost use Rattle.page_interp.specs.Runs.{global_names, count_of_functions, variables_of};
-
 use crate::code::Code;
 use crate::exit::Store;
 use page_values::Value;
+use std::marker::Model;
 
 /// How a call ended.
 #[derive(Drop)]
@@ -34,6 +30,21 @@ pub enum Stopped<S> {
 pub struct Machine<'p> {
     pub(crate) code: Code<'p>,
     pub(crate) store: Store,
-    ghost numbered: { IsTrue (are_numbered_in (count_of_functions (seen_program code.program.now))
-        (variables_of (global_names (seen_program code.program.now)) store.globals.items)) },
+}
+
+impl<'p> Model for Machine<'p> {
+    ghost use Rattle.std.specs.Prelude.{IsTrue};
+    ghost use Rattle.lang_ast.specs.SeenProgram.{seen_program};
+    ghost use Rattle.page_interp.specs.MachineNow.{MachineNow, coded_machine};
+    ghost use Rattle.page_interp.specs.NumberTests.{are_numbered_in};
+    ghost use Rattle.page_interp.specs.Runs.{count_of_functions};
+    ghost use Rattle.page_interp.specs.Variables.{globals_of};
+
+    ghost Value = { MachineNow };
+
+    ghost coded = { coded_machine };
+
+    ghost view = { λ m. record { script = m.code; globals = globals_of m.code m.store } };
+
+    ghost invariant = { λ m. IsTrue (are_numbered_in (count_of_functions (seen_program m.code)) (globals_of m.code m.store)) };
 }

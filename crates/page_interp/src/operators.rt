@@ -8,7 +8,7 @@ ghost use Rattle.page_parts.specs.Kinds.{text_in};
 ghost use Rattle.lang_meaning.specs.Evaluation.{Answer, sum_answer, product_answer, compare_answer, unary_answer, item_answer, limited_value, both_ints, int_answer, need, place_in};
 ghost use Rattle.page_values.specs.Seen.{seen};
 ghost use Rattle.page_interp.specs.Runs.{value_left, exit_left, ends, throws};
-ghost use Rattle.page_interp.specs.Answers.{Answers, int_sum, int_product};
+ghost use Rattle.page_interp.specs.Answers.{Answers, AreInts, AreNoInts, text_answer, int_sum_answer, int_product};
 
 use crate::exit::Exit;
 use crate::values::made;
@@ -37,8 +37,8 @@ fn int_or_range<S: Drop>(alloc: Global, n: Option<i64>) -> Result<Value, Exit<S>
 
 /// Two integers, or TypeError.
 fn both_ints<S: Drop>(alloc: Global, a: &Value, b: &Value) -> Result<(i64, i64), Exit<S>>
-    ensures ok { IfOk result (λ p. (next : ℤ → ℤ → Answer) → both_ints (seen a.now) (seen b.now) next ≡ next p.0 p.1) }
-    ensures err { IfErr result (λ x. (next : ℤ → ℤ → Answer) → Answers (exit_left x) (both_ints (seen a.now) (seen b.now) next)) }
+    ensures ok { IfOk result (AreInts (seen a.now) (seen b.now)) }
+    ensures err { IfErr result (AreNoInts (seen a.now) (seen b.now)) }
 {
     let Some(x) = as_int(a) else {
         return Err(throw(alloc, FaultName::TypeError));
@@ -63,7 +63,7 @@ pub fn add<S: Drop>(alloc: Global, sign: SumSign, a: &Value, b: &Value) -> Resul
 }
 
 fn add_text<S: Drop>(alloc: Global, a: &Str, b: &Value) -> Result<Value, Exit<S>>
-    ensures { Answers (value_left result) (need (text_in (seen b.now)) TypeError (λ bs. limited_value (TextValue (a.now ++ bs)))) }
+    ensures { Answers (value_left result) (text_answer a.now (seen b.now)) }
 {
     match as_text(b) {
         Some(b) => made(alloc, join(alloc, a, b)),
@@ -72,7 +72,7 @@ fn add_text<S: Drop>(alloc: Global, a: &Str, b: &Value) -> Result<Value, Exit<S>
 }
 
 fn add_ints<S: Drop>(alloc: Global, sign: SumSign, a: &Value, b: &Value) -> Result<Value, Exit<S>>
-    ensures { Answers (value_left result) (both_ints (seen a.now) (seen b.now) (λ x y. int_answer (int_sum sign x y))) }
+    ensures { Answers (value_left result) (int_sum_answer sign (seen a.now) (seen b.now)) }
 {
     match both_ints(alloc, a, b) {
         Ok((x, y)) => {

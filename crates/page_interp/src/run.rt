@@ -53,7 +53,7 @@ pub(crate) fn eval<H: Host>(
     match expr {
         Expr::Or(first, rest) => {
             let v = eval(code, host, store, depth, names, locals, first)?;
-            if truth(code.alloc, v)? {
+            if truth(code.alloc(), v)? {
                 Ok(Value::Bool(true))
             } else {
                 eval_or(code, host, store, depth, names, locals, rest)
@@ -61,7 +61,7 @@ pub(crate) fn eval<H: Host>(
         }
         Expr::And(first, rest) => {
             let v = eval(code, host, store, depth, names, locals, first)?;
-            if truth(code.alloc, v)? {
+            if truth(code.alloc(), v)? {
                 eval_and(code, host, store, depth, names, locals, rest)
             } else {
                 Ok(Value::Bool(false))
@@ -70,7 +70,7 @@ pub(crate) fn eval<H: Host>(
         Expr::Compare(left, sign, right) => {
             let v = eval(code, host, store, depth, names, locals, left)?;
             let w = eval(code, host, store, depth, names, locals, right)?;
-            compare(code.alloc, *sign, &v, &w)
+            compare(code.alloc(), *sign, &v, &w)
         }
         Expr::Sum(first, parts) => {
             let v = eval(code, host, store, depth, names, locals, first)?;
@@ -82,14 +82,14 @@ pub(crate) fn eval<H: Host>(
         }
         Expr::Unary(sign, operand) => {
             let v = eval(code, host, store, depth, names, locals, operand)?;
-            negate(code.alloc, *sign, &v)
+            negate(code.alloc(), *sign, &v)
         }
         Expr::Post(first, places) => {
             let v = eval(code, host, store, depth, names, locals, first)?;
             eval_places(code, host, store, depth, names, locals, v, places)
         }
         Expr::Number(n) => Ok(Value::Int(*n)),
-        Expr::Text(t) => text(code.alloc, t),
+        Expr::Text(t) => text(code.alloc(), t),
         Expr::True => Ok(Value::Bool(true)),
         Expr::False => Ok(Value::Bool(false)),
         Expr::Unit => Ok(Value::Unit),
@@ -98,7 +98,7 @@ pub(crate) fn eval<H: Host>(
         Expr::Paren(inner) => eval(code, host, store, depth, names, locals, inner),
         Expr::List(items) => {
             let vs = eval_all(code, host, store, depth, names, locals, items)?;
-            list(code.alloc, vs)
+            list(code.alloc(), vs)
         }
     }
 }
@@ -122,7 +122,7 @@ fn eval_or<H: Host>(
 {
     for operand in operands {
         let v = eval(code, host, store, depth, names, locals, operand)?;
-        if truth(code.alloc, v)? {
+        if truth(code.alloc(), v)? {
             return Ok(Value::Bool(true));
         }
     }
@@ -148,7 +148,7 @@ fn eval_and<H: Host>(
 {
     for operand in operands {
         let v = eval(code, host, store, depth, names, locals, operand)?;
-        if truth(code.alloc, v)? {
+        if truth(code.alloc(), v)? {
             continue;
         }
         return Ok(Value::Bool(false));
@@ -178,7 +178,7 @@ fn eval_sum<H: Host>(
     let mut value = first;
     for term in terms {
         let w = eval(code, host, store, depth, names, locals, &term.1)?;
-        value = add(code.alloc, term.0, &value, &w)?;
+        value = add(code.alloc(), term.0, &value, &w)?;
     }
     Ok(value)
 }
@@ -205,7 +205,7 @@ fn eval_product<H: Host>(
     let mut value = first;
     for factor in factors {
         let w = eval(code, host, store, depth, names, locals, &factor.1)?;
-        value = multiply(code.alloc, factor.0, &value, &w)?;
+        value = multiply(code.alloc(), factor.0, &value, &w)?;
     }
     Ok(value)
 }
@@ -232,7 +232,7 @@ fn eval_places<H: Host>(
     let mut value = first;
     for place in places {
         let w = eval(code, host, store, depth, names, locals, place)?;
-        value = item_at(code.alloc, &value, &w)?;
+        value = item_at(code.alloc(), &value, &w)?;
     }
     Ok(value)
 }
@@ -261,7 +261,7 @@ fn eval_all<H: Host>(
         RunsIn (body H.rules H.leaves code.now depth names.now) (λ w. eval_all w (seen_exprs exprs.now.items) [] next)
         (H.now host.old) store.old locals.old.items (exit_left x) (H.now host.new) store.new locals.new.items) }
 {
-    let mut values = Vec::new(code.alloc);
+    let mut values = Vec::new(code.alloc());
     for expr in exprs {
         let v = eval(code, host, store, depth, names, locals, expr)?;
         append(&mut values, v)?;
@@ -321,12 +321,12 @@ fn exec<H: Host>(
     match stmt {
         Stmt::Var(x, e) => {
             let v = eval(code, host, store, depth, names, locals, e)?;
-            assign(&code.globals, store, names, locals, &x.name, v);
+            assign(code, store, names, locals, &x.name, v);
             Ok(())
         }
         Stmt::Assign(x, e) => {
             let v = eval(code, host, store, depth, names, locals, e)?;
-            assign(&code.globals, store, names, locals, &x.name, v);
+            assign(code, store, names, locals, &x.name, v);
             Ok(())
         }
         Stmt::Expr(e) => {
@@ -335,7 +335,7 @@ fn exec<H: Host>(
         }
         Stmt::If(e, block, others, last) => {
             let v = eval(code, host, store, depth, names, locals, e)?;
-            if truth(code.alloc, v)? {
+            if truth(code.alloc(), v)? {
                 exec_all(code, host, store, depth, names, locals, block)
             } else {
                 exec_others(code, host, store, depth, names, locals, others, last)
@@ -357,7 +357,7 @@ fn exec<H: Host>(
             let done = exec_all(code, host, store, depth, names, locals, block);
             match caught(done)? {
                 Some(v) => {
-                    assign(&code.globals, store, names, locals, &x.name, v);
+                    assign(code, store, names, locals, &x.name, v);
                     exec_all(code, host, store, depth, names, locals, handler)
                 }
                 None => Ok(()),
@@ -437,7 +437,7 @@ fn exec_while<H: Host>(
 {
     loop {
         let v = eval(code, host, store, depth, names, locals, test)?;
-        if truth(code.alloc, v)? {
+        if truth(code.alloc(), v)? {
             if store.fuel == 0 {
                 return Err(Exit::Fuel);
             }
@@ -470,7 +470,7 @@ fn exec_others<H: Host>(
 {
     for other in others {
         let v = eval(code, host, store, depth, names, locals, &other.0)?;
-        if truth(code.alloc, v)? {
+        if truth(code.alloc(), v)? {
             return exec_all(code, host, store, depth, names, locals, &other.1);
         }
     }
@@ -499,7 +499,7 @@ fn call<H: Host>(
     ensures still { store.new.fuel ≡ store.old.fuel → (H.now host.new).told ≡ (H.now host.old).told }
 {
     let Some(Func { function, bound }) = callee(function) else {
-        return Err(Exit::Throw(fault(code.alloc, FaultName::TypeError)));
+        return Err(Exit::Throw(fault(code.alloc(), FaultName::TypeError)));
     };
     let all = joined(bound, args)?;
     run_function(code, host, store, depth, function, all)
@@ -523,7 +523,7 @@ pub(crate) fn run_function<H: Host>(
     ensures still { store.new.fuel ≡ store.old.fuel → (H.now host.new).told ≡ (H.now host.old).told }
 {
     if depth >= OPEN_CALLS {
-        return Err(Exit::Throw(fault(code.alloc, FaultName::RangeError)));
+        return Err(Exit::Throw(fault(code.alloc(), FaultName::RangeError)));
     }
     if store.fuel == 0 {
         return Err(Exit::Fuel);
@@ -545,15 +545,15 @@ pub(crate) fn run_function<H: Host>(
             ended(done)
         }
         None => {
-            let mut locals = Vec::new(code.alloc);
+            let mut locals = Vec::new(code.alloc());
             store.fuel -= 1;
-            let items = code.program.items();
+            let items = code.items();
             let done = exec_items(
                 code,
                 host,
                 store,
                 depth + 1,
-                &code.no_names,
+                code.no_names(),
                 &mut locals,
                 items,
             );

@@ -1,6 +1,6 @@
 //! Work on values.
 
-ghost use Rattle.std.specs.Prelude.{◌≡◌, ◌++◌, ◌∷◌, [], Option, Some, None, Ok, IfOk, IfErr, IfSome, IfNone, map};
+ghost use Rattle.std.specs.Prelude.{◌≡◌, ◌++◌, ◌∷◌, [], Option, Some, None, Ok, IfOk, IfErr, OnErr, IfSome, IfNone, map};
 ghost use Rattle.std.specs.Option.{option_map};
 ghost use Rattle.page_types.specs.Values as Model;
 ghost use Rattle.page_types.specs.Values.{items_of, ListValue, TextValue, FaultValue};
@@ -9,8 +9,8 @@ ghost use Rattle.page_parts.specs.Kinds.{bool_in};
 ghost use Rattle.lang_meaning.specs.Evaluation.{limited_value, need};
 ghost use Rattle.page_values.specs.Made.{IsMade};
 ghost use Rattle.page_values.specs.Seen.{seen, seen_all};
-ghost use Rattle.page_interp.specs.Runs.{value_left, unit_left, exit_left, call_left, func_of, ends, throws, IsUnsettled, Settles};
-ghost use Rattle.page_interp.specs.Answers.{Answers};
+ghost use Rattle.page_interp.specs.Runs.{value_left, unit_left, exit_left, call_left, func_of, func_seen, IsUnsettled, Settles};
+ghost use Rattle.page_interp.specs.Answers.{Answers, MadeGives, type_error};
 ghost use Rattle.lang_ast.specs.Steps.{seen_outcome};
 
 use crate::exit::Exit;
@@ -22,7 +22,7 @@ use std::alloc::{AllocError, Global};
 
 /// A value that was made, or RangeError where it is too heavy.
 pub fn made<S: Drop>(alloc: Global, made: Result<Value, ValueFault>) -> Result<Value, Exit<S>>
-    ensures { (wanted : Option Model.Value) → IsMade made wanted → Answers (value_left result) (need wanted RangeError Ok) }
+    ensures { MadeGives made (value_left result) }
 {
     match made {
         Ok(v) => Ok(v),
@@ -51,7 +51,8 @@ pub fn text<S: Drop>(alloc: Global, text: &Str) -> Result<Value, Exit<S>>
 /// What a condition says.
 pub fn truth<S: Drop>(alloc: Global, value: Value) -> Result<bool, Exit<S>>
     ensures ok { IfOk result (λ b. bool_in (seen value) ≡ Some b) }
-    ensures err { IfErr result (λ x. (bool_in (seen value) ≡ None) × (exit_left x ≡ ends (throws (FaultValue TypeError [])))) }
+    ensures no_bool { OnErr result (bool_in (seen value) ≡ None) }
+    ensures throws { IfErr result (λ x. exit_left x ≡ type_error) }
 {
     match as_bool(&value) {
         Some(b) => Ok(b),
@@ -86,7 +87,7 @@ pub fn settled<S: Drop>(called: Result<Value, Exit<S>>) -> Result<Outcome, Exit<
 /// The function that a value is.
 pub fn callee(value: Option<Value>) -> Option<Func>
     ensures none { IfNone result (func_of (option_map seen value) ≡ None) }
-    ensures some { IfSome result (λ f. func_of (option_map seen value) ≡ Some (record { function = f.function; bound = f.bound })) }
+    ensures some { IfSome result (λ f. func_of (option_map seen value) ≡ Some (func_seen f)) }
 {
     match value {
         Some(Value::Fun(function)) => Some(function),

@@ -1,10 +1,11 @@
 -- A closure of the host answers once at most: its answer is pending, or due, or given, and only where it is not live.
+use Rattle.page_parts.specs.TaskSignals.{Prios}
 use Rattle.std.proofs.Common.{◌≡◌, ℕ, zero, suc, ◌≤◌, ◌+◌, Bool, true, false, List, [], ◌∷◌, ◌++◌, ◌||◌, not, Option, Some, None, refl, sym, subst, ap, ◌∙◌, cond, length, arith, unwrap_or, slice_get, ℤ, Result}
 use Rattle.std.proofs.lemmas.Bool.{eqb-true, eq-eqb}
 use Rattle.std.specs.Prelude.{◌==◌, filter, find, slice_set}
 use Rattle.page_types.specs.declared.HostMark.{HostMark}
 use Rattle.page_types.specs.declared.HostMark.TheVariants.{Live, Queued as QueuedMark, Fired, Dropped}
-use Rattle.page_types.specs.Events.{Event, Call, Drop, Reg, Host}
+use Rattle.page_types.specs.Events.{Event, Call, Drop, Reg, Host, Due, Enq, Prio}
 use Rattle.page_types.specs.Tree.{Program}
 use Rattle.page_parts.specs.HostClosures.{HostClosure, fired}
 use Rattle.page_parts.specs.Promises.{Settled, Fulfilled, Failed, Reaction, PromiseJob, the_promise}
@@ -17,12 +18,12 @@ use Rattle.page_types.specs.declared.RegKind.TheVariants as kind
 use Rattle.page_model.specs.Invoke.{register_as}
 use Rattle.page_model.specs.Numbers.{Each}
 use Rattle.page_model.specs.Operations.{queued_mark}
-use Rattle.page_model.specs.PageSignals.{closure_dropped, drop_at, drop_closure}
+use Rattle.page_model.specs.PageSignals.{closure_dropped, drop_at, drop_closure, task_in_answer, task_in_net, waiting_answer, waiting_net_task}
 use Rattle.page_model.specs.State.{Registration, Page, Task, HostTask, Steps, AnswerHost, RunTimer, HostAnswer, emit, emit_each, on_notices, context}
 use Rattle.page_model.specs.Turns.{first_page}
 use Rattle.page_laws.specs.CallLaws.{is_answer_of, keeps_once}
 use Rattle.page_laws.specs.History.{History, count_lines, some_line, is_rest}
-use Rattle.page_laws.specs.Moves.{is_aside, is_end, is_free, fired_at, promise_changes, Places, places, PlaceChange, places_stay, task_queued, task_left, armed_again, signal_armed, timer_due, post_due, completed, idle_started, idle_left, sched_left, answer_due, id_cleared, idle_armed, idle_due, Dropping, timer_dropped, idle_dropped, listener_dropped, task_dropped, FirstPlace, nowhere, at_listener, at_timer, at_delay, at_idle, at_queue, at_host, AsBefore, PageChange, elsewhere, told, rested, answered, dropped, frame_dropped, registered, frame_asked, frame_gone, promised, settled, followed, adopted, subscribed, then_asked, micro_asked, rejected_taken, noted, Beginning, TheScript, ATimer, AFrame, AnIdle, ALateIdle, AListener, APost, AContinuation, AMicro, AReaction, called_by, taken, Moves, here, changing, calling, ending, flagging, running}
+use Rattle.page_laws.specs.Moves.{is_aside, is_end, is_free, fired_at, promise_changes, Places, places, PlaceChange, places_stay, task_queued, task_left, armed_again, signal_armed, timer_due, completed, idle_started, idle_left, answer_due, id_cleared, idle_armed, idle_due, Dropping, timer_dropped, idle_dropped, listener_dropped, task_dropped, FirstPlace, nowhere, at_listener, at_timer, at_delay, at_idle, at_host, AsBefore, PageChange, elsewhere, told, rested, answered, dropped, frame_dropped, registered, frame_asked, frame_gone, promised, settled, followed, adopted, subscribed, then_asked, micro_asked, rejected_taken, noted, Beginning, TheScript, ATimer, AFrame, AnIdle, ALateIdle, AListener, APost, AContinuation, AMicro, AReaction, called_by, taken, Moves, here, changing, calling, ending, flagging, running, enqueued_anew, fell_due, post_fell_due, delay_due, signal_due, DueChange, without_queued, without_answer, prio_told}
 use Rattle.page_laws.proofs.Lines.{added, emit_each-events}
 use Rattle.page_laws.proofs.Once.{keeps_calls, once_calls}
 use Rattle.page_laws.proofs.Scans.{Test, Kept}
@@ -202,20 +203,23 @@ place-fits {x = x} {y = y} (task_queued t h) past f =
     lessen-fits x (record x { tasks = and_last x.tasks t }) past (λ k. let a = total-last (net_claims k) x.tasks t in let b = free-claims k t.steps h in omega (arith, a, b)) (same-live x.hosts) f
 place-fits {x = x} (task_left number) past f =
     lessen-fits x (record x { tasks = without (λ t. t.number == number) x.tasks }) past (λ k. let a = total-without (net_claims k) (λ t. t.number == number) x.tasks in omega (arith, a)) (same-live x.hosts) f
-place-fits (armed_again a t role there) past f = record { once = f.once; live = f.live; kept = f.kept }
+place-fits (armed_again a t role there own) past f = record { once = f.once; live = f.live; kept = f.kept }
 place-fits (signal_armed ms now q signal) past f = record { once = f.once; live = f.live; kept = f.kept }
 place-fits (id_cleared id) past f = record { once = f.once; live = f.live; kept = f.kept }
 place-fits (idle_armed t) past f = record { once = f.once; live = f.live; kept = f.kept }
-place-fits (idle_due handle) past f = record { once = f.once; live = f.live; kept = f.kept }
-place-fits {x = x} {y = y} (timer_due start number source t e) past f =
-    lessen-fits x y past
-    (λ k. let a = total-last (net_claims k) x.tasks (record { number = number; source = source; steps = RunTimer t }) in omega (arith, a)) (same-live x.hosts) f
-place-fits (post_due start source t e) past f = record { once = f.once; live = f.live; kept = f.kept }
 place-fits (completed start) past f = record { once = f.once; live = f.live; kept = f.kept }
 place-fits idle_started past f = record { once = f.once; live = f.live; kept = f.kept }
 place-fits (idle_left handle) past f = record { once = f.once; live = f.live; kept = f.kept }
-place-fits (sched_left q) past f = record { once = f.once; live = f.live; kept = f.kept }
-place-fits {x = x} (answer_due before a after number source e) past f =
+
+-- what is due
+due-fits : {made : List Registration} {r : ℕ} {x y : Places} → DueChange made r x y → (past : History) → HostsFit x past → HostsFit y past
+due-fits {x = x} {y = y} (timer_due start number source t e i role) past f =
+    lessen-fits x y past
+    (λ k. let a = total-last (net_claims k) x.tasks (record { number = number; source = source; steps = RunTimer t }) in omega (arith, a)) (same-live x.hosts) f
+due-fits (delay_due start source e role) past f = record { once = f.once; live = f.live; kept = f.kept }
+due-fits (signal_due start s e role) past f = record { once = f.once; live = f.live; kept = f.kept }
+due-fits (idle_due handle role) past f = record { once = f.once; live = f.live; kept = f.kept }
+due-fits {x = x} (answer_due before a after number source e i role) past f =
     let gone : HostAnswer → Bool = λ b. b.task.registration == a.task.registration in
     lessen-fits x (record x { host_answers = without gone x.host_answers; tasks = and_last x.tasks (record { number = number; source = source; steps = AnswerHost a.task }) }) past
     (λ k.
@@ -225,20 +229,22 @@ place-fits {x = x} (answer_due before a after number source e) past f =
     omega (arith, b, c)) (same-live x.hosts) f
 
 drop-fits : {made : List Registration} {r : ℕ} {x y : Places} → Dropping made r x y → (past : History) → HostsFit x past → HostsFit y past
-drop-fits (timer_dropped id there e) past f = record { once = f.once; live = f.live; kept = f.kept }
-drop-fits (idle_dropped handle c e e1) past f = record { once = f.once; live = f.live; kept = f.kept }
-drop-fits (listener_dropped there) past f = record { once = f.once; live = f.live; kept = f.kept }
-drop-fits {r = r} {x = x} {y = y} (task_dropped pending due) past f =
-    lessen-fits x y past (λ k. let a = total-without (answer_claims k) (λ a. a.task.registration == r) x.host_answers in omega (arith, a))
+drop-fits (timer_dropped id there e own) past f = record { once = f.once; live = f.live; kept = f.kept }
+drop-fits (idle_dropped handle c e e1 role) past f = record { once = f.once; live = f.live; kept = f.kept }
+drop-fits (listener_dropped there role) past f = record { once = f.once; live = f.live; kept = f.kept }
+
+-- a registration that a signal can abort is dropped
+aborted-fits : (r : ℕ) (x : Places) (pending due : Option HostTask) (past : History) → HostsFit x past → HostsFit (record (without_queued r (without_answer r x)) { hosts = drop_closure pending (drop_closure due x.hosts) }) past
+aborted-fits r x pending due past f =
+    lessen-fits x (record (without_queued r (without_answer r x)) { hosts = drop_closure pending (drop_closure due x.hosts) }) past (λ k. let a = total-without (answer_claims k) (λ a. a.task.registration == r) x.host_answers in omega (arith, a))
     (λ k c e l. drop-live due x.hosts k c (drop-live pending (drop_closure due x.hosts) k c e l) l) f
 
-first-fits : {r : ℕ} {x y : Places} → FirstPlace r x y → (past : History) → HostsFit x past → HostsFit y past
+first-fits : {made : List Registration} {prios : Prios} {r : ℕ} {x y : Places} → FirstPlace made prios r x y → (past : History) → HostsFit x past → HostsFit y past
 first-fits nowhere past f = f
 first-fits (at_listener target name q e) past f = record { once = f.once; live = f.live; kept = f.kept }
-first-fits (at_timer a t e) past f = record { once = f.once; live = f.live; kept = f.kept }
-first-fits (at_delay ms now q source e) past f = record { once = f.once; live = f.live; kept = f.kept }
+first-fits (at_timer a t e fresh) past f = record { once = f.once; live = f.live; kept = f.kept }
+first-fits (at_delay ms now q source e prio) past f = record { once = f.once; live = f.live; kept = f.kept }
 first-fits (at_idle q e) past f = record { once = f.once; live = f.live; kept = f.kept }
-first-fits (at_queue t e) past f = record { once = f.once; live = f.live; kept = f.kept }
 first-fits {x = x} {y = y} (at_host c a e there live) past f =
     record {
       once = λ k. by_number k (a.task.closure == k) refl (f.once k);
@@ -320,11 +326,25 @@ changes-fit n c p f = notices-fit (λ s. changed (context p) p.names n c s) p (c
 change-fits : {p q : Page} → PageChange p q → Fits p → Fits q
 change-fits {p = p} (elsewhere c b) f = before-fits b (place-fits c p.events f)
 change-fits {p = p} (told e h) f = silent-fits e p.now (places p) p.events (aside-silent e h) f
-change-fits {p = p} (rested e h x y) f = silent-fits e p.now (places p) p.events (rest-silent e h) f
-change-fits {p = p} {q = q} (answered source task t answer x y z b) f = before-fits b (answered-fits (places p) (places q) (λ t. same_source t.source source) task t answer p.now p.events x y z f)
+change-fits {p = p} (rested e h x y z) f = silent-fits e p.now (places p) p.events (rest-silent e h) f
+change-fits {p = p} {q = q} (answered source task t answer x y live z b) f = before-fits b (answered-fits (places p) (places q) (λ t. same_source t.source source) task t answer p.now p.events x y z f)
 change-fits {p = p} {q = q} (registered k x e u b) f = before-fits b (first-fits u (register_as k x p).events (record { once = f.once; live = f.live; kept = (refl, f.kept) }))
 change-fits {p = p} (dropped r d b) f = before-fits b (drop-fits d (emit (Drop r) p).events (record { once = f.once; live = f.live; kept = (refl, f.kept) }))
-change-fits (frame_dropped handle c e) f = record { once = f.once; live = f.live; kept = (refl, f.kept) }
+change-fits {p = p} {q = q} (task_dropped r role a e s b) f =
+    before-fits b
+    (subst (λ (x : Places). HostsFit x (emit (Drop r) p).events) (sym s)
+    (aborted-fits r (places p) (task_in_answer (waiting_answer r p)) (task_in_net (waiting_net_task r p)) (emit (Drop r) p).events (record { once = f.once; live = f.live; kept = (refl, f.kept) })))
+change-fits {p = p} {q = q} (enqueued_anew k x t queue e i s n b) f =
+    before-fits b
+    (subst (λ (y : Places). HostsFit y (emit (Enq t.registration queue t.continuation t.order) (register_as k x p)).events) (sym s)
+    (record { once = f.once; live = f.live; kept = (refl, (refl, f.kept)) }))
+change-fits {p = p} {q = q} (fell_due r d b) f = before-fits b (due-fits d (emit (Due r) p).events (record { once = f.once; live = f.live; kept = (refl, f.kept) }))
+change-fits {p = p} {q = q} (post_fell_due start source t queue e role a s n b) f =
+    before-fits b
+    (subst (λ (y : Places). HostsFit y (emit (Enq t.registration queue t.continuation t.order) (emit (Due t.registration) p)).events) (sym s)
+    (record { once = f.once; live = f.live; kept = (refl, (refl, f.kept)) }))
+change-fits {p = p} (prio_told s priority ps c) f = silent-fits (Prio s priority) p.now (places p) p.events refl f
+change-fits (frame_dropped handle c e role) f = record { once = f.once; live = f.live; kept = (refl, f.kept) }
 change-fits (frame_asked g) f = record { once = f.once; live = f.live; kept = (refl, f.kept) }
 change-fits (frame_gone handle) f = f
 change-fits promised f = f
@@ -359,7 +379,7 @@ moves-fit here f = f
 moves-fit (changing a c) f = change-fits c (moves-fit a f)
 moves-fit (calling {q = q} a b w i) f = silent-fits (Call (called_by b)) (taken b q).now (places (taken b q)) (taken b q).events refl (begins-fit b q (moves-fit a f))
 moves-fit (ending {q = q} a e h) f = silent-fits e q.now (places q) q.events (end-silent e h) (moves-fit a f)
-moves-fit (flagging {q = q} {r = r} a x y z w u v) f = subst (λ (x : Places). HostsFit x r.events) (sym u) (subst (HostsFit (places q)) (sym y) (moves-fit a f))
+moves-fit (flagging {q = q} {r = r} a x y z w u v t j) f = subst (λ (x : Places). HostsFit x r.events) (sym u) (subst (HostsFit (places q)) (sym y) (moves-fit a f))
 moves-fit (running {q = q} a j others x y) f = let g = moves-fit a f in record { once = g.once; live = g.live; kept = (refl, g.kept) }
 
 -- from a first page on, no closure answers twice

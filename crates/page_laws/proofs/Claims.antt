@@ -1,4 +1,5 @@
 -- How often a registration waits for its call, and what each change of the places does to that.
+use Rattle.page_parts.specs.TaskSignals.{Prios}
 use Rattle.std.proofs.Common.{◌≡◌, ℕ, suc, ◌≤◌, ◌+◌, Bool, true, false, List, [], ◌∷◌, ◌++◌, Option, Some, None, refl, sym, subst, ap, cond, length, arith, map, unwrap_or}
 use Rattle.std.proofs.lemmas.Bool.{eq-eqb}
 use Rattle.std.specs.Prelude.{◌==◌, find, option_map}
@@ -8,11 +9,11 @@ use Rattle.page_parts.specs.IdleCallbacks.{Idle}
 use Rattle.page_parts.specs.Promises.{Settled, Reaction, PromiseRecord, PromiseJob, React, Adopt, the_promise, pending_promise}
 use Rattle.page_parts.specs.Promises as Promises
 use Rattle.page_parts.specs.Notices.{Notices, Todo, Micro, OfPromise, WaitingJob, Context, queue_job, queue_jobs, changed, promise_changed, subscribe_promise, note_outstanding}
-use Rattle.page_model.specs.State.{Page, Task, Steps, RunScript, RunTimer, SchedTask, Completion, QueueTimer, EnqueuePost, QueueSignal, Completing}
+use Rattle.page_model.specs.State.{Page, Task, Steps, RunScript, RunTimer, SchedTask, Completion, QueueTimer, EnqueuePost, QueueSignal, Completing, Registration}
 use Rattle.page_model.specs.PageTime.{completion_of}
 use Rattle.page_model.specs.SchedulerTasks.{first_of, first_sched_from, goes_before}
 use Rattle.page_model.specs.Numbers.{IsGiven}
-use Rattle.page_laws.specs.Moves.{Places, FirstPlace, nowhere, at_listener, at_timer, at_delay, at_idle, at_queue, at_host, completions_but, is_free}
+use Rattle.page_laws.specs.Moves.{Places, FirstPlace, nowhere, at_listener, at_timer, at_delay, at_idle, at_host, completions_but, is_free}
 use Rattle.page_laws.proofs.Totals.{one_if, total, total-append, total-last, total-map, total-without, IsLess, less-first, less-more, less-second, less-found, total-put, without-append}
 
 -- ---- what each item counts for
@@ -117,24 +118,20 @@ idle-less r handle i c e =
     omega (arith, less, split, parts, split1)
 
 -- where a new registration waits first, it waits once
-pub first-claims : {n : ℕ} {x y : Places} → FirstPlace n x y → (r : ℕ) → place_claims r y ≤ place_claims r x + one_if (n == r)
+pub first-claims : {made : List Registration} {prios : Prios} {n : ℕ} {x y : Places} → FirstPlace made prios n x y → (r : ℕ) → place_claims r y ≤ place_claims r x + one_if (n == r)
 first-claims nowhere r = omega arith
 first-claims (at_listener target name q e) r = omega arith
-first-claims {n = n} {x = x} (at_timer a t e) r =
+first-claims {n = n} {x = x} (at_timer a t e fresh) r =
     let more = total-last (completing_claims r) x.completions (record { start = a.start; completion = QueueTimer t }) in
     let same : one_if (t.registration == r) ≡ one_if (n == r) = ap (λ q. one_if (q == r)) e in
     omega (arith, more, same)
-first-claims {n = n} {x = x} (at_delay ms now q source e) r =
+first-claims {n = n} {x = x} (at_delay ms now q source e prio) r =
     let more = total-last (completing_claims r) x.completions (record { start = suc x.timers.starts_made; completion = EnqueuePost q source }) in
     let same : one_if (q == r) ≡ one_if (n == r) = ap (λ q. one_if (q == r)) e in
     omega (arith, more, same)
 first-claims {n = n} {x = x} (at_idle q e) r =
     let more = total-last (callback_claims r) x.idle.pending (record { handle = suc x.idle.made; registration = q }) in
     let same : one_if (q == r) ≡ one_if (n == r) = ap (λ q. one_if (q == r)) e in
-    omega (arith, more, same)
-first-claims {n = n} {x = x} (at_queue t e) r =
-    let more = total-last (sched_claims r) x.sched_tasks t in
-    let same : one_if (t.registration == r) ≡ one_if (n == r) = ap (λ q. one_if (q == r)) e in
     omega (arith, more, same)
 first-claims (at_host c a e k live) r = omega arith
 

@@ -28,7 +28,7 @@ settle_result-changes (Some how) result p g = follow-changes result how p g
 report_to-changes : (c : Combining) (k : ℕ) (r : Report) (p : Page) → IsGiven (length p.notices.promises) c.result → Changes p (report_to c k r p)
 report_to-changes c k r p g =
     let noted = with_combining k (record c { combine = with_report r c.combine }) p in
-    changes-then (quietly p noted refl refl refl refl refl refl refl) (settle_result-changes (report_answer r c.combine) c.result noted g)
+    changes-then (quietly p noted refl refl refl refl refl refl refl refl refl) (settle_result-changes (report_answer r c.combine) c.result noted g)
 
 lead_into-changes : (into : ℕ) (how : Settled) (p : Page) → Held (made_by p) p → IsGiven (length p.notices.promises) into → Changes p (lead_into into how p)
 lead_into-changes into how p h g = by_element (element_at p into) (Each-find (ElementIsGiven (made_by p)) (λ e. e.promise == into) p.elements (h InElements))
@@ -51,7 +51,7 @@ combinator_made-changes : (kind : CombinatorKind) (count : ℕ) (p : Page) → C
 combinator_made-changes kind count p =
     let made = new_promise p in
     let noted = with_combinator (combine kind count) made in
-    changes-then (changes-then (new_promise-changes p) (quietly made noted refl refl refl refl refl refl refl))
+    changes-then (changes-then (new_promise-changes p) (quietly made noted refl refl refl refl refl refl refl refl refl))
     (settle_result-changes (answer_of (combine kind count)) (last_promise made) noted (new_given p))
 
 item_made-changes : (v : Value) (p : Page) → Changes p (item_made v p)
@@ -69,7 +69,7 @@ element_made-changes combinator place k p g =
     let made = new_promise p in
     let noted = with_element combinator place made in
     let more = length-last p.notices.promises pending_promise in
-    changes-then (changes-then (new_promise-changes p) (quietly made noted refl refl refl refl refl refl refl))
+    changes-then (changes-then (new_promise-changes p) (quietly made noted refl refl refl refl refl refl refl refl refl))
     (subscribe-changes k (inner_subscription (last_promise made)) noted (IsGiven-more (length p.notices.promises) (length noted.notices.promises) k (omega (arith, more)) g) refl)
 
 -- items are taken where what taking asks for stays as more is given out

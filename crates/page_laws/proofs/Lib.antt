@@ -1,7 +1,9 @@
 pub mod Going
 pub mod Moving
 pub mod Lines
+pub mod Prioritised
 pub mod Moved
+pub mod Aborted
 pub mod Evaluating
 pub mod Onto
 pub mod Combined
@@ -20,6 +22,12 @@ pub mod Totals
 pub mod Claims
 pub mod Once
 pub mod Answering
+pub mod Finding
+pub mod Cancelled
+pub mod HostCounts
+pub mod CancelledHosts
+pub mod First
+pub mod Priorities
 pub mod OpenCalls
 mod LawExamples
 mod LawBreaks

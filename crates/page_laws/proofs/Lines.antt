@@ -12,7 +12,7 @@ use Rattle.page_parts.specs.Promises.{the_promise}
 use Rattle.page_model.specs.State.{Page, emit, emit_each, on_notices, context}
 use Rattle.page_model.specs.Numbers.{Each}
 use Rattle.page_laws.specs.History.{History, open_after, open_registrations, is_rest}
-use Rattle.page_laws.specs.Moves.{frame_asked, frame_gone, is_aside, promise_changes, PageChange, elsewhere, told, rested, registered, promised, settled, followed, adopted, subscribed, micro_asked, then_asked, answered, dropped, frame_dropped, AsBefore, rejected_taken, noted, Changes, nothing, with_change, Beginning, TheScript, ATimer, AFrame, AnIdle, ALateIdle, AListener, APost, AContinuation, AMicro, AReaction, taken}
+use Rattle.page_laws.specs.Moves.{frame_asked, frame_gone, is_aside, promise_changes, PageChange, elsewhere, told, rested, registered, promised, settled, followed, adopted, subscribed, micro_asked, then_asked, answered, dropped, frame_dropped, AsBefore, rejected_taken, noted, Changes, nothing, with_change, Beginning, TheScript, ATimer, AFrame, AnIdle, ALateIdle, AListener, APost, AContinuation, AMicro, AReaction, taken, task_dropped, enqueued_anew, fell_due, post_fell_due, prio_told}
 
 -- ---- lines
 
@@ -103,11 +103,16 @@ before-same b = (ap open_registrations b.events, b.performing)
 pub change-same : {p q : Page} → PageChange p q → Same p q
 change-same (elsewhere c b) = before-same b
 change-same {p = p} (told e h) = (aside-open e h (open_registrations p.events), refl)
-change-same {p = p} (rested e h x y) = (rest-open e h (open_registrations p.events), refl)
-change-same (answered source task t answer x y z b) = before-same b
+change-same {p = p} (rested e h x y z) = (rest-open e h (open_registrations p.events), refl)
+change-same (answered source task t answer x y live z b) = before-same b
 change-same (registered kind x e u b) = before-same b
 change-same (dropped r d b) = before-same b
-change-same (frame_dropped handle c e) = (refl, refl)
+change-same (task_dropped r role a e s b) = before-same b
+change-same (enqueued_anew kind x t queue e i s n b) = before-same b
+change-same (fell_due r d b) = before-same b
+change-same (post_fell_due start source t queue e role a s n b) = before-same b
+change-same (prio_told s priority ps c) = (refl, refl)
+change-same (frame_dropped handle c e role) = (refl, refl)
 change-same (frame_asked f) = (refl, refl)
 change-same (frame_gone handle) = (refl, refl)
 change-same promised = (refl, refl)
@@ -152,11 +157,16 @@ notices-calls f p = emit_each-calls (f p.notices).lines (record p { notices = (f
 pub change-calls : {p q : Page} → PageChange p q → q.calls ≡ p.calls
 change-calls (elsewhere c b) = b.calls
 change-calls (told e h) = refl
-change-calls (rested e h x y) = refl
-change-calls (answered source task t answer x y z b) = b.calls
+change-calls (rested e h x y z) = refl
+change-calls (answered source task t answer x y live z b) = b.calls
 change-calls (registered kind x e u b) = b.calls
 change-calls (dropped r d b) = b.calls
-change-calls (frame_dropped handle c e) = refl
+change-calls (task_dropped r role a e s b) = b.calls
+change-calls (enqueued_anew kind x t queue e i s n b) = b.calls
+change-calls (fell_due r d b) = b.calls
+change-calls (post_fell_due start source t queue e role a s n b) = b.calls
+change-calls (prio_told s priority ps c) = refl
+change-calls (frame_dropped handle c e role) = refl
 change-calls (frame_asked f) = refl
 change-calls (frame_gone handle) = refl
 change-calls promised = refl

@@ -1,22 +1,30 @@
 -- What a page does is rows of changes, function by function.
-use Rattle.std.proofs.Common.{◌≡◌, ℕ, zero, suc, ◌+◌, ◌*◌, Bool, true, false, List, [], ◌∷◌, Option, Some, None, refl, ap, sym, subst, ◌∙◌, ◌++◌, cond, ℤ, Result, Ok, Err, length, slice_get, ◌&&◌, nat_lt, nat_le, map}
-use Rattle.std.specs.Prelude.{◌==◌, slice_set}
+use Rattle.page_model.proofs.NumbersParts.{any-count}
+use Rattle.page_laws.proofs.Prioritised.{give-set, begun-set, ended-same, depend-same, fresh-prio}
+use Rattle.page_parts.specs.TaskSignals.{Prios, priority_of}
+use Rattle.page_laws.proofs.Finding.{found-passes}
+use Rattle.page_model.proofs.NumbersSignals.{with-by_number, last-by_number, with_reason-by_number, any-by_number}
+use Rattle.page_model.proofs.NumbersTasks.{ItemIsGiven, IfItemIsGiven, items-given, first_of-given, due_item-given, take_item-held, completion_of-given}
+use Rattle.page_model.proofs.NumbersPages.{the_registration-given}
+use Rattle.std.proofs.lemmas.Bool.{eqb-true}
+use Rattle.std.proofs.Common.{◌≡◌, ℕ, zero, suc, ◌+◌, ◌*◌, Bool, true, false, List, [], ◌∷◌, Option, Some, None, refl, ap, sym, subst, ◌∙◌, ◌++◌, cond, ℤ, Result, Ok, Err, length, slice_get, ◌&&◌, nat_lt, nat_le, map, ◌≤◌, unwrap_or, arith, ◌||◌}
+use Rattle.std.specs.Prelude.{◌==◌, slice_set, find}
 use Rattle.page_types.specs.Values.{Value, IntValue}
 use Rattle.page_types.specs.declared.FaultName.TheVariants.{TypeError}
 use Rattle.page_types.specs.declared.Priority.{Priority}
 use Rattle.page_types.specs.declared.RegKind.{RegKind}
-use Rattle.page_types.specs.declared.RegKind.TheVariants.{Interval as IntervalKind, Idle as IdleKind, Post as PostKind, Yield as YieldKind, Host as HostKind, Listener as ListenerKind, Then as ThenKind, Micro as MicroKind, Signal as SignalKind}
+use Rattle.page_types.specs.declared.RegKind.TheVariants.{Frame as FrameKind, Interval as IntervalKind, Idle as IdleKind, Post as PostKind, Yield as YieldKind, Host as HostKind, Listener as ListenerKind, Then as ThenKind, Micro as MicroKind, Signal as SignalKind}
 use Rattle.page_types.specs.declared.Source.{Source}
 use Rattle.page_types.specs.declared.Source.TheVariants.{Dom, Net, Timer, Render, Idle as IdleSource}
 use Rattle.page_types.specs.declared.HostMark.TheVariants.{Live}
-use Rattle.page_types.specs.Events.{Event, Report, Arm, Due, Drop, Period, Prio, Abort, Host, Send, Enq}
-use Rattle.page_parts.specs.Words.{is_empty, and_last, without, numbered, without_numbered}
+use Rattle.page_types.specs.Events.{Event, Report, Arm, Due, Drop, Period, Abort, Host, Send, Enq}
+use Rattle.page_parts.specs.Words.{is_empty, and_last, without, numbered, without_numbered, is_there}
 use Rattle.page_parts.proofs.Numbered.{with_numbered-own}
 use Rattle.page_parts.specs.Spelling.{spelled}
 use Rattle.page_parts.specs.Kinds.{Func, func_in, promise_in, a_fault}
 use Rattle.page_parts.specs.Promises.{Settled, Fulfilled, Failed, Reaction, PromiseRecord, pending_promise, no_change}
 use Rattle.page_parts.specs.Promises as Promises
-use Rattle.page_parts.specs.Notices.{Notices, subscribe_promise, is_outstanding}
+use Rattle.page_parts.specs.Notices.{Notices, subscribe_promise, is_outstanding, settle_promise}
 use Rattle.page_parts.specs.Promises.{the_promise}
 use Rattle.page_parts.specs.Timers as Timers
 use Rattle.page_parts.specs.Timers.{armed, with_armed, ActiveTimer}
@@ -27,41 +35,57 @@ use Rattle.page_parts.specs.IdleCallbacks.{waits}
 use Rattle.page_parts.specs.AbortGraph as AbortGraph
 use Rattle.page_parts.specs.AbortGraph.{the_signal, with_algorithms, with_reason}
 use Rattle.page_parts.specs.TaskSignals as TaskSignals
-use Rattle.page_parts.specs.Listeners.{Target, is_listening, off}
+use Rattle.page_parts.specs.Listeners.{Target, is_listening, off, Listener}
 use Rattle.page_parts.specs.HostClosures.{HostClosure}
-use Rattle.page_model.specs.State.{context, OfKind, Registration, no_registration, Task, TimerTask, SchedTask, HostAnswer, IdleTimer, AnswerHost, TimeOutSignal, FireAtWindow, RunFrame, IdleTimeout, NotifyHandled, NotifyRejected, Steps, PrioSource, SchedulingState, HostTask, Completion, QueueTimer, EnqueuePost, QueueSignal, InvokeIdle, Page, emit, emit_each, on_notices, queue_task, the_registration, last_registration}
+use Rattle.page_model.specs.State.{context, OfKind, Registration, no_registration, Task, TimerTask, SchedTask, HostAnswer, IdleTimer, AnswerHost, TimeOutSignal, FireAtWindow, RunFrame, IdleTimeout, NotifyHandled, NotifyRejected, Steps, PrioSource, SchedulingState, HostTask, Completion, QueueTimer, EnqueuePost, QueueSignal, InvokeIdle, Page, emit, emit_each, on_notices, queue_task, the_registration, last_registration, Role, Completing}
 use Rattle.page_model.specs.PagePromises as promises
 use Rattle.page_model.specs.PagePromises.{new_promise, last_promise}
 use Rattle.page_model.specs.PageTime.{init_timer, clear_id, clear_timer, registration_with_id, first_task, next_frame, without_frame, cancel_frame, deadline, period_begun, idle_step, idle_timeout, idle_callback, without_idle, cancel_idle, completion_of, without_timer}
-use Rattle.page_model.specs.Turns.{without_task}
-use Rattle.page_model.proofs.NumbersGrow.{length-last, Each-append}
-use Rattle.page_model.specs.SchedulerTasks.{enqueue, queue_name, without_sched, with_state}
+use Rattle.page_model.specs.Turns.{without_task, not_dropped}
+use Rattle.page_model.proofs.NumbersGrow.{length-last, Each-append, Held, Each-find, InFrames, InIdle, InTimers, InListeners, InCompletions, InSchedTasks, InPrios}
+use Rattle.page_model.specs.SchedulerTasks.{enqueue, queue_name}
 use Rattle.page_model.specs.Invoke.{WhenReported, BeforeCheckpoint, AfterCheckpoint, Never, report_before, report_after, notify_rejected, register, register_as}
-use Rattle.page_model.specs.PageSignals.{task_in_answer, task_in_net, waiting_answer, waiting_net_task, has_not_begun, drop_registration, abort_registration, reason_set, watch, unwatch, give_priority, change_begun, change_ended, is_aborted_source}
+use Rattle.page_model.specs.PageSignals.{waiting_answer, waiting_net_task, has_not_begun, drop_registration, abort_registration, reason_set, watch, unwatch, give_priority, change_begun, change_ended, is_aborted_source, is_delay_of, is_for, host_task_of, is_aborted}
 use Rattle.page_model.specs.Operations.{latency_of, queued_mark, micro_registered, script_promise, then_made, timer_set, frame_requested, idle_requested, with_signals, task_signal_made, any_made, last_signal, timeout_signal_made, listener_added, listener_removed, promised, post_delayed, post_queued, continuation_queued, host_queued, finally_made, posted}
 use Rattle.page_model.specs.Tasks.{invoke_idle_again, outstanding_if_unhandled, fire_closure, settle_answer, answer_host}
 use Rattle.page_model.specs.Parallel.{ItemKind, ArrivalItem, HostItem, TimerItem, IdleItem, FrameItem, Item, arrival_items, frame_items, items_in_order, first_item_from, first_item_of, complete, complete_at, take_item, due_item, first_item, take_due, item_count, parallel}
-use Rattle.page_model.specs.Numbers.{IsGiven, Each, IfThere}
-use Rattle.page_laws.specs.History.{open_registrations}
-use Rattle.page_laws.specs.Moves.{is_aside, promise_changes, Places, places, is_free, PlaceChange, places_stay, task_queued, armed_again, signal_armed, timer_due, post_due, completed, idle_started, idle_left, sched_left, answer_due, id_cleared, idle_armed, idle_due, Dropping, timer_dropped, idle_dropped, listener_dropped, task_dropped, FirstPlace, nowhere, at_listener, at_timer, at_delay, at_idle, at_queue, at_host, AsBefore, fired_at, PageChange, elsewhere, frame_asked, frame_gone, registered, answered, dropped, frame_dropped, then_asked, micro_asked, told, rested, settled, followed, adopted, subscribed, rejected_taken, noted, Changes, nothing, with_change}
+use Rattle.page_model.specs.Numbers.{IsGiven, Each, IfThere, made_by, Made, is_abortable, TimerIdIsGiven, CallbackIsGiven, IdleIsGiven, ListenerIsGiven, CompletionIsGiven, SchedTaskIsGiven, CompletingIsGiven, sched_role}
+use Rattle.page_laws.specs.History.{open_registrations, is_scheduled}
+use Rattle.page_laws.specs.Moves.{is_aside, promise_changes, Places, places, is_free, PlaceChange, places_stay, task_queued, completed, idle_started, idle_left, id_cleared, Dropping, timer_dropped, idle_dropped, listener_dropped, FirstPlace, nowhere, at_listener, at_timer, at_delay, at_idle, at_host, AsBefore, fired_at, PageChange, elsewhere, frame_asked, frame_gone, registered, answered, dropped, frame_dropped, then_asked, micro_asked, told, rested, settled, followed, adopted, subscribed, rejected_taken, noted, Changes, nothing, with_change, armed_again, signal_armed, idle_armed, timer_due, delay_due, signal_due, idle_due, answer_due, DueChange, StaysAborted, fell_due, post_fell_due, enqueued_anew, task_dropped, role_at, id_at, signal_at, Scheduling, scheduling_of, SchedulingAfter, HasPriority, Sourced, known, prio_told}
 use Rattle.page_laws.specs.Moves as moves
 use Rattle.page_laws.proofs.Moving.{changes-then}
 
 -- ---- ways to put changes together
 
--- a change of the places, and of what is not named otherwise
-pub placed : (p q : Page) → PlaceChange p.registrations (places p) (places q) → q.notices ≡ p.notices → q.performing ≡ p.performing → q.events ≡ p.events → q.registrations ≡ p.registrations → q.frames ≡ p.frames → q.calls ≡ p.calls → Changes p q
-placed p q c x y z w v u = with_change nothing (elsewhere c (record { notices = x; performing = y; events = z; registrations = w; frames = v; calls = u }))
+-- the same signals
+same_signals : (p q : Page) → q.signals ≡ p.signals → StaysAborted p q
+same_signals p q e s h = ap {A = AbortGraph.Signals Value} {B = Bool} (λ ss. AbortGraph.is_aborted ss s) e ∙ h
 
-pub quietly : (p q : Page) → places q ≡ places p → q.notices ≡ p.notices → q.performing ≡ p.performing → q.events ≡ p.events → q.registrations ≡ p.registrations → q.frames ≡ p.frames → q.calls ≡ p.calls → Changes p q
-quietly p q s x y z w v u = placed p q (subst (PlaceChange p.registrations (places p)) (sym s) places_stay) x y z w v u
+-- the same for the scheduler
+same_scheduling : (a b : Scheduling) → b ≡ a → SchedulingAfter a b
+same_scheduling a b e = subst (SchedulingAfter a) (sym e) (record { priorities = λ s. refl; states = refl; tasks_made = omega arith })
+
+-- a change of the places, and of what is not named otherwise
+pub placed : (p q : Page) → PlaceChange p.registrations (places p) (places q) → q.notices ≡ p.notices → q.performing ≡ p.performing → q.events ≡ p.events → q.registrations ≡ p.registrations → q.frames ≡ p.frames → q.calls ≡ p.calls → q.signals ≡ p.signals → scheduling_of q ≡ scheduling_of p → Changes p q
+placed p q c x y z w v u t j = with_change nothing (elsewhere c (record { notices = x; performing = y; events = z; registrations = w; frames = v; calls = u; aborted = same_signals p q t; scheduling = same_scheduling (scheduling_of p) (scheduling_of q) j }))
+
+pub quietly : (p q : Page) → places q ≡ places p → q.notices ≡ p.notices → q.performing ≡ p.performing → q.events ≡ p.events → q.registrations ≡ p.registrations → q.frames ≡ p.frames → q.calls ≡ p.calls → q.signals ≡ p.signals → scheduling_of q ≡ scheduling_of p → Changes p q
+quietly p q s x y z w v u t j = placed p q (subst (PlaceChange p.registrations (places p)) (sym s) places_stay) x y z w v u t j
+
+-- the signals are changed, and what was aborted stays so
+pub signals-changes : (ss : AbortGraph.Signals Value) (p : Page) → StaysAborted p (record p { signals = ss }) → Changes p (record p { signals = ss })
+signals-changes ss p h = with_change nothing (elsewhere places_stay (record { notices = refl; performing = refl; events = refl; registrations = refl; frames = refl; calls = refl; aborted = h; scheduling = record { priorities = λ s. refl; states = refl; tasks_made = omega arith } }))
 
 -- the same with a line
-pub lined_placed : (e : Event) (p q : Page) → is_aside e ≡ true → PlaceChange p.registrations (places p) (places q) → q.notices ≡ p.notices → q.performing ≡ p.performing → q.events ≡ (emit e p).events → q.registrations ≡ p.registrations → q.frames ≡ p.frames → q.calls ≡ p.calls → Changes p q
-lined_placed e p q h c x y z w v u = with_change {q = emit e p} (with_change nothing (told e h)) (elsewhere c (record { notices = x; performing = y; events = z; registrations = w; frames = v; calls = u }))
+pub lined_placed : (e : Event) (p q : Page) → is_aside e ≡ true → PlaceChange p.registrations (places p) (places q) → q.notices ≡ p.notices → q.performing ≡ p.performing → q.events ≡ (emit e p).events → q.registrations ≡ p.registrations → q.frames ≡ p.frames → q.calls ≡ p.calls → q.signals ≡ p.signals → scheduling_of q ≡ scheduling_of p → Changes p q
+lined_placed e p q h c x y z w v u t j = with_change {q = emit e p} (with_change nothing (told e h)) (elsewhere c (record { notices = x; performing = y; events = z; registrations = w; frames = v; calls = u; aborted = same_signals p q t; scheduling = same_scheduling (scheduling_of p) (scheduling_of q) j }))
 
-pub lined : (e : Event) (p q : Page) → is_aside e ≡ true → places q ≡ places p → q.notices ≡ p.notices → q.performing ≡ p.performing → q.events ≡ (emit e p).events → q.registrations ≡ p.registrations → q.frames ≡ p.frames → q.calls ≡ p.calls → Changes p q
-lined e p q h s x y z w v u = lined_placed e p q h (subst (PlaceChange p.registrations (places p)) (sym s) places_stay) x y z w v u
+pub lined : (e : Event) (p q : Page) → is_aside e ≡ true → places q ≡ places p → q.notices ≡ p.notices → q.performing ≡ p.performing → q.events ≡ (emit e p).events → q.registrations ≡ p.registrations → q.frames ≡ p.frames → q.calls ≡ p.calls → q.signals ≡ p.signals → scheduling_of q ≡ scheduling_of p → Changes p q
+lined e p q h s x y z w v u t j = lined_placed e p q h (subst (PlaceChange p.registrations (places p)) (sym s) places_stay) x y z w v u t j
+
+-- a registration is due, with its line
+due-changes : (r : ℕ) (p q : Page) → DueChange p.registrations r (places p) (places q) → AsBefore (emit (Due r) p) q → Changes p q
+due-changes r p q c b = with_change nothing (fell_due r c b)
 
 pub cond_of-changes : (b : Bool) (f g : Page → Page) (p q : Page) → Changes q (f p) → Changes q (g p) → Changes q (cond b f g p)
 cond_of-changes true f g p q h k = h
@@ -79,7 +103,7 @@ elim-changes (Some x) p q f h k = k x
 
 -- a change that changes nothing
 unchanged : (n : ℕ) (p : Page) → Changes p (promise_changes n (no_change (the_promise p.notices.promises n)) p)
-unchanged n p = quietly p (promise_changes n (no_change (the_promise p.notices.promises n)) p) refl (ap {A = List PromiseRecord} {B = Notices} (λ qs. record p.notices { promises = qs }) (with_numbered-own p.notices.promises n pending_promise)) refl refl refl refl refl
+unchanged n p = quietly p (promise_changes n (no_change (the_promise p.notices.promises n)) p) refl (ap {A = List PromiseRecord} {B = Notices} (λ qs. record p.notices { promises = qs }) (with_numbered-own p.notices.promises n pending_promise)) refl refl refl refl refl refl refl
 
 by_lock : (n : ℕ) (p : Page) (c : Promises.Change) (b : Bool) → (the_promise p.notices.promises n).locked ≡ b → ((the_promise p.notices.promises n).locked ≡ false → Changes p (promise_changes n c p)) → Changes p (promise_changes n (cond b (no_change (the_promise p.notices.promises n)) c) p)
 by_lock n p c true e k = unchanged n p
@@ -109,7 +133,7 @@ follow-changes n how p x = by_outcome (the_promise p.notices.promises n).outcome
     by_outcome (Some before) e = unchanged n p
 
 pub queue_task-changes : (source : Source) (steps : Steps) (p : Page) → is_free steps ≡ true → Changes p (queue_task source steps p)
-queue_task-changes source steps p h = placed p (queue_task source steps p) (task_queued (record { number = suc p.tasks_made; source = source; steps = steps }) h) refl refl refl refl refl refl
+queue_task-changes source steps p h = with_change nothing (elsewhere (task_queued (record { number = suc p.tasks_made; source = source; steps = steps }) h) (record { notices = refl; performing = refl; events = refl; registrations = refl; frames = refl; calls = refl; aborted = λ s h. h; scheduling = record { priorities = λ s. refl; states = refl; tasks_made = omega arith } }))
 
 -- a reaction was added, and where the promise was outstanding a task is queued
 handled-changes : (n : ℕ) (b : Bool) (p q : Page) → Changes p q → Changes p (cond b (queue_task Dom (NotifyHandled n)) (λ q. q) q)
@@ -144,10 +168,10 @@ made_last kind x p = length-last p.registrations x
 
 -- a registration is made and waits nowhere
 pub register-changes : (kind : RegKind) (x : Registration) (p : Page) → x.role ≡ OfKind kind → Changes p (register_as kind x p)
-register-changes kind x p e = with_change nothing (registered kind x e nowhere (record { notices = refl; performing = refl; events = refl; registrations = refl; frames = refl; calls = refl }))
+register-changes kind x p e = with_change nothing (registered kind x e nowhere (record { notices = refl; performing = refl; events = refl; registrations = refl; frames = refl; calls = refl; aborted = λ s h. h; scheduling = record { priorities = λ s. refl; states = refl; tasks_made = omega arith } }))
 
 -- it is made and waits at its first place, and its line is given
-register_at-changes : (kind : RegKind) (x : Registration) (e : Event) (p q : Page) → x.role ≡ OfKind kind → is_aside e ≡ true → FirstPlace (suc (length p.registrations)) (places p) (places q) → AsBefore (register_as kind x p) q → Changes p (emit e q)
+register_at-changes : (kind : RegKind) (x : Registration) (e : Event) (p q : Page) → x.role ≡ OfKind kind → is_aside e ≡ true → FirstPlace p.registrations p.prios (suc (length p.registrations)) (places p) (places q) → AsBefore (register_as kind x p) q → Changes p (emit e q)
 register_at-changes kind x e p q role h u b = with_change {q = q} (with_change nothing (registered kind x role u b)) (told e h)
 
 -- ---- time
@@ -157,77 +181,210 @@ pub init_again-changes : (id r : ℕ) (timeout : ℤ) (p : Page) → (numbered p
 init_again-changes id r timeout p e there =
     let a = armed (Some id) timeout p.level p.now p.timers in
     let t : TimerTask = record { registration = r; id = a.id; handle = a.handle; level = a.level; repeats = true; timeout = timeout } in
-    lined_placed (Arm r a.due a.level) p (init_timer (Some id) r true timeout p) refl (armed_again a t e there) refl refl refl refl refl refl
+    lined_placed (Arm r a.due a.level) p (init_timer (Some id) r true timeout p) refl (armed_again a t e there refl) refl refl refl refl refl refl refl refl
 
 pub clear_id-changes : (id : ℕ) (p : Page) → Changes p (clear_id id p)
-clear_id-changes id p = placed p (clear_id id p) (id_cleared id) refl refl refl refl refl refl
+clear_id-changes id p = placed p (clear_id id p) (id_cleared id) refl refl refl refl refl refl refl refl
 
-pub clear_timer-changes : (id : ℕ) (p : Page) → Changes p (clear_timer id p)
-clear_timer-changes id p = by_id (Timers.has_id id p.timers) refl
+-- the registration that is found by a timer id has it
+found_id : (id k : ℕ) (before xs : List Registration) → k ≡ suc (length before) → 1 ≤ registration_with_id id k xs → id_at (before ++ xs) (registration_with_id id k xs) ≡ id
+found_id id k before [] e le = absurd (omega (arith, le))
+found_id id k before (x ∷ xs) e le = by_test (x.timer_id == id) refl le (found_id id (suc k) (and_last before x) xs (ap suc (e ∙ sym (length-last before x))))
+  where
+    here : unwrap_or (slice_get (before ++ x ∷ xs) (length before)) no_registration ≡ x
+    here = at_length before
+      where
+        at_length : (ys : List Registration) → unwrap_or (slice_get (ys ++ x ∷ xs) (length ys)) no_registration ≡ x
+        at_length [] = refl
+        at_length (y ∷ ys) = at_length ys
+
+    shifted : (ys : List Registration) → (ys ++ x ∷ []) ++ xs ≡ ys ++ x ∷ xs
+    shifted [] = refl
+    shifted (y ∷ ys) = ap (y ∷◌) (shifted ys)
+
+    by_test : (b : Bool) → (x.timer_id == id) ≡ b → 1 ≤ cond b k (registration_with_id id (suc k) xs) → (1 ≤ registration_with_id id (suc k) xs → id_at ((before ++ x ∷ []) ++ xs) (registration_with_id id (suc k) xs) ≡ id) → id_at (before ++ x ∷ xs) (cond b k (registration_with_id id (suc k) xs)) ≡ id
+    by_test true q le rest = ap {A = ℕ} {B = ℕ} (λ n. id_at (before ++ x ∷ xs) n) e ∙ (ap {A = Registration} {B = ℕ} (λ y. y.timer_id) here ∙ eqb-true x.timer_id id q)
+    by_test false q le rest = subst (λ (ys : List Registration). id_at ys (registration_with_id id (suc k) xs) ≡ id) (shifted before) (rest le)
+
+-- a timer's own id is above 0
+has_id-given : (n : Made) (id : ℕ) (ids : List Timers.TimerId) → Each (TimerIdIsGiven n) ids → is_there (find (λ e. e.id == id) ids) ≡ true → 1 ≤ id
+has_id-given n id [] h there = Prim.cc
+has_id-given n id (e ∷ ids) h there = by_test (e.id == id) refl there (has_id-given n id ids h.1)
+  where
+    by_test : (b : Bool) → (e.id == id) ≡ b → is_there (cond b (Some e) (find (λ e. e.id == id) ids)) ≡ true → (is_there (find (λ e. e.id == id) ids) ≡ true → 1 ≤ id) → 1 ≤ id
+    by_test true q there rest = let same = eqb-true e.id id q in let one = h.0.id.from_one in omega (arith, same, one)
+    by_test false q there rest = rest there
+
+pub clear_timer-changes : (id : ℕ) (p : Page) → Held (made_by p) p → Changes p (clear_timer id p)
+clear_timer-changes id p h = by_id (Timers.has_id id p.timers) refl
   where
     r : ℕ
     r = registration_with_id id 1 p.registrations
 
+    own : 1 ≤ r → id_at p.registrations r ≡ id
+    own le = found_id id 1 [] p.registrations refl le
+
     by_id : (b : Bool) → Timers.has_id id p.timers ≡ b → Changes p (cond b (emit (Drop r) (clear_id id p)) p)
-    by_id true e = with_change nothing (dropped r (timer_dropped id e refl) (record { notices = refl; performing = refl; events = refl; registrations = refl; frames = refl; calls = refl }))
+    by_id true e = with_change nothing (dropped r (timer_dropped id e refl (λ le. (own le, (the_registration-given p r h).timer (let one = has_id-given (made_by p) id p.timers.ids (h InTimers).ids e in let same = own le in omega (arith, one, same))))) (record { notices = refl; performing = refl; events = refl; registrations = refl; frames = refl; calls = refl; aborted = λ s h. h; scheduling = record { priorities = λ s. refl; states = refl; tasks_made = omega arith } }))
     by_id false e = nothing
+
+-- a callback that was found is for what its place holds
+found_for : (kind : RegKind) (last : ℕ) (n : Made) (cs : List Callback) (handle : ℕ) (c : Callback) → Each (CallbackIsGiven kind last n) cs → callback_in cs handle ≡ Some c → role_at n.registrations c.registration ≡ OfKind kind
+found_for kind last n cs handle c h e =
+    (subst (λ (o : Option Callback). IfThere (CallbackIsGiven kind last n) o) e (Each-find (CallbackIsGiven kind last n) (λ d. d.handle == handle) cs h)).registration.role
 
 pub without_frame-changes : (handle : ℕ) (p : Page) → Changes p (without_frame handle p)
 without_frame-changes handle p = with_change nothing (frame_gone handle)
 
-pub cancel_frame-changes : (handle : ℕ) (p : Page) → Changes p (cancel_frame handle p)
-cancel_frame-changes handle p = by_callback (callback_in p.frames.callbacks handle) refl
+pub cancel_frame-changes : (handle : ℕ) (p : Page) → Held (made_by p) p → Changes p (cancel_frame handle p)
+cancel_frame-changes handle p h = by_callback (callback_in p.frames.callbacks handle) refl
   where
     by_callback : (o : Option Callback) → callback_in p.frames.callbacks handle ≡ o → Changes p (elim o [ None ↦ p | Some c ↦ emit (Drop c.registration) (without_frame handle p) ])
     by_callback None e = nothing
-    by_callback (Some c) e = with_change nothing (frame_dropped handle c e)
+    by_callback (Some c) e = with_change nothing (frame_dropped handle c e (found_for FrameKind p.frames.made (made_by p) p.frames.callbacks handle c (h InFrames) e))
 
 pub idle_step-changes : (p : Page) → open_registrations p.events ≡ [] → p.notices.jobs ≡ [] → Changes p (idle_step p)
 idle_step-changes p x y =
     let here : Page = record p { last_idle_start = p.now } in
     let end = deadline here.last_idle_start here in
     let told_one : Page = emit (Period end) p in
-    let begun : Changes p told_one = with_change nothing (rested (Period end) refl x y) in
+    let begun : Changes p told_one = with_change nothing (rested (Period end) refl x y refl) in
     let started : Page = record told_one { last_idle_start = p.now; idle = IdleCallbacks.started p.idle; idle_period_end = end } in
     cond-changes (waits here.idle && nat_lt here.now (deadline here.last_idle_start here) && nat_le here.idle_period_end here.now) p (period_begun end here) here
-    (changes-then (changes-then begun (placed told_one started idle_started refl refl refl refl refl refl)) (queue_task-changes IdleSource InvokeIdle started refl)) (quietly p here refl refl refl refl refl refl refl)
+    (changes-then (changes-then begun (placed told_one started idle_started refl refl refl refl refl refl refl refl)) (queue_task-changes IdleSource InvokeIdle started refl)) (quietly p here refl refl refl refl refl refl refl refl refl)
 
 pub idle_timeout-changes : (ms r : ℕ) (p : Page) → Changes p (idle_timeout ms r p)
-idle_timeout-changes ms r p = lined_placed (Arm r (p.now + ms * 1000) 0) p (idle_timeout ms r p) refl (idle_armed (record { due = p.now + ms * 1000; handle = p.idle.made; registration = r })) refl refl refl refl refl refl
+idle_timeout-changes ms r p = lined_placed (Arm r (p.now + ms * 1000) 0) p (idle_timeout ms r p) refl (idle_armed (record { due = p.now + ms * 1000; handle = p.idle.made; registration = r })) refl refl refl refl refl refl refl refl
 
 pub without_idle-changes : (handle : ℕ) (p : Page) → Changes p (without_idle handle p)
-without_idle-changes handle p = placed p (without_idle handle p) (idle_left handle) refl refl refl refl refl refl
+without_idle-changes handle p = placed p (without_idle handle p) (idle_left handle) refl refl refl refl refl refl refl refl
 
-pub cancel_idle-changes : (handle : ℕ) (p : Page) → Changes p (cancel_idle handle p)
-cancel_idle-changes handle p = by_callback (idle_callback handle p) refl
+idle_lists : {n : Made} {i : IdleCallbacks.Idle} → IdleIsGiven n i → Each (CallbackIsGiven IdleKind n.idle n) i.runnable × Each (CallbackIsGiven IdleKind n.idle n) i.pending
+idle_lists h = (h.runnable, h.pending)
+
+pub cancel_idle-changes : (handle : ℕ) (p : Page) → Held (made_by p) p → Changes p (cancel_idle handle p)
+cancel_idle-changes handle p h = by_callback (idle_callback handle p) refl
   where
     by_callback : (o : Option Callback) → idle_callback handle p ≡ o → Changes p (elim o [ None ↦ p | Some c ↦ emit (Drop c.registration) (without_idle handle p) ])
     by_callback None e = nothing
-    by_callback (Some c) e = with_change nothing (dropped c.registration (idle_dropped handle c e refl) (record { notices = refl; performing = refl; events = refl; registrations = refl; frames = refl; calls = refl }))
+    by_callback (Some c) e = with_change nothing (dropped c.registration (idle_dropped handle c e refl (found_for IdleKind p.idle.made (made_by p) (p.idle.runnable ++ p.idle.pending) handle c (Each-append (CallbackIsGiven IdleKind p.idle.made (made_by p)) p.idle.runnable p.idle.pending (idle_lists (h InIdle)).0 (idle_lists (h InIdle)).1) e)) (record { notices = refl; performing = refl; events = refl; registrations = refl; frames = refl; calls = refl; aborted = λ s h. h; scheduling = record { priorities = λ s. refl; states = refl; tasks_made = omega arith } }))
 
 -- ---- scheduler tasks, signals, hosts
 
-pub without_sched-changes : (r : ℕ) (p : Page) → Changes p (without_sched r p)
-without_sched-changes r p = placed p (without_sched r p) (sched_left r) refl refl refl refl refl refl
+-- what was aborted, by its number
+abbrev WasAborted : Page → ℕ → AbortGraph.SignalRecord Value → Type 0
+WasAborted p s x = is_aborted p s ≡ true → is_there x.reason ≡ true
 
-pub with_state-changes : (s : SchedulingState) (p : Page) → Changes p (with_state s p)
-with_state-changes s p = quietly p (with_state s p) refl refl refl refl refl refl refl
+past_none : (ss : AbortGraph.Signals Value) → slice_get ss (length ss) ≡ None
+past_none [] = refl
+past_none (x ∷ ss) = past_none ss
+
+-- a new signal was not aborted before
+new_aborted : (p : Page) (x : AbortGraph.SignalRecord Value) → WasAborted p (suc (length p.signals)) x
+new_aborted p x h = absurd (not_there (sym (ap {A = Option (AbortGraph.SignalRecord Value)} {B = Bool} (λ o. is_there (unwrap_or o AbortGraph.fresh_signal).reason) (past_none p.signals)) ∙ h))
+  where
+    not_there : false ≡ true → ⊥
+    not_there e = Prim.cc
+
+pub with_algorithms-aborted : (s : ℕ) (rs : List ℕ) (p : Page) → StaysAborted p (record p { signals = with_algorithms s rs p.signals })
+with_algorithms-aborted s rs p = with-by_number (WasAborted p) p.signals s (record (the_signal p.signals s) { algorithms = rs }) (λ h. h) (λ t h. h)
+
+make-aborted : (p : Page) → StaysAborted p (with_signals AbortGraph.make p)
+make-aborted p = last-by_number (WasAborted p) p.signals AbortGraph.fresh_signal (new_aborted p AbortGraph.fresh_signal) (λ t h. h)
+
+make_aborted-aborted : (reason : Value) (p : Page) → StaysAborted p (with_signals (AbortGraph.make_aborted reason) p)
+make_aborted-aborted reason p =
+    let x : AbortGraph.SignalRecord Value = record { reason = Some reason; sources = []; dependents = []; algorithms = [] } in
+    last-by_number (WasAborted p) p.signals x (new_aborted p x) (λ t h. h)
+
+any-aborted : (of : List ℕ) (p : Page) → StaysAborted p (with_signals (AbortGraph.any of) p)
+any-aborted of p =
+    any-by_number (WasAborted p) of p.signals (λ reason sources. new_aborted p (record { reason = reason; sources = sources; dependents = []; algorithms = [] })) (λ s x ds k. k) (λ t h. h)
+
+with_reason-aborted : (reason : Value) (of : List ℕ) (p : Page) → StaysAborted p (record p { signals = with_reason reason of p.signals })
+with_reason-aborted reason of p = with_reason-by_number (WasAborted p) reason of p.signals (λ s x k h. refl) (λ t h. h)
 
 pub watch-changes : (signal : Option ℕ) (r : ℕ) (p : Page) → Changes p (watch signal r p)
 watch-changes None r p = nothing
-watch-changes (Some s) r p = quietly p (watch (Some s) r p) refl refl refl refl refl refl refl
+watch-changes (Some s) r p = signals-changes (AbortGraph.add_algorithm s r p.signals) p (with_algorithms-aborted s (and_last (the_signal p.signals s).algorithms r) p)
 
 pub unwatch-changes : (r : ℕ) (p : Page) → Changes p (unwatch r p)
-unwatch-changes r p = elim-changes (the_registration p r).signal p p _ nothing (λ s. quietly p (record p { signals = AbortGraph.remove_algorithm s r p.signals }) refl refl refl refl refl refl refl)
+unwatch-changes r p = elim-changes (the_registration p r).signal p p _ nothing (λ s. signals-changes (AbortGraph.remove_algorithm s r p.signals) p (with_algorithms-aborted s (without (λ b. b == r) (the_signal p.signals s).algorithms) p))
 
-pub drop-changes : (r : ℕ) (p : Page) → Changes p (drop_registration r p)
-drop-changes r p = with_change nothing (dropped r (task_dropped (task_in_answer (waiting_answer r p)) (task_in_net (waiting_net_task r p))) (record { notices = refl; performing = refl; events = refl; registrations = refl; frames = refl; calls = refl }))
+-- what a signal can abort, and the signal is aborted
+pub record Aborts (p : Page) (r : ℕ) : Type 0 where
+  pub promise : IsGiven (length p.notices.promises) (the_registration p r).promise
+  pub role : is_abortable (role_at p.registrations r) ≡ true
+  pub aborted : is_aborted_source p (signal_at p.registrations r) ≡ true
 
-pub abort_registration-changes : (reason : Value) (r : ℕ) (p : Page) → IsGiven (length p.notices.promises) (the_registration p r).promise → Changes p (abort_registration reason r p)
-abort_registration-changes reason r p x =
+drop-changes : (r : ℕ) (p : Page) → is_abortable (role_at p.registrations r) ≡ true → is_aborted_source p (signal_at p.registrations r) ≡ true → (role_at p.registrations r ≡ OfKind HostKind → is_there (waiting_answer r p) || is_there (waiting_net_task r p) ≡ true) → Changes p (drop_registration r p)
+drop-changes r p role aborted e = with_change nothing (task_dropped r role aborted e refl (record { notices = refl; performing = refl; events = refl; registrations = refl; frames = refl; calls = refl; aborted = λ s h. h; scheduling = record { priorities = λ s. refl; states = refl; tasks_made = omega arith } }))
+
+-- rejecting a promise leaves what the abort steps test
+record Rejected (p q : Page) : Type 0 where
+  registrations : q.registrations ≡ p.registrations
+  signals : q.signals ≡ p.signals
+  waiting : places q ≡ places p
+
+emit_each-rejected : (es : List Event) (p q : Page) → Rejected p q → Rejected p (emit_each es q)
+emit_each-rejected [] p q h = h
+emit_each-rejected (e ∷ es) p q h = emit_each-rejected es p (emit e q) (record { registrations = h.registrations; signals = h.signals; waiting = h.waiting })
+
+reject-rejected : (n : ℕ) (reason : Value) (p : Page) → Rejected p (promises.reject n reason p)
+reject-rejected n reason p =
+    let d = settle_promise (context p) p.names n (Failed reason) p.notices in
+    emit_each-rejected d.lines p (record p { notices = d.notices }) (record { registrations = refl; signals = refl; waiting = refl })
+
+-- a host's answer that has not begun is pending or due
+host-begun : (r : ℕ) (p : Page) → Held (made_by p) p → role_at p.registrations r ≡ OfKind HostKind → has_not_begun r p ≡ true → is_there (waiting_answer r p) || is_there (waiting_net_task r p) ≡ true
+host-begun r p h role e =
+    by_sched (find (λ t. t.registration == r) p.sched_tasks) (find (λ c. is_delay_of r c.completion) p.completions) refl refl
+    (Each-find (SchedTaskIsGiven (made_by p)) (λ t. t.registration == r) p.sched_tasks (h InSchedTasks))
+    (Each-find (CompletingIsGiven (made_by p)) (λ c. is_delay_of r c.completion) p.completions (h InCompletions)) e
+  where
+    no_sched : (b : Bool) → sched_role b ≡ OfKind HostKind → ⊥
+    no_sched true e = Prim.cc
+    no_sched false e = Prim.cc
+
+    no_post : OfKind PostKind ≡ OfKind HostKind → ⊥
+    no_post e = Prim.cc
+
+    false_true : false ≡ true → ⊥
+    false_true e = Prim.cc
+
+    of_delay : (c : Completion) → is_delay_of r c ≡ true → CompletionIsGiven (made_by p) c → ⊥
+    of_delay (QueueTimer t) q x = false_true q
+    of_delay (EnqueuePost n source) q x = no_post (sym x.2.role ∙ (ap {A = ℕ} {B = Role} (role_at p.registrations) (eqb-true n r q) ∙ role))
+    of_delay (QueueSignal n s) q x = false_true q
+
+    by_sched : (o : Option SchedTask) (d : Option Completing) → find (λ t. t.registration == r) p.sched_tasks ≡ o → find (λ c. is_delay_of r c.completion) p.completions ≡ d
+        → IfThere (SchedTaskIsGiven (made_by p)) o → IfThere (CompletingIsGiven (made_by p)) d
+        → is_there o || is_there d || is_there (waiting_answer r p) || is_there (waiting_net_task r p) ≡ true → is_there (waiting_answer r p) || is_there (waiting_net_task r p) ≡ true
+    by_sched (Some t) d x y i j e =
+        absurd (no_sched t.continuation (sym i.kind.role ∙ (ap {A = ℕ} {B = Role} (role_at p.registrations) (eqb-true t.registration r (found-passes (λ (u : SchedTask). u.registration == r) p.sched_tasks t x)) ∙ role)))
+    by_sched None (Some c) x y i j e = absurd (of_delay c.completion (found-passes (λ (u : Completing). is_delay_of r u.completion) p.completions c y) j.completion)
+    by_sched None None x y i j e = e
+
+pub abort_registration-changes : (reason : Value) (r : ℕ) (p : Page) → Held (made_by p) p → Aborts p r → Changes p (abort_registration reason r p)
+abort_registration-changes reason r p h x =
     let q = promises.reject (the_registration p r).promise reason p in
-    let first : Changes p q = settle-changes (the_registration p r).promise (Failed reason) p x in
-    cond_of-changes (has_not_begun r p) (drop_registration r) (λ q. q) q p (changes-then first (drop-changes r q)) first
+    let first : Changes p q = settle-changes (the_registration p r).promise (Failed reason) p x.promise in
+    by_begun q first (reject-rejected (the_registration p r).promise reason p) (has_not_begun r p) refl
+  where
+    begun_at : ℕ → Places → Bool
+    begun_at r x =
+        is_there (find (λ a. a.task.registration == r) x.host_answers) || is_there (find (λ t. is_for r (host_task_of t.steps)) x.tasks)
+
+    by_begun : (q : Page) → Changes p q → Rejected p q → (b : Bool) → has_not_begun r p ≡ b → Changes p (cond b (drop_registration r) (λ q. q) q)
+    by_begun q first same true e =
+        changes-then first (drop-changes r q (ap {A = List Registration} {B = Bool} (λ xs. is_abortable (role_at xs r)) same.registrations ∙ x.role)
+        (ap {A = List Registration} {B = Bool} (λ xs. is_aborted_source q (signal_at xs r)) same.registrations ∙ (by_source q same.signals (signal_at p.registrations r) ∙ x.aborted))
+        (λ role. ap {A = Places} {B = Bool} (begun_at r) same.waiting ∙ host-begun r p h (sym (ap {A = List Registration} {B = Role} (λ xs. role_at xs r) same.registrations) ∙ role) e))
+      where
+        by_source : (q : Page) → q.signals ≡ p.signals → (o : Option ℕ) → is_aborted_source q o ≡ is_aborted_source p o
+        by_source q e None = refl
+        by_source q e (Some s) = ap {A = AbortGraph.Signals Value} {B = Bool} (λ ss. AbortGraph.is_aborted ss s) e
+    by_begun q first same false e = first
 
 emit_aborts : (ss : List ℕ) (p : Page) → Changes p (emit_each (map Abort ss) p)
 emit_aborts [] p = nothing
@@ -236,16 +393,21 @@ emit_aborts (s ∷ ss) p = changes-then (with_change nothing (told (Abort s) ref
 pub reason_set-changes : (reason : Value) (ss : List ℕ) (p : Page) → Changes p (reason_set reason ss p)
 reason_set-changes reason ss p =
     let q : Page = record p { signals = with_reason reason ss p.signals } in
-    changes-then (quietly p q refl refl refl refl refl refl refl) (emit_aborts ss q)
+    changes-then (signals-changes (with_reason reason ss p.signals) p (with_reason-aborted reason ss p)) (emit_aborts ss q)
 
-pub give_priority-changes : (s : ℕ) (priority : Priority) (p : Page) → Changes p (give_priority s priority p)
-give_priority-changes s priority p = lined (Prio s priority) p (give_priority s priority p) refl refl refl refl refl refl refl refl
+-- a signal without a priority is given one
+pub give_priority-changes : (s : ℕ) (priority : Priority) (p : Page) → priority_of p.prios s ≡ None → Changes p (give_priority s priority p)
+give_priority-changes s priority p h = with_change nothing (prio_told s priority (TaskSignals.give s priority p.prios) (give-set s priority p.prios h))
 
 pub change_begun-changes : (s : ℕ) (priority : Priority) (p : Page) → Changes p (change_begun s priority p)
-change_begun-changes s priority p = lined (Prio s priority) p (change_begun s priority p) refl refl refl refl refl refl refl refl
+change_begun-changes s priority p = with_change nothing (prio_told s priority (TaskSignals.begun s priority p.prios) (begun-set s priority p.prios))
+
+-- a change of the priorities that leaves each signal's own
+prios-changes : (ps : Prios) (p : Page) → ((s : ℕ) → priority_of ps s ≡ priority_of p.prios s) → Changes p (record p { prios = ps })
+prios-changes ps p h = with_change nothing (elsewhere places_stay (record { notices = refl; performing = refl; events = refl; registrations = refl; frames = refl; calls = refl; aborted = λ s k. k; scheduling = record { priorities = h; states = refl; tasks_made = omega arith } }))
 
 pub change_ended-changes : (s : ℕ) (p : Page) → Changes p (change_ended s p)
-change_ended-changes s p = quietly p (change_ended s p) refl refl refl refl refl refl refl
+change_ended-changes s p = prios-changes (TaskSignals.ended s p.prios) p (ended-same s p.prios)
 
 -- ---- operations
 
@@ -255,7 +417,7 @@ micro_registered-changes f p =
     with_change nothing (micro_asked x (last_registration (register_as MicroKind x p)) refl (made_last MicroKind x p))
 
 pub script_promise-changes : (p : Page) → Changes p (script_promise p)
-script_promise-changes p = changes-then (new_promise-changes p) (quietly (new_promise p) (script_promise p) refl refl refl refl refl refl refl)
+script_promise-changes p = changes-then (new_promise-changes p) (quietly (new_promise p) (script_promise p) refl refl refl refl refl refl refl refl refl)
 
 -- a promise gets a reaction with handlers that are registered
 then_asked-changes : (n : ℕ) (x : Registration) (p : Page) → x.role ≡ OfKind ThenKind → IsGiven (length p.notices.promises) n
@@ -278,17 +440,18 @@ finally_made-changes n f p x =
     changes-then (new_promise-changes p) (then_asked-changes n r new refl x)
 
 pub posted-changes : (port : ℕ) (v : Value) (p : Page) → Changes p (posted port v p)
-posted-changes port v p = lined (Send port (spelled p.names v)) p (posted port v p) refl refl refl refl refl refl refl refl
+posted-changes port v p = lined (Send port (spelled p.names v)) p (posted port v p) refl refl refl refl refl refl refl refl refl refl
 
-pub timer_set-changes : (kind : RegKind) (repeats : Bool) (f : Func) (timeout : ℤ) (p : Page) → Changes p (timer_set kind repeats f timeout p)
-timer_set-changes kind repeats f timeout p =
+pub timer_set-changes : (kind : RegKind) (repeats : Bool) (f : Func) (timeout : ℤ) (p : Page) → Held (made_by p) p → Changes p (timer_set kind repeats f timeout p)
+timer_set-changes kind repeats f timeout p h =
     let x : Registration = record { role = OfKind kind; callback = Some f; second_callback = None; timer_id = suc p.timers.ids_made; promise = 0; signal = None; finally = false } in
     let made = register_as kind x p in
     let r = last_registration made in
     let a = armed None timeout p.level p.now p.timers in
     let t : TimerTask = record { registration = r; id = a.id; handle = a.handle; level = a.level; repeats = repeats; timeout = timeout } in
+    let fresh : (q : ℕ) → id_at p.registrations q ≡ a.id → ⊥ = λ q e. let le = (the_registration-given p q h).timer_id in absurd (omega (arith, le, e)) in
     let set : Page = record made { timers = with_armed None a made.timers; completions = and_last made.completions (record { start = a.start; completion = QueueTimer t }) } in
-    register_at-changes kind x (Arm r a.due a.level) p set refl refl (at_timer a t (made_last kind x p)) (record { notices = refl; performing = refl; events = refl; registrations = refl; frames = refl; calls = refl })
+    register_at-changes kind x (Arm r a.due a.level) p set refl refl (at_timer a t (made_last kind x p) fresh) (record { notices = refl; performing = refl; events = refl; registrations = refl; frames = refl; calls = refl; aborted = λ s h. h; scheduling = record { priorities = λ s. refl; states = refl; tasks_made = omega arith } })
 
 pub frame_requested-changes : (f : Func) (p : Page) → Changes p (frame_requested f p)
 frame_requested-changes f p = with_change nothing (frame_asked f)
@@ -299,43 +462,57 @@ idle_requested-changes f ms p =
     let made = register_as IdleKind x p in
     let r = last_registration made in
     let q : Page = record made { idle = IdleCallbacks.request r made.idle } in
-    let first : Changes p q = with_change nothing (registered IdleKind x refl (at_idle r (made_last IdleKind x p)) (record { notices = refl; performing = refl; events = refl; registrations = refl; frames = refl; calls = refl })) in
+    let first : Changes p q = with_change nothing (registered IdleKind x refl (at_idle r (made_last IdleKind x p)) (record { notices = refl; performing = refl; events = refl; registrations = refl; frames = refl; calls = refl; aborted = λ s h. h; scheduling = record { priorities = λ s. refl; states = refl; tasks_made = omega arith } })) in
     cond_of-changes (ms == 0) (λ q. q) (idle_timeout ms r) q p first (changes-then first (idle_timeout-changes ms r q))
 
-pub with_signals-changes : (f : AbortGraph.Signals Value → AbortGraph.Signals Value) (p : Page) → Changes p (with_signals f p)
-with_signals-changes f p = quietly p (with_signals f p) refl refl refl refl refl refl refl
+pub make-changes : (p : Page) → Changes p (with_signals AbortGraph.make p)
+make-changes p = signals-changes (AbortGraph.make p.signals) p (make-aborted p)
 
-pub task_signal_made-changes : (priority : Priority) (p : Page) → Changes p (task_signal_made priority p)
-task_signal_made-changes priority p =
+pub make_aborted-changes : (reason : Value) (p : Page) → Changes p (with_signals (AbortGraph.make_aborted reason) p)
+make_aborted-changes reason p = signals-changes (AbortGraph.make_aborted reason p.signals) p (make_aborted-aborted reason p)
+
+pub any-changes : (of : List ℕ) (p : Page) → Changes p (with_signals (AbortGraph.any of) p)
+any-changes of p = signals-changes (AbortGraph.any of p.signals) p (any-aborted of p)
+
+pub task_signal_made-changes : (priority : Priority) (p : Page) → Held (made_by p) p → Changes p (task_signal_made priority p)
+task_signal_made-changes priority p h =
     let made = with_signals AbortGraph.make p in
-    changes-then (with_signals-changes AbortGraph.make p) (give_priority-changes (last_signal made) priority made)
+    changes-then (make-changes p) (give_priority-changes (last_signal made) priority made (fresh-prio (made_by p) p.prios (last_signal made) (h InPrios) (let l = length-last p.signals AbortGraph.fresh_signal in omega (arith, l))))
 
-pub any_made-changes : (ss : List ℕ) (priority : Priority) (follows : Option ℕ) (p : Page) → Changes p (any_made ss priority follows p)
-any_made-changes ss priority follows p =
+pub any_made-changes : (ss : List ℕ) (priority : Priority) (follows : Option ℕ) (p : Page) → Held (made_by p) p → Changes p (any_made ss priority follows p)
+any_made-changes ss priority follows p h =
     let made = with_signals (AbortGraph.any ss) p in
     let given_one = give_priority (last_signal made) priority made in
-    let first : Changes p given_one = changes-then (with_signals-changes (AbortGraph.any ss) p) (give_priority-changes (last_signal made) priority made) in
-    elim-changes follows p given_one _ first (λ on. changes-then first (quietly given_one (record given_one { prios = TaskSignals.depend (last_signal made) on given_one.prios }) refl refl refl refl refl refl refl))
+    let first : Changes p given_one = changes-then (any-changes ss p) (give_priority-changes (last_signal made) priority made (fresh-prio (made_by p) p.prios (last_signal made) (h InPrios) (let l = any-count ss p.signals in omega (arith, l)))) in
+    elim-changes follows p given_one _ first (λ on. changes-then first (prios-changes (TaskSignals.depend (last_signal made) on given_one.prios) given_one (depend-same (last_signal made) on given_one.prios)))
 
 pub timeout_signal_made-changes : (ms : ℕ) (p : Page) → Changes p (timeout_signal_made ms p)
 timeout_signal_made-changes ms p =
     let new = with_signals AbortGraph.make p in
     let made = register SignalKind None None new in
     let told_one = emit (Arm (last_registration made) (made.now + ms * 1000) 0) made in
-    changes-then (with_change {q = made} (changes-then (with_signals-changes AbortGraph.make p) (register-changes SignalKind _ new refl)) (told _ refl))
-    (placed told_one (timeout_signal_made ms p) (signal_armed ms made.now (last_registration made) (last_signal made)) refl refl refl refl refl refl)
+    changes-then (with_change {q = made} (changes-then (make-changes p) (register-changes SignalKind _ new refl)) (told _ refl))
+    (placed told_one (timeout_signal_made ms p) (signal_armed ms made.now (last_registration made) (last_signal made)) refl refl refl refl refl refl refl refl)
 
 pub listener_added-changes : (target : Target) (name : List ℕ) (f : Func) (p : Page) → Changes p (listener_added target name f p)
 listener_added-changes target name f p =
     let x : Registration = record { role = OfKind ListenerKind; callback = Some f; second_callback = None; timer_id = 0; promise = 0; signal = None; finally = false } in
     let made = register_as ListenerKind x p in
-    with_change nothing (registered ListenerKind x refl (at_listener target name (last_registration made) (made_last ListenerKind x p)) (record { notices = refl; performing = refl; events = refl; registrations = refl; frames = refl; calls = refl }))
+    with_change nothing (registered ListenerKind x refl (at_listener target name (last_registration made) (made_last ListenerKind x p)) (record { notices = refl; performing = refl; events = refl; registrations = refl; frames = refl; calls = refl; aborted = λ s h. h; scheduling = record { priorities = λ s. refl; states = refl; tasks_made = omega arith } }))
 
-pub listener_removed-changes : (r : ℕ) (p : Page) → Changes p (listener_removed r p)
-listener_removed-changes r p = by_there (is_listening r p.listeners) refl
+listening_role : (n : Made) (r : ℕ) (ls : List Listener) → Each (ListenerIsGiven n) ls → is_listening r ls ≡ true → role_at n.registrations r ≡ OfKind ListenerKind
+listening_role n r [] h e = Prim.cc
+listening_role n r (l ∷ ls) h e = by_test (l.registration == r) refl e (listening_role n r ls h.1)
+  where
+    by_test : (b : Bool) → (l.registration == r) ≡ b → b || is_listening r ls ≡ true → (is_listening r ls ≡ true → role_at n.registrations r ≡ OfKind ListenerKind) → role_at n.registrations r ≡ OfKind ListenerKind
+    by_test true q e rest = subst (λ (k : ℕ). role_at n.registrations k ≡ OfKind ListenerKind) (eqb-true l.registration r q) h.0.registration.role
+    by_test false q e rest = rest e
+
+pub listener_removed-changes : (r : ℕ) (p : Page) → Held (made_by p) p → Changes p (listener_removed r p)
+listener_removed-changes r p h = by_there (is_listening r p.listeners) refl
   where
     by_there : (b : Bool) → is_listening r p.listeners ≡ b → Changes p (cond b (emit (Drop r) (record p { listeners = off r p.listeners })) p)
-    by_there true e = with_change nothing (dropped r (listener_dropped e) (record { notices = refl; performing = refl; events = refl; registrations = refl; frames = refl; calls = refl }))
+    by_there true e = with_change nothing (dropped r (listener_dropped e (listening_role (made_by p) r p.listeners (h InListeners) e)) (record { notices = refl; performing = refl; events = refl; registrations = refl; frames = refl; calls = refl; aborted = λ s h. h; scheduling = record { priorities = λ s. refl; states = refl; tasks_made = omega arith } }))
     by_there false e = nothing
 
 -- the registration of a task, a delay or a host answer
@@ -354,37 +531,51 @@ promised-ready : (kind : RegKind) (f : Option Func) (signal : Option ℕ) (p : P
 promised-ready kind f None p = refl
 promised-ready kind f (Some s) p = refl
 
+ready-prios : (kind : RegKind) (f : Option Func) (signal : Option ℕ) (p : Page) → (ready kind f signal p).prios ≡ p.prios
+ready-prios kind f None p = refl
+ready-prios kind f (Some s) p = refl
+
+ready-states : (kind : RegKind) (f : Option Func) (signal : Option ℕ) (p : Page) → (ready kind f signal p).scheduling_states ≡ p.scheduling_states
+ready-states kind f None p = refl
+ready-states kind f (Some s) p = refl
+
 -- a scheduler task of a new registration
-enqueued-changes : (kind : RegKind) (x : Registration) (source : PrioSource) (continuation : Bool) (p : Page) → x.role ≡ OfKind kind → Changes p (enqueue (last_registration (register_as kind x p)) source continuation (register_as kind x p))
-enqueued-changes kind x source continuation p e =
+enqueued-changes : (kind : RegKind) (x : Registration) (source : PrioSource) (continuation : Bool) (p : Page) → x.role ≡ OfKind kind → is_scheduled kind ≡ true → Sourced p.prios p.scheduling_states source → Changes p (enqueue (last_registration (register_as kind x p)) source continuation (register_as kind x p))
+enqueued-changes kind x source continuation p e of_sched from =
     let made = register_as kind x p in
     let r = last_registration made in
     let t : SchedTask = record { registration = r; source = source; continuation = continuation; order = suc p.tasks_made } in
     let q : Page = record made { tasks_made = suc p.tasks_made; sched_tasks = and_last made.sched_tasks t } in
-    register_at-changes kind x (Enq r (queue_name source) continuation (suc p.tasks_made)) p q e refl (at_queue t (made_last kind x p)) (record { notices = refl; performing = refl; events = refl; registrations = refl; frames = refl; calls = refl })
+    with_change nothing (enqueued_anew {q = emit (Enq r (queue_name source) continuation (suc p.tasks_made)) q} kind x t (queue_name source) e (made_last kind x p) refl (record { order = refl; made = omega arith; named = refl }, from, of_sched) (record { notices = refl; performing = refl; events = refl; registrations = refl; frames = refl; calls = refl; aborted = λ s h. h; scheduling = record { priorities = λ s. refl; states = refl; tasks_made = omega arith } }))
 
 -- a delayed post of a new registration
-delayed-changes : (x : Registration) (source : PrioSource) (ms : ℕ) (p : Page) → x.role ≡ OfKind PostKind → Changes p (post_delayed ms (last_registration (register_as PostKind x p)) source (register_as PostKind x p))
-delayed-changes x source ms p e =
+delayed-changes : (x : Registration) (source : PrioSource) (ms : ℕ) (p : Page) → x.role ≡ OfKind PostKind → HasPriority p.prios source → Changes p (post_delayed ms (last_registration (register_as PostKind x p)) source (register_as PostKind x p))
+delayed-changes x source ms p e from =
     let made = register_as PostKind x p in
     let r = last_registration made in
     let timers = Timers.run_after ms made.now made.timers in
     let q : Page = record made { timers = timers; completions = and_last made.completions (record { start = timers.starts_made; completion = EnqueuePost r source }) } in
-    register_at-changes PostKind x (Arm r (made.now + ms * 1000) 0) p q e refl (at_delay ms made.now r source (made_last PostKind x p)) (record { notices = refl; performing = refl; events = refl; registrations = refl; frames = refl; calls = refl })
+    register_at-changes PostKind x (Arm r (made.now + ms * 1000) 0) p q e refl (at_delay ms made.now r source (made_last PostKind x p) from) (record { notices = refl; performing = refl; events = refl; registrations = refl; frames = refl; calls = refl; aborted = λ s h. h; scheduling = record { priorities = λ s. refl; states = refl; tasks_made = omega arith } })
 
-pub post_queued-changes : (f : Func) (source : PrioSource) (signal : Option ℕ) (ms : ℕ) (p : Page) → Changes p (post_queued f source signal ms p)
-post_queued-changes f source signal ms p =
+pub post_queued-changes : (f : Func) (source : PrioSource) (signal : Option ℕ) (ms : ℕ) (p : Page) → HasPriority p.prios source → Changes p (post_queued f source signal ms p)
+post_queued-changes f source signal ms p from =
     let x = entry PostKind (Some f) signal p in
     let before = ready PostKind (Some f) signal p in
     subst (λ (made : Page). Changes p (cond (ms == 0) (enqueue (last_registration made) source false) (post_delayed ms (last_registration made) source) made)) (sym (promised-ready PostKind (Some f) signal p))
     (changes-then (ready-changes PostKind (Some f) signal p)
     (cond_of-changes (ms == 0) (enqueue (last_registration (register_as PostKind x before)) source false) (post_delayed ms (last_registration (register_as PostKind x before)) source) (register_as PostKind x before) before
-    (enqueued-changes PostKind x source false before refl) (delayed-changes x source ms before refl)))
+    (enqueued-changes PostKind x source false before refl refl (known there)) (delayed-changes x source ms before refl there)))
+  where
+    there : HasPriority (ready PostKind (Some f) signal p).prios source
+    there = subst (λ (ps : Prios). HasPriority ps source) (sym (ready-prios PostKind (Some f) signal p)) from
 
-pub continuation_queued-changes : (s : SchedulingState) (p : Page) → Changes p (continuation_queued s p)
-continuation_queued-changes s p =
+pub continuation_queued-changes : (s : SchedulingState) (p : Page) → Sourced p.prios p.scheduling_states s.prio_source → Changes p (continuation_queued s p)
+continuation_queued-changes s p from =
     subst (λ (made : Page). Changes p (enqueue (last_registration made) s.prio_source true made)) (sym (promised-ready YieldKind None s.abort_source p))
-    (changes-then (ready-changes YieldKind None s.abort_source p) (enqueued-changes YieldKind (entry YieldKind None s.abort_source p) s.prio_source true (ready YieldKind None s.abort_source p) refl))
+    (changes-then (ready-changes YieldKind None s.abort_source p) (enqueued-changes YieldKind (entry YieldKind None s.abort_source p) s.prio_source true (ready YieldKind None s.abort_source p) refl refl there))
+  where
+    there : Sourced (ready YieldKind None s.abort_source p).prios (ready YieldKind None s.abort_source p).scheduling_states s.prio_source
+    there = subst (λ (ps : Prios). Sourced ps (ready YieldKind None s.abort_source p).scheduling_states s.prio_source) (sym (ready-prios YieldKind None s.abort_source p)) (subst (λ (ss : List SchedulingState). Sourced p.prios ss s.prio_source) (sym (ready-states YieldKind None s.abort_source p)) from)
 
 -- a closure that was not asked before is asked by a new registration
 abbrev asked : ℕ → HostClosure → ℤ → Page → Page
@@ -400,7 +591,7 @@ asked-changes k c x e p role there live =
     let due = made.now + latency_of made.latencies k in
     let a : HostAnswer = record { due = due; task = record { registration = r; closure = k; number = x } } in
     let q : Page = record made { hosts = slice_set made.hosts k (queued_mark c); host_answers = and_last made.host_answers a } in
-    register_at-changes HostKind e (Arm r due 0) p q role refl (at_host c a (made_last HostKind e p) there live) (record { notices = refl; performing = refl; events = refl; registrations = refl; frames = refl; calls = refl })
+    register_at-changes HostKind e (Arm r due 0) p q role refl (at_host c a (made_last HostKind e p) there live) (record { notices = refl; performing = refl; events = refl; registrations = refl; frames = refl; calls = refl; aborted = λ s h. h; scheduling = record { priorities = λ s. refl; states = refl; tasks_made = omega arith } })
 
 ready-hosts : (kind : RegKind) (f : Option Func) (signal : Option ℕ) (p : Page) → (ready kind f signal p).hosts ≡ p.hosts
 ready-hosts kind f None p = refl
@@ -425,9 +616,9 @@ settle_answer-changes n (Ok v) p x = settle-changes n (Fulfilled (IntValue v)) p
 settle_answer-changes n (Err v) p x = settle-changes n (Failed (IntValue v)) p x
 
 -- a host's task is taken, and the host answers
-pub answer_task-changes : (source : Source) (task : Task) (t : HostTask) (answer : Result ℤ ℤ) (p : Page) → first_task source p.tasks ≡ Some task → task.steps ≡ AnswerHost t → IsGiven (length p.notices.promises) (the_registration p t.registration).promise
+pub answer_task-changes : (source : Source) (task : Task) (t : HostTask) (answer : Result ℤ ℤ) (p : Page) → first_task source p.tasks ≡ Some task → task.steps ≡ AnswerHost t → is_there (not_dropped (slice_get p.hosts t.closure)) ≡ true → IsGiven (length p.notices.promises) (the_registration p t.registration).promise
     → Changes p (answer_host t answer (without_task task.number p))
-answer_task-changes source task t answer p e e1 x = by_closure (slice_get p.hosts t.closure) refl
+answer_task-changes source task t answer p e e1 live x = by_closure (slice_get p.hosts t.closure) refl
   where
     into : ℕ
     into = (the_registration p t.registration).promise
@@ -439,38 +630,32 @@ answer_task-changes source task t answer p e e1 x = by_closure (slice_get p.host
     rest q x h = changes-then (changes-then h (settle_answer-changes into answer q x)) (unwatch-changes t.registration (settle_answer into answer q))
 
     by_closure : (c : Option HostClosure) → slice_get p.hosts t.closure ≡ c → Changes p (unwatch t.registration (settle_answer into answer (fire_closure t.closure c told_one)))
-    by_closure None k = rest told_one x (with_change nothing (answered source task t answer e e1 (ap {A = Option HostClosure} {B = Places} (λ o. record (places told_one) { hosts = fired_at t.closure o p.hosts }) (sym k)) (record { notices = refl; performing = refl; events = refl; registrations = refl; frames = refl; calls = refl })))
+    by_closure None k = rest told_one x (with_change nothing (answered source task t answer e e1 live (ap {A = Option HostClosure} {B = Places} (λ o. record (places told_one) { hosts = fired_at t.closure o p.hosts }) (sym k)) (record { notices = refl; performing = refl; events = refl; registrations = refl; frames = refl; calls = refl; aborted = λ s h. h; scheduling = record { priorities = λ s. refl; states = refl; tasks_made = omega arith } })))
     by_closure (Some c) k =
         let fired = fire_closure t.closure (Some c) told_one in
-        rest fired x (with_change nothing (answered source task t answer e e1 (ap {A = Option HostClosure} {B = Places} (λ o. record (places told_one) { hosts = fired_at t.closure o p.hosts }) (sym k)) (record { notices = refl; performing = refl; events = refl; registrations = refl; frames = refl; calls = refl })))
+        rest fired x (with_change nothing (answered source task t answer e e1 live (ap {A = Option HostClosure} {B = Places} (λ o. record (places told_one) { hosts = fired_at t.closure o p.hosts }) (sym k)) (record { notices = refl; performing = refl; events = refl; registrations = refl; frames = refl; calls = refl; aborted = λ s h. h; scheduling = record { priorities = λ s. refl; states = refl; tasks_made = omega arith } })))
 
 -- ---- parallel items
 
 -- the steps of an active timer complete, which were found by its start
-complete-changes : (start : ℕ) (c : Completion) (p : Page) → completion_of p.completions start ≡ Some c → Changes p (complete c (without_timer start p))
-complete-changes start (QueueTimer t) p e =
-    lined_placed (Due t.registration) p (complete (QueueTimer t) (without_timer start p)) refl (timer_due start (suc p.tasks_made) Timer t e) refl refl refl refl refl refl
-complete-changes start (EnqueuePost r source) p e = by_abort (is_aborted_source p (the_registration p r).signal)
+complete-changes : (start : ℕ) (c : Completion) (p : Page) → completion_of p.completions start ≡ Some c → CompletionIsGiven (made_by p) c → Changes p (complete c (without_timer start p))
+complete-changes start (QueueTimer t) p e x =
+    due-changes t.registration p (complete (QueueTimer t) (without_timer start p)) (timer_due start (suc p.tasks_made) Timer t e refl x.registration.role) (record { notices = refl; performing = refl; events = refl; registrations = refl; frames = refl; calls = refl; aborted = λ s h. h; scheduling = record { priorities = λ s. refl; states = refl; tasks_made = omega arith } })
+complete-changes start (EnqueuePost r source) p e x = by_abort (is_aborted_source p (the_registration p r).signal) refl
   where
-    told_one : Page
-    told_one = emit (Due r) p
-
     t : SchedTask
     t = record { registration = r; source = source; continuation = false; order = suc p.tasks_made }
 
-    posted_one : Page
-    posted_one = enqueue r source false (emit (Due r) (without_timer start p))
-
-    by_abort : (b : Bool) → Changes p (cond b (λ q. q) (enqueue r source false) (emit (Due r) (without_timer start p)))
-    by_abort true = lined_placed (Due r) p (emit (Due r) (without_timer start p)) refl (completed start) refl refl refl refl refl refl
-    by_abort false = changes-then {q = told_one} (with_change nothing (told (Due r) refl)) (lined_placed (Enq r (queue_name source) false (suc p.tasks_made)) told_one posted_one refl (post_due start source t e) refl refl refl refl refl refl)
-complete-changes start (QueueSignal r s) p e =
+    by_abort : (b : Bool) → is_aborted_source p (the_registration p r).signal ≡ b → Changes p (cond b (λ q. q) (enqueue r source false) (emit (Due r) (without_timer start p)))
+    by_abort true k = due-changes r p (emit (Due r) (without_timer start p)) (delay_due start source e x.2.role) (record { notices = refl; performing = refl; events = refl; registrations = refl; frames = refl; calls = refl; aborted = λ s h. h; scheduling = record { priorities = λ s. refl; states = refl; tasks_made = omega arith } })
+    by_abort false k = with_change nothing (post_fell_due start source t (queue_name source) e x.2.role k refl (record { order = refl; made = omega arith; named = refl }, refl, refl) (record { notices = refl; performing = refl; events = refl; registrations = refl; frames = refl; calls = refl; aborted = λ s h. h; scheduling = record { priorities = λ s. refl; states = refl; tasks_made = omega arith } }))
+complete-changes start (QueueSignal r s) p e x =
     let gone = emit (Due r) (without_timer start p) in
-    changes-then (lined_placed (Due r) p gone refl (completed start) refl refl refl refl refl refl) (queue_task-changes Timer (TimeOutSignal s) gone refl)
+    changes-then (due-changes r p gone (signal_due start s e x.0.role) (record { notices = refl; performing = refl; events = refl; registrations = refl; frames = refl; calls = refl; aborted = λ s h. h; scheduling = record { priorities = λ s. refl; states = refl; tasks_made = omega arith } })) (queue_task-changes Timer (TimeOutSignal s) gone refl)
 
-complete_at-changes : (start : ℕ) (c : Option Completion) (p : Page) → completion_of p.completions start ≡ c → Changes p (complete_at c (without_timer start p))
-complete_at-changes start None p e = placed p (without_timer start p) (completed start) refl refl refl refl refl refl
-complete_at-changes start (Some c) p e = complete-changes start c p e
+complete_at-changes : (start : ℕ) (c : Option Completion) (p : Page) → completion_of p.completions start ≡ c → IfThere (CompletionIsGiven (made_by p)) c → Changes p (complete_at c (without_timer start p))
+complete_at-changes start None p e x = placed p (without_timer start p) (completed start) refl refl refl refl refl refl refl refl
+complete_at-changes start (Some c) p e x = complete-changes start c p e x
 
 -- an answer that is pending: the ones before it and behind it
 record Pending (xs : List HostAnswer) (a : HostAnswer) : Type 0 where
@@ -483,18 +668,19 @@ abbrev Stands : Page → ItemKind → Type 0
 Stands p (HostItem a) = Pending p.host_answers a
 Stands p what = Unit {0}
 
-take_item-changes : (what : ItemKind) (p : Page) → Stands p what → Changes p (take_item what p)
-take_item-changes (ArrivalItem n a) p h =
+take_item-changes : (what : ItemKind) (p : Page) → Stands p what → Held (made_by p) p → ItemIsGiven (made_by p) what → Changes p (take_item what p)
+take_item-changes (ArrivalItem n a) p h k x =
     let q : Page = record p { arrivals = without_numbered n p.arrivals } in
-    changes-then (quietly p q refl refl refl refl refl refl refl) (queue_task-changes a.source (FireAtWindow a.name a.value) q refl)
-take_item-changes (HostItem a) p h = lined_placed (Due a.task.registration) p (take_item (HostItem a) p) refl (answer_due h.before a h.after (suc p.tasks_made) Net h.whole) refl refl refl refl refl refl
-take_item-changes (TimerItem t) p h = complete_at-changes t.start (completion_of p.completions t.start) p refl
-take_item-changes (IdleItem t) p h =
+    changes-then (quietly p q refl refl refl refl refl refl refl refl refl) (queue_task-changes a.source (FireAtWindow a.name a.value) q refl)
+take_item-changes (HostItem a) p h k x =
+    due-changes a.task.registration p (take_item (HostItem a) p) (answer_due h.before a h.after (suc p.tasks_made) Net h.whole refl x.kind.role) (record { notices = refl; performing = refl; events = refl; registrations = refl; frames = refl; calls = refl; aborted = λ s h. h; scheduling = record { priorities = λ s. refl; states = refl; tasks_made = omega arith } })
+take_item-changes (TimerItem t) p h k x = complete_at-changes t.start (completion_of p.completions t.start) p refl (completion_of-given (made_by p) p.completions t.start (k InCompletions))
+take_item-changes (IdleItem t) p h k x =
     let q : Page = emit (Due t.registration) (record p { idle_timers = without (λ u. u.handle == t.handle) p.idle_timers }) in
-    changes-then (lined_placed (Due t.registration) p q refl (idle_due t.handle) refl refl refl refl refl refl) (queue_task-changes IdleSource (IdleTimeout t.handle) q refl)
-take_item-changes FrameItem p h =
+    changes-then (due-changes t.registration p q (idle_due t.handle x.registration.role) (record { notices = refl; performing = refl; events = refl; registrations = refl; frames = refl; calls = refl; aborted = λ s h. h; scheduling = record { priorities = λ s. refl; states = refl; tasks_made = omega arith } })) (queue_task-changes IdleSource (IdleTimeout t.handle) q refl)
+take_item-changes FrameItem p h k x =
     let q : Page = record p { last_opportunity = p.now } in
-    changes-then (quietly p q refl refl refl refl refl refl refl) (queue_task-changes Render (RunFrame p.now) q refl)
+    changes-then (quietly p q refl refl refl refl refl refl refl refl refl) (queue_task-changes Render (RunFrame p.now) q refl)
 
 -- ---- the items that stand in a page
 
@@ -554,13 +740,15 @@ due_stands p now (Some a) k = by_test (nat_le a.due now)
     by_test true = k
     by_test false = tt
 
-take_due-changes : (n : ℕ) (p : Page) → Changes p (take_due n p)
-take_due-changes zero p = nothing
-take_due-changes (suc n) p = by_item (due_item p.now (first_item p)) (due_stands p p.now (first_item p) (first_of_stands p (items_in_order p) (items_stand p))) (λ q. take_due-changes n q)
+take_due-changes : (n : ℕ) (p : Page) → Held (made_by p) p → Changes p (take_due n p)
+take_due-changes zero p h = nothing
+take_due-changes (suc n) p h =
+    by_item (due_item p.now (first_item p)) (due_stands p p.now (first_item p) (first_of_stands p (items_in_order p) (items_stand p)))
+    (due_item-given (made_by p) p.now (first_item p) (first_of-given (made_by p) (items_in_order p) (items-given p h))) (λ q k. take_due-changes n q k)
   where
-    by_item : (o : Option Item) → IfThere (λ (i : Item). Stands p i.what) o → ((q : Page) → Changes q (take_due n q)) → Changes p (elim o [ None ↦ p | Some a ↦ take_due n (take_item a.what p) ])
-    by_item None k rest = nothing
-    by_item (Some a) k rest = changes-then (take_item-changes a.what p k) (rest (take_item a.what p))
+    by_item : (o : Option Item) → IfThere (λ (i : Item). Stands p i.what) o → IfItemIsGiven (made_by p) o → ((q : Page) → Held (made_by q) q → Changes q (take_due n q)) → Changes p (elim o [ None ↦ p | Some a ↦ take_due n (take_item a.what p) ])
+    by_item None k x rest = nothing
+    by_item (Some a) k x rest = changes-then (take_item-changes a.what p k h x) (rest (take_item a.what p) (take_item-held a.what p h x).1)
 
-pub parallel-changes : (p : Page) → Changes p (parallel p)
-parallel-changes p = take_due-changes (item_count p) p
+pub parallel-changes : (p : Page) → Held (made_by p) p → Changes p (parallel p)
+parallel-changes p h = take_due-changes (item_count p) p h

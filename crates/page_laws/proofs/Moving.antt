@@ -7,7 +7,7 @@ moves-then a here = a
 moves-then a (changing b c) = changing (moves-then a b) c
 moves-then a (calling b c h k) = calling (moves-then a b) c h k
 moves-then a (ending b e h) = ending (moves-then a b) e h
-moves-then a (flagging b x y z w u v) = flagging (moves-then a b) x y z w u v
+moves-then a (flagging b x y z w u v t j) = flagging (moves-then a b) x y z w u v t j
 moves-then a (running b j others x y) = running (moves-then a b) j others x y
 
 pub changes-then : {p q r : Page} → Changes p q → Changes q r → Changes p r

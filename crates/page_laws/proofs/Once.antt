@@ -5,7 +5,7 @@ use Rattle.std.specs.Prelude.{◌==◌, filter, find}
 use Rattle.page_types.specs.declared.RegKind.{RegKind}
 use Rattle.page_types.specs.declared.RegKind.TheVariants as kind
 use Rattle.page_types.specs.declared.Source.TheVariants.{Sched}
-use Rattle.page_types.specs.Events.{Event, Call, Reg, Run, Turn, IdleLine, Host, Drop}
+use Rattle.page_types.specs.Events.{Event, Call, Reg, Run, Turn, IdleLine, Host, Drop, Due, Enq, Prio}
 use Rattle.page_parts.specs.Words.{and_last, without}
 use Rattle.page_parts.specs.Frames.{Frames, Callback, without_handle}
 use Rattle.page_parts.specs.Promises.{Settled, Reaction, the_promise, pending_promise}
@@ -19,7 +19,7 @@ use Rattle.page_model.specs.Numbers.{Each, IsFor, made_by, timer_role}
 use Rattle.page_model.proofs.NumbersGrow.{length-last}
 use Rattle.page_laws.specs.History.{History, count_lines, has_kind, is_some_and, is_call_of, kind_of, was_called}
 use Rattle.page_laws.specs.CallLaws.{is_one_shot, has_no_callback, was_made, runs_once, may_be_called, may_be_registered}
-use Rattle.page_laws.specs.Moves.{promise_changes, Places, places, PlaceChange, places_stay, task_queued, task_left, armed_again, signal_armed, timer_due, post_due, completed, idle_started, idle_left, sched_left, answer_due, id_cleared, idle_armed, idle_due, Dropping, timer_dropped, idle_dropped, listener_dropped, task_dropped, AsBefore, PageChange, elsewhere, told, rested, answered, dropped, frame_dropped, registered, frame_asked, frame_gone, promised, settled, followed, adopted, subscribed, then_asked, micro_asked, rejected_taken, noted, Beginning, TheScript, ATimer, AFrame, AnIdle, ALateIdle, AListener, APost, AContinuation, AMicro, AReaction, called_by, role_of, taken, Waited, Moves, here, changing, calling, ending, flagging, running}
+use Rattle.page_laws.specs.Moves.{promise_changes, Places, places, PlaceChange, places_stay, task_queued, task_left, armed_again, signal_armed, timer_due, completed, idle_started, idle_left, answer_due, id_cleared, idle_armed, idle_due, Dropping, timer_dropped, idle_dropped, listener_dropped, task_dropped, AsBefore, PageChange, elsewhere, told, rested, answered, dropped, frame_dropped, registered, frame_asked, frame_gone, promised, settled, followed, adopted, subscribed, then_asked, micro_asked, rejected_taken, noted, Beginning, TheScript, ATimer, AFrame, AnIdle, ALateIdle, AListener, APost, AContinuation, AMicro, AReaction, called_by, role_of, taken, Waited, Moves, here, changing, calling, ending, flagging, running, enqueued_anew, fell_due, post_fell_due, delay_due, signal_due, DueChange, prio_told}
 use Rattle.page_types.specs.Tree.{Program}
 use Rattle.page_parts.specs.Setup.{Setup}
 use Rattle.page_parts.specs.HostClosures.{HostClosure}
@@ -41,22 +41,22 @@ abbrev pub once_calls : Test
 once_calls past e = keeps_calls past e.event
 
 -- the script, and what else runs once
-abbrev is_once : Role → Bool
+abbrev pub is_once : Role → Bool
 is_once ScriptRole = true
 is_once (OfKind k) = is_one_shot k
 
 -- how often a registration was called
-abbrev calls : ℕ → History → ℕ
+abbrev pub calls : ℕ → History → ℕ
 calls r past = count_lines (is_call_of r) past
 
 -- the registrations and how often each waits fit the lines: what runs once waits or was called, once at most, and no other number does
-record OnceFit (xs : List Registration) (c : ℕ → ℕ) (past : History) : Type 0 where
-  kinds : KindsFit xs past
-  some_one : 1 ≤ length xs
-  script : (At xs 1).role ≡ ScriptRole
-  once : (r : ℕ) → 1 ≤ r → r ≤ length xs → is_once (At xs r).role ≡ true → c r + calls r past ≤ 1
-  fresh : (r : ℕ) → length xs < r → c r + calls r past ≤ 0
-  kept : Kept once_calls past
+pub record OnceFit (xs : List Registration) (c : ℕ → ℕ) (past : History) : Type 0 where
+  pub kinds : KindsFit xs past
+  pub some_one : 1 ≤ length xs
+  pub script : (At xs 1).role ≡ ScriptRole
+  pub once : (r : ℕ) → 1 ≤ r → r ≤ length xs → is_once (At xs r).role ≡ true → c r + calls r past ≤ 1
+  pub fresh : (r : ℕ) → length xs < r → c r + calls r past ≤ 0
+  pub kept : Kept once_calls past
 
 -- ---- numbers
 
@@ -83,7 +83,7 @@ calls-more q r now past = by_test (q == r)
     by_test true = omega arith
     by_test false = omega arith
 
-calls-none : (past : History) (r : ℕ) → calls r past ≤ 0 → was_called past r ≡ false
+pub calls-none : (past : History) (r : ℕ) → calls r past ≤ 0 → was_called past r ≡ false
 calls-none [] r h = refl
 calls-none (e ∷ past) r h = by_test (is_call_of r e.event) h (calls-none past r)
   where
@@ -269,13 +269,13 @@ called-fits b p now c d past i less f =
 -- ---- pages
 
 -- how often a registration waits, at the places, in promises and jobs and among the frame callbacks
-abbrev claims_of : Places → Notices → List Callback → ℕ → ℕ
+abbrev pub claims_of : Places → Notices → List Callback → ℕ → ℕ
 claims_of x s cs r = place_claims r x + (notice_claims r s + total (callback_claims r) cs)
 
-abbrev FitsBy : List Registration → Places → Notices → List Callback → History → Type 0
+abbrev pub FitsBy : List Registration → Places → Notices → List Callback → History → Type 0
 FitsBy xs x s cs past = OnceFit xs (claims_of x s cs) past
 
-abbrev Fits : Page → Type 0
+abbrev pub Fits : Page → Type 0
 Fits p = FitsBy p.registrations (places p) p.notices p.frames.callbacks p.events
 
 before-fits : {p q : Page} → AsBefore p q → FitsBy p.registrations (places q) p.notices p.frames.callbacks p.events → Fits q
@@ -331,7 +331,7 @@ place-fits {xs = xs} {x = x} (task_queued t h) s cs past f =
 place-fits {xs = xs} {x = x} (task_left number) s cs past f =
     let y : Places = record x { tasks = without (λ t. t.number == number) x.tasks } in
     lessen-fits xs (claims_of x s cs) (claims_of y s cs) past (λ r. let a = total-without (task_claims r) (λ t. t.number == number) x.tasks in omega (arith, a)) f
-place-fits {xs = xs} {x = x} {y = y} (armed_again armed t role there) s cs past f =
+place-fits {xs = xs} {x = x} {y = y} (armed_again armed t role there own) s cs past f =
     again-fits t.registration xs (claims_of x s cs) (claims_of y s cs) past role
     (λ r. let a = total-last (completing_claims r) x.completions (record { start = armed.start; completion = QueueTimer t }) in omega (arith, a)) f
 place-fits {xs = xs} {x = x} {y = y} (signal_armed ms now q signal) s cs past f =
@@ -339,19 +339,6 @@ place-fits {xs = xs} {x = x} {y = y} (signal_armed ms now q signal) s cs past f 
     (λ r. let a = total-last (completing_claims r) x.completions (record { start = suc x.timers.starts_made; completion = QueueSignal q signal }) in omega (arith, a)) f
 place-fits {xs = xs} {x = x} {y = y} (id_cleared id) s cs past f = lessen-fits xs (claims_of x s cs) (claims_of y s cs) past (λ r. omega arith) f
 place-fits {xs = xs} {x = x} {y = y} (idle_armed t) s cs past f = lessen-fits xs (claims_of x s cs) (claims_of y s cs) past (λ r. omega arith) f
-place-fits {xs = xs} {x = x} {y = y} (idle_due handle) s cs past f = lessen-fits xs (claims_of x s cs) (claims_of y s cs) past (λ r. omega arith) f
-place-fits {xs = xs} {x = x} {y = y} (timer_due start number source t e) s cs past f =
-    lessen-fits xs (claims_of x s cs) (claims_of y s cs) past
-    (λ r.
-    let a = total-last (task_claims r) x.tasks (record { number = number; source = source; steps = RunTimer t }) in
-    let b = completed-less r start x.completions (QueueTimer t) e in
-    omega (arith, a, b)) f
-place-fits {xs = xs} {x = x} {y = y} (post_due start source t e) s cs past f =
-    lessen-fits xs (claims_of x s cs) (claims_of y s cs) past
-    (λ r.
-    let a = total-last (sched_claims r) x.sched_tasks t in
-    let b = completed-less r start x.completions (EnqueuePost t.registration source) e in
-    omega (arith, a, b)) f
 place-fits {xs = xs} {x = x} {y = y} (completed start) s cs past f =
     lessen-fits xs (claims_of x s cs) (claims_of y s cs) past (λ r. let a = total-without (completing_claims r) (λ c. c.start == start) x.completions in omega (arith, a)) f
 place-fits {xs = xs} {x = x} idle_started s cs past f =
@@ -364,25 +351,30 @@ place-fits {xs = xs} {x = x} (idle_left handle) s cs past f =
     let a = total-without (callback_claims r) (λ c. c.handle == handle) x.idle.pending in
     let b = total-without (callback_claims r) (λ c. c.handle == handle) x.idle.runnable in
     omega (arith, a, b)) f
-place-fits {xs = xs} {x = x} (sched_left q) s cs past f =
-    let y : Places = record x { sched_tasks = without (λ t. t.registration == q) x.sched_tasks } in
-    lessen-fits xs (claims_of x s cs) (claims_of y s cs) past (λ r. let a = total-without (sched_claims r) (λ t. t.registration == q) x.sched_tasks in omega (arith, a)) f
-place-fits {xs = xs} {x = x} (answer_due before a after number source e) s cs past f =
-    let y : Places = record x { host_answers = without (λ b. b.task.registration == a.task.registration) x.host_answers; tasks = and_last x.tasks (record { number = number; source = source; steps = AnswerHost a.task }) } in
-    lessen-fits xs (claims_of x s cs) (claims_of y s cs) past (λ r. let b = total-last (task_claims r) x.tasks (record { number = number; source = source; steps = AnswerHost a.task }) in omega (arith, b)) f
+
+-- where something is due, it waits no more often
+due-less : {xs : List Registration} {q : ℕ} {x y : Places} → DueChange xs q x y → (r : ℕ) → place_claims r y ≤ place_claims r x
+due-less {x = x} (timer_due start number source t e i role) r =
+    let a = total-last (task_claims r) x.tasks (record { number = number; source = source; steps = RunTimer t }) in
+    let b = completed-less r start x.completions (QueueTimer t) e in
+    omega (arith, a, b)
+due-less {x = x} (delay_due start source e role) r = let a = total-without (completing_claims r) (λ c. c.start == start) x.completions in omega (arith, a)
+due-less {x = x} (signal_due start s e role) r = let a = total-without (completing_claims r) (λ c. c.start == start) x.completions in omega (arith, a)
+due-less (idle_due handle role) r = omega arith
+due-less {x = x} (answer_due before a after number source e i role) r =
+    let b = total-last (task_claims r) x.tasks (record { number = number; source = source; steps = AnswerHost a.task }) in
+    omega (arith, b)
 
 -- a cancel
 drop-fits : {xs : List Registration} {q : ℕ} {x y : Places} → Dropping xs q x y → (s : Notices) (cs : List Callback) (past : History) → FitsBy xs x s cs past → FitsBy xs y s cs past
-drop-fits {xs = xs} {x = x} {y = y} (timer_dropped id there e) s cs past f = lessen-fits xs (claims_of x s cs) (claims_of y s cs) past (λ r. omega arith) f
-drop-fits {xs = xs} {x = x} {y = y} (idle_dropped handle c e e1) s cs past f =
+drop-fits {xs = xs} {x = x} {y = y} (timer_dropped id there e own) s cs past f = lessen-fits xs (claims_of x s cs) (claims_of y s cs) past (λ r. omega arith) f
+drop-fits {xs = xs} {x = x} {y = y} (idle_dropped handle c e e1 role) s cs past f =
     lessen-fits xs (claims_of x s cs) (claims_of y s cs) past
     (λ r.
     let a = total-without (callback_claims r) (λ c. c.handle == handle) x.idle.pending in
     let b = total-without (callback_claims r) (λ c. c.handle == handle) x.idle.runnable in
     omega (arith, a, b)) f
-drop-fits {xs = xs} {x = x} {y = y} (listener_dropped there) s cs past f = lessen-fits xs (claims_of x s cs) (claims_of y s cs) past (λ r. omega arith) f
-drop-fits {xs = xs} {q = q} {x = x} {y = y} (task_dropped pending due) s cs past f =
-    lessen-fits xs (claims_of x s cs) (claims_of y s cs) past (λ r. let a = total-without (sched_claims r) (λ t. t.registration == q) x.sched_tasks in omega (arith, a)) f
+drop-fits {xs = xs} {x = x} {y = y} (listener_dropped there role) s cs past f = lessen-fits xs (claims_of x s cs) (claims_of y s cs) past (λ r. omega arith) f
 
 -- ---- changes
 
@@ -396,8 +388,8 @@ subscribed-silent n r p =
 change-fits : {p q : Page} → PageChange p q → Fits p → Fits q
 change-fits {p = p} (elsewhere c b) f = before-fits b (place-fits c p.notices p.frames.callbacks p.events f)
 change-fits {p = p} (told e h) f = silent-fits e p.now p.registrations (claims_of (places p) p.notices p.frames.callbacks) p.events (aside-silent e h) f
-change-fits {p = p} (rested e h x y) f = silent-fits e p.now p.registrations (claims_of (places p) p.notices p.frames.callbacks) p.events (rest-silent e h) f
-change-fits {p = p} {q = q} (answered source task t answer x y z b) f =
+change-fits {p = p} (rested e h x y z) f = silent-fits e p.now p.registrations (claims_of (places p) p.notices p.frames.callbacks) p.events (rest-silent e h) f
+change-fits {p = p} {q = q} (answered source task t answer x y live z b) f =
     before-fits b
     (lessen-fits p.registrations (claims_of (places p) p.notices p.frames.callbacks) (claims_of (places q) p.notices p.frames.callbacks) (emit (Host t.closure t.number answer) p).events
     (λ r.
@@ -409,7 +401,37 @@ change-fits {p = p} {q = q} (registered k x e u b) f =
     before-fits b (registered-fits k x p (places q) p.notices p.frames.callbacks e (λ r. let a = first-claims u r in omega (arith, a)) f)
 change-fits {p = p} {q = q} (dropped r d b) f =
     before-fits b (drop-fits d p.notices p.frames.callbacks (emit (Drop r) p).events (silent-fits (Drop r) p.now p.registrations (claims_of (places p) p.notices p.frames.callbacks) p.events refl f))
-change-fits {p = p} (frame_dropped handle c e) f =
+change-fits {p = p} {q = q} (task_dropped r role a e s b) f =
+    before-fits b
+    (lessen-fits p.registrations (claims_of (places p) p.notices p.frames.callbacks) (claims_of (places q) p.notices p.frames.callbacks) (emit (Drop r) p).events
+    (λ n. let a = total-without (sched_claims n) (λ t. t.registration == r) p.sched_tasks in let same = ap (place_claims n) s in omega (arith, a, same))
+    (silent-fits (Drop r) p.now p.registrations (claims_of (places p) p.notices p.frames.callbacks) p.events refl f))
+change-fits {p = p} {q = q} (enqueued_anew k x t queue e i s n b) f =
+    before-fits b
+    (silent-fits (Enq t.registration queue t.continuation t.order) p.now (and_last p.registrations x) (claims_of (places q) p.notices p.frames.callbacks) (register_as k x p).events refl
+    (registered-fits k x p (places q) p.notices p.frames.callbacks e
+    (λ r.
+    let a = total-last (sched_claims r) p.sched_tasks t in
+    let same = ap (place_claims r) s in
+    let it : one_if (t.registration == r) ≡ one_if (suc (length p.registrations) == r) = ap (λ n. one_if (n == r)) i in
+    omega (arith, a, same, it)) f))
+change-fits {p = p} {q = q} (fell_due r d b) f =
+    before-fits b
+    (lessen-fits p.registrations (claims_of (places p) p.notices p.frames.callbacks) (claims_of (places q) p.notices p.frames.callbacks) (emit (Due r) p).events
+    (λ n. let a = due-less d n in omega (arith, a))
+    (silent-fits (Due r) p.now p.registrations (claims_of (places p) p.notices p.frames.callbacks) p.events refl f))
+change-fits {p = p} {q = q} (post_fell_due start source t queue e role a s n b) f =
+    before-fits b
+    (silent-fits (Enq t.registration queue t.continuation t.order) p.now p.registrations (claims_of (places q) p.notices p.frames.callbacks) (emit (Due t.registration) p).events refl
+    (lessen-fits p.registrations (claims_of (places p) p.notices p.frames.callbacks) (claims_of (places q) p.notices p.frames.callbacks) (emit (Due t.registration) p).events
+    (λ r.
+    let a = total-last (sched_claims r) p.sched_tasks t in
+    let b = completed-less r start p.completions (EnqueuePost t.registration source) e in
+    let same = ap (place_claims r) s in
+    omega (arith, a, b, same))
+    (silent-fits (Due t.registration) p.now p.registrations (claims_of (places p) p.notices p.frames.callbacks) p.events refl f)))
+change-fits {p = p} (prio_told s priority ps c) f = silent-fits (Prio s priority) p.now p.registrations (claims_of (places p) p.notices p.frames.callbacks) p.events refl f
+change-fits {p = p} (frame_dropped handle c e role) f =
     silent-fits (Drop c.registration) p.now p.registrations (claims_of (places p) p.notices (without_handle handle p.frames.callbacks)) p.events refl
     (lessen-fits p.registrations (claims_of (places p) p.notices p.frames.callbacks) (claims_of (places p) p.notices (without_handle handle p.frames.callbacks)) p.events
     (λ r. let a = total-without (callback_claims r) (λ c. c.handle == handle) p.frames.callbacks in omega (arith, a)) f)
@@ -516,12 +538,12 @@ job-fits : (p : Page) (job : WaitingJob) (others : List WaitingJob) → p.notice
 job-fits p job others e f =
     notices-less p (record p.notices { jobs = others }) (λ r. let a : total (job_claims r) p.notices.jobs ≡ job_claims r job + total (job_claims r) others = ap (total (job_claims r)) e in omega (arith, a)) f
 
-moves-fit : {p q : Page} → Moves p q → Fits p → Fits q
+pub moves-fit : {p q : Page} → Moves p q → Fits p → Fits q
 moves-fit here f = f
 moves-fit (changing a c) f = change-fits c (moves-fit a f)
 moves-fit (calling {q = q} a b w i) f = call-fits b q w i (moves-fit a f)
 moves-fit (ending {q = q} a e h) f = silent-fits e q.now q.registrations (claims_of (places q) q.notices q.frames.callbacks) q.events (end-silent e h) (moves-fit a f)
-moves-fit (flagging {q = q} {r = r} a x y z w u v) f =
+moves-fit (flagging {q = q} {r = r} a x y z w u v t j) f =
     subst (λ (y : Places). FitsBy r.registrations y r.notices r.frames.callbacks r.events) (sym u)
     (subst (λ (fr : Frames). FitsBy r.registrations (places q) r.notices fr.callbacks r.events) (sym w)
     (subst (λ (s : Notices). FitsBy r.registrations (places q) s q.frames.callbacks r.events) (sym x)
@@ -530,20 +552,21 @@ moves-fit (flagging {q = q} {r = r} a x y z w u v) f =
 moves-fit (running {q = q} a j others x y) f =
     silent-fits (Run j.number) q.now q.registrations (claims_of (places q) (record q.notices { jobs = others }) q.frames.callbacks) q.events refl (job-fits q j others x (moves-fit a f))
 
--- from a first page on, what runs once is called once at most
-pub called_once : (program : Program) (setup : Setup) (hosts : List HostClosure) {q : Page} → Moves (first_page program setup hosts) q → Kept once_calls q.events
-called_once program setup hosts a = (moves-fit a first).kept
+-- before a first page's first line only the script waits
+pub first_fits : (program : Program) (setup : Setup) (hosts : List HostClosure) → Fits (first_page program setup hosts)
+first_fits program setup hosts =
+    record {
+      kinds = registered.first_fits (the_script program) refl;
+      some_one = omega arith;
+      script = refl;
+      once = λ r one le is. let a = one_most (1 == r) in omega (arith, a);
+      fresh = λ r le. let a = none_else r (omega (arith, le)) in omega (arith, a);
+      kept = tt;
+    }
   where
     none_else : (r : ℕ) → 1 < r → one_if (1 == r) ≡ 0
     none_else r le = apart 1 r (λ same. absurd (omega (arith, le, same)))
 
-    first : Fits (first_page program setup hosts)
-    first =
-        record {
-          kinds = registered.first_fits (the_script program) refl;
-          some_one = omega arith;
-          script = refl;
-          once = λ r one le is. let a = one_most (1 == r) in omega (arith, a);
-          fresh = λ r le. let a = none_else r (omega (arith, le)) in omega (arith, a);
-          kept = tt;
-        }
+-- from a first page on, what runs once is called once at most
+pub called_once : (program : Program) (setup : Setup) (hosts : List HostClosure) {q : Page} → Moves (first_page program setup hosts) q → Kept once_calls q.events
+called_once program setup hosts a = (moves-fit a (first_fits program setup hosts)).kept

@@ -1,19 +1,19 @@
 -- What a page does, with its numbers given, is rows of changes.
+use Rattle.page_laws.proofs.Aborted.{changes-aborted}
 use Rattle.page_laws.proofs.Evaluating.{Onto}
-use Rattle.page_laws.proofs.Moved.{abort_registration-changes, any_made-changes, cancel_frame-changes, cancel_idle-changes, change_begun-changes, change_ended-changes, clear_id-changes, clear_timer-changes, continuation_queued-changes, follow-changes, frame_requested-changes, host_queued-changes, idle_requested-changes, init_again-changes, listener_added-changes, listener_removed-changes, micro_registered-changes, new_promise-changes, parallel-changes, post_queued-changes, quietly, reason_set-changes, script_promise-changes, settle-changes, subscribe-changes, task_signal_made-changes, then_made-changes, timeout_signal_made-changes, timer_set-changes, unwatch-changes, with_signals-changes, with_state-changes, without_frame-changes, without_idle-changes, without_sched-changes, finally_made-changes, posted-changes}
+use Rattle.page_laws.proofs.Moved.{abort_registration-changes, any_made-changes, cancel_frame-changes, cancel_idle-changes, change_begun-changes, change_ended-changes, clear_id-changes, clear_timer-changes, continuation_queued-changes, follow-changes, frame_requested-changes, host_queued-changes, idle_requested-changes, init_again-changes, listener_added-changes, listener_removed-changes, micro_registered-changes, new_promise-changes, parallel-changes, post_queued-changes, reason_set-changes, script_promise-changes, settle-changes, subscribe-changes, task_signal_made-changes, then_made-changes, timeout_signal_made-changes, timer_set-changes, unwatch-changes, without_frame-changes, without_idle-changes, finally_made-changes, posted-changes, make-changes, make_aborted-changes, any-changes, Aborts, signals-changes, with_algorithms-aborted}
 use Rattle.page_laws.proofs.Moving.{changes-then}
-use Rattle.page_laws.specs.Moves.{Changes, nothing}
-use Rattle.page_model.proofs.NumbersGrow.{Each-more, HasPromise-grows, Held, InSignals, IsKnown-grows, Onward, last-given, promise-grows}
+use Rattle.page_laws.specs.Moves.{Changes, nothing, id_at, HasPriority, Sourced}
+use Rattle.page_model.proofs.NumbersGrow.{Each-more, HasPromise-grows, Held, InSignals, IsKnown-grows, Onward, last-given, promise-grows, IsAbortedBy-grows, InAlgorithms}
 use Rattle.page_model.proofs.NumbersMaking.{any-held, any_made-held, continuation_queued-held, frame_requested-held, host_queued-held, idle_requested-held, listener_added-held, listener_removed-held, make-held, make_aborted-held, micro_registered-held, new_settled-held, post_queued-held, script_promise-held, task_signal_made-held, then_made-held, timeout_signal_made-held, timer_set-held, finally_made-held, posted-held}
-use Rattle.page_model.proofs.NumbersPages.{abort_registration-held, cancel_frame-held, cancel_idle-held, change_begun-held, change_ended-held, clear_id-held, clear_timer-held, follow-held, init_again-held, new_promise-held, reason_set-held, reason_value-known, reject-held, resolve-held, run_algorithms-held, settle-held, subscribe-held, unwatch-held, with_algorithms-held, with_state-held, without_frame-held, without_idle-held, without_sched-held}
+use Rattle.page_model.proofs.NumbersPages.{abort_registration-held, cancel_frame-held, cancel_idle-held, change_begun-held, change_ended-held, clear_id-held, clear_timer-held, follow-held, init_again-held, new_promise-held, reason_set-held, reason_value-known, reject-held, resolve-held, run_algorithms-held, settle-held, subscribe-held, unwatch-held, with_algorithms-held, without_frame-held, without_idle-held}
 use Rattle.page_model.proofs.NumbersParts.{the_signal-given}
 use Rattle.page_model.proofs.NumbersTasks.{parallel-held}
-use Rattle.page_model.specs.Numbers.{IsFor, timer_role, AreKnown, Each, HasPromise, IfThere, IsGiven, IsKnown, PrioSourceIsGiven, ReactionIsGiven, StateIsGiven, TargetIsGiven, made_by}
+use Rattle.page_model.specs.Numbers.{IsFor, timer_role, AreKnown, Each, HasPromise, IfThere, IsGiven, IsKnown, PrioSourceIsGiven, ReactionIsGiven, StateIsGiven, TargetIsGiven, made_by, IsAbortedBy}
 use Rattle.page_model.specs.Operations.{any_made, continuation_queued, frame_requested, host_queued, idle_requested, listener_added, listener_removed, micro_registered, post_queued, script_promise, task_signal_made, then_made, timeout_signal_made, timer_set, with_signals, finally_made, posted}
 use Rattle.page_model.specs.PagePromises.{last_promise, new_promise, new_settled}
-use Rattle.page_model.specs.PageSignals.{abort_registration, abort_registrations, change_begun, change_ended, reason_set, reason_value, run_algorithms, unwatch}
+use Rattle.page_model.specs.PageSignals.{abort_registration, abort_registrations, change_begun, change_ended, reason_set, reason_value, run_algorithms, unwatch, is_aborted, is_aborted_source}
 use Rattle.page_model.specs.PageTime.{cancel_frame, cancel_idle, clear_id, clear_timer, init_timer, without_frame, without_idle}
-use Rattle.page_model.specs.SchedulerTasks.{with_state, without_sched}
 use Rattle.page_model.specs.Parallel.{parallel}
 use Rattle.page_model.specs.State.{OfKind, Page, PrioSource, SchedulingState}
 use Rattle.page_parts.specs.AbortGraph.{make_aborted, the_signal, with_algorithms}
@@ -26,7 +26,7 @@ use Rattle.page_parts.specs.Promises.{Failed, Fulfilled, Reaction, Settled, pend
 use Rattle.page_types.specs.Values.{Value}
 use Rattle.page_types.specs.declared.Priority.{Priority}
 use Rattle.page_types.specs.declared.RegKind.{RegKind}
-use Rattle.std.proofs.Common.{◌≡◌, Bool, true, List, Option, None, Some, [], slice_get, length, refl, ℕ, ℤ, ◌<◌, ◌∷◌}
+use Rattle.std.proofs.Common.{◌≡◌, Bool, true, List, Option, None, Some, [], slice_get, length, ℕ, ℤ, ◌<◌, ◌∷◌, ap, ◌∙◌}
 use Rattle.page_model.specs.PagePromises as promises
 use Rattle.page_parts.specs.AbortGraph as AbortGraph
 
@@ -53,32 +53,26 @@ follow-onto k how p h x v = (follow-held k how p h x v, follow-changes k how p x
 pub subscribe-onto : (k : ℕ) (r : Reaction) (p : Page) → Held (made_by p) p → IsGiven (length p.notices.promises) k → ReactionIsGiven (made_by p) r → r.registration ≡ None → Onto p (promises.subscribe k r p)
 subscribe-onto k r p h x y e = (subscribe-held k r p h x y, subscribe-changes k r p x e)
 
-pub init_again-onto : (id r : ℕ) (timeout : ℤ) (p : Page) → Held (made_by p) p → IsGiven p.timers.ids_made id → IsFor (timer_role true) (made_by p) r → has_id id p.timers ≡ true → Onto p (init_timer (Some id) r true timeout p)
-init_again-onto id r timeout p h i x there = (init_again-held id r true timeout p h i x, init_again-changes id r timeout p x.role there)
+pub init_again-onto : (id r : ℕ) (timeout : ℤ) (p : Page) → Held (made_by p) p → IsGiven p.timers.ids_made id → IsFor (timer_role true) (made_by p) r → id_at p.registrations r ≡ id → has_id id p.timers ≡ true → Onto p (init_timer (Some id) r true timeout p)
+init_again-onto id r timeout p h i x own there = (init_again-held id r true timeout p h i x own, init_again-changes id r timeout p x.role there)
 
 pub clear_id-onto : (id : ℕ) (p : Page) → Held (made_by p) p → Onto p (clear_id id p)
 clear_id-onto id p h = (clear_id-held id p h, clear_id-changes id p)
 
 pub clear_timer-onto : (id : ℕ) (p : Page) → Held (made_by p) p → Onto p (clear_timer id p)
-clear_timer-onto id p h = (clear_timer-held id p h, clear_timer-changes id p)
+clear_timer-onto id p h = (clear_timer-held id p h, clear_timer-changes id p h)
 
 pub without_frame-onto : (handle : ℕ) (p : Page) → Held (made_by p) p → Onto p (without_frame handle p)
 without_frame-onto handle p h = (without_frame-held handle p h, without_frame-changes handle p)
 
 pub cancel_frame-onto : (handle : ℕ) (p : Page) → Held (made_by p) p → Onto p (cancel_frame handle p)
-cancel_frame-onto handle p h = (cancel_frame-held handle p h, cancel_frame-changes handle p)
+cancel_frame-onto handle p h = (cancel_frame-held handle p h, cancel_frame-changes handle p h)
 
 pub without_idle-onto : (handle : ℕ) (p : Page) → Held (made_by p) p → Onto p (without_idle handle p)
 without_idle-onto handle p h = (without_idle-held handle p h, without_idle-changes handle p)
 
 pub cancel_idle-onto : (handle : ℕ) (p : Page) → Held (made_by p) p → Onto p (cancel_idle handle p)
-cancel_idle-onto handle p h = (cancel_idle-held handle p h, cancel_idle-changes handle p)
-
-pub without_sched-onto : (r : ℕ) (p : Page) → Held (made_by p) p → Onto p (without_sched r p)
-without_sched-onto r p h = (without_sched-held r p h, without_sched-changes r p)
-
-pub with_state-onto : (s : SchedulingState) (p : Page) → Held (made_by p) p → StateIsGiven (made_by p) s → Onto p (with_state s p)
-with_state-onto s p h x = (with_state-held s p h x, with_state-changes s p)
+cancel_idle-onto handle p h = (cancel_idle-held handle p h, cancel_idle-changes handle p h)
 
 pub unwatch-onto : (r : ℕ) (p : Page) → Held (made_by p) p → Onto p (unwatch r p)
 unwatch-onto r p h = (unwatch-held r p h, unwatch-changes r p)
@@ -99,7 +93,7 @@ pub script_promise-onto : (p : Page) → Held (made_by p) p → Anew p (script_p
 script_promise-onto p h = (script_promise-held p h, script_promise-changes p)
 
 pub timer_set-onto : (kind : RegKind) (repeats : Bool) (f : Func) (timeout : ℤ) (p : Page) → OfKind kind ≡ timer_role repeats → Held (made_by p) p → AreKnown (made_by p) f.bound → Onto p (timer_set kind repeats f timeout p)
-timer_set-onto kind repeats f timeout p role h x = (timer_set-held kind repeats f timeout p role h x, timer_set-changes kind repeats f timeout p)
+timer_set-onto kind repeats f timeout p role h x = (timer_set-held kind repeats f timeout p role h x, timer_set-changes kind repeats f timeout p h)
 
 pub frame_requested-onto : (f : Func) (p : Page) → Held (made_by p) p → AreKnown (made_by p) f.bound → Onto p (frame_requested f p)
 frame_requested-onto f p h x = (frame_requested-held f p h x, frame_requested-changes f p)
@@ -108,19 +102,19 @@ pub idle_requested-onto : (f : Func) (ms : ℕ) (p : Page) → Held (made_by p) 
 idle_requested-onto f ms p h x = (idle_requested-held f ms p h x, idle_requested-changes f ms p)
 
 pub make-onto : (p : Page) → Held (made_by p) p → Onto p (with_signals AbortGraph.make p)
-make-onto p h = (make-held p h, with_signals-changes AbortGraph.make p)
+make-onto p h = (make-held p h, make-changes p)
 
 pub make_aborted-onto : (reason : Value) (p : Page) → Held (made_by p) p → IsKnown (made_by p) reason → Onto p (with_signals (make_aborted reason) p)
-make_aborted-onto reason p h v = (make_aborted-held reason p h v, with_signals-changes (make_aborted reason) p)
+make_aborted-onto reason p h v = (make_aborted-held reason p h v, make_aborted-changes reason p)
 
 pub any-onto : (ss : List ℕ) (p : Page) → Held (made_by p) p → Each (IsGiven (length p.signals)) ss → Onto p (with_signals (AbortGraph.any ss) p)
-any-onto ss p h k = (any-held ss p h k, with_signals-changes (AbortGraph.any ss) p)
+any-onto ss p h k = (any-held ss p h k, any-changes ss p)
 
 pub task_signal_made-onto : (priority : Priority) (p : Page) → Held (made_by p) p → Onto p (task_signal_made priority p)
-task_signal_made-onto priority p h = (task_signal_made-held priority p h, task_signal_made-changes priority p)
+task_signal_made-onto priority p h = (task_signal_made-held priority p h, task_signal_made-changes priority p h)
 
 pub any_made-onto : (ss : List ℕ) (priority : Priority) (follows : Option ℕ) (p : Page) → Held (made_by p) p → Each (IsGiven (length p.signals)) ss → IfThere (IsGiven (length p.signals)) follows → Onto p (any_made ss priority follows p)
-any_made-onto ss priority follows p h k on = (any_made-held ss priority follows p h k on, any_made-changes ss priority follows p)
+any_made-onto ss priority follows p h k on = (any_made-held ss priority follows p h k on, any_made-changes ss priority follows p h)
 
 pub timeout_signal_made-onto : (ms : ℕ) (p : Page) → Held (made_by p) p → Onto p (timeout_signal_made ms p)
 timeout_signal_made-onto ms p h = (timeout_signal_made-held ms p h, timeout_signal_made-changes ms p)
@@ -129,19 +123,19 @@ pub listener_added-onto : (target : Target) (name : List ℕ) (f : Func) (p : Pa
 listener_added-onto target name f p h t x = (listener_added-held target name f p h t x, listener_added-changes target name f p)
 
 pub listener_removed-onto : (r : ℕ) (p : Page) → Held (made_by p) p → Onto p (listener_removed r p)
-listener_removed-onto r p h = (listener_removed-held r p h, listener_removed-changes r p)
+listener_removed-onto r p h = (listener_removed-held r p h, listener_removed-changes r p h)
 
-pub post_queued-onto : (f : Func) (source : PrioSource) (signal : Option ℕ) (ms : ℕ) (p : Page) → Held (made_by p) p → AreKnown (made_by p) f.bound → PrioSourceIsGiven (made_by p) source → IfThere (IsGiven (length p.signals)) signal → Anew p (post_queued f source signal ms p)
-post_queued-onto f source signal ms p h x y s = (post_queued-held f source signal ms p h x y s, post_queued-changes f source signal ms p)
+pub post_queued-onto : (f : Func) (source : PrioSource) (signal : Option ℕ) (ms : ℕ) (p : Page) → Held (made_by p) p → AreKnown (made_by p) f.bound → PrioSourceIsGiven (made_by p) source → IfThere (IsGiven (length p.signals)) signal → HasPriority p.prios source → Anew p (post_queued f source signal ms p)
+post_queued-onto f source signal ms p h x y s from = (post_queued-held f source signal ms p h x y s, post_queued-changes f source signal ms p from)
 
-pub continuation_queued-onto : (s : SchedulingState) (p : Page) → Held (made_by p) p → StateIsGiven (made_by p) s → Anew p (continuation_queued s p)
-continuation_queued-onto s p h x = (continuation_queued-held s p h x, continuation_queued-changes s p)
+pub continuation_queued-onto : (s : SchedulingState) (p : Page) → Held (made_by p) p → StateIsGiven (made_by p) s → Sourced p.prios p.scheduling_states s.prio_source → Anew p (continuation_queued s p)
+continuation_queued-onto s p h x from = (continuation_queued-held s p h x, continuation_queued-changes s p from)
 
 pub host_queued-onto : (k : ℕ) (c : HostClosure) (x : ℤ) (signal : Option ℕ) (p : Page) → Held (made_by p) p → k < length p.hosts → slice_get p.hosts k ≡ Some c → c.mark ≡ Live → IfThere (IsGiven (length p.signals)) signal → Anew p (host_queued k c x signal p)
 host_queued-onto k c x signal p h below there live s = (host_queued-held k c x signal p h below s, host_queued-changes k c x signal p there live)
 
 pub parallel-onto : (p : Page) → Held (made_by p) p → Onto p (parallel p)
-parallel-onto p h = (parallel-held p h, parallel-changes p)
+parallel-onto p h = (parallel-held p h, parallel-changes p h)
 
 pub new_settled-onto : (settle : ℕ → Value → Page → Page) → SettleGoes settle → (v : Value) (p : Page) → Held (made_by p) p → IsKnown (made_by p) v → Anew p (new_settled settle v p)
 new_settled-onto settle q v p h x =
@@ -161,24 +155,35 @@ finally_made-onto k f p h x y =
 pub posted-onto : (port : ℕ) (v : Value) (p : Page) → Held (made_by p) p → IsKnown (made_by p) v → Onto p (posted port v p)
 posted-onto port v p h k = (posted-held port v p h k, posted-changes port v p)
 
-abort_registrations-changes : (reason : Value) (rs : List ℕ) (p : Page) → Held (made_by p) p → IsKnown (made_by p) reason → Each (HasPromise (made_by p)) rs → Changes p (abort_registrations reason rs p)
-abort_registrations-changes reason [] p h v x = nothing
-abort_registrations-changes reason (r ∷ rest) p h v x =
+-- the registrations that signal s can abort, where it is aborted
+aborts : (p : Page) (s r : ℕ) → is_aborted p s ≡ true → HasPromise (made_by p) r → IsAbortedBy (made_by p) s r → Aborts p r
+aborts p s r e x y =
+    record { promise = x.promise; role = y.role; aborted = ap {A = Option ℕ} {B = Bool} (is_aborted_source p) y.signal ∙ e }
+
+abort_registrations-changes : (reason : Value) (s : ℕ) (rs : List ℕ) (p : Page) → Held (made_by p) p → IsKnown (made_by p) reason → is_aborted p s ≡ true → Each (HasPromise (made_by p)) rs → Each (IsAbortedBy (made_by p) s) rs → Changes p (abort_registrations reason rs p)
+abort_registrations-changes reason s [] p h v e x y = nothing
+abort_registrations-changes reason s (r ∷ rest) p h v e x y =
     let q = abort_registration reason r p in
     let next : Onward (made_by p) q = abort_registration-held reason r p h v x.0 in
-    changes-then (abort_registration-changes reason r p x.0.promise)
-    (abort_registrations-changes reason rest q next.1 (IsKnown-grows (made_by p) (made_by q) next.0 reason v) (Each-more (HasPromise (made_by p)) (HasPromise (made_by q)) (HasPromise-grows (made_by p) (made_by q) next.0) rest x.1))
+    let first : Changes p q = abort_registration-changes reason r p h (aborts p s r e x.0 y.0) in
+    changes-then first
+    (abort_registrations-changes reason s rest q next.1 (IsKnown-grows (made_by p) (made_by q) next.0 reason v) (changes-aborted first s e)
+    (Each-more (HasPromise (made_by p)) (HasPromise (made_by q)) (HasPromise-grows (made_by p) (made_by q) next.0) rest x.1)
+    (Each-more (IsAbortedBy (made_by p) s) (IsAbortedBy (made_by q) s) (IsAbortedBy-grows (made_by p) (made_by q) next.0 s) rest y.1))
 
 algorithms-given : (s : ℕ) (p : Page) → Held (made_by p) p → Each (HasPromise (made_by p)) (the_signal p.signals s).algorithms
 algorithms-given s p h = (the_signal-given (made_by p) p.signals s (h InSignals)).algorithms
 
-pub run_algorithms-onto : (s : ℕ) (p : Page) → Held (made_by p) p → Onto p (run_algorithms s p)
-run_algorithms-onto s p h =
+pub run_algorithms-onto : (s : ℕ) (p : Page) → Held (made_by p) p → is_aborted p s ≡ true → Onto p (run_algorithms s p)
+run_algorithms-onto s p h e =
     let q : Page = record p { signals = with_algorithms s [] p.signals } in
-    let next : Onward (made_by p) q = with_algorithms-held s [] p h tt in (
+    let next : Onward (made_by p) q = with_algorithms-held s [] p h tt tt in
+    let rs = (the_signal p.signals s).algorithms in (
       run_algorithms-held s p h,
-      changes-then (quietly p q refl refl refl refl refl refl refl)
-          (abort_registrations-changes (reason_value p s) (the_signal p.signals s).algorithms q next.1
+      changes-then (signals-changes (with_algorithms s [] p.signals) p (with_algorithms-aborted s [] p))
+          (abort_registrations-changes (reason_value p s) s rs q next.1
           (IsKnown-grows (made_by p) (made_by q) next.0 (reason_value p s) (reason_value-known p s h))
-          (Each-more (HasPromise (made_by p)) (HasPromise (made_by q)) (HasPromise-grows (made_by p) (made_by q) next.0) (the_signal p.signals s).algorithms (algorithms-given s p h))),
+          (with_algorithms-aborted s [] p s e)
+          (Each-more (HasPromise (made_by p)) (HasPromise (made_by q)) (HasPromise-grows (made_by p) (made_by q) next.0) rs (algorithms-given s p h))
+          (Each-more (IsAbortedBy (made_by p) s) (IsAbortedBy (made_by q) s) (IsAbortedBy-grows (made_by p) (made_by q) next.0 s) rs (h InAlgorithms s))),
     )

@@ -25,7 +25,7 @@ moves-fit here f = f
 moves-fit (changing a c) f = change-calls c ∙ (moves-fit a f ∙ sym (change-same c).0)
 moves-fit (calling {q = q} a b w i) f = ap (called_by b ∷◌) (begins-calls b q ∙ (moves-fit a f ∙ sym (begins-same b q).0))
 moves-fit (ending {q = q} a e h) f = ap Evaluation.without_first (moves-fit a f) ∙ (left-first (open_registrations q.events) ∙ sym (ends e h (open_registrations q.events)))
-moves-fit (flagging a x y z w u v) f = v ∙ (moves-fit a f ∙ sym (ap open_registrations y))
+moves-fit (flagging a x y z w u v t j) f = v ∙ (moves-fit a f ∙ sym (ap open_registrations y))
 moves-fit (running a j others x y) f = moves-fit a f
 
 -- from a page with no open call and no lines on

@@ -1,4 +1,5 @@
 -- Operations are rows of moves, and so is what functions of the script do.
+use Rattle.page_laws.specs.Moves.{Sourced, known, inherited, HasPriority}
 use Rattle.page_laws.proofs.Combined.{all_made-onto, race_made-onto}
 use Rattle.page_model.specs.PageCombinators.{all_made, race_made, are_promises_left}
 use Rattle.page_parts.specs.Combinators.{CombinatorKind, All, AnyOf, AllSettled as AllSettledKind}
@@ -125,6 +126,24 @@ current_state-given p h = by_state p.scheduling
     by_state None = record { abort_source = tt; prio_source = tt }
     by_state (Some k) = Each-numbered (StateIsGiven (made_by p)) p.scheduling_states k no_state (h InStates) (record { abort_source = tt; prio_source = tt })
 
+-- its source is that of a scheduling state, or fixed
+current_state-sourced : (p : Page) → Sourced p.prios p.scheduling_states (current_state p).prio_source
+current_state-sourced p = by_state p.scheduling
+  where
+    by_state : (o : Option ℕ) → let s : SchedulingState = elim o [ None ↦ no_state | Some k ↦ numbered p.scheduling_states k no_state ] in Sourced p.prios p.scheduling_states s.prio_source
+    by_state None = known tt
+    by_state (Some k) = inherited k
+
+-- the source of a posted task has a priority
+prio_source_of-prio : (p : Page) (priority : Option Priority) (signal : Option ℕ) → HasPriority p.prios (prio_source_of p priority signal)
+prio_source_of-prio p (Some priority) signal = tt
+prio_source_of-prio p None None = tt
+prio_source_of-prio p None (Some s) = by_priority (is_there (priority_of p.prios s)) refl
+  where
+    by_priority : (b : Bool) → is_there (priority_of p.prios s) ≡ b → HasPriority p.prios (cond b (OfSignal s) (signal_source p None))
+    by_priority true e = e
+    by_priority false e = tt
+
 -- a closure that is there has a number below how many there are
 get_below : {X : Type 0} (xs : List X) (k : ℕ) → IfThere (λ (x : X). k < length xs) (slice_get xs k)
 get_below [] k = tt
@@ -197,7 +216,7 @@ module _ (program : Program) where
   busy-goes v m g =
       take_unit-holds (keeping program) m _ g (λ r le gr. given_any-goes (int_in v) r busy_for gr
       (λ i. branch-goes program (int_within (pos 0) (pos 1000000000) i) r (does (λ p. record p { now = p.now + not_below_zero i })) (throw_fault RangeError)
-      (finish_page program r (λ p. record p { now = p.now + not_below_zero i }) gr (stays r.host gr.0, quietly r.host (record r.host { now = r.host.now + not_below_zero i }) refl refl refl refl refl refl refl)) (fault-holds (keeping program) r RangeError gr)))
+      (finish_page program r (λ p. record p { now = p.now + not_below_zero i }) gr (stays r.host gr.0, quietly r.host (record r.host { now = r.host.now + not_below_zero i }) refl refl refl refl refl refl refl refl refl)) (fault-holds (keeping program) r RangeError gr)))
 
   queue_microtask-goes : (f : Value) (m : State) → Good m → IsKnown (made_by m.host) f → Ends m (queue_microtask f m)
   queue_microtask-goes f m g h =
@@ -358,7 +377,7 @@ module _ (program : Program) where
   post_accepted-goes : (f : Func) (priority : Option Priority) (signal : Option ℕ) (ms : ℕ) (m : State) → Good m → AreKnown (made_by m.host) f.bound → IfThere (IsGiven (length m.host.signals)) signal → Ends m (post_accepted f priority signal ms m)
   post_accepted-goes f priority signal ms m g x s =
       let source = prio_source_of m.host priority signal in
-      unless_aborted-goes signal (λ m. post_queued f (prio_source_of m.host priority signal) signal ms) m g (post_queued-onto f source signal ms m.host g.0 x (prio_source_of-given (made_by m.host) m.host priority signal s) s)
+      unless_aborted-goes signal (λ m. post_queued f (prio_source_of m.host priority signal) signal ms) m g (post_queued-onto f source signal ms m.host g.0 x (prio_source_of-given (made_by m.host) m.host priority signal s) s (prio_source_of-prio m.host priority signal))
 
   post_task-goes : (f priority signal ms : Value) (m : State) → Good m → IsKnown (made_by m.host) f → IsKnown (made_by m.host) signal → Ends m (post_task f priority signal ms m)
   post_task-goes f priority signal ms m g h k =
@@ -367,8 +386,8 @@ module _ (program : Program) where
       (λ priority. given_or_rejected-goes (IfThere (IsGiven (length m.host.signals))) (signal_or_unit signal) m _ g (signal_or_unit-given (made_by m.host) signal k)
       (λ signal y. given_any_or_rejected-goes (delay_in ms) m _ g (λ ms. post_accepted-goes f priority signal ms m g x y))))
 
-  yield_in-goes : (s : SchedulingState) (m : State) → Good m → StateIsGiven (made_by m.host) s → Ends m (yield_in s m)
-  yield_in-goes s m g x = unless_aborted-goes s.abort_source (λ m. continuation_queued s) m g (continuation_queued-onto s m.host g.0 x)
+  yield_in-goes : (s : SchedulingState) (m : State) → Good m → StateIsGiven (made_by m.host) s → Sourced m.host.prios m.host.scheduling_states s.prio_source → Ends m (yield_in s m)
+  yield_in-goes s m g x from = unless_aborted-goes s.abort_source (λ m. continuation_queued s) m g (continuation_queued-onto s m.host g.0 x from)
 
   host_accepted-goes : (k : ℕ) (c : HostClosure) (x : ℤ) (signal : Option ℕ) (m : State) → Good m → StandsAt m.host.hosts k c → IfThere (IsGiven (length m.host.signals)) signal → Ends m (host_accepted k c x signal m)
   host_accepted-goes k c x signal m g there s =
@@ -449,7 +468,7 @@ module _ (program : Program) where
   operation-goes w a DidTimeout args m g z h = answered-goes (did_timeout_answer (argument args 0)) m g (need_any-known (made_by m.host) (deadline_in (argument args 0)) TypeError (λ t. Ok (BoolValue (is_there t))) (λ t. tt))
   operation-goes w a TimeRemaining args m g z h = remaining-goes (argument args 0) m g
   operation-goes w a PostTask args m g z h = post_task-goes (argument args 0) (argument args 1) (argument args 2) (argument args 3) m g (argument-known (made_by m.host) args 0 h) (argument-known (made_by m.host) args 2 h)
-  operation-goes w a YieldTask args m g z h = yield_in-goes (current_state m.host) m g (current_state-given m.host g.0)
+  operation-goes w a YieldTask args m g z h = yield_in-goes (current_state m.host) m g (current_state-given m.host g.0) (current_state-sourced m.host)
   operation-goes w a MakeController args m g z h = make_controller-goes m g
   operation-goes w a MakeTaskController args m g z h = make_task_controller-goes (argument args 0) m g
   operation-goes w a SignalOf args m g z h = given_controller-goes (argument args 0) m _ g (argument-known (made_by m.host) args 0 h) (λ s x. gives-goes (SignalValue s) m g x)

@@ -8,6 +8,10 @@ use Rattle.page_laws.proofs.Once.{called_once}
 use Rattle.page_laws.proofs.OpenCalls.{calls_told}
 use Rattle.page_laws.specs.History.{open_registrations}
 use Rattle.page_laws.proofs.Answering.{answered_once, once_test, once-parts}
+use Rattle.page_laws.proofs.Cancelled.{dropped_stay_gone}
+use Rattle.page_laws.proofs.CancelledHosts.{answers_stand, cancel_test, cancel-parts}
+use Rattle.page_laws.proofs.Priorities.{in_priority, priorities_kept}
+use Rattle.page_laws.specs.SchedulerLaws.{PriorityOrder}
 use Rattle.page_laws.proofs.Turns.{run_is_moves}
 use Rattle.page_model.specs.Gaps.{Act, run_gaps_by}
 use Rattle.page_laws.specs.Moves.{Moves}
@@ -19,11 +23,11 @@ use Rattle.page_parts.specs.HostClosures.{HostClosure}
 use Rattle.page_parts.specs.Setup.{Setup}
 use Rattle.page_types.specs.Tree.{Program}
 use Rattle.std.proofs.Common.{◌≡◌, List, [], refl, reverse}
-use Rattle.page_laws.specs.CallLaws.{Once, SettleOnce, JobsInOrder, NoNesting}
+use Rattle.page_laws.specs.CallLaws.{Once, Cancel, SettleOnce, JobsInOrder, NoNesting}
 
 -- the laws of a row of moves from a first page
 abbrev pub Laws : Page → Type 0
-Laws p = SettleOnce (reverse p.events) × JobsInOrder (reverse p.events) × NoNesting (reverse p.events) × Once (reverse p.events) × p.calls ≡ open_registrations p.events
+Laws p = SettleOnce (reverse p.events) × JobsInOrder (reverse p.events) × NoNesting (reverse p.events) × Once (reverse p.events) × p.calls ≡ open_registrations p.events × Cancel (reverse p.events) × PriorityOrder (reverse p.events)
 
 pub laws_of_moves : (program : Program) (setup : Setup) (hosts : List HostClosure) (p : Page) → Moves (first_page program setup hosts) p → Laws p
 laws_of_moves program setup hosts p a = (
@@ -32,6 +36,8 @@ laws_of_moves program setup hosts p a = (
   kept-each nesting.nesting p.events (nesting.moves-kept a tt),
   kept-each once_test p.events (once-parts p.events (called_once program setup hosts a) (answered_once program setup hosts a)),
   calls_told a refl refl,
+  kept-each cancel_test p.events (cancel-parts p.events (dropped_stay_gone program setup hosts a) (answers_stand program setup hosts a)),
+  kept-each in_priority p.events (priorities_kept program setup hosts a),
 )
 
 pub laws_of_runs : {C : Type 0} (rules : Rules C) (program : Program) (setup : Setup) (hosts : List HostClosure) (c : C) → HoldsNoNumbers setup → Laws (state_of (run_by rules program setup hosts c)).host

@@ -1,4 +1,5 @@
 -- Callbacks, jobs, the checkpoint, dispatch, abort and priority changes are rows of moves.
+use Rattle.page_laws.proofs.Aborted.{moves-aborted, reason-aborted}
 use Rattle.page_laws.proofs.Combined.{pass_on-changes, lead_into-onto}
 use Rattle.page_model.proofs.NumbersRuns.{job_begun-held, resolve_derived-held, handler_arguments-known}
 use Rattle.page_model.specs.PageCombinators.{lead_into, pass_on}
@@ -19,9 +20,9 @@ use Rattle.page_model.proofs.NumbersParts.{followers-known, items-known, marked-
 use Rattle.page_model.specs.Invoke.{AfterCheckpoint, BeforeCheckpoint, Never, Ways, WhenReported, begin_job, call_back, callback_of, checkpoint, checkpoint_begun, checkpoint_ended, end_of_callback, in_checkpoint, in_script, in_task, invoke, notify_rejected, perform_checkpoint, react, react_by, react_then, report_after, report_before, run_job, run_jobs, run_oldest, settle_derived, thrown, when_reported, with_scheduling, call_ended, job_begun, settle_by, resolve_derived, handler_arguments, call_begun}
 use Rattle.page_model.specs.Numbers.{AreKnown, Each, Grows, IfThere, IsFor, IsGiven, IsKnown, JobIsGiven, Made, NoticesAreGiven, ReactionIsGiven, RegistrationIsGiven, TodoIsGiven, made_by}
 use Rattle.page_model.specs.PagePromises.{promise_at, inner_subscription}
-use Rattle.page_model.specs.PageSignals.{abort, abort_steps, call_listener, change, change_begun, change_ended, change_through, dispatch, each_in_turn, has_priority, priority_value, reason_set, run_algorithms}
-use Rattle.page_model.specs.State.{NotifyRejected, OfKind, Page, Registration, State, on_page, queue_task, the_registration}
-use Rattle.page_parts.specs.AbortGraph.{marked}
+use Rattle.page_model.specs.PageSignals.{abort, abort_steps, call_listener, change, change_begun, change_ended, change_through, dispatch, each_in_turn, has_priority, priority_value, reason_set, run_algorithms, is_aborted}
+use Rattle.page_model.specs.State.{NotifyRejected, OfKind, Page, Registration, State, on_page, queue_task, the_registration, emit, emit_each}
+use Rattle.page_parts.specs.AbortGraph.{marked, with_reason}
 use Rattle.page_parts.specs.Kinds.{Func}
 use Rattle.page_parts.specs.Listeners.{AtSignal, Target, is_listening, snapshot}
 use Rattle.page_parts.specs.Notices.{Micro, OfPromise, Todo, WaitingJob}
@@ -29,12 +30,12 @@ use Rattle.page_parts.specs.Promises.{Adopt, React, Reaction, Settled, has_faile
 use Rattle.page_parts.specs.Spelling.{spelled}
 use Rattle.page_parts.specs.TaskSignals.{followers, priority_of}
 use Rattle.page_parts.specs.Words.{is_empty}
-use Rattle.page_types.specs.Events.{Ret, Throw}
+use Rattle.page_types.specs.Events.{Ret, Throw, Event, Abort}
 use Rattle.page_types.specs.Tree.{Program}
 use Rattle.page_types.specs.Values.{SignalValue, Value, items_of}
 use Rattle.page_types.specs.declared.Priority.{Priority}
 use Rattle.page_types.specs.declared.Source.TheVariants.{Dom}
-use Rattle.std.proofs.Common.{Bool, List, None, Option, Some, [], cond, false, length, refl, subst, suc, sym, true, zero, ℕ, ◌++◌, ◌||◌, ◌∙◌, ◌∷◌, ◌≡◌}
+use Rattle.std.proofs.Common.{Bool, List, None, Option, Some, [], cond, false, length, refl, subst, suc, sym, true, zero, ℕ, ◌++◌, ◌||◌, ◌∙◌, ◌∷◌, ◌≡◌, map}
 use Rattle.std.specs.Prelude.{codes}
 use Rattle.page_laws.specs.History.{open_registrations}
 use Rattle.page_model.specs.PagePromises as promises
@@ -255,7 +256,7 @@ module _ (program : Program) where
       by_kind false = (resolve-onto into v p h g y).1
 
   pub scheduling-onto : (s : Option ℕ) (p : Page) → Held (made_by p) p → IfThere (IsGiven (made_by p).states) s → Onto p (record p { scheduling = s })
-  scheduling-onto s p h x = (stays (record p { scheduling = s }) (put_scheduling (made_by p) p s x h), quietly p (record p { scheduling = s }) refl refl refl refl refl refl refl)
+  scheduling-onto s p h x = (stays (record p { scheduling = s }) (put_scheduling (made_by p) p s x h), quietly p (record p { scheduling = s }) refl refl refl refl refl refl refl refl refl)
 
   abbrev JobsGiven : Made → List WaitingJob → Type 0
   JobsGiven n jobs = Each (JobIsGiven n) jobs
@@ -340,14 +341,14 @@ module _ (program : Program) where
           let notified = notify_rejected r.host in
           let a = numbers.on_page-good r (checkpoint_ended m.host) h.1 (checkpoint_ended-held m.host r.host h.1.0 (if_state-grows (made_by m.host) (made_by r.host) h.0.0 m.host.scheduling (g.0 InScheduling))) in
           let row : Moves m.host (checkpoint_ended m.host r.host) =
-          flagging (moves-then (moves-then (flagging here refl refl refl refl refl refl) h.0.1) (moves_of (notify_rejected-changes r.host))) refl refl refl refl refl refl in (
+          flagging (moves-then (moves-then (flagging here refl refl refl refl refl refl refl refl) h.0.1) (moves_of (notify_rejected-changes r.host))) refl refl refl refl refl refl refl refl in (
             (Grows-then (made_by m.host) (made_by r.host) (made_by (checkpoint_ended m.host r.host)) h.0.0 a.0, row, ((changes-same (notify_rejected-changes r.host)).0 ∙ h.0.2.0, sym z.1)),
             a.1,
             tt,
           )
       by_end (Throws v r) h k = elim k [ ]
       by_end (Returns v r) h k = elim k [ ]
-      by_end (OutOfFuel r) h k = moves-then (flagging here refl refl refl refl refl refl) h
+      by_end (OutOfFuel r) h k = moves-then (flagging here refl refl refl refl refl refl refl refl) h
 
   pub checkpoint-goes : (call : Caller Page) → CallsGo call → (m : State) → Good m → AtTop m → Goes m (checkpoint call m)
   checkpoint-goes call c m g z = branch-goes m.host.performing m finish (perform_checkpoint call) (finish-goes m g) (perform_checkpoint-goes call c m g z)
@@ -376,18 +377,36 @@ module _ (program : Program) where
   abbrev IsSignal : Made → ℕ → Type 0
   IsSignal n s = IsGiven n.signals s
 
-  abort_steps-goes : (w : Ways) (a : WaysGo w) → (s : ℕ) (m : State) → Good m → a.Here m → IsSignal (made_by m.host) s → Goes m (abort_steps w s m)
-  abort_steps-goes w a s m g z x =
-      then_page m (run_algorithms s) _ g (run_algorithms-onto s m.host g.0)
+  abort_steps-goes : (w : Ways) (a : WaysGo w) → (s : ℕ) (m : State) → Good m → a.Here m → IsSignal (made_by m.host) s → is_aborted m.host s ≡ true → Goes m (abort_steps w s m)
+  abort_steps-goes w a s m g z x e =
+      then_page m (run_algorithms s) _ g (run_algorithms-onto s m.host g.0 e)
       (λ b. dispatch-goes w a (AtSignal s) (codes "abort") (SignalValue s ∷ []) (on_page (run_algorithms s) m) b.1 (a.later m (on_page (run_algorithms s) m) b.0 z) (signal-grows (made_by m.host) (made_by (run_algorithms s m.host)) b.0.0 s x, tt))
+
+  -- a signal that was aborted in a page
+  abbrev IsMarked : Page → Made → ℕ → Type 0
+  IsMarked p n s = IsSignal n s × is_aborted p s ≡ true
+
+  marked-grows : (p : Page) (n n' : Made) → Grows n n' → (s : ℕ) → IsMarked p n s → IsMarked p n' s
+  marked-grows p n n' g s x = (signal-grows n n' g s x.0, x.1)
+
+  each_both : (P Q : ℕ → Type 0) (ks : List ℕ) → Each P ks → Each Q ks → Each (λ k. P k × Q k) ks
+  each_both P Q [] h k = tt
+  each_both P Q (x ∷ ks) h k = ((h.0, k.0), each_both P Q ks h.1 k.1)
+
+  emitted_aborts : (es : List Event) (ks : List ℕ) (p : Page) → Each (λ k. is_aborted p k ≡ true) ks → Each (λ k. is_aborted (emit_each es p) k ≡ true) ks
+  emitted_aborts [] ks p h = h
+  emitted_aborts (e ∷ es) ks p h = emitted_aborts es ks (emit e p) h
 
   pub abort-goes : (w : Ways) (a : WaysGo w) → (s : ℕ) (reason : Value) (m : State) → Good m → a.Here m → IsSignal (made_by m.host) s → IsKnown (made_by m.host) reason → Goes m (abort w s reason m)
   abort-goes w a s reason m g z x v =
       let ss = marked s m.host.signals in
       let after = on_page (reason_set reason ss) m in
       then_page m (reason_set reason ss) _ g (reason_set-onto reason ss m.host g.0 v)
-      (λ b. each_in_turn-goes after IsSignal signal-grows (abort_steps w) (λ k r le gr y. abort_steps-goes w a k r gr (a.later m r (le-then m after r b.0 le) z) y) ss after (le-same after) b.1
-      (signals-grow (made_by m.host) (made_by after.host) b.0.0 ss (marked-given (made_by m.host) s m.host.signals x (g.0 InSignals))))
+      (λ b.
+      let marks : Each (IsSignal (made_by m.host)) ss = marked-given (made_by m.host) s m.host.signals x (g.0 InSignals) in
+      each_in_turn-goes after (IsMarked after.host) (marked-grows after.host) (abort_steps w) (λ k r le gr y. abort_steps-goes w a k r gr (a.later m r (le-then m after r b.0 le) z) y.0 (moves-aborted le.1 k y.1)) ss after (le-same after) b.1
+      (each_both (IsSignal (made_by after.host)) (λ k. is_aborted after.host k ≡ true) ss (signals-grow (made_by m.host) (made_by after.host) b.0.0 ss marks)
+      (emitted_aborts (map Abort ss) ss (record m.host { signals = with_reason reason ss m.host.signals }) (reason-aborted reason ss m.host.signals marks))))
 
   change_through-goes : (w : Ways) (a : WaysGo w) → (s : ℕ) (priority : Priority) (each : ℕ → State → Done Page) → ((k : ℕ) (r : State) → Good r → a.Here r → IsSignal (made_by r.host) k → Goes r (each k r)) → (m : State) → Good m → a.Here m → IsSignal (made_by m.host) s → Goes m (change_through w s priority each m)
   change_through-goes w a s priority each q m g z x =

@@ -2,7 +2,7 @@
 use Rattle.page_types.specs.declared.RegKind.TheVariants as kind
 use Rattle.lang_meaning.specs.Machine.{Caller, Done, afterwards, branch, finish}
 use Rattle.page_laws.proofs.Evaluating.{Le, Onto, Reached, entered, le-same, le-then, on_page-reached, told-onto, call_over}
-use Rattle.page_laws.proofs.Moved.{invoke_idle_again-changes, outstanding-changes, placed, quietly, with_state-changes}
+use Rattle.page_laws.proofs.Moved.{invoke_idle_again-changes, outstanding-changes, placed, quietly}
 use Rattle.page_laws.proofs.Onto.{clear_id-onto, init_again-onto, resolve-onto, unwatch-onto}
 use Rattle.page_laws.proofs.Runs.{AtTop, CallsGo, Goes, WaysGo, abort-goes, afterwards-goes, at_top-later, branch-goes, branch_when-goes, checkpoint-goes, dispatch-goes, each_in_turn-goes, finish-goes, finish_page, invoke-goes, scheduling-onto, settle_derived-goes, then_page, wide}
 use Rattle.page_laws.specs.Moves.{task_left, AContinuation, AFrame, ALateIdle, APost, ATimer, AnIdle, TheScript, Waited, sched_begun, taken}
@@ -73,16 +73,13 @@ without_task-held k p h =
     stays (without_task k p) (put_tasks (made_by p) p (without (λ t. t.number == k) p.tasks) (Each-without (TaskIsGiven (made_by p)) (λ t. t.number == k) p.tasks (h InTasks)) h)
 
 pub without_task-onto : (k : ℕ) (p : Page) → Held (made_by p) p → Onto p (without_task k p)
-without_task-onto k p h = (without_task-held k p h, placed p (without_task k p) (task_left k) refl refl refl refl refl refl)
+without_task-onto k p h = (without_task-held k p h, placed p (without_task k p) (task_left k) refl refl refl refl refl refl refl refl)
 
 outstanding-onto : (k : ℕ) (p : Page) → Held (made_by p) p → IsGiven (length p.notices.promises) k → Onto p (outstanding_if_unhandled k p)
 outstanding-onto k p h x = (outstanding-held k p h x, outstanding-changes k p)
 
 invoke_idle_again-onto : (p : Page) → Held (made_by p) p → Onto p (invoke_idle_again p)
 invoke_idle_again-onto p h = (invoke_idle_again-held p h, invoke_idle_again-changes p)
-
-post_state-onto : (t : SchedTask) (p : Page) → Held (made_by p) p → SchedTaskIsGiven (made_by p) t → Onto p (post_state t p)
-post_state-onto t p h x = (post_state-held t p h x, with_state-changes (record { abort_source = (the_registration p t.registration).signal; prio_source = t.source }) p)
 
 -- a callback that was found is for its kind
 find_for : (k : RegKind) (last : ℕ) (n : Made) (cs : List Callback) (key : ℕ) (c : Callback) → Each (CallbackIsGiven k last n) cs → callback_in cs key ≡ Some c → IsFor (OfKind k) n c.registration
@@ -138,7 +135,7 @@ module _ (program : Program) where
       branch_when-goes program t.repeats m (initialised_again t) (λ m. finish (on_page (clear_id t.id) m))
       (λ e. subst (λ (b : Bool). Goes program m (finish (on_page (init_timer (Some t.id) t.registration b t.timeout) m))) (sym e)
       (finish_page program m (init_timer (Some t.id) t.registration true t.timeout) g
-      (init_again-onto t.id t.registration t.timeout m.host g.0 x.id (subst (λ (b : Bool). IsFor (timer_role b) (made_by m.host) t.registration) e x.registration) (live_there t.id t.handle m.host.timers live))))
+      (init_again-onto t.id t.registration t.timeout m.host g.0 x.id (subst (λ (b : Bool). IsFor (timer_role b) (made_by m.host) t.registration) e x.registration) x.own (live_there t.id t.handle m.host.timers live))))
       (λ e. finish_page program m (clear_id t.id) g (clear_id-onto t.id m.host g.0))
 
   where_live-goes : (t : TimerTask) (next : State → Done Page) (m : State) → Good m → (is_live t.id t.handle m.host.timers ≡ true → Goes program m (next m)) → Goes program m (where_live t next m)
@@ -151,9 +148,9 @@ module _ (program : Program) where
       let o : Onward (made_by m.host) begun.host = without_task-held task.number m.host g.0 in
       branch_when-goes_from (is_live t.id t.handle m.host.timers) m begun (λ m. afterwards (invoke w t.registration false [] m) (where_live t (timer_goes_on t))) finish
       (λ live. afterwards-goes program m (invoke w t.registration false [] begun) (where_live t (timer_goes_on t))
-      (invoke-goes program w a (ATimer source task t) false [] m g z (e, e1, live) x.registration o tt)
+      (invoke-goes program w a (ATimer source task t) false [] m g z (e, e1, live, x.own) x.registration o tt)
       (λ r le gr. where_live-goes t (timer_goes_on t) r gr (λ live. timer_goes_on-goes t r gr live (TimerTask-grows (made_by m.host) (made_by r.host) le.0 t x))))
-      (let b = on_page-reached m (taken (ATimer source task t)) g (o, placed m.host begun.host (task_left task.number) refl refl refl refl refl refl) in (b.0, b.1, tt))
+      (let b = on_page-reached m (taken (ATimer source task t)) g (o, placed m.host begun.host (task_left task.number) refl refl refl refl refl refl refl refl) in (b.0, b.1, tt))
     where
       branch_when-goes_from : (b : Bool) (m n : State) (then else : State → Done Page) → (b ≡ true → Goes program m (then n)) → Goes program m (else n) → Goes program m (branch b n then else)
       branch_when-goes_from true m n then else h k = h refl
@@ -271,4 +268,4 @@ module _ (program : Program) where
   pub after_task-goes : (call : Caller Page) → CallsGo program call → (m : State) → Good m → AtTop m → Goes program m (after_task call m)
   after_task-goes call c m g z =
       let idle_one = on_page (λ p. record p { level = 0; scheduling = None }) m in
-      then_page program m (λ p. record p { level = 0; scheduling = None }) (checkpoint call idle_one) g ((scheduling-onto program None m.host g.0 tt).0, quietly m.host idle_one.host refl refl refl refl refl refl refl) (λ b. checkpoint-goes program call c idle_one b.1 (at_top-later m idle_one b.0 z))
+      then_page program m (λ p. record p { level = 0; scheduling = None }) (checkpoint call idle_one) g ((scheduling-onto program None m.host g.0 tt).0, quietly m.host idle_one.host refl refl refl refl refl refl refl refl refl) (λ b. checkpoint-goes program call c idle_one b.1 (at_top-later m idle_one b.0 z))

@@ -1,4 +1,7 @@
 -- Turns and runs are rows of moves.
+use Rattle.page_parts.specs.WrittenChoices.{is_runnable}
+use Rattle.page_model.proofs.HoldingTurns.{legal_choice}
+use Rattle.page_model.proofs.Ending.{runnable-there}
 use Rattle.lang_meaning.specs.Evaluation.{call_from_outside}
 use Rattle.lang_meaning.specs.Machine.{Caller, Done, Gives, OutOfFuel, Returns, Throws, finish}
 use Rattle.page_laws.proofs.Evaluating.{Le, Onto, Reached, Stop, le-same, le-then, on_page-reached}
@@ -31,7 +34,7 @@ use Rattle.page_parts.specs.IdleCallbacks.{waits}
 use Rattle.page_parts.specs.Notices.{Notices, WaitingJob}
 use Rattle.page_parts.specs.Setup.{Setup}
 use Rattle.page_parts.specs.Sources.{same_source}
-use Rattle.page_parts.specs.Words.{is_empty}
+use Rattle.page_parts.specs.Words.{is_empty, is_there}
 use Rattle.page_parts.specs.WrittenChoices.{Runnable}
 use Rattle.page_types.specs.Events.{Due, EndLine, Event, Turn, Wait}
 use Rattle.page_types.specs.Tree.{Program}
@@ -39,9 +42,9 @@ use Rattle.page_types.specs.declared.End.{End}
 use Rattle.page_types.specs.declared.End.TheVariants.{Clock as ClockEnd, Done as DoneEnd, Fuel as FuelEnd}
 use Rattle.page_types.specs.declared.Source.{Source}
 use Rattle.page_types.specs.declared.Source.TheVariants.{Dom, Idle, Net, Render, Sched, Timer, User}
-use Rattle.std.proofs.Common.{Bool, List, None, Option, Result, Some, [], ap, cond, false, max, nat_le, nat_lt, refl, slice_get, subst, suc, sym, true, unwrap_or, zero, ℕ, ℤ, ◌&&◌, ◌||◌, ◌∙◌, ◌∷◌, ◌≡◌}
-use Rattle.std.specs.Prelude.{◌==◌}
-use Rattle.page_laws.specs.History.{is_rest}
+use Rattle.std.proofs.Common.{Bool, List, None, Option, Result, Some, [], ap, cond, false, max, nat_le, nat_lt, refl, slice_get, subst, suc, sym, true, unwrap_or, zero, ℕ, ℤ, ◌&&◌, ◌||◌, ◌∙◌, ◌∷◌, ◌≡◌, arith}
+use Rattle.std.specs.Prelude.{◌==◌, option_map}
+use Rattle.page_laws.specs.History.{is_rest, is_sched, is_sched_turn}
 
 -- ---- queues
 
@@ -157,8 +160,8 @@ comes_here : (m : State) → Good m → Rests m → Comes m m
 comes_here m g x = (le-same m, g, x)
 
 -- a line between turns
-rested-onto : (e : Event) (m : State) → is_rest e ≡ true → Good m → Rests m → Onto m.host (emit e m.host)
-rested-onto e m h g x = (stays m.host g.0, with_change nothing (rested e h x.0.0 x.1))
+rested-onto : (e : Event) (m : State) → is_rest e ≡ true → is_sched_turn e ≡ false → Good m → Rests m → Onto m.host (emit e m.host)
+rested-onto e m h k g x = (stays m.host g.0, with_change nothing (rested e h x.0.0 x.1 k))
 
 step_five-comes : (m : State) → Good m → Rests m → Comes m (step_five m)
 step_five-comes m g x = by_view (is_empty (view m.host))
@@ -187,8 +190,8 @@ module _ {C : Type 0} (program : Program) where
   lands-then m r (Stuck at s c) le h = moves-then le.1 h
 
   pub ends-lands : (end : End) (c : C) (m : State) → Good m → Rests m → Lands m (ends end c m)
-  ends-lands DoneEnd c m g x = (on_page-reached m (emit (EndLine DoneEnd)) g (rested-onto (EndLine DoneEnd) m refl g x)).0.1
-  ends-lands ClockEnd c m g x = (on_page-reached m (emit (EndLine ClockEnd)) g (rested-onto (EndLine ClockEnd) m refl g x)).0.1
+  ends-lands DoneEnd c m g x = (on_page-reached m (emit (EndLine DoneEnd)) g (rested-onto (EndLine DoneEnd) m refl refl g x)).0.1
+  ends-lands ClockEnd c m g x = (on_page-reached m (emit (EndLine ClockEnd)) g (rested-onto (EndLine ClockEnd) m refl refl g x)).0.1
   ends-lands FuelEnd c m g x = changing here (told (EndLine FuelEnd) refl)
 
   pub choose-lands : (b : Bool) (then else : State → Turned C) (m : State) → Lands m (then m) → Lands m (else m) → Lands m (choose_turned b then else m)
@@ -216,8 +219,8 @@ module _ {C : Type 0} (program : Program) where
     task_done-lands c m (Returns v r) z h = lands-then m r (goes_on c (after_task call r)) h.0 (after_task-lands c r h.1 (at_top-later m r h.0 z))
     task_done-lands c m (OutOfFuel r) z h = changing h (told (EndLine FuelEnd) refl)
 
-    pub turn_line-comes : (source : Option Source) (m : State) → Good m → Rests m → Comes m (turn_line source m)
-    turn_line-comes source m g x = comes_by m (λ p. emit (Turn p.turns source) p) g x (rested-onto (Turn m.host.turns source) m refl g x) refl
+    pub turn_line-comes : (source : Option Source) (m : State) → is_sched source ≡ false → Good m → Rests m → Comes m (turn_line source m)
+    turn_line-comes source m k g x = comes_by m (λ p. emit (Turn p.turns source) p) g x (rested-onto (Turn m.host.turns source) m refl k g x) refl
 
     perform_first-lands : (source : Source) (task : Option Task) (m : State) (c : C) → first_task source m.host.tasks ≡ task → Good m → AtTop m → IfThere (TaskIsGiven (made_by m.host)) task → Lands m (perform_first rules call task m c)
     perform_first-lands source None m c e g z x = here
@@ -229,65 +232,76 @@ module _ {C : Type 0} (program : Program) where
         by_host : (t : Option HostTask) → host_task_of task.steps ≡ t → IfThere (λ (t : HostTask). HasPromise (made_by m.host) t.registration) t → Lands m (perform_task rules call task t (on_page (without_task task.number) m) c)
         by_host None k y =
             task_done-lands c m (perform_steps (in_task call) task.steps (on_page (without_task task.number) m)) z (task-goes program (in_task call) (in_task-goes program call calls_go) source task m g z e x.steps)
-        by_host (Some t) k y = by_closure (not_dropped (slice_get m.host.hosts t.closure))
+        by_host (Some t) k y = by_closure (not_dropped (slice_get m.host.hosts t.closure)) refl
           where
             n : State
             n = on_page (without_task task.number) m
 
-            answered-onto : (answer : Result ℤ ℤ) → Onto m.host (answer_host t answer n.host)
-            answered-onto answer =
+            answered-onto : is_there (not_dropped (slice_get m.host.hosts t.closure)) ≡ true → (answer : Result ℤ ℤ) → Onto m.host (answer_host t answer n.host)
+            answered-onto live answer =
                 let first = without_task-held task.number m.host g.0 in
-                (onward-then (made_by m.host) n.host (answer_host t answer n.host) first (answer_host-held t answer n.host first.1 y), answer_task-changes source task t answer m.host e (asks_host task.steps t k) y.promise)
+                (onward-then (made_by m.host) n.host (answer_host t answer n.host) first (answer_host-held t answer n.host first.1 y), answer_task-changes source task t answer m.host e (asks_host task.steps t k) live y.promise)
 
-            by_answer : (a : Option (Chosen (Result ℤ ℤ) C)) → Lands m (host_answered call t a n c)
-            by_answer None = left.0.1
-            by_answer (Some a) = task_done-lands a.left m (finish (on_page (answer_host t a.choice) n)) z (finish_page program m (λ p. answer_host t a.choice (without_task task.number p)) g (answered-onto a.choice))
+            by_answer : is_there (not_dropped (slice_get m.host.hosts t.closure)) ≡ true → (a : Option (Chosen (Result ℤ ℤ) C)) → Lands m (host_answered call t a n c)
+            by_answer live None = left.0.1
+            by_answer live (Some a) = task_done-lands a.left m (finish (on_page (answer_host t a.choice) n)) z (finish_page program m (λ p. answer_host t a.choice (without_task task.number p)) g (answered-onto live a.choice))
 
-            by_closure : (closure : Option HostClosure) → Lands m (perform_host rules call t closure n c)
-            by_closure None = lands-then m n (perform_host rules call t None n c) left.0 (task_done-lands c n (finish n) (at_top-later m n left.0 z) (finish-goes program n left.1))
-            by_closure (Some closure) = by_answer (chosen_answer rules closure.kind t.number c)
+            by_closure : (closure : Option HostClosure) → not_dropped (slice_get m.host.hosts t.closure) ≡ closure → Lands m (perform_host rules call t closure n c)
+            by_closure None live = lands-then m n (perform_host rules call t None n c) left.0 (task_done-lands c n (finish n) (at_top-later m n left.0 z) (finish-goes program n left.1))
+            by_closure (Some closure) live = by_answer (ap {A = Option HostClosure} {B = Bool} is_there live) (chosen_answer rules closure.kind t.number c)
 
     first_task-lands : (source : Source) (m : State) (c : C) → Good m → AtTop m → Lands m (perform_first rules call (first_task source m.host.tasks) m c)
     first_task-lands source m c g z =
         perform_first-lands source (first_task source m.host.tasks) m c refl g z (Each-find (TaskIsGiven (made_by m.host)) (λ t. same_source t.source source) m.host.tasks (g.0 InTasks))
 
     -- the scheduler's turn, from before its line
-    sched-lands : (t : Option SchedTask) (m : State) (c : C) → first_sched m.host ≡ t → Good m → Rests m → IfThere (SchedTaskIsGiven (made_by m.host)) t → Lands m (perform_first_sched call t (turn_line (Some Sched) m) c)
-    sched-lands None m c e g x y = (turn_line-comes (Some Sched) m g x).0.1
-    sched-lands (Some t) m c e g x y =
+    sched-lands : (t : Option SchedTask) (m : State) (c : C) → first_sched m.host ≡ t → is_there t ≡ true → Good m → Rests m → IfThere (SchedTaskIsGiven (made_by m.host)) t → Lands m (perform_first_sched call t (turn_line (Some Sched) m) c)
+    sched-lands None m c e k g x y = absurd (none k)
+      where
+        none : false ≡ true → ⊥
+        none e = Prim.cc
+    sched-lands (Some t) m c e k g x y =
         task_done-lands c m (perform_sched (in_task call) t (on_page (sched_begun t) m)) x.0
         (sched_task-goes program (in_task call) (in_task-goes program call calls_go) t m g x.0 e x.0.0 x.1 y)
 
     -- any other turn, from before its line
-    other-lands : (source : Source) (m : State) (c : C) → Good m → Rests m → Lands m (perform_first rules call (first_task source (turn_line (Some source) m).host.tasks) (turn_line (Some source) m) c)
-    other-lands source m c g x =
-        let a = turn_line-comes (Some source) m g x in
+    other-lands : (source : Source) (m : State) (c : C) → is_sched (Some source) ≡ false → Good m → Rests m → Lands m (perform_first rules call (first_task source (turn_line (Some source) m).host.tasks) (turn_line (Some source) m) c)
+    other-lands source m c k g x =
+        let a = turn_line-comes (Some source) m k g x in
         lands-then m (turn_line (Some source) m) _ a.0 (first_task-lands source (turn_line (Some source) m) c a.1 a.2.0)
 
-    perform_picked-lands : (s : Option (Chosen Source C)) (m : State) (c : C) → Good m → Rests m → Lands m (perform_picked rules call s m c)
-    perform_picked-lands None m c g x = here
-    perform_picked-lands (Some s) m c g x = by_source s.choice
+    perform_picked-lands : (s : Option (Chosen Source C)) (m : State) (c : C) → IfThere (λ (s : Chosen Source C). is_runnable (view m.host) s.choice ≡ true) s → Good m → Rests m → Lands m (perform_picked rules call s m c)
+    perform_picked-lands None m c k g x = here
+    perform_picked-lands (Some s) m c k g x = by_source s.choice k
       where
-        by_source : (source : Source) → Lands m (perform rules call source (turn_line (Some source) m) s.left)
-        by_source Sched =
-            subst (λ (t : Option SchedTask). Lands m (perform_first_sched call t (turn_line (Some Sched) m) s.left)) (sym (sched_of-line (Turn m.host.turns (Some Sched)) m.host m.host.sched_tasks))
-            (sched-lands (first_sched m.host) m s.left refl g x (sched_of-given (made_by m.host) m.host m.host.sched_tasks (g.0 InSchedTasks)))
-        by_source User = other-lands User m s.left g x
-        by_source Net = other-lands Net m s.left g x
-        by_source Dom = other-lands Dom m s.left g x
-        by_source Timer = other-lands Timer m s.left g x
-        by_source Render = other-lands Render m s.left g x
-        by_source Idle = other-lands Idle m s.left g x
+        task_there : (o : Option SchedTask) → is_there (option_map (λ t. t.order) o) ≡ true → is_there o ≡ true
+        task_there None e = e
+        task_there (Some t) e = refl
 
-    step_four-lands : (rs : List Runnable) (m : State) (c : C) → Good m → Rests m → Lands m (step_four rules call rs m c)
-    step_four-lands [] m c g x = turn_line-comes None m g x
-    step_four-lands (r ∷ rs) m c g x = perform_picked-lands (chosen_source rules (r ∷ rs) c) m c g x
+        by_source : (source : Source) → is_runnable (view m.host) source ≡ true → Lands m (perform rules call source (turn_line (Some source) m) s.left)
+        by_source Sched k =
+            subst (λ (t : Option SchedTask). Lands m (perform_first_sched call t (turn_line (Some Sched) m) s.left)) (sym (sched_of-line (Turn m.host.turns (Some Sched)) m.host m.host.sched_tasks))
+            (sched-lands (first_sched m.host) m s.left refl (task_there (first_sched m.host) (runnable-there m.host Sched k)) g x (sched_of-given (made_by m.host) m.host m.host.sched_tasks (g.0 InSchedTasks)))
+        by_source User k = other-lands User m s.left refl g x
+        by_source Net k = other-lands Net m s.left refl g x
+        by_source Dom k = other-lands Dom m s.left refl g x
+        by_source Timer k = other-lands Timer m s.left refl g x
+        by_source Render k = other-lands Render m s.left refl g x
+        by_source Idle k = other-lands Idle m s.left refl g x
+
+    step_four-lands : (rs : List Runnable) (m : State) (c : C) → rs ≡ view m.host → Good m → Rests m → Lands m (step_four rules call rs m c)
+    step_four-lands [] m c e g x = turn_line-comes None m refl g x
+    step_four-lands (r ∷ rs) m c e g x = perform_picked-lands (chosen_source rules (r ∷ rs) c) m c (by_choice (chosen_source rules (r ∷ rs) c) refl) g x
+      where
+        by_choice : (o : Option (Chosen Source C)) → chosen_source rules (r ∷ rs) c ≡ o → IfThere (λ (s : Chosen Source C). is_runnable (view m.host) s.choice ≡ true) o
+        by_choice None k = tt
+        by_choice (Some s) k = subst (λ (ys : List Runnable). is_runnable ys s.choice ≡ true) e (legal_choice (is_runnable (r ∷ rs)) (rules.source (r ∷ rs) c) s k)
 
     with_turn_fuel-lands : (fuel : ℕ) (m : State) (c : C) → Good m → Rests m → Lands m (with_turn_fuel rules call fuel m c)
     with_turn_fuel-lands zero m c g x = ends-lands FuelEnd c m g x
     with_turn_fuel-lands (suc left) m c g x =
         let counted = counted_turn left m in
-        lands-then m counted (step_four rules call (view m.host) counted c) (Grows-same (made_by m.host), changing here (elsewhere places_stay (record { notices = refl; performing = refl; events = refl; registrations = refl; frames = refl; calls = refl })), (refl, refl)) (step_four-lands (view m.host) counted c g x)
+        lands-then m counted (step_four rules call (view m.host) counted c) (Grows-same (made_by m.host), changing here (elsewhere places_stay (record { notices = refl; performing = refl; events = refl; registrations = refl; frames = refl; calls = refl; aborted = λ s h. h; scheduling = record { priorities = λ s. refl; states = refl; tasks_made = omega arith } })), (refl, refl)) (step_four-lands (view m.host) counted c refl g x)
 
     pub step_three-lands : (until : ℕ) (c : C) (m : State) → Good m → Rests m → Lands m (step_three rules call until c m)
     step_three-lands until c m g x =
@@ -310,7 +324,7 @@ module _ {C : Type 0} (program : Program) where
     LandsNext next = (r : State) → Good r → Rests r → Lands r (next r)
 
     pub at_time-comes : (t : ℕ) (m : State) → Good m → Rests m → Comes m (on_page (λ p. at_time t p) m)
-    at_time-comes t m g x = comes_by m (λ p. at_time t p) g x (stays m.host g.0, quietly m.host (at_time t m.host) refl refl refl refl refl refl refl) refl
+    at_time-comes t m g x = comes_by m (λ p. at_time t p) g x (stays m.host g.0, quietly m.host (at_time t m.host) refl refl refl refl refl refl refl refl refl) refl
 
     waited-lands : (t : ℕ) (x : Option (Chosen ℕ C)) (again : State → C → Turned C) (c : C) (m : State) → LandsAgain again → Good m → Rests m → Lands m (waited t x again c m)
     waited-lands t None again c m k g z = here
@@ -318,7 +332,7 @@ module _ {C : Type 0} (program : Program) where
         let there = on_page (λ p. at_time x.choice p) m in
         let later = on_page (λ p. emit (Wait t) (at_time x.choice p)) m in
         let a = at_time-comes x.choice m g z in
-        let b = comes_by there (emit (Wait t)) a.1 a.2 (rested-onto (Wait t) there refl a.1 a.2) refl in
+        let b = comes_by there (emit (Wait t)) a.1 a.2 (rested-onto (Wait t) there refl refl a.1 a.2) refl in
         lands-then m later (again later x.left) (le-then m there later a.0 b.0) (k later x.left b.1 b.2)
 
     step_two_at-lands : (until t : ℕ) (again : State → C → Turned C) (next : State → Turned C) (c : C) (m : State) → LandsAgain again → LandsNext next → Good m → Rests m → Lands m (step_two_at rules until t again next c m)

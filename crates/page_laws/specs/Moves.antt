@@ -1,48 +1,48 @@
 -- What happens to a page, move by move: each move changes it once, with its lines.
-use Rattle.std.specs.Prelude.{◌≡◌, ℕ, suc, ℤ, Bool, true, false, List, [], ◌∷◌, length, nat_lt, Option, Some, None, Result, ◌==◌, ◌++◌, slice_get, slice_set}
+use Rattle.std.specs.Prelude.{◌≡◌, ◌≤◌, ℕ, suc, ℤ, Bool, true, false, List, [], ◌∷◌, length, nat_lt, Option, Some, None, Result, ◌==◌, ◌++◌, ◌||◌, slice_get, slice_set}
 use Rattle.page_types.specs.declared.End.TheVariants.{Fuel}
-use Rattle.page_types.specs.Events.{Event, Ret, Throw, Report, Log, Turn, Arm, Due, Drop, IdleLine, Frame, Enq, Prio, Abort, Host, Unhandled, Handled, EndLine, Send}
+use Rattle.page_types.specs.Events.{QueueName, Event, Ret, Throw, Report, Log, Turn, Arm, Due, Drop, IdleLine, Frame, Enq, Prio, Abort, Host, Unhandled, Handled, EndLine, Send}
 use Rattle.page_types.specs.declared.Source.{Source}
 use Rattle.page_types.specs.declared.Source.TheVariants.{Sched}
 use Rattle.page_parts.specs.Promises.{Settled, Reaction, React}
 use Rattle.page_parts.specs.Promises as Promises
 use Rattle.page_parts.specs.Notices.{Micro, OfPromise, WaitingJob, changed, subscribe_promise, queue_micro, note_outstanding}
 use Rattle.page_parts.specs.Promises.{the_promise}
-use Rattle.page_model.specs.State.{Role, ScriptRole, OfKind, Registration, no_registration, Page, Task, TimerTask, HostTask, Steps, RunScript, RunTimer, AnswerHost, PrioSource, SchedTask, Completion, Completing, QueueTimer, EnqueuePost, QueueSignal, HostAnswer, IdleTimer, emit, on_notices, context}
+use Rattle.page_model.specs.State.{Role, ScriptRole, OfKind, Registration, no_registration, Page, Task, TimerTask, HostTask, Steps, RunScript, RunTimer, AnswerHost, PrioSource, Fixed, OfSignal, SchedulingState, SchedTask, Completion, Completing, QueueTimer, EnqueuePost, QueueSignal, HostAnswer, IdleTimer, emit, on_notices, context}
 use Rattle.page_model.specs.PagePromises.{new_promise}
 use Rattle.page_model.specs.PageTime.{first_task, registration_with_id, completion_of, without_frame, deadline, without_idle, idle_callback}
-use Rattle.page_model.specs.SchedulerTasks.{with_state, first_sched, without_sched}
+use Rattle.page_model.specs.SchedulerTasks.{no_state, queue_name, with_state, first_sched, without_sched}
 use Rattle.page_parts.specs.Kinds.{Func}
 use Rattle.page_model.specs.Operations.{frame_requested, queued_mark}
-use Rattle.page_model.specs.PageSignals.{drop_closure}
-use Rattle.page_parts.specs.Words.{and_last, without, numbered}
+use Rattle.page_model.specs.PageSignals.{drop_closure, task_in_answer, task_in_net, waiting_answer, waiting_net_task, is_aborted, is_aborted_source}
+use Rattle.page_parts.specs.Words.{and_last, without, numbered, is_there}
 use Rattle.page_parts.specs.IdleCallbacks.{Idle, request, cancel, started, waiting_callback}
 use Rattle.page_parts.specs.HostClosures.{HostClosure, fired}
 use Rattle.page_types.specs.declared.HostMark.TheVariants.{Live}
 use Rattle.page_model.specs.Tasks.{background, post_state}
-use Rattle.page_model.specs.Turns.{without_task}
+use Rattle.page_model.specs.Turns.{without_task, not_dropped}
 use Rattle.page_parts.specs.Timers as Timers
 use Rattle.page_parts.specs.Timers.{Timers, Armed, with_armed, run_after, clear, has_id, is_live}
 use Rattle.page_parts.specs.Frames.{Callback, callback_in}
 use Rattle.page_parts.specs.Listeners.{Target, Listener, add, off, is_listening}
-use Rattle.page_model.specs.Numbers.{IsGiven, IsFor, made_by, timer_role}
+use Rattle.page_model.specs.Numbers.{IsGiven, IsFor, made_by, timer_role, is_timer_role, is_abortable}
 use Rattle.page_model.specs.Invoke.{register_as, call_begun, call_ended, job_begun}
 use Rattle.page_types.specs.declared.RegKind.{RegKind}
 use Rattle.page_types.specs.declared.RegKind.TheVariants as kind
-use Rattle.page_laws.specs.History.{open_registrations, is_rest}
+use Rattle.page_parts.specs.TaskSignals.{Prios, priority_of}
+use Rattle.page_types.specs.declared.Priority.{Priority}
+use Rattle.page_laws.specs.History.{open_registrations, is_rest, is_sched_turn, is_scheduled}
 
 -- ---- Ours: kinds of lines
 
--- a line that tells nothing of calls, promises, jobs, cancels and answers of hosts, and does not stand between turns
+-- a line that tells nothing of calls, promises, jobs, cancels, answers of hosts, and of what was due or enqueued, and does not stand
+-- between turns
 abbrev pub is_aside : Event → Bool
 is_aside (Report bs) = true
 is_aside (Log bs) = true
 is_aside (Arm r due level) = true
-is_aside (Due r) = true
 is_aside (IdleLine d) = true
 is_aside (Frame t) = true
-is_aside (Enq r queue continuation n) = true
-is_aside (Prio s priority) = true
 is_aside (Abort s) = true
 is_aside (Unhandled n) = true
 is_aside (Handled n) = true
@@ -110,6 +110,10 @@ without_answer r x = record x { host_answers = without (λ a. a.task.registratio
 abbrev pub without_queued : ℕ → Places → Places
 without_queued r x = record x { sched_tasks = without (λ t. t.registration == r) x.sched_tasks }
 
+-- with a scheduler task more
+abbrev pub with_queued : SchedTask → Places → Places
+with_queued t x = record x { sched_tasks = and_last x.sched_tasks t }
+
 -- without the task of this number
 abbrev pub without_number : ℕ → Places → Places
 without_number number x = record x { tasks = without (λ t. t.number == number) x.tasks }
@@ -130,6 +134,39 @@ is_free (RunTimer t) = false
 is_free (AnswerHost t) = false
 is_free steps = true
 
+-- ---- Ours: what the scheduler reads
+
+-- the priorities of signals, the scheduling states, and how many task numbers were given
+pub record Scheduling : Type 0 where
+  pub prios : Prios
+  pub states : List SchedulingState
+  pub tasks_made : ℕ
+
+abbrev pub scheduling_of : Page → Scheduling
+scheduling_of p = record { prios = p.prios; states = p.scheduling_states; tasks_made = p.tasks_made }
+
+-- the same priorities and scheduling states, and no fewer task numbers
+pub record SchedulingAfter (before after : Scheduling) : Type 0 where
+  pub priorities : (s : ℕ) → priority_of after.prios s ≡ priority_of before.prios s
+  pub states : after.states ≡ before.states
+  pub tasks_made : before.tasks_made ≤ after.tasks_made
+
+-- a priority source that has a priority: a fixed one, or a signal with a priority
+abbrev pub HasPriority : Prios → PrioSource → Type 0
+HasPriority ps (Fixed priority) = Unit {0}
+HasPriority ps (OfSignal s) = is_there (priority_of ps s) ≡ true
+
+-- a source that has a priority, or is that of a scheduling state
+pub data Sourced (ps : Prios) (states : List SchedulingState) : PrioSource → Type 0 where
+  known : {source : PrioSource} → HasPriority ps source → Sourced ps states source
+  inherited : (k : ℕ) → Sourced ps states (numbered states k no_state).prio_source
+
+-- signal s gets this priority, where it has one, and all other priorities stay
+pub record PrioSet (s : ℕ) (priority : Priority) (before after : Prios) : Type 0 where
+  pub others : (t : ℕ) → (s == t) ≡ false → priority_of after t ≡ priority_of before t
+  pub own : (other : Priority) → priority_of after s ≡ Some other → other ≡ priority
+  pub kept : (t : ℕ) → is_there (priority_of before t) ≡ true → is_there (priority_of after t) ≡ true
+
 -- a change of the places, where these registrations were made
 pub data PlaceChange (made : List Registration) : Places → Places → Type 0 where
   -- none
@@ -139,68 +176,95 @@ pub data PlaceChange (made : List Registration) : Places → Places → Type 0 w
   task_left : {x : Places} (number : ℕ) → PlaceChange made x (without_number number x)
   -- an interval whose id is in the map is armed again, and the timer of a signal is armed
   armed_again : {x : Places} (a : Armed) (t : TimerTask) → (numbered made t.registration no_registration).role ≡ OfKind kind.Interval
-      → has_id t.id x.timers ≡ true
+      → has_id t.id x.timers ≡ true → a.id ≡ t.id
       → PlaceChange made x (with_timer (with_armed (Some t.id) a x.timers) a.start (QueueTimer t) x)
   signal_armed : {x : Places} (ms now r s : ℕ)
       → PlaceChange made x (with_timer (run_after ms now x.timers) (suc x.timers.starts_made) (QueueSignal r s) x)
   -- a timer's id leaves the map
   id_cleared : {x : Places} (id : ℕ) → PlaceChange made x (record x { timers = clear id x.timers })
-  -- an idle timeout is started, and one is due
+  -- an idle timeout is started
   idle_armed : {x : Places} (t : IdleTimer) → PlaceChange made x (record x { idle_timers = and_last x.idle_timers t })
-  idle_due : {x : Places} (handle : ℕ) → PlaceChange made x (record x { idle_timers = without (λ u. u.handle == handle) x.idle_timers })
-  -- an active timer completes: its task is queued, or a delayed post is enqueued, or nothing
-  timer_due : {x : Places} (start number : ℕ) (source : Source) (t : TimerTask) → completion_of x.completions start ≡ Some (QueueTimer t)
-      → PlaceChange made x (with_task (record { number = number; source = source; steps = RunTimer t }) (without_start start x))
-  post_due : {x : Places} (start : ℕ) (source : PrioSource) (t : SchedTask)
-      → completion_of x.completions start ≡ Some (EnqueuePost t.registration source)
-      → PlaceChange made x (record (without_start start x) { sched_tasks = and_last x.sched_tasks t })
+  -- an active timer without steps completes
   completed : {x : Places} (start : ℕ) → PlaceChange made x (without_start start x)
   -- the pending idle callbacks become runnable; an idle callback leaves the lists
   idle_started : {x : Places} → PlaceChange made x (record x { idle = started x.idle })
   idle_left : {x : Places} (handle : ℕ) → PlaceChange made x (record x { idle = cancel handle x.idle })
-  -- a registration's scheduler task leaves its queue
-  sched_left : {x : Places} (r : ℕ) → PlaceChange made x (without_queued r x)
-  -- a pending answer of a host is due, and its task is queued
+
+-- what a registration is for
+abbrev pub role_at : List Registration → ℕ → Role
+role_at made r = (numbered made r no_registration).role
+
+-- a registration's own timer id, 0 where it has none
+abbrev pub id_at : List Registration → ℕ → ℕ
+id_at made r = (numbered made r no_registration).timer_id
+
+-- the signal that can abort it
+abbrev pub signal_at : List Registration → ℕ → Option ℕ
+signal_at made r = (numbered made r no_registration).signal
+
+-- how registration r is due: an active timer completes, whose task is queued, or a delayed post does nothing, or the task of a timeout
+-- signal comes; an idle timeout is over; a pending answer of a host comes, and its task is queued
+pub data DueChange (made : List Registration) (r : ℕ) : Places → Places → Type 0 where
+  timer_due : {x : Places} (start number : ℕ) (source : Source) (t : TimerTask)
+      → completion_of x.completions start ≡ Some (QueueTimer t) → t.registration ≡ r → role_at made r ≡ timer_role t.repeats
+      → DueChange made r x (with_task (record { number = number; source = source; steps = RunTimer t }) (without_start start x))
+  delay_due : {x : Places} (start : ℕ) (source : PrioSource) → completion_of x.completions start ≡ Some (EnqueuePost r source)
+      → role_at made r ≡ OfKind kind.Post → DueChange made r x (without_start start x)
+  signal_due : {x : Places} (start s : ℕ) → completion_of x.completions start ≡ Some (QueueSignal r s)
+      → role_at made r ≡ OfKind kind.Signal → DueChange made r x (without_start start x)
+  idle_due : {x : Places} (handle : ℕ) → role_at made r ≡ OfKind kind.Idle
+      → DueChange made r x (record x { idle_timers = without (λ u. u.handle == handle) x.idle_timers })
   answer_due : {x : Places} (before : List HostAnswer) (a : HostAnswer) (after : List HostAnswer) (number : ℕ) (source : Source)
-      → x.host_answers ≡ before ++ a ∷ after
-      → PlaceChange made x
+      → x.host_answers ≡ before ++ a ∷ after → a.task.registration ≡ r → role_at made r ≡ OfKind kind.Host
+      → DueChange made r x
       (with_task (record { number = number; source = source; steps = AnswerHost a.task }) (without_answer a.task.registration x))
 
 -- how registration r leaves its place by a cancel
 pub data Dropping (made : List Registration) (r : ℕ) : Places → Places → Type 0 where
   -- a timer: its id leaves the map
   timer_dropped : {x : Places} (id : ℕ) → has_id id x.timers ≡ true → r ≡ registration_with_id id 1 made
+      → (1 ≤ r → id_at made r ≡ id × is_timer_role (role_at made r) ≡ true)
       → Dropping made r x (record x { timers = clear id x.timers })
   -- an idle callback leaves the lists, and a listener its list
   idle_dropped : {x : Places} (handle : ℕ) (c : Callback) → waiting_callback handle x.idle ≡ Some c → r ≡ c.registration
-      → Dropping made r x (record x { idle = cancel handle x.idle })
-  listener_dropped : {x : Places} → is_listening r x.listeners ≡ true → Dropping made r x (record x { listeners = off r x.listeners })
-  -- what was posted, continues or waits for a host: its scheduler task and its pending answer go, and closures are dropped
-  task_dropped : {x : Places} (pending due : Option HostTask)
-      → Dropping made r x (record (without_queued r (without_answer r x)) { hosts = drop_closure pending (drop_closure due x.hosts) })
+      → role_at made r ≡ OfKind kind.Idle → Dropping made r x (record x { idle = cancel handle x.idle })
+  listener_dropped : {x : Places} → is_listening r x.listeners ≡ true → role_at made r ≡ OfKind kind.Listener
+      → Dropping made r x (record x { listeners = off r x.listeners })
 
--- where a new registration waits first, from the places before
-pub data FirstPlace (r : ℕ) : Places → Places → Type 0 where
+-- what was posted, continues or waits for a host is dropped: its scheduler task and its pending answer go, and the closure that was
+-- asked, whether its answer is pending or due, is marked
+abbrev pub without_aborted : ℕ → Page → Places
+without_aborted r p =
+    record (without_queued r (without_answer r (places p))) {
+      hosts = drop_closure (task_in_answer (waiting_answer r p)) (drop_closure (task_in_net (waiting_net_task r p)) p.hosts);
+    }
+
+-- where new registration r waits first, from the places before; these were made before it, and these are the priorities
+pub data FirstPlace (made : List Registration) (prios : Prios) (r : ℕ) : Places → Places → Type 0 where
   -- at none of these: the timer of a signal, which is armed next
-  nowhere : {x : Places} → FirstPlace r x x
+  nowhere : {x : Places} → FirstPlace made prios r x x
   -- among the listeners
   at_listener : {x : Places} (target : Target) (name : List ℕ) (q : ℕ) → q ≡ r
-      → FirstPlace r x (record x { listeners = add target name q x.listeners })
-  -- in the completion steps of its timer: a timer, a delayed post
-  at_timer : {x : Places} (a : Armed) (t : TimerTask) → t.registration ≡ r
-      → FirstPlace r x (with_timer (with_armed None a x.timers) a.start (QueueTimer t) x)
-  at_delay : {x : Places} (ms now q : ℕ) (source : PrioSource) → q ≡ r
-      → FirstPlace r x (with_timer (run_after ms now x.timers) (suc x.timers.starts_made) (EnqueuePost q source) x)
+      → FirstPlace made prios r x (record x { listeners = add target name q x.listeners })
+  -- in the completion steps of its timer: a timer, with an id that no other registration has, a delayed post
+  at_timer : {x : Places} (a : Armed) (t : TimerTask) → t.registration ≡ r → ((q : ℕ) → id_at made q ≡ a.id → ⊥)
+      → FirstPlace made prios r x (with_timer (with_armed None a x.timers) a.start (QueueTimer t) x)
+  at_delay : {x : Places} (ms now q : ℕ) (source : PrioSource) → q ≡ r → HasPriority prios source
+      → FirstPlace made prios r x (with_timer (run_after ms now x.timers) (suc x.timers.starts_made) (EnqueuePost q source) x)
   -- among the idle callbacks
-  at_idle : {x : Places} (q : ℕ) → q ≡ r → FirstPlace r x (record x { idle = request q x.idle })
-  -- in the queue of the scheduler
-  at_queue : {x : Places} (t : SchedTask) → t.registration ≡ r → FirstPlace r x (record x { sched_tasks = and_last x.sched_tasks t })
+  at_idle : {x : Places} (q : ℕ) → q ≡ r → FirstPlace made prios r x (record x { idle = request q x.idle })
   -- among the pending answers of hosts, where the closure was not asked before
   at_host : {x : Places} (c : HostClosure) (a : HostAnswer) → a.task.registration ≡ r → slice_get x.hosts a.task.closure ≡ Some c
       → c.mark ≡ Live
-      → FirstPlace r x (record x { hosts = slice_set x.hosts a.task.closure (queued_mark c); host_answers = and_last x.host_answers a })
+      → FirstPlace made prios r x
+      (record x { hosts = slice_set x.hosts a.task.closure (queued_mark c); host_answers = and_last x.host_answers a })
 
--- promises, jobs, the flag of the checkpoint, lines, registrations, frame callbacks and open calls are as in p
+-- each signal that was aborted is so still
+abbrev pub StaysAborted : Page → Page → Type 0
+StaysAborted p q = (s : ℕ) → is_aborted p s ≡ true → is_aborted q s ≡ true
+
+-- promises, jobs, the flag of the checkpoint, lines, registrations, frame callbacks, open calls, priorities and scheduling states are as in
+-- p, and what was aborted is so still
 pub record AsBefore (p q : Page) : Type 0 where
   pub notices : q.notices ≡ p.notices
   pub performing : q.performing ≡ p.performing
@@ -208,6 +272,14 @@ pub record AsBefore (p q : Page) : Type 0 where
   pub registrations : q.registrations ≡ p.registrations
   pub frames : q.frames ≡ p.frames
   pub calls : q.calls ≡ p.calls
+  pub aborted : StaysAborted p q
+  pub scheduling : SchedulingAfter (scheduling_of p) (scheduling_of q)
+
+-- scheduler task t is enqueued next, in this queue of its line
+pub record IsNext (p q : Page) (t : SchedTask) (queue : QueueName) : Type 0 where
+  pub order : t.order ≡ suc p.tasks_made
+  pub made : suc p.tasks_made ≤ q.tasks_made
+  pub named : queue ≡ queue_name t.source
 
 -- ---- Ours: a change, with which no call begins or ends
 
@@ -220,20 +292,47 @@ pub data PageChange : Page → Page → Type 0 where
   elsewhere : {p q : Page} → PlaceChange p.registrations (places p) (places q) → AsBefore p q → PageChange p q
   -- a line that tells nothing of promises and jobs
   told : {p : Page} (e : Event) → is_aside e ≡ true → PageChange p (emit e p)
-  -- a line between turns, where no call is open and no job waits
-  rested : {p : Page} (e : Event) → is_rest e ≡ true → open_registrations p.events ≡ [] → p.notices.jobs ≡ [] → PageChange p (emit e p)
+  -- a line between turns, where no call is open and no job waits; that of the scheduler's turn comes with its call
+  rested : {p : Page} (e : Event) → is_rest e ≡ true → open_registrations p.events ≡ [] → p.notices.jobs ≡ []
+      → is_sched_turn e ≡ false → PageChange p (emit e p)
   -- a host's task is taken, and the host answers
   answered : {p q : Page} (source : Source) (task : Task) (t : HostTask) (answer : Result ℤ ℤ) → first_task source p.tasks ≡ Some task
       → task.steps ≡ AnswerHost t
+      → is_there (not_dropped (slice_get p.hosts t.closure)) ≡ true
       → places q ≡ host_fired t.closure (without_number task.number (places p))
       → AsBefore (emit (Host t.closure t.number answer) p) q → PageChange p q
   -- a registration is made, and waits at its first place
   registered : {p q : Page} (kind : RegKind) (x : Registration) → x.role ≡ OfKind kind
-      → FirstPlace (suc (length p.registrations)) (places p) (places q) → AsBefore (register_as kind x p) q → PageChange p q
+      → FirstPlace p.registrations p.prios (suc (length p.registrations)) (places p) (places q)
+      → AsBefore (register_as kind x p) q → PageChange p q
+  -- a registration is made, and its scheduler task is enqueued, with its line
+  enqueued_anew : {p q : Page} (kind : RegKind) (x : Registration) (t : SchedTask) (queue : QueueName) → x.role ≡ OfKind kind
+      → t.registration ≡ suc (length p.registrations) → places q ≡ with_queued t (places p)
+      → IsNext p q t queue × Sourced p.prios p.scheduling_states t.source × is_scheduled kind ≡ true
+      → AsBefore (emit (Enq t.registration queue t.continuation t.order) (register_as kind x p)) q → PageChange p q
+  -- a registration is due, with its line; a delayed post that was not aborted is enqueued then
+  fell_due : {p q : Page} (r : ℕ) → DueChange p.registrations r (places p) (places q) → AsBefore (emit (Due r) p) q → PageChange p q
+  post_fell_due : {p q : Page} (start : ℕ) (source : PrioSource) (t : SchedTask) (queue : QueueName)
+      → completion_of p.completions start ≡ Some (EnqueuePost t.registration source)
+      → role_at p.registrations t.registration ≡ OfKind kind.Post
+      → is_aborted_source p (signal_at p.registrations t.registration) ≡ false
+      → places q ≡ with_queued t (without_start start (places p)) → IsNext p q t queue × t.source ≡ source
+      × t.continuation ≡ false
+      → AsBefore (emit (Enq t.registration queue t.continuation t.order) (emit (Due t.registration) p)) q → PageChange p q
   -- a registration is cancelled, with its line, and a frame callback so
   dropped : {p q : Page} (r : ℕ) → Dropping p.registrations r (places p) (places q) → AsBefore (emit (Drop r) p) q → PageChange p q
   frame_dropped : {p : Page} (handle : ℕ) (c : Callback) → callback_in p.frames.callbacks handle ≡ Some c
+      → role_at p.registrations c.registration ≡ OfKind kind.Frame
       → PageChange p (emit (Drop c.registration) (without_frame handle p))
+  -- what a signal can abort is cancelled, where the signal is aborted; a host's answer is pending or due then
+  task_dropped : {p q : Page} (r : ℕ) → is_abortable (role_at p.registrations r) ≡ true
+      → is_aborted_source p (signal_at p.registrations r) ≡ true
+      → (role_at p.registrations r ≡ OfKind kind.Host → is_there (waiting_answer r p) || is_there (waiting_net_task r p) ≡ true)
+      → places q ≡ without_aborted r p
+      → AsBefore (emit (Drop r) p) q → PageChange p q
+  -- a signal gets a priority, with its line
+  prio_told : {p : Page} (s : ℕ) (priority : Priority) (ps : Prios) → PrioSet s priority p.prios ps
+      → PageChange p (record (emit (Prio s priority) p) { prios = ps })
   -- a frame callback is registered and requested, and one leaves the map
   frame_asked : {p : Page} (f : Func) → PageChange p (frame_requested f p)
   frame_gone : {p : Page} (handle : ℕ) → PageChange p (without_frame handle p)
@@ -333,7 +432,9 @@ taken (AReaction job others of x r) p = record (job_begun job others p) { schedu
 -- it waited there
 abbrev pub Waited : Beginning → Page → Type 0
 Waited (TheScript source task) p = first_task source p.tasks ≡ Some task × task.steps ≡ RunScript
-Waited (ATimer source task t) p = first_task source p.tasks ≡ Some task × task.steps ≡ RunTimer t × is_live t.id t.handle p.timers ≡ true
+Waited (ATimer source task t) p =
+    first_task source p.tasks ≡ Some task × task.steps ≡ RunTimer t × is_live t.id t.handle p.timers ≡ true
+    × id_at p.registrations t.registration ≡ t.id
 Waited (AFrame key c) p = callback_in p.frames.callbacks key ≡ Some c
 Waited (AnIdle c others) p = p.idle.runnable ≡ c ∷ others × nat_lt p.now (deadline p.last_idle_start p) ≡ true
 Waited (ALateIdle handle c) p = idle_callback handle p ≡ Some c
@@ -355,6 +456,7 @@ pub data Moves : Page → Page → Type 0 where
   ending : {p q : Page} → Moves p q → (e : Event) → is_end e ≡ true → Moves p (call_ended e q)
   -- the flag of the checkpoint
   flagging : {p q r : Page} → Moves p q → r.notices ≡ q.notices → r.events ≡ q.events → r.registrations ≡ q.registrations
-      → r.frames ≡ q.frames → places r ≡ places q → r.calls ≡ q.calls → Moves p r
+      → r.frames ≡ q.frames → places r ≡ places q → r.calls ≡ q.calls → r.signals ≡ q.signals
+      → scheduling_of r ≡ scheduling_of q → Moves p r
   running : {p q : Page} → Moves p q → (job : WaitingJob) (others : List WaitingJob) → q.notices.jobs ≡ job ∷ others
       → open_registrations q.events ≡ [] → Moves p (job_begun job others q)

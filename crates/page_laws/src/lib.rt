@@ -10,8 +10,9 @@ ghost use Rattle.lang_meaning.specs.Evaluation.{call_from_outside};
 ghost use Rattle.page_model.specs.Operations.{page_operations};
 ghost use Rattle.page_model.specs.Turns.{turns, run_by, state_of, first_state, first_page, events_of_run};
 ghost use Rattle.page_model.specs.Numbers.{HoldsNoNumbers};
-ghost use Rattle.page_laws.specs.CallLaws.{Once, SettleOnce, JobsInOrder, NoNesting};
+ghost use Rattle.page_laws.specs.CallLaws.{Once, Cancel, SettleOnce, JobsInOrder, NoNesting};
 ghost use Rattle.page_laws.specs.History.{open_registrations};
+ghost use Rattle.page_laws.specs.SchedulerLaws.{PriorityOrder};
 ghost use Rattle.page_laws.specs.Moves.{Moves};
 ghost use Rattle.page_model.specs.Gaps.{Act, run_gaps_by};
 
@@ -19,42 +20,74 @@ use page_model::Choosing;
 
 /// What happens in a run is a row of moves, after any number of turns and at its end.
 pub fn runs_are_moves<R: Choosing>()
-    ensures after { (program : Program) (setup : Setup) (hosts : List HostClosure) (c : R.Held) (until most : ℕ) → HoldsNoNumbers setup → Moves (first_page program setup hosts) (state_of (turns R.rules (call_from_outside program page_operations) until most (first_state program setup hosts) c)).host }
-    ensures at_end { (program : Program) (setup : Setup) (hosts : List HostClosure) (c : R.Held) → HoldsNoNumbers setup → Moves (first_page program setup hosts) (state_of (run_by R.rules program setup hosts c)).host }
+    ensures after { (program : Program) (setup : Setup) (hosts : List HostClosure) (c : R.Held) (until most : ℕ) → HoldsNoNumbers setup
+        → Moves (first_page program setup hosts) (state_of
+        (turns R.rules (call_from_outside program page_operations) until most (first_state program setup hosts) c)).host }
+    ensures at_end { (program : Program) (setup : Setup) (hosts : List HostClosure) (c : R.Held) → HoldsNoNumbers setup
+        → Moves (first_page program setup hosts) (state_of (run_by R.rules program setup hosts c)).host }
 {}
 
 /// No promise is settled twice, and a reaction's job is queued only when its promise is settled.
 pub fn promises_settle_once<R: Choosing>()
-    ensures { (program : Program) (setup : Setup) (hosts : List HostClosure) (c : R.Held) → HoldsNoNumbers setup → SettleOnce (events_of_run (run_by R.rules program setup hosts c)) }
+    ensures { (program : Program) (setup : Setup) (hosts : List HostClosure) (c : R.Held) → HoldsNoNumbers setup
+        → SettleOnce (events_of_run (run_by R.rules program setup hosts c)) }
 {}
 
 /// Jobs are numbered and run in order, and none waits between turns.
 pub fn jobs_go_in_order<R: Choosing>()
-    ensures { (program : Program) (setup : Setup) (hosts : List HostClosure) (c : R.Held) → HoldsNoNumbers setup → JobsInOrder (events_of_run (run_by R.rules program setup hosts c)) }
+    ensures { (program : Program) (setup : Setup) (hosts : List HostClosure) (c : R.Held) → HoldsNoNumbers setup
+        → JobsInOrder (events_of_run (run_by R.rules program setup hosts c)) }
 {}
 
 /// No job is run inside a call.
 pub fn jobs_run_in_no_call<R: Choosing>()
-    ensures { (program : Program) (setup : Setup) (hosts : List HostClosure) (c : R.Held) → HoldsNoNumbers setup → NoNesting (events_of_run (run_by R.rules program setup hosts c)) }
+    ensures { (program : Program) (setup : Setup) (hosts : List HostClosure) (c : R.Held) → HoldsNoNumbers setup
+        → NoNesting (events_of_run (run_by R.rules program setup hosts c)) }
 {}
 
 /// Nothing is registered twice, and nothing but the script is called before it is registered; what runs once is called once at most,
 /// hosts and timeout signals are never called, and no host closure answers twice.
 pub fn callbacks_run_once<R: Choosing>()
-    ensures { (program : Program) (setup : Setup) (hosts : List HostClosure) (c : R.Held) → HoldsNoNumbers setup → Once (events_of_run (run_by R.rules program setup hosts c)) }
+    ensures { (program : Program) (setup : Setup) (hosts : List HostClosure) (c : R.Held) → HoldsNoNumbers setup
+        → Once (events_of_run (run_by R.rules program setup hosts c)) }
+{}
+
+/// After a cancel there is no call, no enqueuing, and for a host no due line; each answer of a host stands for a registration that was due
+/// and not dropped.
+pub fn cancels_are_kept<R: Choosing>()
+    ensures { (program : Program) (setup : Setup) (hosts : List HostClosure) (c : R.Held) → HoldsNoNumbers setup
+        → Cancel (events_of_run (run_by R.rules program setup hosts c)) }
+{}
+
+/// A task of the scheduler is called directly behind a turn of the scheduler, where nothing else stands; it is the one of least order among
+/// those of greatest effective priority. The orders rise.
+pub fn scheduler_tasks_go_by_priority<R: Choosing>()
+    ensures { (program : Program) (setup : Setup) (hosts : List HostClosure) (c : R.Held) → HoldsNoNumbers setup
+        → PriorityOrder (events_of_run (run_by R.rules program setup hosts c)) }
 {}
 
 /// The open calls that a page keeps are those that its lines tell, the innermost first, wherever a run stops.
 pub fn open_calls_are_told<R: Choosing>()
-    ensures in_runs { (program : Program) (setup : Setup) (hosts : List HostClosure) (c : R.Held) → HoldsNoNumbers setup → let page = (state_of (run_by R.rules program setup hosts c)).host in page.calls ≡ open_registrations page.events }
-    ensures in_pieces { (program : Program) (setup : Setup) (c : R.Held) (list : List Act) → HoldsNoNumbers setup → let page = (state_of (run_gaps_by R.rules program setup list c)).host in page.calls ≡ open_registrations page.events }
+    ensures in_runs { (program : Program) (setup : Setup) (hosts : List HostClosure) (c : R.Held) → HoldsNoNumbers setup
+        → let page = (state_of (run_by R.rules program setup hosts c)).host in page.calls ≡ open_registrations page.events }
+    ensures in_pieces { (program : Program) (setup : Setup) (c : R.Held) (list : List Act) → HoldsNoNumbers setup
+        → let page = (state_of (run_gaps_by R.rules program setup list c)).host in page.calls ≡ open_registrations page.events }
 {}
 
 /// The same of a run in pieces, in which another loop says when time passes, when a task is served and when the page rests.
 pub fn acts_keep_the_laws<R: Choosing>()
-    ensures moves { (program : Program) (setup : Setup) (c : R.Held) (list : List Act) → HoldsNoNumbers setup → Moves (first_page program setup []) (state_of (run_gaps_by R.rules program setup list c)).host }
-    ensures settling { (program : Program) (setup : Setup) (c : R.Held) (list : List Act) → HoldsNoNumbers setup → SettleOnce (events_of_run (run_gaps_by R.rules program setup list c)) }
-    ensures jobs { (program : Program) (setup : Setup) (c : R.Held) (list : List Act) → HoldsNoNumbers setup → JobsInOrder (events_of_run (run_gaps_by R.rules program setup list c)) }
-    ensures nesting { (program : Program) (setup : Setup) (c : R.Held) (list : List Act) → HoldsNoNumbers setup → NoNesting (events_of_run (run_gaps_by R.rules program setup list c)) }
-    ensures once { (program : Program) (setup : Setup) (c : R.Held) (list : List Act) → HoldsNoNumbers setup → Once (events_of_run (run_gaps_by R.rules program setup list c)) }
+    ensures moves { (program : Program) (setup : Setup) (c : R.Held) (list : List Act) → HoldsNoNumbers setup
+        → Moves (first_page program setup []) (state_of (run_gaps_by R.rules program setup list c)).host }
+    ensures settling { (program : Program) (setup : Setup) (c : R.Held) (list : List Act) → HoldsNoNumbers setup
+        → SettleOnce (events_of_run (run_gaps_by R.rules program setup list c)) }
+    ensures jobs { (program : Program) (setup : Setup) (c : R.Held) (list : List Act) → HoldsNoNumbers setup
+        → JobsInOrder (events_of_run (run_gaps_by R.rules program setup list c)) }
+    ensures nesting { (program : Program) (setup : Setup) (c : R.Held) (list : List Act) → HoldsNoNumbers setup
+        → NoNesting (events_of_run (run_gaps_by R.rules program setup list c)) }
+    ensures once { (program : Program) (setup : Setup) (c : R.Held) (list : List Act) → HoldsNoNumbers setup
+        → Once (events_of_run (run_gaps_by R.rules program setup list c)) }
+    ensures priorities { (program : Program) (setup : Setup) (c : R.Held) (list : List Act) → HoldsNoNumbers setup
+        → PriorityOrder (events_of_run (run_gaps_by R.rules program setup list c)) }
+    ensures cancels { (program : Program) (setup : Setup) (c : R.Held) (list : List Act) → HoldsNoNumbers setup
+        → Cancel (events_of_run (run_gaps_by R.rules program setup list c)) }
 {}

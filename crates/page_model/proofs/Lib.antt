@@ -9,6 +9,7 @@ pub mod AddingOperations
 pub mod AddingTurns
 pub mod AddingActs
 pub mod NumbersGrow
+pub mod NumbersSignals
 pub mod NumbersParts
 pub mod NumbersPages
 pub mod Unrolling

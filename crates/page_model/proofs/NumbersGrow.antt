@@ -9,12 +9,12 @@ use Rattle.page_parts.specs.Notices.{WaitingJob, Todo, Micro, OfPromise, Notices
 use Rattle.page_parts.specs.Timers.{Timers, TimerId}
 use Rattle.page_parts.specs.Frames.{Callback}
 use Rattle.page_parts.specs.IdleCallbacks.{Idle}
-use Rattle.page_parts.specs.AbortGraph.{SignalRecord}
+use Rattle.page_parts.specs.AbortGraph.{SignalRecord, the_signal}
 use Rattle.page_parts.specs.TaskSignals.{PrioRecord}
 use Rattle.page_parts.specs.Listeners.{Listener, Target, Window, AtSignal}
 use Rattle.lang_meaning.specs.Machine.{Variable}
 use Rattle.page_model.specs.State.{HostTask, Task, Registration, no_registration, TimerTask, Steps, RunScript, RunTimer, TimeOutSignal, FireAtWindow, AnswerHost, RunFrame, InvokeIdle, IdleTimeout, NotifyRejected, NotifyHandled, PrioSource, Fixed, OfSignal, SchedTask, Completion, QueueTimer, EnqueuePost, QueueSignal, Completing, IdleTimer, SchedulingState, Page, Combining, Element, Role, ScriptRole, OfKind}
-use Rattle.page_model.specs.Numbers.{JobIsGiven, TaskIsGiven, HostTaskIsGiven, Each, IfThere, GoesOnFrom, Made, made_by, Grows, IsGiven, IsRegistered, HasPromise, IsKnown, AreKnown, RegistrationIsGiven, ReactionIsGiven, PromiseIsGiven, PromiseJobIsGiven, TodoIsGiven, NoticesAreGiven, TimerTaskIsGiven, StepsAreGiven, PrioSourceIsGiven, SchedTaskIsGiven, StateIsGiven, CompletionIsGiven, CompletingIsGiven, TimerIdIsGiven, TimersAreGiven, IdleTimerIsGiven, CallbackIsGiven, IdleIsGiven, SignalIsGiven, PrioIsGiven, TargetIsGiven, ListenerIsGiven, AreWithin, VariablesAreKnown, OutcomeIsKnown, KindIsGiven, CombiningIsGiven, ElementIsGiven, IsFor, timer_role, sched_role}
+use Rattle.page_model.specs.Numbers.{JobIsGiven, TaskIsGiven, HostTaskIsGiven, Each, IfThere, GoesOnFrom, Made, made_by, Grows, IsGiven, IsRegistered, HasPromise, IsKnown, AreKnown, RegistrationIsGiven, ReactionIsGiven, PromiseIsGiven, PromiseJobIsGiven, TodoIsGiven, NoticesAreGiven, TimerTaskIsGiven, StepsAreGiven, PrioSourceIsGiven, SchedTaskIsGiven, StateIsGiven, CompletionIsGiven, CompletingIsGiven, TimerIdIsGiven, TimersAreGiven, IdleTimerIsGiven, CallbackIsGiven, IdleIsGiven, SignalIsGiven, PrioIsGiven, TargetIsGiven, ListenerIsGiven, AreWithin, VariablesAreKnown, OutcomeIsKnown, KindIsGiven, CombiningIsGiven, ElementIsGiven, IsFor, timer_role, sched_role, is_abortable, IsAbortedBy, AlgorithmsAreOwn}
 use Rattle.page_parts.specs.Combinators.{CombinatorKind, All, AnyOf, AllSettled, Pass, Report}
 use Rattle.page_types.specs.declared.RegKind.{RegKind}
 use Rattle.page_types.specs.declared.RegKind.TheVariants.{Frame as FrameKind, Idle as IdleKind, Post as PostKind, Host as HostKind, Listener as ListenerKind, Then as ThenKind, Micro as MicroKind, Signal as SignalKind}
@@ -221,6 +221,11 @@ module _ (n n' : Made) (g : Grows n n') where
   pub values-grow : (vs : List Value) → Each (IsKnown n) vs → Each (IsKnown n') vs
   values-grow = Each-more (IsKnown n) (IsKnown n') IsKnown-grows
 
+  pub IsAbortedBy-grows : (s r : ℕ) → IsAbortedBy n s r → IsAbortedBy n' s r
+  IsAbortedBy-grows s r h =
+      let same = numbered-goes_on n.registrations n'.registrations r no_registration g.registrations h.registration in
+      record { registration = registered-grows r h.registration; signal = ap {A = Registration} {B = Option ℕ} (λ x. x.signal) same ∙ h.signal; role = ap {A = Registration} {B = Bool} (λ x. is_abortable x.role) same ∙ h.role }
+
   pub promises-grow : (ks : List ℕ) → Each (IsGiven n.promises) ks → Each (IsGiven n'.promises) ks
   promises-grow = Each-more (IsGiven n.promises) (IsGiven n'.promises) promise-grows
 
@@ -242,6 +247,7 @@ module _ (n n' : Made) (g : Grows n n') where
         callback = func-grows x.callback h.callback;
         second_callback = func-grows x.second_callback h.second_callback;
         timer_id = omega (arith, g.ids, h.timer_id);
+        timer = h.timer;
         promise = omega (arith, g.promises, h.promise);
         signal = if_signal-grows x.signal h.signal;
       }
@@ -286,6 +292,7 @@ module _ (n n' : Made) (g : Grows n n') where
       record {
         registration = IsFor-grows (timer_role t.repeats) t.registration h.registration;
         id = IsGiven-more n.ids n'.ids t.id g.ids h.id;
+        own = ap {A = Registration} {B = ℕ} (λ x. x.timer_id) (numbered-goes_on n.registrations n'.registrations t.registration no_registration g.registrations h.registration.registration) ∙ h.own;
         handle = IsGiven-more n.handles n'.handles t.handle g.handles h.handle;
       }
 
@@ -399,7 +406,7 @@ last-for xs x n e =
 
 -- the parts of a page in which numbers stand
 pub data Part : Type 0 where
-  InRegistrations InScriptPromises InScheduling InNotices InTasks InSchedTasks InTimers InCompletions InIdleTimers InHostAnswers InArrivals InFrames InIdle InSignals InPrios InListeners InStates InCombinators InElements InPosts InCalls : Part
+  InRegistrations InScriptPromises InScheduling InNotices InTasks InSchedTasks InTimers InCompletions InIdleTimers InHostAnswers InArrivals InFrames InIdle InSignals InAlgorithms InPrios InListeners InStates InCombinators InElements InPosts InCalls : Part
 
 -- the page without what holds no such numbers
 abbrev pub relevant : Page → Page
@@ -439,6 +446,7 @@ Holds n p InArrivals = Each (λ a. IsKnown n a.value) p.arrivals
 Holds n p InFrames = Each (CallbackIsGiven FrameKind n.frames n) p.frames.callbacks
 Holds n p InIdle = IdleIsGiven n p.idle
 Holds n p InSignals = Each (SignalIsGiven n) p.signals
+Holds n p InAlgorithms = AlgorithmsAreOwn n p.signals
 Holds n p InPrios = Each (PrioIsGiven n) p.prios
 Holds n p InListeners = Each (ListenerIsGiven n) p.listeners
 Holds n p InStates = Each (StateIsGiven n) p.scheduling_states
@@ -470,6 +478,7 @@ held n p h InArrivals = h.arrivals
 held n p h InFrames = h.frames
 held n p h InIdle = h.idle
 held n p h InSignals = h.signals
+held n p h InAlgorithms = h.algorithms
 held n p h InPrios = h.prios
 held n p h InListeners = h.listeners
 held n p h InStates = h.scheduling_states
@@ -495,6 +504,7 @@ within n p h =
       frames = h InFrames;
       idle = h InIdle;
       signals = h InSignals;
+      algorithms = h InAlgorithms;
       prios = h InPrios;
       listeners = h InListeners;
       scheduling_states = h InStates;
@@ -519,6 +529,7 @@ Held-grows n n' p g h InArrivals = Each-more (λ a. IsKnown n a.value) (λ a. Is
 Held-grows n n' p g h InFrames = Each-more (CallbackIsGiven FrameKind n.frames n) (CallbackIsGiven FrameKind n'.frames n') (Callback-grows n n' g FrameKind n.frames n'.frames g.frames) p.frames.callbacks (h InFrames)
 Held-grows n n' p g h InIdle = Idle-grows n n' g p.idle (h InIdle)
 Held-grows n n' p g h InSignals = Each-more (SignalIsGiven n) (SignalIsGiven n') (Signal-grows n n' g) p.signals (h InSignals)
+Held-grows n n' p g h InAlgorithms = λ s. Each-more (IsAbortedBy n s) (IsAbortedBy n' s) (IsAbortedBy-grows n n' g s) (the_signal p.signals s).algorithms (h InAlgorithms s)
 Held-grows n n' p g h InPrios = Each-more (PrioIsGiven n) (PrioIsGiven n') (Prio-grows n n' g) p.prios (h InPrios)
 Held-grows n n' p g h InListeners = Each-more (ListenerIsGiven n) (ListenerIsGiven n') (Listener-grows n n' g) p.listeners (h InListeners)
 Held-grows n n' p g h InStates = Each-more (StateIsGiven n) (StateIsGiven n') (State-grows n n' g) p.scheduling_states (h InStates)

@@ -1,5 +1,6 @@
 -- What operations make on a page leaves its numbers given.
-use Rattle.std.proofs.Common.{◌<◌, ◌≡◌, ℕ, suc, ◌+◌, ◌*◌, Bool, true, false, List, length, Option, Some, None, refl, sym, subst, arith, ℤ}
+use Rattle.page_model.proofs.NumbersSignals.{make-own, make_aborted-own, any-own}
+use Rattle.std.proofs.Common.{◌<◌, ◌≡◌, ℕ, suc, ◌+◌, ◌*◌, Bool, true, false, List, length, Option, Some, None, refl, sym, subst, arith, ℤ, ap, ◌∙◌}
 use Rattle.std.specs.Prelude.{slice_set, ◌==◌}
 use Rattle.page_types.specs.Values.{Value}
 use Rattle.page_types.specs.declared.Priority.{Priority}
@@ -22,7 +23,7 @@ use Rattle.page_model.specs.SchedulerTasks.{enqueue}
 use Rattle.page_model.specs.Invoke.{register, register_as}
 use Rattle.page_model.specs.PageSignals.{watch, give_priority}
 use Rattle.page_model.specs.Operations.{queued_mark, micro_registered, script_promise, then_made, timer_set, frame_requested, idle_requested, with_signals, last_signal, task_signal_made, any_made, timeout_signal_made, listener_added, listener_removed, promised, post_delayed, post_queued, continuation_queued, host_queued, latency_of, finally_made, posted}
-use Rattle.page_model.specs.Numbers.{HostTaskIsGiven, Each, IfThere, Made, made_by, Grows, IsGiven, HasPromise, IsKnown, AreKnown, PrioSourceIsGiven, StateIsGiven, TargetIsGiven, ListenerIsGiven, IsFor, timer_role}
+use Rattle.page_model.specs.Numbers.{HostTaskIsGiven, Each, IfThere, Made, made_by, Grows, IsGiven, HasPromise, IsKnown, AreKnown, PrioSourceIsGiven, StateIsGiven, TargetIsGiven, ListenerIsGiven, IsFor, timer_role, IsAbortedBy, is_abortable, is_timer_role}
 use Rattle.page_model.proofs.NumbersGrow.{Each-last, Each-without, IfThere-more, length-last, numbered-last, last-given, goes_on-last, Grows-same, Grows-then, IsGiven-last, promise-grows, signal-grows, signals-grow, if_signal-grows, HasPromise-grows, IsKnown-grows, AreKnown-grows, PrioSource-grows, Target-grows, InScriptPromises, InHostAnswers, InListeners, InScheduling, Held, Onward, stays, onward-then, Grows-registrations, Grows-timers, if_state-grows, InPosts, IsFor-grows, last-for}
 use Rattle.page_model.proofs.NumbersParts.{length-put, queue_job-given, func_in-given, signals-make-given, make_aborted-given, any-given, any-count}
 use Rattle.page_model.proofs.NumbersPages.{hosts-held, put_registration, put_script_promises, armed_put, moves, cond_of-onward, cond-onward, on_notices-held, subscribe-held, new_promise-held, register_as-held, register-held, run_after-held, request_frame-held, request_idle-held, enqueue-held, signals_more-held, watch-held, give_priority-held, depend-held}
@@ -89,7 +90,7 @@ finally_made-held k f p h x y =
     let r : Registration = record { role = OfKind ThenKind; callback = func_in f; second_callback = func_in f; timer_id = 0; promise = 0; signal = None; finally = true } in
     let made = register_as ThenKind r new in
     let known : FuncKnown (made_by new) (func_in f) = func_in-given (made_by new) f (IsKnown-grows (made_by p) (made_by new) here.0 f y) in
-    let there : Onward (made_by new) made = register_as-held ThenKind r new here.1 (record { callback = known; second_callback = known; timer_id = omega arith; promise = omega arith; signal = tt }) in
+    let there : Onward (made_by new) made = register_as-held ThenKind r new here.1 (record { callback = known; second_callback = known; timer_id = omega arith; timer = λ le. absurd (omega (arith, le)); promise = omega arith; signal = tt }) in
     let state : IfThere (IsGiven (made_by made).states) made.scheduling = there.1 InScheduling in
     onward-then (made_by new) made (finally_made k f p) there
     (subscribe-held k _ made there.1 (promise-grows (made_by p) (made_by new) here.0 k x) (record { registration = last-for new.registrations r (made_by made) refl; into = new_given p; state = state }))
@@ -107,6 +108,10 @@ posted-held port v p h k =
 
 -- ---- time
 
+repeating : (b : Bool) → is_timer_role (timer_role b) ≡ true
+repeating true = refl
+repeating false = refl
+
 pub timer_set-held : (kind : RegKind) (repeats : Bool) (f : Func) (timeout : ℤ) (p : Page) → OfKind kind ≡ timer_role repeats → Held (made_by p) p → AreKnown (made_by p) f.bound → Onward (made_by p) (timer_set kind repeats f timeout p)
 timer_set-held kind repeats f timeout p role h x =
     let q = timer_set kind repeats f timeout p in
@@ -117,8 +122,8 @@ timer_set-held kind repeats f timeout p role h x =
     Grows-then (made_by p) (made_by made) n (Grows-registrations (made_by p) (and_last p.registrations r) (goes_on-last p.registrations r))
     (Grows-timers (made_by made) (suc p.timers.ids_made) (suc p.timers.handles_made) (suc p.timers.starts_made) (omega arith) (omega arith) (omega arith)) in
     moves p q h g (λ k.
-    armed_put n None (armed None timeout p.level p.now p.timers) (last_registration made) repeats timeout made (IsGiven-last _ p.timers.ids_made refl) (IsGiven-last _ p.timers.handles_made refl) (IsGiven-last _ p.timers.starts_made refl) (subst (λ (what : Role). IsFor what n (last_registration made)) role (last-for p.registrations r n refl))
-    (put_registration n p kind r (record { callback = AreKnown-grows (made_by p) n g f.bound x; second_callback = tt; timer_id = omega arith; promise = omega arith; signal = tt }) k))
+    armed_put n None (armed None timeout p.level p.now p.timers) (last_registration made) repeats timeout made (IsGiven-last _ p.timers.ids_made refl) (IsGiven-last _ p.timers.handles_made refl) (IsGiven-last _ p.timers.starts_made refl) (subst (λ (what : Role). IsFor what n (last_registration made)) role (last-for p.registrations r n refl)) (ap {A = Registration} {B = ℕ} (λ y. y.timer_id) (numbered-last p.registrations r no_registration))
+    (put_registration n p kind r (record { callback = AreKnown-grows (made_by p) n g f.bound x; second_callback = tt; timer_id = omega arith; timer = λ le. ap is_timer_role role ∙ repeating repeats; promise = omega arith; signal = tt }) k))
 
 pub frame_requested-held : (f : Func) (p : Page) → Held (made_by p) p → AreKnown (made_by p) f.bound → Onward (made_by p) (frame_requested f p)
 frame_requested-held f p h x =
@@ -135,16 +140,16 @@ idle_requested-held f ms p h x =
 -- ---- signals
 
 pub make-held : (p : Page) → Held (made_by p) p → Onward (made_by p) (with_signals AbortGraph.make p)
-make-held p h = signals_more-held (AbortGraph.make p.signals) p h (length-last p.signals _) (λ n e g x. signals-make-given n p.signals x)
+make-held p h = signals_more-held (AbortGraph.make p.signals) p h (length-last p.signals _) (λ n e g x. signals-make-given n p.signals x) (λ n own. make-own n p.signals own)
 
 pub make_aborted-held : (reason : Value) (p : Page) → Held (made_by p) p → IsKnown (made_by p) reason → Onward (made_by p) (with_signals (make_aborted reason) p)
 make_aborted-held reason p h v =
-    signals_more-held (make_aborted reason p.signals) p h (length-last p.signals _) (λ n e g x. make_aborted-given n reason p.signals (IsKnown-grows (made_by p) n g reason v) x)
+    signals_more-held (make_aborted reason p.signals) p h (length-last p.signals _) (λ n e g x. make_aborted-given n reason p.signals (IsKnown-grows (made_by p) n g reason v) x) (λ n own. make_aborted-own n reason p.signals own)
 
 pub any-held : (ss : List ℕ) (p : Page) → Held (made_by p) p → Each (IsGiven (length p.signals)) ss → Onward (made_by p) (with_signals (AbortGraph.any ss) p)
 any-held ss p h k =
     signals_more-held (AbortGraph.any ss p.signals) p h (any-count ss p.signals)
-    (λ n e g x. any-given n ss p.signals (omega (arith, e, any-count ss p.signals)) (signals-grow (made_by p) n g ss k) x)
+    (λ n e g x. any-given n ss p.signals (omega (arith, e, any-count ss p.signals)) (signals-grow (made_by p) n g ss k) x) (λ n own. any-own n ss p.signals own)
 
 -- the last signal is given, where there is one
 pub signal_given : (k last : ℕ) → last ≡ suc k → IsGiven last last
@@ -219,8 +224,8 @@ last_watched None r p = refl
 last_watched (Some s) r p = refl
 
 -- a registration with a promise: it is made, and it has one
-pub promised-held : (kind : RegKind) (f : Option Func) (signal : Option ℕ) (p : Page) → Held (made_by p) p → FuncKnown (made_by p) f → IfThere (IsGiven (length p.signals)) signal → Onward (made_by (new_promise p)) (promised kind f signal p) × HasPromise (made_by (promised kind f signal p)) (last_registration (promised kind f signal p)) × IsFor (OfKind kind) (made_by (promised kind f signal p)) (last_registration (promised kind f signal p))
-promised-held kind f signal p h x s =
+pub promised-held : (kind : RegKind) (f : Option Func) (signal : Option ℕ) (p : Page) → Held (made_by p) p → is_abortable (OfKind kind) ≡ true → FuncKnown (made_by p) f → IfThere (IsGiven (length p.signals)) signal → Onward (made_by (new_promise p)) (promised kind f signal p) × HasPromise (made_by (promised kind f signal p)) (last_registration (promised kind f signal p)) × IsFor (OfKind kind) (made_by (promised kind f signal p)) (last_registration (promised kind f signal p))
+promised-held kind f signal p h able x s =
     let new = new_promise p in
     let here : Onward (made_by p) new = new_promise-held p h in
     let r : Registration = record { role = OfKind kind; callback = f; second_callback = None; timer_id = 0; promise = last_promise new; signal = signal; finally = false } in
@@ -228,7 +233,7 @@ promised-held kind f signal p h x s =
     let promise : IsGiven (length new.notices.promises) (last_promise new) = new_given p in
     let there : Onward (made_by new) made =
     register_as-held kind r new here.1
-    (record { callback = func_known-grows (made_by p) (made_by new) here.0 f x; second_callback = tt; timer_id = omega arith; promise = promise.to_last; signal = if_signal-grows (made_by p) (made_by new) here.0 signal s }) in
+    (record { callback = func_known-grows (made_by p) (made_by new) here.0 f x; second_callback = tt; timer_id = omega arith; timer = λ le. absurd (omega (arith, le)); promise = promise.to_last; signal = if_signal-grows (made_by p) (made_by new) here.0 signal s }) in
     let last = last_registration made in
     let has : HasPromise (made_by made) last =
     record {
@@ -236,11 +241,24 @@ promised-held kind f signal p h x s =
       promise = subst (λ (x : Registration). IsGiven (length made.notices.promises) x.promise) (sym (numbered-last new.registrations r no_registration)) promise;
     } in
     let after = watch signal last made in
-    let watched : Onward (made_by made) after = watch-held signal last made there.1 has in (
+    let watched : Onward (made_by made) after = watch-held signal last made there.1 has (abortable signal refl) in (
       onward-then (made_by new) made after there watched,
       subst (λ (k : ℕ). HasPromise (made_by after) k) (sym (last_watched signal last made)) (HasPromise-grows (made_by made) (made_by after) watched.0 last has),
       subst (λ (k : ℕ). IsFor (OfKind kind) (made_by after) k) (sym (last_watched signal last made)) (IsFor-grows (made_by made) (made_by after) watched.0 (OfKind kind) last (last-for new.registrations r (made_by made) refl)),
     )
+  where
+    r : Registration
+    r = record { role = OfKind kind; callback = f; second_callback = None; timer_id = 0; promise = last_promise (new_promise p); signal = signal; finally = false }
+
+    abortable : (o : Option ℕ) → signal ≡ o → IfThere (λ s. IsAbortedBy (made_by (register_as kind r (new_promise p))) s (last_registration (register_as kind r (new_promise p)))) o
+    abortable None e = tt
+    abortable (Some s) e =
+        let last = numbered-last p.registrations r no_registration in
+        record {
+          registration = last-given p.registrations r;
+          signal = ap {A = Registration} {B = Option ℕ} (λ y. y.signal) last ∙ e;
+          role = ap {A = Registration} {B = Bool} (λ y. is_abortable y.role) last ∙ able;
+        }
 
 pub post_delayed-held : (ms r : ℕ) (source : PrioSource) (p : Page) → Held (made_by p) p → HasPromise (made_by p) r → IsFor (OfKind PostKind) (made_by p) r → PrioSourceIsGiven (made_by p) source → Onward (made_by p) (post_delayed ms r source p)
 post_delayed-held ms r source p h x kind s = run_after-held ms (EnqueuePost r source) (emit (Arm r (p.now + ms * 1000) 0) p) h (x, s, kind)
@@ -249,7 +267,7 @@ pub post_queued-held : (f : Func) (source : PrioSource) (signal : Option ℕ) (m
 post_queued-held f source signal ms p h x y s =
     let n = made_by (new_promise p) in
     let made = promised PostKind (Some f) signal p in
-    let there = promised-held PostKind (Some f) signal p h x s in
+    let there = promised-held PostKind (Some f) signal p h refl x s in
     let source_there : PrioSourceIsGiven (made_by made) source = PrioSource-grows (made_by p) (made_by made) (Grows-then (made_by p) n (made_by made) (new_promise-held p h).0 there.0.0) source y in
     let r = last_registration made in
     cond_of-onward n (ms == 0) (enqueue r source false) (post_delayed ms r source) made
@@ -260,7 +278,7 @@ pub continuation_queued-held : (s : SchedulingState) (p : Page) → Held (made_b
 continuation_queued-held s p h x =
     let n = made_by (new_promise p) in
     let made = promised YieldKind None s.abort_source p in
-    let there = promised-held YieldKind None s.abort_source p h tt x.abort_source in
+    let there = promised-held YieldKind None s.abort_source p h refl tt x.abort_source in
     let source_there : PrioSourceIsGiven (made_by made) s.prio_source = PrioSource-grows (made_by p) (made_by made) (Grows-then (made_by p) n (made_by made) (new_promise-held p h).0 there.0.0) s.prio_source x.prio_source in
     onward-then n made (continuation_queued s p) there.0 (enqueue-held (last_registration made) s.prio_source true made there.0.1 there.1 there.2 source_there)
 
@@ -272,7 +290,7 @@ pub host_queued-held : (k : ℕ) (c : HostClosure) (x : ℤ) (signal : Option �
 host_queued-held k c x signal p h below s =
     let n = made_by (new_promise p) in
     let made = promised HostKind None signal p in
-    let there = promised-held HostKind None signal p h tt s in
+    let there = promised-held HostKind None signal p h refl tt s in
     let r = last_registration made in
     let a : HostAnswer = record { due = made.now + latency_of made.latencies k; task = record { registration = r; closure = k; number = x } } in
     let hosts = slice_set made.hosts k (queued_mark c) in

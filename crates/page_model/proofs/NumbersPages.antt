@@ -1,4 +1,5 @@
 -- What changes a page leaves its numbers given.
+use Rattle.page_model.proofs.NumbersSignals.{with_reason-own, with_algorithms-own}
 use Rattle.lang_meaning.specs.Evaluation.{without_first}
 use Rattle.std.proofs.Common.{◌≤◌, ◌∙◌, ◌≡◌, ℕ, suc, Bool, true, false, List, [], ◌∷◌, length, map, Option, Some, None, refl, sym, ap, subst, arith, cond, ℤ, ◌&&◌, nat_lt, nat_le}
 use Rattle.std.specs.Prelude.{◌==◌}
@@ -8,7 +9,7 @@ use Rattle.page_types.specs.declared.Source.TheVariants.{Dom, Idle}
 use Rattle.page_types.specs.declared.Priority.{Priority}
 use Rattle.page_types.specs.declared.RegKind.{RegKind}
 use Rattle.page_types.specs.Events.{Event, Abort, Drop}
-use Rattle.page_parts.specs.Words.{and_last, without}
+use Rattle.page_parts.specs.Words.{and_last, without, numbered}
 use Rattle.page_parts.specs.Promises.{Settled, Fulfilled, Failed, settled_value, Reaction}
 use Rattle.page_parts.specs.Notices.{Notices, Noticed, settle_promise, follow_promise, subscribe_promise, is_outstanding}
 use Rattle.page_parts.specs.Timers as Timers
@@ -32,8 +33,8 @@ use Rattle.page_parts.specs.Kinds.{Func}
 use Rattle.page_parts.specs.Promises as Promises
 use Rattle.page_model.specs.PageSignals.{drop_closure, task_in_answer, task_in_net, waiting_answer, waiting_net_task, has_not_begun, drop_registration, abort_registration, abort_registrations, run_algorithms, reason_value, reason_set, watch, unwatch, give_priority, change_begun, change_ended}
 use Rattle.page_parts.specs.HostClosures.{HostClosure}
-use Rattle.page_model.specs.Numbers.{HostTaskIsGiven, TaskIsGiven, Each, IfThere, Made, made_by, Grows, IsGiven, IsRegistered, HasPromise, IsKnown, AreKnown, RegistrationIsGiven, ReactionIsGiven, NoticesAreGiven, StepsAreGiven, PrioSourceIsGiven, SchedTaskIsGiven, StateIsGiven, CompletionIsGiven, CompletingIsGiven, TimerIdIsGiven, TimersAreGiven, IdleTimerIsGiven, CallbackIsGiven, IdleIsGiven, SignalIsGiven, PrioIsGiven, IsFor, timer_role, sched_role}
-use Rattle.page_model.proofs.NumbersGrow.{Grows-tasks, Grows-notices, promise-grows, Reaction-grows, Steps-grow, PrioSource-grows, Each-more, Each-append, Each-last, Each-without, Each-numbered, unwrapped, length-last, last-given, goes_on-last, Grows-same, IsGiven-last, Registration-grows, onward-then, IsGiven-more, HasPromise-grows, IsKnown-grows, Completion-grows, State-grows, InRegistrations, InScriptPromises, InScheduling, InNotices, InTasks, InSchedTasks, InTimers, InCompletions, InIdleTimers, InHostAnswers, InFrames, InIdle, InSignals, InPrios, InStates, Held, Onward, stays, goes_onward, Grows-promises, Grows-signals, Grows-states, Grows-registrations, Grows-timers, Grows-frames, Grows-idle, if_state-grows, IsFor-grows, InCalls}
+use Rattle.page_model.specs.Numbers.{HostTaskIsGiven, TaskIsGiven, Each, IfThere, Made, made_by, Grows, IsGiven, IsRegistered, HasPromise, IsKnown, AreKnown, RegistrationIsGiven, ReactionIsGiven, NoticesAreGiven, StepsAreGiven, PrioSourceIsGiven, SchedTaskIsGiven, StateIsGiven, CompletionIsGiven, CompletingIsGiven, TimerIdIsGiven, TimersAreGiven, IdleTimerIsGiven, CallbackIsGiven, IdleIsGiven, SignalIsGiven, PrioIsGiven, IsFor, timer_role, sched_role, IsAbortedBy, AlgorithmsAreOwn}
+use Rattle.page_model.proofs.NumbersGrow.{Grows-tasks, Grows-notices, promise-grows, Reaction-grows, Steps-grow, PrioSource-grows, Each-more, Each-append, Each-last, Each-without, Each-numbered, unwrapped, length-last, last-given, goes_on-last, Grows-same, IsGiven-last, Registration-grows, onward-then, IsGiven-more, HasPromise-grows, IsKnown-grows, Completion-grows, State-grows, InRegistrations, InScriptPromises, InScheduling, InNotices, InTasks, InSchedTasks, InTimers, InCompletions, InIdleTimers, InHostAnswers, InFrames, InIdle, InSignals, InAlgorithms, InPrios, InStates, Held, Onward, stays, goes_onward, Grows-promises, Grows-signals, Grows-states, Grows-registrations, Grows-timers, Grows-frames, Grows-idle, if_state-grows, IsFor-grows, InCalls}
 use Rattle.page_model.proofs.NumbersParts.{settle_promise-more, follow_promise-more, subscribe_promise-more, drop_closure-count, settle_promise-given, follow_promise-given, subscribe_promise-given, make-given, settle_promise-count, follow_promise-count, subscribe_promise-count, the_signal-given, with_reason-given, with_algorithms-given, with_reason-count, with_algorithms-count, changed_at-given}
 
 -- ---- a call begins and ends
@@ -97,9 +98,10 @@ module _ (n : Made) (p : Page) where
   put_idle i new h InIdle = new
   put_idle i new h part = h part
 
-  pub put_signals : (ss : Signals Value) → Each (SignalIsGiven n) ss → Held n p → Held n (record p { signals = ss })
-  put_signals ss new h InSignals = new
-  put_signals ss new h part = h part
+  pub put_signals : (ss : Signals Value) → Each (SignalIsGiven n) ss → AlgorithmsAreOwn n ss → Held n p → Held n (record p { signals = ss })
+  put_signals ss new own h InSignals = new
+  put_signals ss new own h InAlgorithms = own
+  put_signals ss new own h part = h part
 
   pub put_prios : (ps : Prios) → Each (PrioIsGiven n) ps → Held n p → Held n (record p { prios = ps })
   put_prios ps new h InPrios = new
@@ -177,7 +179,7 @@ register_as-held kind x p h new =
     moves p q h g (λ k. put_registration (made_by q) p kind x (Registration-grows (made_by p) (made_by q) g x new) k)
 
 pub register-held : (kind : RegKind) (f g : Option Func) (p : Page) → Held (made_by p) p → IfThere (λ f. AreKnown (made_by p) f.bound) f → IfThere (λ f. AreKnown (made_by p) f.bound) g → Onward (made_by p) (register kind f g p)
-register-held kind f g p h x y = register_as-held kind _ p h (record { callback = x; second_callback = y; timer_id = omega arith; promise = omega arith; signal = tt })
+register-held kind f g p h x y = register_as-held kind _ p h (record { callback = x; second_callback = y; timer_id = omega arith; timer = λ le. absurd (omega (arith, le)); promise = omega arith; signal = tt })
 
 -- the number of the registration that was just made
 pub last_registered : (kind : RegKind) (x : Registration) (p : Page) → IsRegistered (made_by (register_as kind x p)) (last_registration (register_as kind x p))
@@ -186,7 +188,7 @@ last_registered kind x p = last-given p.registrations x
 pub the_registration-given : (p : Page) (r : ℕ) → Held (made_by p) p → RegistrationIsGiven (made_by p) (the_registration p r)
 the_registration-given p r h =
     Each-numbered (RegistrationIsGiven (made_by p)) p.registrations r no_registration (h InRegistrations)
-    (record { callback = tt; second_callback = tt; timer_id = omega arith; promise = omega arith; signal = tt })
+    (record { callback = tt; second_callback = tt; timer_id = omega arith; timer = λ le. absurd (omega (arith, le)); promise = omega arith; signal = tt })
 
 -- ---- timers
 
@@ -203,23 +205,23 @@ run_after-held ms c p h new =
     (record { start = start; completion = Completion-grows (made_by p) n g c new }) k)
 
 -- a timer is initialised: what its numbers are
-pub armed_put : (n : Made) (again : Option ℕ) (a : Armed) (r : ℕ) (repeats : Bool) (timeout : ℤ) (p : Page) → IsGiven n.ids a.id → IsGiven n.handles a.handle → IsGiven n.starts a.start → IsFor (timer_role repeats) n r → Held n p → Held n (timer_armed again a r repeats timeout p)
-armed_put n again a r repeats timeout p id handle start registered h =
+pub armed_put : (n : Made) (again : Option ℕ) (a : Armed) (r : ℕ) (repeats : Bool) (timeout : ℤ) (p : Page) → IsGiven n.ids a.id → IsGiven n.handles a.handle → IsGiven n.starts a.start → IsFor (timer_role repeats) n r → (numbered n.registrations r no_registration).timer_id ≡ a.id → Held n p → Held n (timer_armed again a r repeats timeout p)
+armed_put n again a r repeats timeout p id handle start registered own h =
     let t : TimersAreGiven n p.timers = h InTimers in
     put_timers_and n p (with_armed again a p.timers) _
     (record {
       ids = Each-last (TimerIdIsGiven n) (without (λ e. e.id == a.id) p.timers.ids) _ (Each-without (TimerIdIsGiven n) (λ e. e.id == a.id) p.timers.ids t.ids) (record { id = id; handle = handle });
       active = Each-last (λ x. IsGiven n.starts x.start) p.timers.active _ t.active start;
     })
-    (record { start = start; completion = record { registration = registered; id = id; handle = handle } }) h
+    (record { start = start; completion = record { registration = registered; id = id; own = own; handle = handle } }) h
 
-pub init_again-held : (id r : ℕ) (repeats : Bool) (timeout : ℤ) (p : Page) → Held (made_by p) p → IsGiven p.timers.ids_made id → IsFor (timer_role repeats) (made_by p) r → Onward (made_by p) (init_timer (Some id) r repeats timeout p)
-init_again-held id r repeats timeout p h i x =
+pub init_again-held : (id r : ℕ) (repeats : Bool) (timeout : ℤ) (p : Page) → Held (made_by p) p → IsGiven p.timers.ids_made id → IsFor (timer_role repeats) (made_by p) r → (the_registration p r).timer_id ≡ id → Onward (made_by p) (init_timer (Some id) r repeats timeout p)
+init_again-held id r repeats timeout p h i x own =
     let q = init_timer (Some id) r repeats timeout p in
     let a = armed (Some id) timeout p.level p.now p.timers in
     let g : Grows (made_by p) (made_by q) = Grows-timers (made_by p) p.timers.ids_made (suc p.timers.handles_made) (suc p.timers.starts_made) (omega arith) (omega arith) (omega arith) in
     moves p q h g
-    (λ k. armed_put (made_by q) (Some id) a r repeats timeout p i (IsGiven-last _ p.timers.handles_made refl) (IsGiven-last _ p.timers.starts_made refl) (IsFor-grows (made_by p) (made_by q) g (timer_role repeats) r x) k)
+    (λ k. armed_put (made_by q) (Some id) a r repeats timeout p i (IsGiven-last _ p.timers.handles_made refl) (IsGiven-last _ p.timers.starts_made refl) (IsFor-grows (made_by p) (made_by q) g (timer_role repeats) r x) own k)
 
 clear_put : (id : ℕ) (p : Page) → Held (made_by p) p → Held (made_by p) (clear_id id p)
 clear_put id p h =
@@ -341,36 +343,36 @@ with_state-held s p h new =
 -- ---- signals
 
 -- other signals, as many as before
-pub signals-held : (ss : Signals Value) (p : Page) → Held (made_by p) p → length ss ≡ length p.signals → Each (SignalIsGiven (made_by p)) ss → Onward (made_by p) (record p { signals = ss })
-signals-held ss p h e new =
+pub signals-held : (ss : Signals Value) (p : Page) → Held (made_by p) p → length ss ≡ length p.signals → Each (SignalIsGiven (made_by p)) ss → AlgorithmsAreOwn (made_by p) ss → Onward (made_by p) (record p { signals = ss })
+signals-held ss p h e new own =
     let q : Page = record p { signals = ss } in
     let same : made_by q ≡ made_by p = ap {B = Made} (λ k. record (made_by p) { signals = k }) e in
-    subst (λ (m : Made). Grows (made_by p) m × Held m q) (sym same) (Grows-same (made_by p), put_signals (made_by p) p ss new h)
+    subst (λ (m : Made). Grows (made_by p) m × Held m q) (sym same) (Grows-same (made_by p), put_signals (made_by p) p ss new own h)
 
 -- other signals, one more than before
-pub signals_more-held : (ss : Signals Value) (p : Page) → Held (made_by p) p → length ss ≡ suc (length p.signals) → ((n : Made) → n.signals ≡ length ss → Grows (made_by p) n → Each (SignalIsGiven n) p.signals → Each (SignalIsGiven n) ss) → Onward (made_by p) (record p { signals = ss })
-signals_more-held ss p h e new =
+pub signals_more-held : (ss : Signals Value) (p : Page) → Held (made_by p) p → length ss ≡ suc (length p.signals) → ((n : Made) → n.signals ≡ length ss → Grows (made_by p) n → Each (SignalIsGiven n) p.signals → Each (SignalIsGiven n) ss) → ((n : Made) → AlgorithmsAreOwn n p.signals → AlgorithmsAreOwn n ss) → Onward (made_by p) (record p { signals = ss })
+signals_more-held ss p h e new own =
     let q : Page = record p { signals = ss } in
     let g : Grows (made_by p) (made_by q) = Grows-signals (made_by p) (length ss) (omega (arith, e)) in
-    moves p q h g (λ k. put_signals (made_by q) p ss (new (made_by q) refl g (k InSignals)) k)
+    moves p q h g (λ k. put_signals (made_by q) p ss (new (made_by q) refl g (k InSignals)) (own (made_by q) (k InAlgorithms)) k)
 
-pub with_algorithms-held : (s : ℕ) (rs : List ℕ) (p : Page) → Held (made_by p) p → Each (HasPromise (made_by p)) rs → Onward (made_by p) (record p { signals = with_algorithms s rs p.signals })
-with_algorithms-held s rs p h x =
-    signals-held (with_algorithms s rs p.signals) p h (with_algorithms-count s rs p.signals) (with_algorithms-given (made_by p) s rs p.signals x (h InSignals))
+pub with_algorithms-held : (s : ℕ) (rs : List ℕ) (p : Page) → Held (made_by p) p → Each (HasPromise (made_by p)) rs → Each (IsAbortedBy (made_by p) s) rs → Onward (made_by p) (record p { signals = with_algorithms s rs p.signals })
+with_algorithms-held s rs p h x own =
+    signals-held (with_algorithms s rs p.signals) p h (with_algorithms-count s rs p.signals) (with_algorithms-given (made_by p) s rs p.signals x (h InSignals)) (with_algorithms-own (made_by p) s rs p.signals own (h InAlgorithms))
 
 algorithms-given : (s : ℕ) (p : Page) → Held (made_by p) p → Each (HasPromise (made_by p)) (the_signal p.signals s).algorithms
 algorithms-given s p h = (the_signal-given (made_by p) p.signals s (h InSignals)).algorithms
 
-pub watch-held : (signal : Option ℕ) (r : ℕ) (p : Page) → Held (made_by p) p → HasPromise (made_by p) r → Onward (made_by p) (watch signal r p)
-watch-held None r p h x = stays p h
-watch-held (Some s) r p h x = with_algorithms-held s _ p h (Each-last (HasPromise (made_by p)) (the_signal p.signals s).algorithms r (algorithms-given s p h) x)
+pub watch-held : (signal : Option ℕ) (r : ℕ) (p : Page) → Held (made_by p) p → HasPromise (made_by p) r → IfThere (λ s. IsAbortedBy (made_by p) s r) signal → Onward (made_by p) (watch signal r p)
+watch-held None r p h x own = stays p h
+watch-held (Some s) r p h x own = with_algorithms-held s _ p h (Each-last (HasPromise (made_by p)) (the_signal p.signals s).algorithms r (algorithms-given s p h) x) (Each-last (IsAbortedBy (made_by p) s) (the_signal p.signals s).algorithms r (h InAlgorithms s) own)
 
 pub unwatch-held : (r : ℕ) (p : Page) → Held (made_by p) p → Onward (made_by p) (unwatch r p)
 unwatch-held r p h = by_signal (the_registration p r).signal
   where
     by_signal : (o : Option ℕ) → Onward (made_by p) (elim o [ None ↦ p | Some s ↦ record p { signals = AbortGraph.remove_algorithm s r p.signals } ])
     by_signal None = stays p h
-    by_signal (Some s) = with_algorithms-held s _ p h (Each-without (HasPromise (made_by p)) (λ b. b == r) (the_signal p.signals s).algorithms (algorithms-given s p h))
+    by_signal (Some s) = with_algorithms-held s _ p h (Each-without (HasPromise (made_by p)) (λ b. b == r) (the_signal p.signals s).algorithms (algorithms-given s p h)) (Each-without (IsAbortedBy (made_by p) s) (λ b. b == r) (the_signal p.signals s).algorithms (h InAlgorithms s))
 
 -- other host closures, as many as before
 pub hosts-held : (hosts : List HostClosure) (p : Page) → Held (made_by p) p → length hosts ≡ length p.hosts → Onward (made_by p) (record p { hosts = hosts })
@@ -413,7 +415,7 @@ reason_value-known p s h = unwrapped (IsKnown (made_by p)) (the_signal p.signals
 pub run_algorithms-held : (s : ℕ) (p : Page) → Held (made_by p) p → Onward (made_by p) (run_algorithms s p)
 run_algorithms-held s p h =
     let q : Page = record p { signals = with_algorithms s [] p.signals } in
-    let here : Onward (made_by p) q = with_algorithms-held s [] p h tt in
+    let here : Onward (made_by p) q = with_algorithms-held s [] p h tt tt in
     abort_registrations-onward (made_by p) (reason_value p s) (the_signal p.signals s).algorithms q here
     (IsKnown-grows (made_by p) (made_by q) here.0 (reason_value p s) (reason_value-known p s h))
     (Each-more (HasPromise (made_by p)) (HasPromise (made_by q)) (HasPromise-grows (made_by p) (made_by q) here.0) (the_signal p.signals s).algorithms (algorithms-given s p h))
@@ -421,7 +423,7 @@ run_algorithms-held s p h =
 pub reason_set-held : (reason : Value) (ss : List ℕ) (p : Page) → Held (made_by p) p → IsKnown (made_by p) reason → Onward (made_by p) (reason_set reason ss p)
 reason_set-held reason ss p h v =
     emit_each-onward (made_by p) (map Abort ss) (record p { signals = with_reason reason ss p.signals })
-    (signals-held (with_reason reason ss p.signals) p h (with_reason-count reason ss p.signals) (with_reason-given (made_by p) reason ss p.signals v (h InSignals)))
+    (signals-held (with_reason reason ss p.signals) p h (with_reason-count reason ss p.signals) (with_reason-given (made_by p) reason ss p.signals v (h InSignals)) (with_reason-own (made_by p) reason ss p.signals (h InAlgorithms)))
 
 -- ---- priorities
 

@@ -96,7 +96,7 @@ module _ (program : Program) where
   timer_goes_on-goes : (t : TimerTask) (m : State) → Good m → TimerTaskIsGiven (made_by m.host) t → Goes program m (timer_goes_on t m)
   timer_goes_on-goes t m g x =
       branch-goes program t.repeats m (initialised_again t) (λ m. finish (on_page (clear_id t.id) m))
-      (finish_page program m (init_timer (Some t.id) t.registration t.repeats t.timeout) g (init_again-held t.id t.registration t.repeats t.timeout m.host g.0 x.id x.registration))
+      (finish_page program m (init_timer (Some t.id) t.registration t.repeats t.timeout) g (init_again-held t.id t.registration t.repeats t.timeout m.host g.0 x.id x.registration x.own))
       (finish_page program m (clear_id t.id) g (clear_id-held t.id m.host g.0))
 
   where_live-goes : (t : TimerTask) (next : State → Done Page) (m : State) → Good m → Goes program m (next m) → Goes program m (where_live t next m)
@@ -210,7 +210,7 @@ module _ (program : Program) where
 
 -- ---- parallel items
 
-abbrev ItemIsGiven : Made → ItemKind → Type 0
+abbrev pub ItemIsGiven : Made → ItemKind → Type 0
 ItemIsGiven n (ArrivalItem k a) = IsKnown n a.value
 ItemIsGiven n (HostItem a) = HostTaskIsGiven n a.task
 ItemIsGiven n (TimerItem t) = Unit {0}
@@ -232,7 +232,7 @@ arrival_items-given : (n : Made) (k : ℕ) (xs : List Arrival) → Each (λ (a :
 arrival_items-given n k [] h = tt
 arrival_items-given n k (x ∷ xs) h = (h.0, arrival_items-given n (suc k) xs h.1)
 
-items-given : (p : Page) → Held (made_by p) p → ItemsAreGiven (made_by p) (items_in_order p)
+pub items-given : (p : Page) → Held (made_by p) p → ItemsAreGiven (made_by p) (items_in_order p)
 items-given p h =
     let n = made_by p in
     let P : Item → Type 0 = λ a. ItemIsGiven n a.what in
@@ -256,14 +256,14 @@ first_from-given n a (b ∷ more) x h = first_from-given n (cond (nat_lt b.due a
     by_due true = h.0
     by_due false = x
 
-abbrev IfItemIsGiven : Made → Option Item → Type 0
+abbrev pub IfItemIsGiven : Made → Option Item → Type 0
 IfItemIsGiven n o = IfThere (λ (a : Item). ItemIsGiven n a.what) o
 
-first_of-given : (n : Made) (items : List Item) → ItemsAreGiven n items → IfItemIsGiven n (first_item_of items)
+pub first_of-given : (n : Made) (items : List Item) → ItemsAreGiven n items → IfItemIsGiven n (first_item_of items)
 first_of-given n [] h = tt
 first_of-given n (a ∷ more) h = first_from-given n a more h.0 h.1
 
-due_item-given : (n : Made) (now : ℕ) (o : Option Item) → IfItemIsGiven n o → IfItemIsGiven n (due_item now o)
+pub due_item-given : (n : Made) (now : ℕ) (o : Option Item) → IfItemIsGiven n o → IfItemIsGiven n (due_item now o)
 due_item-given n now None h = tt
 due_item-given n now (Some a) h = by_due (nat_le a.due now)
   where
@@ -281,7 +281,7 @@ complete_at-held : (c : Option Completion) (p : Page) → Held (made_by p) p →
 complete_at-held None p h x = stays p h
 complete_at-held (Some c) p h x = complete-held c p h x
 
-completion_of-given : (n : Made) (cs : List Completing) (start : ℕ) → Each (CompletingIsGiven n) cs → IfThere (CompletionIsGiven n) (completion_of cs start)
+pub completion_of-given : (n : Made) (cs : List Completing) (start : ℕ) → Each (CompletingIsGiven n) cs → IfThere (CompletionIsGiven n) (completion_of cs start)
 completion_of-given n cs start h = by_found (find (λ c. c.start == start) cs) (Each-find (CompletingIsGiven n) (λ c. c.start == start) cs h)
   where
     by_found : (o : Option Completing) → IfThere (CompletingIsGiven n) o → IfThere (CompletionIsGiven n) (option_map (λ (c : Completing). c.completion) o)
@@ -306,7 +306,7 @@ without_numbered-each P (suc k) [] h = tt
 without_numbered-each P (suc zero) (x ∷ xs) h = h.1
 without_numbered-each P (suc (suc k)) (x ∷ xs) h = (h.0, without_numbered-each P (suc k) xs h.1)
 
-take_item-held : (what : ItemKind) (p : Page) → Held (made_by p) p → ItemIsGiven (made_by p) what → Onward (made_by p) (take_item what p)
+pub take_item-held : (what : ItemKind) (p : Page) → Held (made_by p) p → ItemIsGiven (made_by p) what → Onward (made_by p) (take_item what p)
 take_item-held (ArrivalItem k a) p h x =
     let n = made_by p in
     let q : Page = record p { arrivals = without_numbered k p.arrivals } in

@@ -1,4 +1,5 @@
 -- Turns leave all numbers given, by whatever rules choices are made; so in each state that a run reaches all numbers are given.
+use Rattle.page_model.proofs.NumbersSignals.{none-own}
 use Rattle.std.proofs.Common.{ℕ, zero, suc, Bool, true, false, List, [], ◌∷◌, max, Option, Some, None, refl, ℤ, cond, ◌||◌, nat_lt, nat_le, Result, slice_get, arith}
 use Rattle.std.specs.Prelude.{◌==◌}
 use Rattle.page_types.specs.Tree.{Program}
@@ -28,7 +29,7 @@ use Rattle.page_model.specs.Choosing.{Rules, Chosen, chosen_source, chosen_readi
 use Rattle.page_model.specs.Gaps.{Act, Pass, Serve, Rest, Stop, at_moment, pass, serve, rest, stop_by_clock, stop, act, acts}
 use Rattle.page_model.specs.Turns.{NoAct, Turned, GoesOn, Ended, Stuck, state_of, ends, goes_on, choose_turned, step_five, task_done, without_task, not_dropped, host_answered, perform_host, perform_task, perform_first, perform_first_sched, perform, turn_line, perform_picked, step_four, counted_turn, with_turn_fuel, step_three, from_step_three, is_pending, target, at_time, waited, step_two_at, step_two_by, step_two, step_one, after_step_one, from_step_one, turn, next_turn, turns, first_page, first_state}
 use Rattle.page_model.specs.Numbers.{TaskIsGiven, Each, IfThere, Made, made_by, Grows, HasPromise, IsKnown, StepsAreGiven, SchedTaskIsGiven, VariablesAreKnown, AllAreGiven, nothing_made, HoldsNoNumbers, IsAfter}
-use Rattle.page_model.proofs.NumbersGrow.{Each-more, Each-without, Each-find, Grows-same, Grows-then, IsKnown-grows, InRegistrations, InNotices, InTasks, InSchedTasks, InTimers, InIdle, InArrivals, Held, Onward, stays}
+use Rattle.page_model.proofs.NumbersGrow.{Each-more, Each-without, Each-find, Grows-same, Grows-then, IsKnown-grows, InRegistrations, InNotices, InTasks, InSchedTasks, InTimers, InIdle, InArrivals, Held, Onward, stays, InAlgorithms}
 use Rattle.page_model.proofs.NumbersPages.{without_sched-held, idle_step-held}
 use Rattle.page_model.proofs.NumbersEvaluation.{good, all_given, is_after, Good, Reached, on_page-good}
 use Rattle.page_model.proofs.NumbersRuns.{CallsGo, Goes, finish_page, finish-goes, afterwards-goes, in_task-goes}
@@ -291,7 +292,7 @@ from_nothing n =
     }
 
 first_page-held : (program : Program) (setup : Setup) (hosts : List HostClosure) → HoldsNoNumbers setup → Held (made_by (first_page program setup hosts)) (first_page program setup hosts)
-first_page-held program setup hosts h InRegistrations = (record { callback = tt; second_callback = tt; timer_id = omega arith; promise = omega arith; signal = tt }, tt)
+first_page-held program setup hosts h InRegistrations = (record { callback = tt; second_callback = tt; timer_id = omega arith; timer = λ le. absurd (omega (arith, le)); promise = omega arith; signal = tt }, tt)
 first_page-held program setup hosts h InNotices = record { promises = tt; jobs = tt; rejected = tt; outstanding = tt }
 first_page-held program setup hosts h InTasks = (record { number = record { from_one = omega arith; to_last = omega arith }; steps = record { registration = record { from_one = omega arith; to_last = omega arith }; role = refl } }, tt)
 first_page-held program setup hosts h InTimers = record { ids = tt; active = tt }
@@ -299,6 +300,7 @@ first_page-held program setup hosts h InIdle = record { pending = tt; runnable =
 first_page-held program setup hosts h InArrivals =
     Each-more (λ (a : Arrival). IsKnown nothing_made a.value) (λ (a : Arrival). IsKnown (made_by (first_page program setup hosts)) a.value)
     (λ a. IsKnown-grows nothing_made (made_by (first_page program setup hosts)) (from_nothing (made_by (first_page program setup hosts))) a.value) setup.arrivals h
+first_page-held program setup hosts h InAlgorithms = λ s. none-own (made_by (first_page program setup hosts)) s
 first_page-held program setup hosts h part = tt
 
 pub first_state-good : (program : Program) (setup : Setup) (hosts : List HostClosure) → HoldsNoNumbers setup → Good (first_state program setup hosts)

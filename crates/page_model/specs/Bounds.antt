@@ -46,7 +46,8 @@ turns_or other rules call until (suc n) m c = next_turn (turn rules call until m
 -- the waits of a turn
 abbrev pub from_step_one_or : {C : Type 0} → (State → C → Turned C) → Rules C → Caller Page → ℕ → ℕ → State → C → Turned C
 from_step_one_or other rules call until zero m c = other m c
-from_step_one_or other rules call until (suc n) m c = after_step_one rules call until (from_step_one_or other rules call until n) c (step_one m)
+from_step_one_or other rules call until (suc n) m c =
+    after_step_one rules call until (from_step_one_or other rules call until n) c (step_one m)
 
 -- a turn with so many more waits
 abbrev pub turn_or : {C : Type 0} → (State → C → Turned C) → ℕ → Rules C → Caller Page → ℕ → State → C → Turned C
@@ -70,7 +71,8 @@ take_due_or other (suc n) p = elim (due_item p.now (first_item p)) [ None ↦ p 
 abbrev pub change_or : (ℕ → State → Done Page) → Ways → Priority → ℕ → ℕ → State → Done Page
 change_or other w priority zero s m = other s m
 change_or other w priority (suc n) s m =
-    branch (is_changing m.host.prios s || has_priority m.host.prios s priority) m finish (change_through w s priority (change_or other w priority n))
+    branch (is_changing m.host.prios s || has_priority m.host.prios s priority) m finish
+    (change_through w s priority (change_or other w priority n))
 
 -- ---- Prioritized Task Scheduling, "The TaskSignal Interface": a signal that is followed follows none
 

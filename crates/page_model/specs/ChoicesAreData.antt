@@ -27,7 +27,8 @@ HasEnded (Stuck at m c) = ⊥
 abbrev pub with_further : List Source → List ℕ → List (Result ℤ ℤ) → Choices → Choices
 with_further more_sources more_readings more_answers (Recorded sources readings answers) =
     Recorded (sources ++ more_sources) (readings ++ more_readings) (answers ++ more_answers)
-with_further more_sources more_readings more_answers (Written policy counts late answers) = Written policy counts late (answers ++ more_answers)
+with_further more_sources more_readings more_answers (Written policy counts late answers) =
+    Written policy counts late (answers ++ more_answers)
 
 -- these events begin with those
 abbrev pub BeginsWith : List Stamped → List Stamped → Type 0
@@ -38,5 +39,6 @@ BeginsWith start es = (rest : List Stamped) × (es ≡ start ++ rest)
 -- where that one is stuck, its events come first.
 abbrev pub Continues : List Source → List ℕ → List (Result ℤ ℤ) → Turned Choices → Turned Choices → Type 0
 Continues more_sources more_readings more_answers (GoesOn m c) t = t ≡ GoesOn m (with_further more_sources more_readings more_answers c)
-Continues more_sources more_readings more_answers (Ended end m c) t = t ≡ Ended end m (with_further more_sources more_readings more_answers c)
+Continues more_sources more_readings more_answers (Ended end m c) t =
+    t ≡ Ended end m (with_further more_sources more_readings more_answers c)
 Continues more_sources more_readings more_answers (Stuck at m c) t = BeginsWith (events_of_run (Stuck at m c)) (events_of_run t)

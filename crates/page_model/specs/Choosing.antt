@@ -5,7 +5,8 @@ use Rattle.page_types.specs.declared.HostKind.{HostKind}
 use Rattle.page_parts.specs.HostClosures.{meets}
 use Rattle.page_parts.specs.WrittenChoices.{Runnable, is_runnable, Choices, PickedSource, PickedReading, PickedAnswer, next_source, next_reading, next_answer}
 
--- ---- HTML, "Event loops: processing model" leaves open which task queue is served. Ours: any rule may choose, and the choice must be legal
+-- ---- HTML, "Event loops: processing model" leaves open which task queue is served. Ours: any rule may choose, and the choice must be
+-- legal
 
 -- a choice, and what is held after it
 pub record Chosen (X C : Type 0) : Type 0 where

@@ -12,7 +12,8 @@ use Rattle.page_model.specs.Invoke.{WhenReported, when_reported, call_begun, cal
 use Rattle.page_model.specs.PageSignals.{run_algorithms, reason_set, change_begun, change_ended, has_priority, priority_value}
 use Rattle.lang_meaning.specs.HostSteps.{CallbackEnd, CallbackValue, CallbackThrow}
 
--- ---- Ours: the pieces of a priority change: the change of a signal, where no chain of followers is longer than `chain`, and the end of one
+-- ---- Ours: the pieces of a priority change: the change of a signal, where no chain of followers is longer than `chain`, and the end of
+-- one
 pub data ChangePiece : Type 0 where
   ChangeOf : (chain signal : ℕ) → ChangePiece
   EndChange : (signal : ℕ) → ChangePiece
@@ -45,7 +46,8 @@ abbrev pub next_listener : List Value → List ℕ → Rest → (Page → Reache
 next_listener args [] rest next p = next p
 next_listener args (r ∷ rs) rest next p =
     cond (is_listening r p.listeners)
-    (begin_listener (the_registration p r).callback (when_reported (the_registration p r).role) args rs rest (next_listener args rs rest next) (call_begun r p))
+    (begin_listener (the_registration p r).callback (when_reported (the_registration p r).role) args rs rest
+    (next_listener args rs rest next) (call_begun r p))
     (next_listener args rs rest next p)
 
 -- an event is fired at a signal
@@ -62,7 +64,8 @@ abbrev pub changes_of : ℕ → List ℕ → List ChangePiece → List ChangePie
 changes_of chain ss more = map (ChangeOf chain) ss ++ more
 
 -- Prioritized Task Scheduling, "The TaskSignal Interface": each of these signals is changed by `one`, and then comes the rest
-abbrev pub each_change : (ℕ → List ChangePiece → (Page → Reached) → Page → Reached) → ℕ → List ℕ → List ChangePiece → (Page → Reached) → Page → Reached
+abbrev pub each_change : (ℕ → List ChangePiece → (Page → Reached) → Page → Reached) → ℕ → List ℕ → List ChangePiece → (Page → Reached)
+    → Page → Reached
 each_change one chain [] more next p = next p
 each_change one chain (s ∷ ss) more next p = one s (changes_of chain ss more) (each_change one chain ss more next) p
 
@@ -74,7 +77,8 @@ change_from priority (suc n) s more next p =
     let ss = followers p.prios s in
     cond (is_changing p.prios s || has_priority p.prios s priority)
     (next p)
-    (fire s (codes "prioritychange") (SignalValue s ∷ priority_value (priority_of p.prios s) ∷ []) (ChangesLeft priority (changes_of n ss (EndChange s ∷ more)))
+    (fire s (codes "prioritychange") (SignalValue s ∷ priority_value (priority_of p.prios s) ∷ [])
+    (ChangesLeft priority (changes_of n ss (EndChange s ∷ more)))
     (each_change (change_from priority n) n ss (EndChange s ∷ more) (λ q. next (change_ended s q)))
     (change_begun s priority p))
 

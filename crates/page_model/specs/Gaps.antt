@@ -14,7 +14,8 @@ use Rattle.page_model.specs.Choosing.{Rules, choice_rules}
 use Rattle.page_model.specs.View.{view}
 use Rattle.page_model.specs.Turns.{Turned, GoesOn, Stuck, NoAct, ends, choose_turned, next_turn, step_one, step_three, is_pending, at_time, first_state}
 
--- ---- HTML, "Event loops: processing model": a loop that several pages share. Ours: what is done for one of them is a list of acts, whose steps are those of a turn
+-- ---- HTML, "Event loops: processing model": a loop that several pages share. Ours: what is done for one of them is a list of acts, whose
+-- steps are those of a turn
 
 -- An act: time passes, and the parallel items are taken, but before the first turn (step 1); a task is served (steps 3 and 4); the page
 -- rests, where no task is runnable (step 5); the page ends.

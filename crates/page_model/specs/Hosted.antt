@@ -26,7 +26,8 @@ EndsBounded (OutOfFuel m) = IsBounded m.host
 
 -- how a script's function is called by steps where no fold is open
 abbrev pub call_by_steps : Program → Caller Page
-call_by_steps program f args m = done_hosted (λ (h : Hosting). h.page) (call_from_outside program (host_operations page_rules) f args (hosted (with_folds []) m))
+call_by_steps program f args m =
+    done_hosted (λ (h : Hosting). h.page) (call_from_outside program (host_operations page_rules) f args (hosted (with_folds []) m))
 
 -- the page that a turn leaves is within bounds
 abbrev pub TurnEndsBounded : {C : Type 0} → Turned C → Type 0

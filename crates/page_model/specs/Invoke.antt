@@ -31,7 +31,16 @@ register_as kind x p = emit (Reg (suc (length p.registrations)) kind (caller p))
 
 -- a registration with these two callbacks and nothing else
 abbrev pub register : RegKind → Option Func → Option Func → Page → Page
-register kind f g p = register_as kind (record { role = OfKind kind; callback = f; second_callback = g; timer_id = 0; promise = 0; signal = None; finally = false }) p
+register kind f g p =
+    register_as kind (record {
+      role = OfKind kind;
+      callback = f;
+      second_callback = g;
+      timer_id = 0;
+      promise = 0;
+      signal = None;
+      finally = false;
+    }) p
 
 -- ---- HTML, "Calling scripts: clean up after running script", and when an exception is reported. Ours: the lines
 
@@ -98,7 +107,8 @@ invoke w r second args m =
     end_of_callback w.after (when_reported registration.role)
     (call_back w.call (callback_of second registration) args (on_page (call_begun r) m))
 
--- ---- ECMA-262, "NewPromiseReactionJob" and "NewPromiseResolveThenableJob"; HTML, "Event loops: processing model": perform a microtask checkpoint
+-- ---- ECMA-262, "NewPromiseReactionJob" and "NewPromiseResolveThenableJob"; HTML, "Event loops: processing model": perform a microtask
+-- checkpoint
 
 -- inside a checkpoint nothing more is done when a callback has returned
 abbrev pub in_checkpoint : Caller Page → Ways
@@ -162,7 +172,8 @@ under now p = record p { level = now.level; scheduling = now.state }
 
 -- a job leaves the queue, with its `run` line, and its level and state are the current ones
 abbrev pub job_begun : WaitingJob → List WaitingJob → Page → Page
-job_begun job others p = emit (Run job.number) (under (context_of_job p.form job) (record p { notices = record p.notices { jobs = others } }))
+job_begun job others p =
+    emit (Run job.number) (under (context_of_job p.form job) (record p { notices = record p.notices { jobs = others } }))
 
 -- the same as a step
 abbrev pub begin_job : WaitingJob → List WaitingJob → State → State

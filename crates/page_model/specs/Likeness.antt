@@ -14,9 +14,11 @@ SameChoice {X} {C} {D} Together (Some x) o = (left : D) × (o ≡ Some (record {
 
 -- Two sets of rules choose alike as long as what they hold goes together: only legal choices count.
 pub record ChooseAlike {C D : Type 0} (rules : Rules C) (others : Rules D) (Together : C → D → Type 0) : Type 0 where
-  pub source : (rs : List Runnable) (c : C) (d : D) → Together c d → SameChoice Together (chosen_source rules rs c) (chosen_source others rs d)
+  pub source : (rs : List Runnable) (c : C) (d : D) → Together c d
+      → SameChoice Together (chosen_source rules rs c) (chosen_source others rs d)
   pub reading : (t : ℕ) (c : C) (d : D) → Together c d → SameChoice Together (chosen_reading rules t c) (chosen_reading others t d)
-  pub answer : (kind : HostKind) (x : ℤ) (c : C) (d : D) → Together c d → SameChoice Together (chosen_answer rules kind x c) (chosen_answer others kind x d)
+  pub answer : (kind : HostKind) (x : ℤ) (c : C) (d : D) → Together c d
+      → SameChoice Together (chosen_answer rules kind x c) (chosen_answer others kind x d)
 
 -- two runs end alike, or are stuck alike, in the same state, and what is left goes together
 abbrev pub EndAlike : {C D : Type 0} → (C → D → Type 0) → Turned C → Turned D → Type 0

@@ -13,18 +13,21 @@ use Rattle.page_model.specs.Turns.{Turned, GoesOn, Ended, Stuck, ends, choose_tu
 use Rattle.page_model.specs.PageRuns.{PageRun, first_run, caller_of, is_live, some_run, carried_on, change_run, route_posts, only_if}
 use Rattle.page_model.specs.Windows.{Script}
 
--- ---- HTML, "Web workers" and "Event loops": each worker has a loop of its own. Ours: each has a clock of its own, and the one that is behind goes on
+-- ---- HTML, "Web workers" and "Event loops": each worker has a loop of its own. Ours: each has a clock of its own, and the one that is
+-- behind goes on
 
 -- the key of a loop by its target: what the clock will read for it, or the moment of the loop's end or idle step
 abbrev pub key_by : (until : ℕ) → State → Choices → Option ℕ → Option ℕ
 key_by until m c None = Some m.host.now
 key_by until m c (Some t) =
-    cond (nat_lt m.host.now t && nat_lt m.host.now until && nat_lt t until) (option_map (λ r. r.choice) (chosen_reading choice_rules t c)) (Some (max m.host.now t))
+    cond (nat_lt m.host.now t && nat_lt m.host.now until && nat_lt t until) (option_map (λ r. r.choice) (chosen_reading choice_rules t c))
+    (Some (max m.host.now t))
 
 -- the moment at which a loop goes on: none where nothing is pending
 abbrev pub key_in : (until : ℕ) → State → Choices → Option ℕ
 key_in until m c =
-    cond ((m.host.turns == 0) || not (is_empty (view m.host))) (Some m.host.now) (cond (is_pending m.host) (key_by until m c (target m.host)) None)
+    cond ((m.host.turns == 0) || not (is_empty (view m.host))) (Some m.host.now)
+    (cond (is_pending m.host) (key_by until m c (target m.host)) None)
 
 -- the key of a run: none where it has ended
 abbrev pub key_of : (until : ℕ) → Turned Choices → Option ℕ
@@ -41,7 +44,8 @@ takes_item p = not (p.turns == 0) && is_there (due_item p.now (first_item p))
 abbrev pub one_pass : Caller Page → (until : ℕ) → State → Choices → Turned Choices
 one_pass call until m c =
     let after = step_one m in
-    choose_turned (takes_item m.host && is_empty (view after.host)) (λ m. GoesOn m c) (after_step_one choice_rules call until (λ m c. GoesOn (step_one m) c) c) after
+    choose_turned (takes_item m.host && is_empty (view after.host)) (λ m. GoesOn m c)
+    (after_step_one choice_rules call until (λ m c. GoesOn (step_one m) c) c) after
 
 -- a loop, its number and its key
 pub record Keyed : Type 0 where

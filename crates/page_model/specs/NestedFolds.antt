@@ -14,7 +14,8 @@ use Rattle.page_model.specs.Folds.{ChangePiece, ChangeOf, EndChange, Rest, Abort
 -- the pieces of a change
 abbrev pub nested_changes : Caller Page → Priority → List ChangePiece → State → Done Page
 nested_changes call priority [] m = finish m
-nested_changes call priority (ChangeOf n s ∷ more) m = afterwards (change (in_script call) priority n s m) (nested_changes call priority more)
+nested_changes call priority (ChangeOf n s ∷ more) m =
+    afterwards (change (in_script call) priority n s m) (nested_changes call priority more)
 nested_changes call priority (EndChange s ∷ more) m = nested_changes call priority more (on_page (change_ended s) m)
 
 -- what comes after the listeners

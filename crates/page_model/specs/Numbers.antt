@@ -8,7 +8,7 @@ use Rattle.page_parts.specs.Notices.{Todo, Micro, OfPromise, WaitingJob, Notices
 use Rattle.page_parts.specs.Timers.{Timers, TimerId}
 use Rattle.page_parts.specs.Frames.{Callback}
 use Rattle.page_parts.specs.IdleCallbacks.{Idle}
-use Rattle.page_parts.specs.AbortGraph.{SignalRecord}
+use Rattle.page_parts.specs.AbortGraph.{SignalRecord, Signals, the_signal}
 use Rattle.page_parts.specs.TaskSignals.{PrioRecord}
 use Rattle.page_parts.specs.Listeners.{Listener, Target, Window, AtSignal}
 use Rattle.page_parts.specs.Setup.{Setup}
@@ -111,6 +111,25 @@ abbrev pub sched_role : Bool → Role
 sched_role true = OfKind YieldKind
 sched_role false = OfKind PostKind
 
+-- whether this is the role of a timer
+abbrev pub is_timer_role : Role → Bool
+is_timer_role (OfKind TimeoutKind) = true
+is_timer_role (OfKind IntervalKind) = true
+is_timer_role role = false
+
+-- whether a signal can abort what a registration of this role is for: a posted callback, a continuation, an answer of a host
+abbrev pub is_abortable : Role → Bool
+is_abortable (OfKind PostKind) = true
+is_abortable (OfKind YieldKind) = true
+is_abortable (OfKind HostKind) = true
+is_abortable role = false
+
+-- the number of a registration that signal s can abort
+pub record IsAbortedBy (n : Made) (s r : ℕ) : Type 0 where
+  pub registration : IsRegistered n r
+  pub signal : (numbered n.registrations r no_registration).signal ≡ Some s
+  pub role : is_abortable (numbered n.registrations r no_registration).role ≡ true
+
 -- the number of a registration that has a promise
 pub record HasPromise (n : Made) (r : ℕ) : Type 0 where
   pub registration : IsRegistered n r
@@ -138,11 +157,12 @@ abbrev mutual
 
 -- ---- Ours: registrations, promises and jobs
 
--- a registration: its callbacks' bound arguments, its timer id and its promise (0 for none), its signal
+-- a registration: its callbacks' bound arguments, its timer id, which only timers have, and its promise (0 for none), its signal
 pub record RegistrationIsGiven (n : Made) (x : Registration) : Type 0 where
   pub callback : IfThere (λ f. AreKnown n f.bound) x.callback
   pub second_callback : IfThere (λ f. AreKnown n f.bound) x.second_callback
   pub timer_id : x.timer_id ≤ n.ids
+  pub timer : 1 ≤ x.timer_id → is_timer_role x.role ≡ true
   pub promise : x.promise ≤ n.promises
   pub signal : IfThere (IsGiven n.signals) x.signal
 
@@ -206,10 +226,11 @@ pub record ElementIsGiven (n : Made) (e : Element) : Type 0 where
 
 -- ---- Ours: tasks
 
--- the task of a timer: its registration, its id and its handle
+-- the task of a timer: its registration, its id, which is the registration's own, and its handle
 pub record TimerTaskIsGiven (n : Made) (t : TimerTask) : Type 0 where
   pub registration : IsFor (timer_role t.repeats) n t.registration
   pub id : IsGiven n.ids t.id
+  pub own : (numbered n.registrations t.registration no_registration).timer_id ≡ t.id
   pub handle : IsGiven n.handles t.handle
 
 -- what was asked of a host closure: the registration, which has a promise, and the closure, whose number counts from 0
@@ -300,6 +321,10 @@ pub record SignalIsGiven (n : Made) (x : SignalRecord Value) : Type 0 where
   pub dependents : Each (IsGiven n.signals) x.dependents
   pub algorithms : Each (HasPromise n) x.algorithms
 
+-- the algorithms of each signal are for registrations that it can abort
+abbrev pub AlgorithmsAreOwn : Made → Signals Value → Type 0
+AlgorithmsAreOwn n ss = (s : ℕ) → Each (IsAbortedBy n s) (the_signal ss s).algorithms
+
 -- a signal with a priority: its number, what it follows and what follows it
 pub record PrioIsGiven (n : Made) (x : PrioRecord) : Type 0 where
   pub signal : IsGiven n.signals x.signal
@@ -334,6 +359,7 @@ pub record AreWithin (n : Made) (p : Page) : Type 0 where
   pub frames : Each (CallbackIsGiven FrameKind n.frames n) p.frames.callbacks
   pub idle : IdleIsGiven n p.idle
   pub signals : Each (SignalIsGiven n) p.signals
+  pub algorithms : AlgorithmsAreOwn n p.signals
   pub prios : Each (PrioIsGiven n) p.prios
   pub listeners : Each (ListenerIsGiven n) p.listeners
   pub scheduling_states : Each (StateIsGiven n) p.scheduling_states
@@ -374,11 +400,28 @@ KeepsGiven f = (m : State) → AllAreGiven m → EndsGiven (made_by m.host) (f m
 
 -- calls that keep the law, where their arguments are known
 abbrev pub CallsKeepGiven : Caller Page → Type 0
-CallsKeepGiven call = (f : ℕ) (args : List Value) (m : State) → AllAreGiven m → Each (IsKnown (made_by m.host)) args → EndsGiven (made_by m.host) (call f args m)
+CallsKeepGiven call =
+    (f : ℕ) (args : List Value) (m : State) → AllAreGiven m → Each (IsKnown (made_by m.host)) args
+    → EndsGiven (made_by m.host) (call f args m)
 
 -- nothing was given out
 abbrev pub nothing_made : Made
-nothing_made = record { promises = 0; signals = 0; states = 0; registrations = []; ids = 0; handles = 0; starts = 0; frames = 0; idle = 0; tasks = 0; jobs = 0; hosts = 0; combinators = 0 }
+nothing_made =
+    record {
+      promises = 0;
+      signals = 0;
+      states = 0;
+      registrations = [];
+      ids = 0;
+      handles = 0;
+      starts = 0;
+      frames = 0;
+      idle = 0;
+      tasks = 0;
+      jobs = 0;
+      hosts = 0;
+      combinators = 0;
+    }
 
 -- the values that arrive hold no number of a promise, signal or controller
 abbrev pub HoldsNoNumbers : Setup → Type 0

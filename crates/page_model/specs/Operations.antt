@@ -92,7 +92,8 @@ signal_or_unit v = elim (signal_in v) [ None ↦ None | Some s ↦ Some (Some s)
 
 -- time advances by so many microseconds
 abbrev pub busy_for : ℤ → State → Done Page
-busy_for n m = branch (int_within (pos 0) (pos 1000000000) n) m (does (λ p. record p { now = p.now + not_below_zero n })) (throw_fault RangeError)
+busy_for n m =
+    branch (int_within (pos 0) (pos 1000000000) n) m (does (λ p. record p { now = p.now + not_below_zero n })) (throw_fault RangeError)
 
 -- `busy`: a unit of fuel is taken first, whatever the argument
 abbrev pub busy : Value → State → Done Page
@@ -143,14 +144,23 @@ then_made n f g p =
 -- `then`: handlers that are no functions are absent
 abbrev pub then_value : Value → Value → Value → State → Done Page
 then_value v f g m =
-    given (promise_in v) TypeError m (λ n m. where_left (promise_left m.host && registration_left m.host) m (answers last_promise_value (then_made n f g)))
+    given (promise_in v) TypeError m (λ n m. where_left (promise_left m.host && registration_left m.host) m
+    (answers last_promise_value (then_made n f g)))
 
 -- ---- HTML, "Timers"
 
 -- a timer is registered under the id that it will get
 abbrev pub timer_registered : RegKind → Func → Page → Page
 timer_registered kind f p =
-    register_as kind (record { role = OfKind kind; callback = Some f; second_callback = None; timer_id = suc p.timers.ids_made; promise = 0; signal = None; finally = false }) p
+    register_as kind (record {
+      role = OfKind kind;
+      callback = Some f;
+      second_callback = None;
+      timer_id = suc p.timers.ids_made;
+      promise = 0;
+      signal = None;
+      finally = false;
+    }) p
 
 -- a timer is registered and initialised
 abbrev pub timer_set : RegKind → Bool → Func → ℤ → Page → Page
@@ -200,7 +210,8 @@ request_idle_callback f ms m =
 abbrev pub remaining : Value → State → Done Page
 remaining d m = given (deadline_in d) TypeError m (λ t m. Gives (IntValue (pos (time_remaining t m.host))) m)
 
--- ---- DOM, "Interface AbortController" and "Interface AbortSignal"; Prioritized Task Scheduling, "The TaskController Interface" and "The TaskSignal Interface"
+-- ---- DOM, "Interface AbortController" and "Interface AbortSignal"; Prioritized Task Scheduling, "The TaskController Interface" and "The
+-- TaskSignal Interface"
 
 -- a change of the signals
 abbrev pub with_signals : (AbortGraph.Signals Value → AbortGraph.Signals Value) → Page → Page
@@ -229,7 +240,8 @@ task_signal_made priority p = let made = with_signals AbortGraph.make p in give_
 -- `taskController`
 abbrev pub make_task_controller : Value → State → Done Page
 make_task_controller v m =
-    given (priority_in v) TypeError m (λ priority m. where_left (signal_left m.host) m (answers controller_value (task_signal_made priority)))
+    given (priority_in v) TypeError m (λ priority m. where_left (signal_left m.host) m
+    (answers controller_value (task_signal_made priority)))
 
 -- the reason of an abort: a new AbortError where none is given
 abbrev pub reason_given : Value → Value
@@ -248,7 +260,8 @@ change_by w s priority m =
 
 -- `setPriority` of a controller
 abbrev pub set_priority_by : Ways → Value → Value → State → Done Page
-set_priority_by w c v m = given (controller_in c) TypeError m (λ s m. given (priority_in v) TypeError m (λ priority m. change_by w s priority m))
+set_priority_by w c v m =
+    given (controller_in c) TypeError m (λ s m. given (priority_in v) TypeError m (λ priority m. change_by w s priority m))
 
 -- `abortedSignal`
 abbrev pub aborted_signal : Value → State → Done Page
@@ -266,7 +279,8 @@ signals_in v = elim (list_in v) [ None ↦ None | Some vs ↦ all_signals (items
 
 -- `anySignal`
 abbrev pub make_any : Value → State → Done Page
-make_any l m = given (signals_in l) TypeError m (λ ss m. where_left (signal_left m.host) m (answers signal_value (with_signals (AbortGraph.any ss))))
+make_any l m =
+    given (signals_in l) TypeError m (λ ss m. where_left (signal_left m.host) m (answers signal_value (with_signals (AbortGraph.any ss))))
 
 -- the new signal of `taskAny` gets its priority; where that is a signal's, it follows that one from now on
 abbrev pub any_made : List ℕ → Priority → Option ℕ → Page → Page
@@ -307,7 +321,8 @@ timeout_signal_made ms p =
 -- `timeoutSignal`
 abbrev pub make_timeout_signal : Value → State → Done Page
 make_timeout_signal ms m =
-    given (delay_in ms) TypeError m (λ ms m. where_left (signal_left m.host && registration_left m.host) m (answers signal_value (timeout_signal_made ms)))
+    given (delay_in ms) TypeError m (λ ms m. where_left (signal_left m.host && registration_left m.host) m
+    (answers signal_value (timeout_signal_made ms)))
 
 -- what is read of a signal
 abbrev pub of_signal : Value → (ℕ → Page → Value) → State → Done Page
@@ -372,7 +387,15 @@ prio_source_of p None signal = signal_source p signal
 abbrev pub promised : RegKind → Option Func → Option ℕ → Page → Page
 promised kind f signal p =
     let made = new_promise p in
-    let x : Registration = record { role = OfKind kind; callback = f; second_callback = None; timer_id = 0; promise = last_promise made; signal = signal; finally = false } in
+    let x : Registration = record {
+      role = OfKind kind;
+      callback = f;
+      second_callback = None;
+      timer_id = 0;
+      promise = last_promise made;
+      signal = signal;
+      finally = false;
+    } in
     let registered = register_as kind x made in
     watch signal (last_registration registered) registered
 
@@ -398,7 +421,8 @@ post_accepted f priority signal ms m =
 abbrev pub post_task : Value → Value → Value → Value → State → Done Page
 post_task f priority signal ms m =
     given_or_rejected (func_in f) m (λ f m. given_or_rejected (priority_or_unit priority) m (λ priority m.
-    given_or_rejected (signal_or_unit signal) m (λ signal m. given_or_rejected (delay_in ms) m (λ ms m. post_accepted f priority signal ms m))))
+    given_or_rejected (signal_or_unit signal) m (λ signal m. given_or_rejected (delay_in ms) m
+    (λ ms m. post_accepted f priority signal ms m))))
 
 -- a continuation is registered and enqueued
 abbrev pub continuation_queued : SchedulingState → Page → Page
@@ -496,26 +520,38 @@ answers_first f m = answers (λ p. PromiseValue (suc (last_promise m.host))) f m
 abbrev pub combined : CombinatorKind → Value → State → Done Page
 combined kind l m =
     given_or_rejected (list_in l) m (λ vs m.
-    where_left (are_promises_left (1 + promises_for_all (items_of vs) + length (items_of vs)) m.host) m (answers_first (all_made kind (items_of vs))))
+    where_left (are_promises_left (1 + promises_for_all (items_of vs) + length (items_of vs)) m.host) m
+    (answers_first (all_made kind (items_of vs))))
 
 -- `race`
 abbrev pub raced : Value → State → Done Page
 raced l m =
-    given_or_rejected (list_in l) m (λ vs m. where_left (are_promises_left (1 + promises_for_all (items_of vs)) m.host) m (answers_first (race_made (items_of vs))))
+    given_or_rejected (list_in l) m (λ vs m. where_left (are_promises_left (1 + promises_for_all (items_of vs)) m.host) m
+    (answers_first (race_made (items_of vs))))
 
 -- the derived promise and the registration of a `finally` are made, and the promise gets the reaction
 abbrev pub finally_made : ℕ → Value → Page → Page
 finally_made n f p =
-    let x : Registration = record { role = OfKind ThenKind; callback = func_in f; second_callback = func_in f; timer_id = 0; promise = 0; signal = None; finally = true } in
+    let x : Registration = record {
+      role = OfKind ThenKind;
+      callback = func_in f;
+      second_callback = func_in f;
+      timer_id = 0;
+      promise = 0;
+      signal = None;
+      finally = true;
+    } in
     let made = register_as ThenKind x (new_promise p) in
     promises.subscribe n (record { registration = Some (last_registration made); into = last_promise made; state = made.scheduling }) made
 
 -- `finally`: a handler that is no function is absent
 abbrev pub finally_value : Value → Value → State → Done Page
 finally_value v f m =
-    given_or_rejected (promise_in v) m (λ n m. where_left (promise_left m.host && registration_left m.host) m (answers last_promise_value (finally_made n f)))
+    given_or_rejected (promise_in v) m (λ n m. where_left (promise_left m.host && registration_left m.host) m
+    (answers last_promise_value (finally_made n f)))
 
--- ---- HTML, "Cross-document messaging". Ours: a message goes to a port by its number, and tells no function, promise, signal, controller or deadline
+-- ---- HTML, "Cross-document messaging". Ours: a message goes to a port by its number, and tells no function, promise, signal, controller
+-- or deadline
 
 -- a port: a number from 1 to 64
 abbrev pub port_in : Value → Option ℕ
@@ -527,7 +563,8 @@ sendable_in v = cond (is_sendable v) (Some v) None
 
 -- a message is posted, with its line
 abbrev pub posted : ℕ → Value → Page → Page
-posted port v p = emit (Send port (spelled p.names v)) (record p { posts = and_last p.posts (record { port = port; value = v; at = p.now }) })
+posted port v p =
+    emit (Send port (spelled p.names v)) (record p { posts = and_last p.posts (record { port = port; value = v; at = p.now }) })
 
 -- the messages since the last taking are taken
 abbrev pub posts_taken : Page → Page

@@ -31,7 +31,8 @@ with_folds folds p = record { page = p; folds = folds }
 -- what the host answers, with these folds open around: unit at the end of a fold, or the next callback, with the fold open
 abbrev pub reached_step : List Fold → Reached → Stepped Hosting
 reached_step folds (Finished p) = record { step = StepValue UnitValue; host = with_folds folds p }
-reached_step folds (Calls f fold p) = record { step = StepInvoke (FunValue f.function f.bound) fold.args (length folds); host = with_folds (fold ∷ folds) p }
+reached_step folds (Calls f fold p) =
+    record { step = StepInvoke (FunValue f.function f.bound) fold.args (length folds); host = with_folds (fold ∷ folds) p }
 
 -- the innermost fold goes on; with none open there is nothing to do
 abbrev pub resume_innermost : List Fold → CallbackEnd → Page → Stepped Hosting
@@ -60,7 +61,8 @@ step_change_by folds s priority p =
 
 -- `setPriority` of a controller
 abbrev pub step_change : List Fold → Value → Value → Page → Stepped Hosting
-step_change folds c v p = step_given folds (controller_in c) p (λ s. step_given folds (priority_in v) p (λ priority. step_change_by folds s priority p))
+step_change folds c v p =
+    step_given folds (controller_in c) p (λ s. step_given folds (priority_in v) p (λ priority. step_change_by folds s priority p))
 
 -- a machine with nothing in it but this page, and a unit of fuel for `busy`
 abbrev pub bare : Page → State

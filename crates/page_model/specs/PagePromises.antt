@@ -28,7 +28,8 @@ follow n how p = on_notices (follow_promise (context p) p.names n how) p
 -- ECMA-262, "PerformPromiseThen"; HTML, "Unhandled promise rejections": a promise gets a handler; where it was outstanding, a task is
 -- queued which fires `rejectionhandled`
 abbrev pub subscribe : ℕ → Reaction → Page → Page
-subscribe n r p = cond (is_outstanding n p.notices) (queue_task Dom (NotifyHandled n)) (λ q. q) (on_notices (subscribe_promise (context p) n r) p)
+subscribe n r p =
+    cond (is_outstanding n p.notices) (queue_task Dom (NotifyHandled n)) (λ q. q) (on_notices (subscribe_promise (context p) n r) p)
 
 -- a new pending promise; its number is the length of the list afterwards
 abbrev pub new_promise : Page → Page

@@ -13,7 +13,8 @@ use Rattle.page_model.specs.Parallel.{arrive}
 use Rattle.page_model.specs.View.{view}
 use Rattle.page_model.specs.Turns.{Turned, GoesOn, Ended, Stuck, next_turn, is_pending, target, first_state, state_of}
 
--- ---- HTML, "Event loops: processing model" and "Cross-document messaging". Ours: the pages are numbered from 1, and each has a program, policy and fuel of its own and no host closures
+-- ---- HTML, "Event loops: processing model" and "Cross-document messaging". Ours: the pages are numbered from 1, and each has a program,
+-- policy and fuel of its own and no host closures
 
 -- a page's run as far as it has come, with its program and the moment at which it ends at the latest
 pub record PageRun : Type 0 where

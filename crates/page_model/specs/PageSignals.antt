@@ -189,7 +189,8 @@ abbrev pub change_through : Ways → ℕ → Priority → (ℕ → State → Don
 change_through w s priority each m =
     let before = m.host.prios in
     afterwards
-    (dispatch w (AtSignal s) (codes "prioritychange") (SignalValue s ∷ priority_value (priority_of before s) ∷ []) (on_page (change_begun s priority) m))
+    (dispatch w (AtSignal s) (codes "prioritychange") (SignalValue s ∷ priority_value (priority_of before s) ∷ [])
+    (on_page (change_begun s priority) m))
     (λ m. afterwards (each_in_turn (followers before s) each m) (λ m. finish (on_page (change_ended s) m)))
 
 -- whether a signal has exactly this priority
@@ -200,4 +201,5 @@ has_priority ps s priority = elim (priority_of ps s) [ None ↦ false | Some own
 abbrev pub change : Ways → Priority → ℕ → ℕ → State → Done Page
 change w priority zero s m = finish m
 change w priority (suc n) s m =
-    branch (TaskSignals.is_changing m.host.prios s || has_priority m.host.prios s priority) m finish (change_through w s priority (change w priority n))
+    branch (TaskSignals.is_changing m.host.prios s || has_priority m.host.prios s priority) m finish
+    (change_through w s priority (change w priority n))

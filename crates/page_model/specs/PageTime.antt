@@ -29,7 +29,14 @@ timer_armed again a r repeats timeout p =
       timers = with_armed again a p.timers;
       completions = and_last p.completions (record {
         start = a.start;
-        completion = QueueTimer (record { registration = r; id = a.id; handle = a.handle; level = a.level; repeats = repeats; timeout = timeout });
+        completion = QueueTimer (record {
+          registration = r;
+          id = a.id;
+          handle = a.handle;
+          level = a.level;
+          repeats = repeats;
+          timeout = timeout;
+        });
       });
     })
 
@@ -82,14 +89,16 @@ without_frame handle p = record p { frames = Frames.cancel handle p.frames }
 
 -- `cancelAnimationFrame`: the callback leaves the map with a `drop` line, where it is there
 abbrev pub cancel_frame : ℕ → Page → Page
-cancel_frame handle p = elim (callback_in p.frames.callbacks handle) [ None ↦ p | Some c ↦ emit (Drop c.registration) (without_frame handle p) ]
+cancel_frame handle p =
+    elim (callback_in p.frames.callbacks handle) [ None ↦ p | Some c ↦ emit (Drop c.registration) (without_frame handle p) ]
 
 -- ---- HTML, "Event loops: processing model": the deadline of an idle period (compute deadline)
 
 -- the deadline of an idle period with this start: where a frame callback waits, the last opportunity plus the period counts too
 abbrev pub deadline : ℕ → Page → ℕ
 deadline start p =
-    IdleCallbacks.deadline start (next_due p.timers) (cond (is_empty p.frames.callbacks) None (Some (p.last_opportunity + p.refresh_period)))
+    IdleCallbacks.deadline start (next_due p.timers)
+    (cond (is_empty p.frames.callbacks) None (Some (p.last_opportunity + p.refresh_period)))
 
 -- ---- requestIdleCallback, "Start an idle period algorithm". Ours: when a start is delayed
 
@@ -101,13 +110,15 @@ idle_moment p =
 
 -- an idle period starts: its line, the pending callbacks become runnable, and a task is queued that invokes them
 abbrev pub period_begun : ℕ → Page → Page
-period_begun end p = queue_task Idle InvokeIdle (emit (Period end) (record p { idle = IdleCallbacks.started p.idle; idle_period_end = end }))
+period_begun end p =
+    queue_task Idle InvokeIdle (emit (Period end) (record p { idle = IdleCallbacks.started p.idle; idle_period_end = end }))
 
 -- an idle period starts, unless its start is delayed: no idle callback waits, the deadline is not after now, or the period before has not
 -- ended
 abbrev pub start_period : Page → Page
 start_period p =
-    cond (waits p.idle && nat_lt p.now (deadline p.last_idle_start p) && nat_le p.idle_period_end p.now) (period_begun (deadline p.last_idle_start p) p) p
+    cond (waits p.idle && nat_lt p.now (deadline p.last_idle_start p) && nat_le p.idle_period_end p.now)
+    (period_begun (deadline p.last_idle_start p) p) p
 
 -- the idle step of a turn: the last idle period start is now, also where the start is then delayed
 abbrev pub idle_step : Page → Page

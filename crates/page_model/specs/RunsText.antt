@@ -11,7 +11,8 @@ use Rattle.page_model.specs.PageRuns.{PageRun, standing}
 -- the windows one after another, from number n on: a line with the number, and the trace in the form of the window's setup
 abbrev pub windows_text : ℕ → List PageRun → List ℕ
 windows_text n [] = []
-windows_text n (r ∷ rs) = codes "window " ++ decimal_of n ++ 10 ∷ text_of (standing r).host.trace (events_of_run r.run) ++ windows_text (suc n) rs
+windows_text n (r ∷ rs) =
+    codes "window " ++ decimal_of n ++ 10 ∷ text_of (standing r).host.trace (events_of_run r.run) ++ windows_text (suc n) rs
 
 -- an event with the number of its loop
 pub record LoopEvent : Type 0 where

@@ -49,7 +49,12 @@ enqueue r source continuation p =
     emit (Enq r (queue_name source) continuation (suc p.tasks_made))
     (record p {
       tasks_made = suc p.tasks_made;
-      sched_tasks = and_last p.sched_tasks (record { registration = r; source = source; continuation = continuation; order = suc p.tasks_made });
+      sched_tasks = and_last p.sched_tasks (record {
+        registration = r;
+        source = source;
+        continuation = continuation;
+        order = suc p.tasks_made;
+      });
     })
 
 -- a registration's scheduler task leaves its queue

@@ -195,7 +195,8 @@ on_page f m = record m { host = f m.host }
 
 -- what stands for a registration that was never made
 abbrev pub no_registration : Registration
-no_registration = record { role = ScriptRole; callback = None; second_callback = None; timer_id = 0; promise = 0; signal = None; finally = false }
+no_registration =
+    record { role = ScriptRole; callback = None; second_callback = None; timer_id = 0; promise = 0; signal = None; finally = false }
 
 -- registration number r
 abbrev pub the_registration : Page → ℕ → Registration
@@ -229,4 +230,8 @@ on_notices f p = let d = f p.notices in emit_each d.lines (record p { notices = 
 -- a task is queued, with the next number
 abbrev pub queue_task : Source → Steps → Page → Page
 queue_task source steps p =
-    record p { tasks_made = suc p.tasks_made; tasks = and_last p.tasks (record { number = suc p.tasks_made; source = source; steps = steps }) }
+    record p {
+      tasks_made = suc p.tasks_made;
+      tasks = and_last p.tasks
+          (record { number = suc p.tasks_made; source = source; steps = steps });
+    }

@@ -62,7 +62,8 @@ background = record { abort_source = None; prio_source = Fixed Background }
 
 -- an idle callback leaves the lists and is invoked with its deadline
 abbrev pub call_idle : Ways → Callback → Option ℕ → State → Done Page
-call_idle w c t m = invoke w c.registration false (DeadlineValue t ∷ []) (on_page (with_state background) (on_page (without_idle c.handle) m))
+call_idle w c t m =
+    invoke w c.registration false (DeadlineValue t ∷ []) (on_page (with_state background) (on_page (without_idle c.handle) m))
 
 -- where callbacks remain, the same task is queued again
 abbrev pub invoke_idle_again : Page → Page
@@ -99,7 +100,8 @@ outstanding_if_unhandled n p = record p { notices = Notices.note_outstanding n p
 abbrev pub notify_one : Ways → ℕ → State → Done Page
 notify_one w n m =
     branch (promise_at m.host n).handled m finish (λ m.
-    afterwards (dispatch w Window (codes "unhandledrejection") (PromiseValue n ∷ promise_reason m.host n ∷ []) (on_page (emit (Unhandled n)) m))
+    afterwards (dispatch w Window (codes "unhandledrejection") (PromiseValue n ∷ promise_reason m.host n ∷ [])
+    (on_page (emit (Unhandled n)) m))
     (λ m. finish (on_page (outstanding_if_unhandled n) m)))
 
 -- ---- HTML, "Event loops: processing model": performing a task; those of the scheduler stand below

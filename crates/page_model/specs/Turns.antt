@@ -158,7 +158,8 @@ from_step_three rules call until c m = next_turn (step_three rules call until c 
 -- whether anything is pending
 abbrev pub is_pending : Page → Bool
 is_pending p =
-    not (is_empty p.arrivals && is_empty p.host_answers && is_empty p.timers.active && is_empty p.idle_timers && is_empty p.frames.callbacks) || waits p.idle
+    not (is_empty p.arrivals && is_empty p.host_answers && is_empty p.timers.active && is_empty p.idle_timers
+    && is_empty p.frames.callbacks) || waits p.idle
 
 -- the least of the next due time, the next rendering opportunity and the idle moment
 abbrev pub target : Page → Option ℕ
@@ -197,7 +198,8 @@ step_one m = cond (m.host.turns == 0) m (on_page parallel m)
 -- step 2 where no task is runnable, and else steps 3 to 5
 abbrev pub after_step_one : {C : Type 0} → Rules C → Caller Page → ℕ → (State → C → Turned C) → C → State → Turned C
 after_step_one rules call until again c m =
-    choose_turned (is_empty (view m.host)) (step_two rules until again (from_step_three rules call until c) c) (from_step_three rules call until c) m
+    choose_turned (is_empty (view m.host)) (step_two rules until again (from_step_three rules call until c) c)
+    (from_step_three rules call until c) m
 
 -- steps 1 and 2, again after each wait; each wait takes an item, opens a frame or comes to the idle moment, so n of them are enough
 abbrev pub from_step_one : {C : Type 0} → Rules C → Caller Page → ℕ → ℕ → State → C → Turned C
@@ -216,7 +218,15 @@ turns rules call until (suc n) m c = next_turn (turn rules call until m c) (turn
 -- the script's own body has the number after the last function
 abbrev pub the_script : Program → Registration
 the_script program =
-    record { role = ScriptRole; callback = Some (record { function = length program.names; bound = no_values }); second_callback = None; timer_id = 0; promise = 0; signal = None; finally = false }
+    record {
+      role = ScriptRole;
+      callback = Some (record { function = length program.names; bound = no_values });
+      second_callback = None;
+      timer_id = 0;
+      promise = 0;
+      signal = None;
+      finally = false;
+    }
 
 -- the page before the first turn: the script is task 1, on the dom source, and the time is 0
 abbrev pub first_page : Program → Setup → List HostClosure → Page

@@ -37,7 +37,13 @@ late_of (s ∷ more) = s.setup.late
 -- the loop before its first round
 abbrev pub first_windows : List Script → Windows
 first_windows scripts =
-    record { windows = map (λ s. first_run s.program s.setup (until_of scripts)) scripts; now = 0; until = until_of scripts; late = late_of scripts; served = 0 }
+    record {
+      windows = map (λ s. first_run s.program s.setup (until_of scripts)) scripts;
+      now = 0;
+      until = until_of scripts;
+      late = late_of scripts;
+      served = 0;
+    }
 
 -- an act is done for a window, where it is live
 abbrev pub does_act : Act → PageRun → PageRun
@@ -64,7 +70,8 @@ or_number (Some j) k = Some j
 -- the window to serve: the next one with a runnable task after the last one served, in a circle
 abbrev pub next_to_serve : Windows → Option ℕ
 next_to_serve w =
-    or_number (find (λ k. nat_lt w.served k && is_ready w.windows k) (numbers_to (length w.windows))) (find (is_ready w.windows) (numbers_to (length w.windows)))
+    or_number (find (λ k. nat_lt w.served k && is_ready w.windows k) (numbers_to (length w.windows)))
+    (find (is_ready w.windows) (numbers_to (length w.windows)))
 
 -- each live window does the idle step
 abbrev pub all_rest : Windows → Windows
@@ -107,7 +114,8 @@ waits_till t w = record w { now = t + next_late w.late; late = more_late w.late 
 -- what is done where no window has a runnable task, by the least of the targets
 abbrev pub waits_for : Option ℕ → Windows → Windows
 waits_for None w = all_stop w.now w
-waits_for (Some t) w = cond (nat_le w.until w.now || nat_le w.until t) (all_stop (max w.now w.until)) (cond (nat_lt w.now t) (waits_till t) all_rest) w
+waits_for (Some t) w =
+    cond (nat_le w.until w.now || nat_le w.until t) (all_stop (max w.now w.until)) (cond (nat_lt w.now t) (waits_till t) all_rest) w
 
 -- the window to serve is served, unless the time is up
 abbrev pub serves : List Channel → Windows → Windows

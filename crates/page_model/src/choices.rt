@@ -13,20 +13,30 @@ ghost use Rattle.page_model.specs.ChoicesAreData.{with_left, no_choices, HasEnde
 
 use crate::choosing::Choosing;
 
-/// A run by whatever rules is the run by the lists of the choices in its own lines: it ends the same, or is stuck the same, in the same state,
-/// and no choice is left. So the events of a run that ended are legal.
+/// A run by whatever rules is the run by the lists of the choices in its own lines: it ends the same, or is stuck the same, in the same
+/// state, and no choice is left. So the events of a run that ended are legal.
 pub fn choices_are_data<R: Choosing>()
-    ensures again { (program : Program) (setup : Setup) (hosts : List HostClosure) (c : R.Held) → run program setup hosts (choices_in (events_of_run (run_by R.rules program setup hosts c))) ≡ with_left no_choices (run_by R.rules program setup hosts c) }
-    ensures legal { (program : Program) (setup : Setup) (hosts : List HostClosure) (c : R.Held) → HasEnded (run_by R.rules program setup hosts c) → IsLegal program setup hosts (events_of_run (run_by R.rules program setup hosts c)) }
+    ensures again { (program : Program) (setup : Setup) (hosts : List HostClosure) (c : R.Held)
+        → run program setup hosts (choices_in (events_of_run (run_by R.rules program setup hosts c)))
+        ≡ with_left no_choices (run_by R.rules program setup hosts c) }
+    ensures legal { (program : Program) (setup : Setup) (hosts : List HostClosure) (c : R.Held)
+        → HasEnded (run_by R.rules program setup hosts c)
+        → IsLegal program setup hosts (events_of_run (run_by R.rules program setup hosts c)) }
 {}
 
-/// So the choices that stand in the lines of a run determine it, whatever the rules: two runs with the same choices end the same, or are stuck
-/// the same, in the same state.
+/// So the choices that stand in the lines of a run determine it, whatever the rules: two runs with the same choices end the same, or are
+/// stuck the same, in the same state.
 pub fn choices_determine_the_run<R: Choosing, S: Choosing>()
-    ensures { (program : Program) (setup : Setup) (hosts : List HostClosure) (c : R.Held) (d : S.Held) → choices_in (events_of_run (run_by R.rules program setup hosts c)) ≡ choices_in (events_of_run (run_by S.rules program setup hosts d)) → with_left no_choices (run_by R.rules program setup hosts c) ≡ with_left no_choices (run_by S.rules program setup hosts d) }
+    ensures { (program : Program) (setup : Setup) (hosts : List HostClosure) (c : R.Held) (d : S.Held)
+        → choices_in (events_of_run (run_by R.rules program setup hosts c))
+        ≡ choices_in (events_of_run (run_by S.rules program setup hosts d))
+        → with_left no_choices (run_by R.rules program setup hosts c) ≡ with_left no_choices (run_by S.rules program setup hosts d) }
 {}
 
 /// Further choices behind the lists are left over where a run has ended, and where it is stuck its lines come first.
 pub fn further_choices_are_left()
-    ensures { (program : Program) (setup : Setup) (hosts : List HostClosure) (c : Choices) (more_sources : List Source) (more_readings : List ℕ) (more_answers : List (Result ℤ ℤ)) → Continues more_sources more_readings more_answers (run program setup hosts c) (run program setup hosts (with_further more_sources more_readings more_answers c)) }
+    ensures { (program : Program) (setup : Setup) (hosts : List HostClosure) (c : Choices) (more_sources : List Source)
+        (more_readings : List ℕ) (more_answers : List (Result ℤ ℤ))
+        → Continues more_sources more_readings more_answers (run program setup hosts c)
+        (run program setup hosts (with_further more_sources more_readings more_answers c)) }
 {}

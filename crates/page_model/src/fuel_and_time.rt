@@ -34,9 +34,12 @@ pub fn operations_go_forward()
 
 /// The law that each callback goes forward, where calls do: in a task with the checkpoint after it, in an operation, and in a job.
 pub fn callbacks_go_forward()
-    ensures in_a_task { (call : Caller Page) → CallsForward call → (r : ℕ) (second : Bool) (args : List Value) → Forward (invoke (in_task call) r second args) }
-    ensures in_a_script { (call : Caller Page) → CallsForward call → (r : ℕ) (second : Bool) (args : List Value) → Forward (invoke (in_script call) r second args) }
-    ensures in_a_job { (call : Caller Page) → CallsForward call → (r : ℕ) (second : Bool) (args : List Value) → Forward (invoke (in_checkpoint call) r second args) }
+    ensures in_a_task { (call : Caller Page) → CallsForward call → (r : ℕ) (second : Bool) (args : List Value)
+        → Forward (invoke (in_task call) r second args) }
+    ensures in_a_script { (call : Caller Page) → CallsForward call → (r : ℕ) (second : Bool) (args : List Value)
+        → Forward (invoke (in_script call) r second args) }
+    ensures in_a_job { (call : Caller Page) → CallsForward call → (r : ℕ) (second : Bool) (args : List Value)
+        → Forward (invoke (in_checkpoint call) r second args) }
 {}
 
 /// The law that jobs and checkpoints go forward, where calls do.
@@ -47,7 +50,8 @@ pub fn jobs_go_forward()
 
 /// The law that dispatch, abort and priority change go forward, where calls and what follows callbacks do.
 pub fn signals_go_forward()
-    ensures fired { (w : Ways) → WaysForward w → (target : Target) (name : List ℕ) (args : List Value) → Forward (dispatch w target name args) }
+    ensures fired { (w : Ways) → WaysForward w → (target : Target) (name : List ℕ) (args : List Value)
+        → Forward (dispatch w target name args) }
     ensures aborted { (w : Ways) → WaysForward w → (s : ℕ) (reason : Value) → Forward (abort w s reason) }
     ensures changed { (w : Ways) → WaysForward w → (priority : Priority) (n s : ℕ) → Forward (change w priority n s) }
 {}
@@ -67,9 +71,12 @@ pub fn parallel_items_take_no_time()
 
 /// The law that turns and runs go forward, by whatever rules, and that a turn that goes on has taken a unit of fuel at least.
 pub fn turns_go_forward<R: Choosing>()
-    ensures one_turn { (program : Program) (until : ℕ) (m : State) (c : R.Held) → TurnForward m (turn R.rules (call_from_outside program page_operations) until m c) }
-    ensures many_turns { (program : Program) (until n : ℕ) (m : State) (c : R.Held) → Later m (state_of (turns R.rules (call_from_outside program page_operations) until n m c)) }
-    ensures whole_run { (program : Program) (setup : Setup) (hosts : List HostClosure) (c : R.Held) → Later (first_state program setup hosts) (state_of (run_by R.rules program setup hosts c)) }
+    ensures one_turn { (program : Program) (until : ℕ) (m : State) (c : R.Held)
+        → TurnForward m (turn R.rules (call_from_outside program page_operations) until m c) }
+    ensures many_turns { (program : Program) (until n : ℕ) (m : State) (c : R.Held)
+        → Later m (state_of (turns R.rules (call_from_outside program page_operations) until n m c)) }
+    ensures whole_run { (program : Program) (setup : Setup) (hosts : List HostClosure) (c : R.Held)
+        → Later (first_state program setup hosts) (state_of (run_by R.rules program setup hosts c)) }
 {}
 
 /// The law that a turn which begins again after a wait begins at the target or later, and that the target is after now.

@@ -56,5 +56,6 @@ pub use steps::{
 ///
 /// This is what lets a page hand its lines on and keep none.
 pub fn lines_are_only_given<R: Choosing>()
-    ensures { (program : Program) (until most : ℕ) (c : R.Held) (before : List Stamped) → TurnAdds before (λ m. turns R.rules (call_from_outside program page_operations) until most m c) }
+    ensures { (program : Program) (until most : ℕ) (c : R.Held) (before : List Stamped)
+        → TurnAdds before (λ m. turns R.rules (call_from_outside program page_operations) until most m c) }
 {}

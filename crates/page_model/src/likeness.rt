@@ -31,5 +31,6 @@ pub trait Likeness {
 
 /// By rules that choose alike, runs go alike: they end the same, or are stuck the same, in the same state.
 pub fn runs_are_alike<L: Likeness>()
-    ensures { (program : Program) (setup : Setup) (hosts : List HostClosure) (c : L.Held) (d : L.Other) → L.Together c d → EndAlike L.Together (run_by L.rules program setup hosts c) (run_by L.others program setup hosts d) }
+    ensures { (program : Program) (setup : Setup) (hosts : List HostClosure) (c : L.Held) (d : L.Other) → L.Together c d
+        → EndAlike L.Together (run_by L.rules program setup hosts c) (run_by L.others program setup hosts d) }
 {}

@@ -32,47 +32,61 @@ pub fn folds_go_on_by_steps()
 
 /// Firing an event in a script opens such a fold.
 pub fn dispatch_is_a_fold()
-    ensures { (call : Caller Page) (target : Target) (name : List ℕ) (args : List Value) (m : State) → dispatch (in_script call) target name args m ≡ nested_reached call (begin_dispatch target name args m.host) m }
+    ensures { (call : Caller Page) (target : Target) (name : List ℕ) (args : List Value) (m : State)
+        → dispatch (in_script call) target name args m ≡ nested_reached call (begin_dispatch target name args m.host) m }
 {}
 
 /// So does an abort.
 pub fn abort_is_a_fold()
-    ensures { (call : Caller Page) (s : ℕ) (reason : Value) (m : State) → abort (in_script call) s reason m ≡ nested_reached call (begin_abort s reason m.host) m }
+    ensures { (call : Caller Page) (s : ℕ) (reason : Value) (m : State)
+        → abort (in_script call) s reason m ≡ nested_reached call (begin_abort s reason m.host) m }
 {}
 
 /// So does a priority change.
 pub fn priority_change_is_a_fold()
-    ensures { (call : Caller Page) (priority : Priority) (chain s : ℕ) (m : State) → change (in_script call) priority chain s m ≡ nested_reached call (begin_change priority chain s m.host) m }
+    ensures { (call : Caller Page) (priority : Priority) (chain s : ℕ) (m : State)
+        → change (in_script call) priority chain s m ≡ nested_reached call (begin_change priority chain s m.host) m }
 {}
 
 /// A script's calls around a page within bounds end as those around the page as a host, whatever folds are open around them.
 pub fn steps_do_what_nesting_does()
-    ensures { (program : Program) (n : ℕ) (folds : List Fold) (f : ℕ) (args : List Value) (m : State) → IsBounded m.host → EndsSame folds (calls program page_operations n f args m) (calls program (host_operations page_rules) n f args (hosted (with_folds folds) m)) }
+    ensures { (program : Program) (n : ℕ) (folds : List Fold) (f : ℕ) (args : List Value) (m : State) → IsBounded m.host
+        → EndsSame folds (calls program page_operations n f args m)
+        (calls program (host_operations page_rules) n f args (hosted (with_folds folds) m)) }
 {}
 
 /// So do those from outside.
 pub fn steps_do_what_nesting_does_outside()
-    ensures { (program : Program) (folds : List Fold) (f : ℕ) (args : List Value) (m : State) → IsBounded m.host → EndsSame folds (call_from_outside program page_operations f args m) (call_from_outside program (host_operations page_rules) f args (hosted (with_folds folds) m)) }
+    ensures { (program : Program) (folds : List Fold) (f : ℕ) (args : List Value) (m : State) → IsBounded m.host
+        → EndsSame folds (call_from_outside program page_operations f args m)
+        (call_from_outside program (host_operations page_rules) f args (hosted (with_folds folds) m)) }
 {}
 
 /// A script's calls leave a page within bounds.
 pub fn calls_keep_bounds()
-    ensures { (program : Program) (n : ℕ) (f : ℕ) (args : List Value) (m : State) → IsBounded m.host → EndsBounded (calls program page_operations n f args m) }
+    ensures { (program : Program) (n : ℕ) (f : ℕ) (args : List Value) (m : State) → IsBounded m.host
+        → EndsBounded (calls program page_operations n f args m) }
 {}
 
 /// After an operation the host is within bounds, and where a callback comes next, how many may still come is a number of 64 bits.
 pub fn operations_keep_bounds()
-    ensures { (op : Op) (args : List Value) (h : Hosting) → HostIsBounded h → let s = page_rules.op op args h in HostIsBounded s.host × FewerLeft (to_visit s.host) (2 ^ 64) s.step }
+    ensures { (op : Op) (args : List Value) (h : Hosting) → HostIsBounded h → let s = page_rules.op op args h in HostIsBounded s.host
+        × FewerLeft (to_visit s.host) (2 ^ 64) s.step }
 {}
 
 /// So it is after a callback of the innermost fold, and where another one comes next, fewer are left than before.
 pub fn callbacks_left_fall()
-    ensures { (ticket : ℕ) (end : CallbackEnd) (h : Hosting) → HostIsBounded h → let s = page_rules.resume ticket end h in HostIsBounded s.host × FewerLeft (to_visit s.host) (to_visit h ticket) s.step × FewerLeft (to_visit s.host) (2 ^ 64) s.step }
+    ensures { (ticket : ℕ) (end : CallbackEnd) (h : Hosting) → HostIsBounded h
+        → let s = page_rules.resume ticket end h in HostIsBounded s.host × FewerLeft (to_visit s.host) (to_visit h ticket) s.step
+        × FewerLeft (to_visit s.host) (2 ^ 64) s.step }
 {}
 
 /// The next piece of a priority change: it is passed over, or it opens the fold of its own listeners, its followers and its end.
 pub fn priority_changes_go_piece_by_piece()
-    ensures { (when : WhenReported) (priority : Priority) (chain s : ℕ) (more : List ChangePiece) (p : Page) → changes_from priority (ChangeOf (suc chain) s ∷ more) p ≡ cond (is_changing p.prios s || has_priority p.prios s priority) (changes_from priority more p) (go_on (change_fold when priority chain s more p) (change_begun s priority p)) }
+    ensures { (when : WhenReported) (priority : Priority) (chain s : ℕ) (more : List ChangePiece) (p : Page)
+        → changes_from priority (ChangeOf (suc chain) s ∷ more) p
+        ≡ cond (is_changing p.prios s || has_priority p.prios s priority) (changes_from priority more p)
+        (go_on (change_fold when priority chain s more p) (change_begun s priority p)) }
 {}
 
 /// The page before the first turn is within bounds.
@@ -82,25 +96,31 @@ pub fn first_page_is_bounded()
 
 /// The open tickets are those of the folds: an operation that calls opens one more.
 pub fn operations_account_for_tickets()
-    ensures { (op : Op) (args : List Value) (h : Hosting) → let s = page_rules.op op args h in open_tickets s.host.folds ≡ tickets_then s.step (open_tickets h.folds) }
+    ensures { (op : Op) (args : List Value) (h : Hosting)
+        → let s = page_rules.op op args h in open_tickets s.host.folds ≡ tickets_then s.step (open_tickets h.folds) }
 {}
 
 /// The ticket that is resumed is no longer open, unless another callback comes under it.
 pub fn callbacks_account_for_tickets()
-    ensures { (ticket : ℕ) (end : CallbackEnd) (h : Hosting) (rest : List ℕ) → open_tickets h.folds ≡ ticket ∷ rest → let s = page_rules.resume ticket end h in open_tickets s.host.folds ≡ tickets_then s.step rest }
+    ensures { (ticket : ℕ) (end : CallbackEnd) (h : Hosting) (rest : List ℕ) → open_tickets h.folds ≡ ticket ∷ rest
+        → let s = page_rules.resume ticket end h in open_tickets s.host.folds ≡ tickets_then s.step rest }
 {}
 
 /// Turns from a page within bounds are the same where scripts are called by steps, by whatever rules choices are made.
 pub fn turns_by_steps_are_the_turns<R: Choosing>()
-    ensures { (program : Program) (until most : ℕ) (c : R.Held) (m : State) → IsBounded m.host → turns R.rules (call_by_steps program) until most m c ≡ turns R.rules (call_from_outside program page_operations) until most m c }
+    ensures { (program : Program) (until most : ℕ) (c : R.Held) (m : State) → IsBounded m.host
+        → turns R.rules (call_by_steps program) until most m c ≡ turns R.rules (call_from_outside program page_operations) until most m c }
 {}
 
 /// And they leave a page within bounds.
 pub fn turns_keep_bounds<R: Choosing>()
-    ensures { (program : Program) (until most : ℕ) (c : R.Held) (m : State) → IsBounded m.host → TurnEndsBounded (turns R.rules (call_from_outside program page_operations) until most m c) }
+    ensures { (program : Program) (until most : ℕ) (c : R.Held) (m : State) → IsBounded m.host
+        → TurnEndsBounded (turns R.rules (call_from_outside program page_operations) until most m c) }
 {}
 
 /// So a whole run is the same where scripts are called by steps.
 pub fn runs_by_steps_are_the_runs<R: Choosing>()
-    ensures { (program : Program) (setup : Setup) (hosts : List HostClosure) (c : R.Held) → turns R.rules (call_by_steps program) setup.until (suc setup.fuel) (first_state program setup hosts) c ≡ run_by R.rules program setup hosts c }
+    ensures { (program : Program) (setup : Setup) (hosts : List HostClosure) (c : R.Held)
+        → turns R.rules (call_by_steps program) setup.until (suc setup.fuel) (first_state program setup hosts) c
+        ≡ run_by R.rules program setup hosts c }
 {}

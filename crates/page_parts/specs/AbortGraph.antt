@@ -4,7 +4,8 @@ use Rattle.page_parts.specs.Words.{and_last, without, has_number, numbered, with
 
 -- ---- DOM, "Interface AbortSignal"
 
--- one signal: its abort reason, none while it is not aborted; its source signals; its dependent signals; its abort algorithms, each a registration
+-- one signal: its abort reason, none while it is not aborted; its source signals; its dependent signals; its abort algorithms, each a
+-- registration
 pub record SignalRecord (R : Type 0) : Type 0 where
   pub reason : Option R
   pub sources : List ℕ
@@ -72,7 +73,8 @@ depend_on sources ss =
     let made = and_last ss (record { reason = None; sources = sources; dependents = []; algorithms = [] }) in
     with_dependent (length made) sources made
 
--- a dependent signal takes the reason of the first aborted one and has then no dependence. Otherwise it depends on the sources of all, each once, in order.
+-- a dependent signal takes the reason of the first aborted one and has then no dependence. Otherwise it depends on the sources of all, each
+-- once, in order.
 abbrev pub any : {R : Type 0} → List ℕ → Signals R → Signals R
 any of ss = elim (first_reason ss of) [ Some v ↦ make_aborted v ss | None ↦ depend_on (all_sources ss [] of) ss ]
 

@@ -31,7 +31,16 @@ message_value port v = ListValue (values_of (IntValue (pos port) ∷ v ∷ []))
 
 -- a message on a channel: it arrives on the dom source, as the event `message`
 abbrev pub sent_on : Channel → Post → Routed
-sent_on c x = record { to = c.to; arrival = record { at = x.at + c.late; source = Dom; name = codes "message"; value = message_value c.port x.value } }
+sent_on c x =
+    record {
+      to = c.to;
+      arrival = record {
+        at = x.at + c.late;
+        source = Dom;
+        name = codes "message";
+        value = message_value c.port x.value;
+      };
+    }
 
 -- where a message goes that a page posts: nowhere where no channel begins there
 abbrev pub route : List Channel → (from : ℕ) → Post → Option Routed

@@ -79,8 +79,9 @@ passed_on how (Fulfilled v) = how
 passed_on how (Failed v) = Failed v
 
 -- The answer of a combinator, by the reports so far, none while there is none.
--- `all`: the first rejection, or else, once all have reported, the values by place. `any`: the first value, or else the reasons by place (ours: a list of them, since a fault holds no list).
--- `allSettled`: the outcomes by place. `finally`: the outcome that is passed on, or a rejection of the one element.
+-- `all`: the first rejection, or else, once all have reported, the values by place. `any`: the first value, or else the reasons by place
+-- (ours: a list of them, since a fault holds no list). `allSettled`: the outcomes by place. `finally`: the outcome that is passed on, or a
+-- rejection of the one element.
 abbrev pub answer_by : CombinatorKind → Combine → Option Settled
 answer_by All c = or_answer (first_failed c.reports) (once_all c (list_outcome Fulfilled (map settled_value (by_place c))))
 answer_by AnyOf c = or_answer (first_fulfilled c.reports) (once_all c (list_outcome Failed (map settled_value (by_place c))))

@@ -5,14 +5,16 @@ use Rattle.page_parts.specs.Words.{and_last, without, has_number, numbered, with
 use Rattle.page_parts.specs.Spelling.{spelled}
 use Rattle.page_parts.specs.Promises.{Settled, Fulfilled, Failed, Reaction, PromiseRecord, PromiseJob, React, Adopt, Change, pending_promise, the_promise, resolve, reject, follow, subscribe}
 
--- ---- ECMA-262, "Jobs and Host Operations to Enqueue Jobs"; HTML, "Event loops: processing model": perform a microtask checkpoint: the queue of microtasks
+-- ---- ECMA-262, "Jobs and Host Operations to Enqueue Jobs"; HTML, "Event loops: processing model": perform a microtask checkpoint: the
+-- queue of microtasks
 
 -- what a job does: it calls the callback of a `queueMicrotask` registration, or it is a job of a promise
 pub data Todo : Type 0 where
   Micro : ℕ → Todo
   OfPromise : PromiseJob → Todo
 
--- HTML, "Timers"; Prioritized Task Scheduling, "Scheduling Tasks and Continuations": the nesting level and the scheduling state that are current
+-- HTML, "Timers"; Prioritized Task Scheduling, "Scheduling Tasks and Continuations": the nesting level and the scheduling state that are
+-- current
 pub record Context : Type 0 where
   pub level : ℕ
   pub state : Option ℕ
@@ -67,7 +69,11 @@ followed_by d next = record { notices = (next d.notices).notices; lines = d.line
 abbrev pub queue_job : Context → Todo → Notices → Noticed
 queue_job now what s =
     record {
-      notices = record s { jobs_made = suc s.jobs_made; jobs = and_last s.jobs (record { number = suc s.jobs_made; what = what; context = now }) };
+      notices = record s {
+        jobs_made = suc s.jobs_made;
+        jobs = and_last s.jobs
+            (record { number = suc s.jobs_made; what = what; context = now });
+      };
       lines = Job (suc s.jobs_made) (queued_as what) ∷ [];
     }
 
@@ -86,7 +92,11 @@ settle_line names n (Some (Failed v)) = Settle n false (spelled names v) ∷ []
 abbrev pub promise_changed : List (List ℕ) → ℕ → Change → Notices → Noticed
 promise_changed names n c s =
     record {
-      notices = record s { promises = with_numbered s.promises n c.promise; rejected = cond c.newly_rejected (and_last s.rejected n) s.rejected };
+      notices = record s {
+        promises = with_numbered s.promises n c.promise;
+        rejected = cond c.newly_rejected
+            (and_last s.rejected n) s.rejected;
+      };
       lines = cond c.settled (settle_line names n c.promise.outcome) [];
     }
 

@@ -19,14 +19,16 @@ pub record Reaction : Type 0 where
   pub into : ℕ
   pub state : Option ℕ
 
--- one promise: its outcome, none while it is pending; whether a resolution was accepted (locked); whether it has or had a handler; the reactions that wait for it
+-- one promise: its outcome, none while it is pending; whether a resolution was accepted (locked); whether it has or had a handler; the
+-- reactions that wait for it
 pub record PromiseRecord : Type 0 where
   pub outcome : Option Settled
   pub locked : Bool
   pub handled : Bool
   pub reactions : List Reaction
 
--- a job of a promise: a reaction to the settled promise `of`, or the subscription of `into` to the promise `from` with which it was resolved
+-- a job of a promise: a reaction to the settled promise `of`, or the subscription of `into` to the promise `from` with which it was
+-- resolved
 pub data PromiseJob : Type 0 where
   React : (of : ℕ) → Reaction → PromiseJob
   Adopt : (into from : ℕ) → PromiseJob
@@ -78,7 +80,8 @@ settle n q how =
 abbrev pub adopt : ℕ → PromiseRecord → ℕ → Change
 adopt n q from = record { promise = record q { locked = true }; settled = false; jobs = Adopt n from ∷ []; newly_rejected = false }
 
--- a resolution that is the first: with the promise itself it rejects with TypeError, with another promise it adopts that one, with any other value it fulfils
+-- a resolution that is the first: with the promise itself it rejects with TypeError, with another promise it adopts that one, with any
+-- other value it fulfils
 abbrev pub resolve_unlocked : ℕ → PromiseRecord → Value → Option ℕ → Change
 resolve_unlocked n q v None = settle n q (Fulfilled v)
 resolve_unlocked n q v (Some other) = cond (other == n) (settle n q (Failed (a_fault TypeError))) (adopt n q other)
@@ -91,7 +94,8 @@ resolve n q v = cond q.locked (no_change q) (resolve_unlocked n q v (promise_in 
 abbrev pub reject : ℕ → PromiseRecord → Value → Change
 reject n q v = cond q.locked (no_change q) (settle n q (Failed v))
 
--- what the job of an inner subscription does: it settles a pending promise, also one that is locked. Ours: no derived promise is made for it, since none could be seen
+-- what the job of an inner subscription does: it settles a pending promise, also one that is locked. Ours: no derived promise is made for
+-- it, since none could be seen
 abbrev pub follow : ℕ → PromiseRecord → Settled → Change
 follow n q how = elim q.outcome [ None ↦ settle n q how | Some before ↦ no_change q ]
 
@@ -99,8 +103,10 @@ follow n q how = elim q.outcome [ None ↦ settle n q how | Some before ↦ no_c
 
 -- a reaction waits while the promise is pending, and else a job is queued for it; the promise is handled from now on
 abbrev pub subscribe_by : ℕ → PromiseRecord → Reaction → Option Settled → Change
-subscribe_by n q r None = record { promise = record q { handled = true; reactions = and_last q.reactions r }; settled = false; jobs = []; newly_rejected = false }
-subscribe_by n q r (Some how) = record { promise = record q { handled = true }; settled = false; jobs = React n r ∷ []; newly_rejected = false }
+subscribe_by n q r None =
+    record { promise = record q { handled = true; reactions = and_last q.reactions r }; settled = false; jobs = []; newly_rejected = false }
+subscribe_by n q r (Some how) =
+    record { promise = record q { handled = true }; settled = false; jobs = React n r ∷ []; newly_rejected = false }
 
 -- the promise gets a reaction
 abbrev pub subscribe : ℕ → PromiseRecord → Reaction → Change

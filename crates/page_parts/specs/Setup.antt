@@ -22,7 +22,8 @@ abbrev pub are_in_order : List Arrival → Bool
 are_in_order [] = true
 are_in_order (a ∷ more) = is_not_after a.at more && are_in_order more
 
--- which task source is served: that of the oldest first task, the first in a list, or a fair one, by which a source that was passed over K times goes first
+-- which task source is served: that of the oldest first task, the first in a list, or a fair one, by which a source that was passed over K
+-- times goes first
 pub data Policy : Type 0 where
   Fifo : Policy
   Rank : List Source → Policy
@@ -33,7 +34,8 @@ pub record Latency : Type 0 where
   pub closure : ℕ
   pub latency : ℕ
 
--- the setup of a run: its form, 1 or 2, and that of its trace (in form 2 a microtask inherits, and a trace of form 2 tells more); policy, units of fuel, the moment at which the run ends at the latest, refresh rate in hertz, how late each wait is, latencies and arrivals
+-- the setup of a run: its form, 1 or 2, and that of its trace (in form 2 a microtask inherits, and a trace of form 2 tells more); policy,
+-- units of fuel, the moment at which the run ends at the latest, refresh rate in hertz, how late each wait is, latencies and arrivals
 pub record Setup : Type 0 where
   pub form : ℕ
   pub trace : ℕ

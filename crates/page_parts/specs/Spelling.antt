@@ -18,7 +18,7 @@ fault_text AbortError = codes "AbortError"
 fault_text TimeoutError = codes "TimeoutError"
 fault_text NotAllowedError = codes "NotAllowedError"
 
--- the text of a priority (Prioritized Task Scheduling, "The Scheduler Interface": postTask and yield")
+-- the text of a priority (Prioritized Task Scheduling, "The Scheduler Interface")
 abbrev pub priority_text : Priority → List ℕ
 priority_text Background = codes "background"
 priority_text UserVisible = codes "user-visible"

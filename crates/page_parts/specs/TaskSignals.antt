@@ -57,11 +57,13 @@ changed_at s f (r ∷ rs) = cond (r.signal == s) (f r) r ∷ changed_at s f rs
 abbrev pub give : ℕ → Priority → Prios → Prios
 give s priority ps = and_last ps (record { signal = s; priority = priority; follows = None; followers = []; changing = false })
 
--- ---- Prioritized Task Scheduling, "The TaskSignal Interface": create a dependent task signal: following is apart from the dependence for aborts
+-- ---- Prioritized Task Scheduling, "The TaskSignal Interface": create a dependent task signal: following is apart from the dependence for
+-- aborts
 
 -- s follows another signal from now on
 abbrev pub depend : ℕ → ℕ → Prios → Prios
-depend s on ps = changed_at s (λ r. record r { follows = Some on }) (changed_at on (λ r. record r { followers = and_last r.followers s }) ps)
+depend s on ps =
+    changed_at s (λ r. record r { follows = Some on }) (changed_at on (λ r. record r { followers = and_last r.followers s }) ps)
 
 -- ---- Prioritized Task Scheduling, "The TaskSignal Interface": signal priority change
 

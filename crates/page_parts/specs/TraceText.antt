@@ -100,7 +100,8 @@ event_text (Settle n ok v) = codes "settle" ++ number_field n ++ how_text ok ++ 
 event_text (Period d) = codes "period" ++ number_field d
 event_text (IdleLine d) = codes "idle" ++ number_field d
 event_text (Frame t) = codes "frame" ++ number_field t
-event_text (Enq r queue continuation n) = codes "enq" ++ number_field r ++ queue_text queue ++ cond continuation (codes " cont") (codes " task") ++ number_field n
+event_text (Enq r queue continuation n) =
+    codes "enq" ++ number_field r ++ queue_text queue ++ cond continuation (codes " cont") (codes " task") ++ number_field n
 event_text (Prio s priority) = codes "prio" ++ number_field s ++ field (priority_text priority)
 event_text (Abort s) = codes "abort" ++ number_field s
 event_text (Wait t) = codes "wait" ++ number_field t

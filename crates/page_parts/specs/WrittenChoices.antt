@@ -54,7 +54,8 @@ greatest counts (s ∷ more) = Some (greatest_from counts s more)
 
 -- the greatest count of at least k, ties by the default list, which also decides where there is none
 abbrev pub by_fair : ℕ → List ℕ → List Runnable → Source
-by_fair k counts rs = unwrap_or (greatest counts (filter (λ s. is_runnable rs s && nat_le k (count_of counts s)) default_list)) (by_rank default_list rs)
+by_fair k counts rs =
+    unwrap_or (greatest counts (filter (λ s. is_runnable rs s && nat_le k (count_of counts s)) default_list)) (by_rank default_list rs)
 
 -- the counts after a choice: 0 for the chosen source, one more for each other source with a runnable task
 abbrev pub counts_after : List Runnable → Source → List ℕ → List ℕ
@@ -95,7 +96,8 @@ pub record PickedAnswer : Type 0 where
 -- the next source: none where it is absent or has no runnable task
 abbrev pub next_source : List Runnable → Choices → Option PickedSource
 next_source rs (Recorded [] readings answers) = None
-next_source rs (Recorded (s ∷ sources) readings answers) = cond (is_runnable rs s) (Some (record { source = s; left = Recorded sources readings answers })) None
+next_source rs (Recorded (s ∷ sources) readings answers) =
+    cond (is_runnable rs s) (Some (record { source = s; left = Recorded sources readings answers })) None
 next_source rs (Written policy counts late answers) =
     let s = policy_source policy counts rs in
     Some (record { source = s; left = Written policy (counts_after rs s (counts_now rs counts)) late answers })
@@ -106,7 +108,8 @@ next_reading target (Recorded sources [] answers) = None
 next_reading target (Recorded sources (t ∷ readings) answers) =
     cond (nat_le target t && nat_lt t (2 ^ 63)) (Some (record { reading = t; left = Recorded sources readings answers })) None
 next_reading target (Written policy counts [] answers) = Some (record { reading = target; left = Written policy counts [] answers })
-next_reading target (Written policy counts (l ∷ late) answers) = Some (record { reading = target + l; left = Written policy counts late answers })
+next_reading target (Written policy counts (l ∷ late) answers) =
+    Some (record { reading = target + l; left = Written policy counts late answers })
 
 -- the first answer of a list, where it meets the relation
 abbrev pub first_answer : HostKind → ℤ → List (Result ℤ ℤ) → (List (Result ℤ ℤ) → Choices) → Option PickedAnswer

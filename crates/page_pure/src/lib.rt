@@ -37,7 +37,8 @@ pub fn pure_op(
 ) -> Result<Option<HostStep>, MemoryFault>
     requires count { length args.now.items ≡ count_of op }
     requires numbered { AllNumbered (length names.now) (map seen args.now.items) }
-    ensures answer { IfOk result (λ step. option_map seen_step step ≡ option_map step_of (pure_answer names.now op (map seen args.now.items))) }
+    ensures answer { IfOk result (λ step. option_map seen_step step
+        ≡ option_map step_of (pure_answer names.now op (map seen args.now.items))) }
     ensures numbered { IfOk result (λ step. IfSome step (λ s. StepIsNumbered (length names.now) (seen_step s))) }
 {
     answer(alloc, op, args, names)

@@ -19,7 +19,8 @@ step_to step told = record { step = step; host = told }
 -- the last argument is called
 abbrev pub started : Told → List Value → Stepped Told
 started told (FunValue f bound ∷ rest) =
-    step_to (StepInvoke (FunValue f no_values) [] (length told.pending)) (record told { pending = record { function = f; ticket = length told.pending; again = true } ∷ told.pending })
+    step_to (StepInvoke (FunValue f no_values) [] (length told.pending))
+    (record told { pending = record { function = f; ticket = length told.pending; again = true } ∷ told.pending })
 started told args = step_to (StepThrow (FaultValue TypeError [])) told
 
 -- an operation is done
@@ -32,7 +33,8 @@ op_step op args told = step_to (StepValue UnitValue) (one_done told)
 
 -- a callback gave a value: its function is called once more, or the operation gives the value
 abbrev pub once_more : Bool → Told → Pending → List Pending → ℕ → Value → Stepped Told
-once_more true told p rest ticket v = step_to (StepInvoke (FunValue p.function no_values) [] ticket) (record told { pending = record p { again = false } ∷ rest })
+once_more true told p rest ticket v =
+    step_to (StepInvoke (FunValue p.function no_values) [] ticket) (record told { pending = record p { again = false } ∷ rest })
 once_more false told p rest ticket v = step_to (StepValue v) (record told { pending = rest })
 
 abbrev pub given : Told → List Pending → ℕ → Value → Stepped Told

@@ -3,7 +3,7 @@
 use crate::example::{Ended, Example};
 use std::test::Fail;
 
-const NO_PARSE: &str = "pageloop: script: no parse\n";
+const NOT_RUN: &str = "pageloop: script: no parse\n";
 
 const USAGE: &str = "usage: pageloop run S A | check S A T | storm N | stat T\n";
 
@@ -34,10 +34,25 @@ fn words_of_no_form_give_the_usage_line_and_status_2(rt: HostRuntime) -> Result<
 #[test]
 fn scripts_and_arrivals_are_refused_in_this_order(rt: HostRuntime) -> Result<(), Fail> {
     let examples: [(&str, &str, u8, &str); 10] = [
-        ("log(", "page 1\n", 3, NO_PARSE),
-        ("log(", "", 3, NO_PARSE),
-        ("log(", "page 1\nfuel 5\n", 3, NO_PARSE),
-        ("lgo(1); log(", "page 1\n", 3, NO_PARSE),
+        (
+            "log(",
+            "page 1\n",
+            3,
+            "pageloop: script: no parse at byte 4\n",
+        ),
+        ("log(", "", 3, "pageloop: script: no parse at byte 4\n"),
+        (
+            "log(",
+            "page 1\nfuel 5\n",
+            3,
+            "pageloop: script: no parse at byte 4\n",
+        ),
+        (
+            "lgo(1); log(",
+            "page 1\n",
+            3,
+            "pageloop: script: no parse at byte 12\n",
+        ),
         ("lgo(1);", "", 5, "pageloop: unknown name at byte 0\n"),
         (
             "fn f() { } lgo(1);",
@@ -56,6 +71,28 @@ fn scripts_and_arrivals_are_refused_in_this_order(rt: HostRuntime) -> Result<(),
             is_refusal(&ended, status, line),
             "{script} under {arrivals}"
         );
+    }
+    Ok(())
+}
+
+#[test]
+fn the_byte_of_a_syntax_error_is_told_with_status_3(rt: HostRuntime) -> Result<(), Fail> {
+    let examples = [
+        ("log(1;", "pageloop: script: no parse at byte 5\n"),
+        ("log(1) log(2);", "pageloop: script: no parse at byte 7\n"),
+        ("log(\"a", "pageloop: script: no parse at byte 6\n"),
+        (
+            "log(1) log(2); #",
+            "pageloop: script: no parse at byte 15\n",
+        ),
+        (
+            "log(((((((((((((((((((((((((((((((((((((((((((((((((((((((((((((((((1",
+            "pageloop: script: no parse at byte 67\n",
+        ),
+    ];
+    for (script, line) in examples {
+        let ended = Example::of_files(script.as_bytes(), b"page 1\n").run(rt.alloc())?;
+        assert!(rt; is_refusal(&ended, 3, line), "{script}");
     }
     Ok(())
 }
@@ -96,7 +133,7 @@ fn scripts_of_other_kinds_are_not_run_so_far(rt: HostRuntime) -> Result<(), Fail
     ];
     for script in examples {
         let ended = Example::of_files(script.as_bytes(), b"page 1\n").run(rt.alloc())?;
-        assert!(rt; is_refusal(&ended, 3, NO_PARSE), "{script}");
+        assert!(rt; is_refusal(&ended, 3, NOT_RUN), "{script}");
     }
     Ok(())
 }

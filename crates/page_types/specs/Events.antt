@@ -7,7 +7,8 @@ use Rattle.page_types.specs.declared.Priority.{Priority}
 
 -- ---- Ours: the standards write no trace
 
--- what a job was queued for: a microtask callback (its registration), a reaction (the promise that was settled), or a resolution with another promise (the promise that was resolved)
+-- what a job was queued for: a microtask callback (its registration), a reaction (the promise that was settled), or a resolution with
+-- another promise (the promise that was resolved)
 pub data Queued : Type 0 where
   MicroJob : ℕ → Queued
   ReactJob : ℕ → Queued

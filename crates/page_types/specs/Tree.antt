@@ -13,7 +13,8 @@ pub record Named : Type 0 where
   pub at : ℕ
 
 mutual
-  -- an expression: one variant for each level of the grammar, from `||` down to what stands behind a value, and one for each branch of its lowest level
+  -- an expression: one variant for each level of the grammar, from `||` down to what stands behind a value, and one for each branch of its
+  -- lowest level
   pub data Expr : Type 0 where
     Or : Expr → Exprs → Expr
     And : Expr → Exprs → Expr

@@ -140,7 +140,7 @@ pub enum RegKind {
     Signal,
 }
 
-/// The priority of a scheduler task (Prioritized Task Scheduling, "Scheduler: postTask and yield").
+/// The priority of a scheduler task (Prioritized Task Scheduling, "The Scheduler Interface").
 #[derive(Clone, Copy, PartialEq, Eq, Debug)]
 pub enum Priority {
     Background,

@@ -39,7 +39,8 @@ pub data IsSimple (bs : List ℕ) : Type 0 where
   is_controller : (number : List ℕ) → IsNumber (2 ^ 32) number → bs ≡ codes "controller#" ++ number → IsSimple bs
   is_period : bs ≡ codes "deadline" → IsSimple bs
   is_deadline : (number : List ℕ) → IsNumber (2 ^ 64) number → bs ≡ codes "deadline@" ++ number → IsSimple bs
-  is_fault : (name : FaultName) (parts : List ℕ) → IsTrue (are_parts parts) → bs ≡ fault_text name ++ 40 ∷ (34 ∷ parts ++ 34 ∷ []) ++ 41 ∷ [] → IsSimple bs
+  is_fault : (name : FaultName) (parts : List ℕ) → IsTrue (are_parts parts)
+      → bs ≡ fault_text name ++ 40 ∷ (34 ∷ parts ++ 34 ∷ []) ++ 41 ∷ [] → IsSimple bs
 
 abbrev pub Each : (List ℕ → Type 0) → List (List ℕ) → Type 0
 Each IsItem [] = Unit {0}

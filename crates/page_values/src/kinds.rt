@@ -58,7 +58,8 @@ pub fn as_list(value: &Value) -> Option<&Items>
 
 /// The function of a `Fun`, and `None` for any other value.
 pub fn as_function(value: &Value) -> Option<&Func>
-    ensures { MatchOption result (func_in (seen value.now) ≡ None) (λ f. func_in (seen value.now) ≡ Some (record { function = f.now.function; bound = f.now.bound })) }
+    ensures { MatchOption result (func_in (seen value.now) ≡ None)
+        (λ f. func_in (seen value.now) ≡ Some (record { function = f.now.function; bound = f.now.bound })) }
 {
     match value {
         Value::Fun(function) => Some(function),
@@ -68,7 +69,8 @@ pub fn as_function(value: &Value) -> Option<&Func>
 
 /// The name and the text of a `Fault`, and `None` for any other value.
 pub fn as_fault(value: &Value) -> Option<(FaultName, &Str)>
-    ensures { MatchOption result (fault_in (seen value.now) ≡ None) (λ f. fault_in (seen value.now) ≡ Some (record { name = f.0; text = f.1.now })) }
+    ensures { MatchOption result (fault_in (seen value.now) ≡ None)
+        (λ f. fault_in (seen value.now) ≡ Some (record { name = f.0; text = f.1.now })) }
 {
     match value {
         Value::Fault(name, text) => Some((*name, text)),

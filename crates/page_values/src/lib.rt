@@ -15,8 +15,6 @@ mod faults;
 mod kinds;
 mod limits;
 mod printing;
-#[cfg(test)]
-mod tests;
 mod weighing;
 
 pub use comparing::{is_word, same, same_text};

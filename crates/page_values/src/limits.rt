@@ -60,7 +60,8 @@ pub fn make_text(bytes: Vec<u8>) -> Result<Value, ValueFault>
 
 /// The function with more arguments bound, after those that are bound already.
 pub fn bind(alloc: Global, function: &Func, more: &Items) -> Result<Value, ValueFault>
-    ensures { IsMade result (within_limits (FunValue function.now.function (values_of (items_of function.now.bound ++ items_of more.now)))) }
+    ensures { IsMade result (within_limits (FunValue function.now.function
+        (values_of (items_of function.now.bound ++ items_of more.now)))) }
 {
     if weight_of_all(&function.bound) + weight_of_all(more) >= WEIGHT_LIMIT {
         return Err(ValueFault::Is(TooHeavy));

@@ -1,42 +1,29 @@
--- The best of the first tasks of the queues is the first of all tasks that wait.
-use Rattle.std.proofs.Common.{◌≡◌, ◌⊎◌, ℕ, ◌+◌, ◌*◌, ◌≤◌, Bool, true, false, cond, ◌||◌, ◌&&◌, ◌==◌, nat_lt, List, [], ◌∷◌, ◌++◌, map, Option, Some, None, refl, sym, ◌∙◌, ap, subst, inl, inr, arith}
-use Rattle.std.specs.Option.{option_map}
+-- The winner among the first tasks of the sources is the first of all tasks that wait.
+use Rattle.std.proofs.Common.{◌≡◌, ◌⊎◌, ℕ, zero, suc, ◌+◌, ◌*◌, ◌≤◌, ◌<◌, Bool, true, false, ◌||◌, ◌&&◌, ◌==◌, nat_lt, List, [], ◌∷◌, ◌++◌, map, length, get_or, Option, Some, None, refl, sym, ◌∙◌, ap, subst, inl, inr, arith}
+use Rattle.std.specs.Option.{option_or}
 use Rattle.std.proofs.lemmas.Bool.Decides.{nat_tests}
+use Rattle.page_types.specs.declared.Priority.{Priority}
+use Rattle.page_types.specs.declared.Priority.TheVariants.{Background, UserVisible, UserBlocking}
 use Rattle.page_parts.specs.TaskSignals.{rank}
-use Rattle.task_pool.specs.Lists.{Entry, Lists, list_of, first_entry}
-use Rattle.task_pool.specs.declared.pool.ListId.{ListId}
-use Rattle.post_task.specs.declared.heads.Head.{Head}
+use Rattle.task_pool.specs.Lists.{Entry, Lists, list_of}
+use Rattle.post_task.specs.declared.level.Level.{Level}
+use Rattle.post_task.specs.declared.level.PrioSource.TheVariants.{Fixed}
+use Rattle.post_task.specs.declared.tournament.Head.{Head}
+use Rattle.post_task.specs.declared.tournament.Winner.{Winner}
 use Rattle.post_task.specs.Waiting.{Waiting, effective, Among, IsFirst}
-use Rattle.post_task.specs.Levels.{Queue, in_queue, of_queue, waiting_in, Above, Rises, AreKept}
-use Rattle.post_task.specs.Heads.{goes_before, better, head_of, best_from}
+use Rattle.post_task.specs.Levels.{Queue, queue_in, queues_of, all_queues, in_queue, of_queue, waiting_in, Above, Rises, AreKept}
+use Rattle.post_task.specs.Heads.{effective_of, head_in, first_of, firsts}
+use Rattle.post_task.specs.Tournament.{goes_before, head_at, HasNone, Wins, is_odd}
 
 -- a head comes before a task of this effective priority and order, or is the same
 abbrev pub Beats : Head → ℕ → ℕ → Type 0
 Beats h e n = (e ≤ h.effective) × (e ≡ h.effective → h.order ≤ n)
 
-before_true : (x y u v : ℕ) → (nat_lt y x || ((x == y) && nat_lt u v)) ≡ true → (y ≤ x) × (y ≡ x → u ≤ v)
-before_true x y u v h = (grind (arith, nat_tests), λ e. grind (arith, nat_tests))
-
 before_false : (x y u v : ℕ) → (nat_lt y x || ((x == y) && nat_lt u v)) ≡ false → (x ≤ y) × (x ≡ y → v ≤ u)
 before_false x y u v h = (grind (arith, nat_tests), λ e. grind (arith, nat_tests))
 
-beats_itself : (h : Head) → Beats h h.effective h.order
-beats_itself h = (omega arith, λ e. omega arith)
-
-beats_also : (h b : Head) (e n : ℕ) → Beats h b.effective b.order → Beats b e n → Beats h e n
-beats_also h b e n p q = (
-  omega (arith, p.0, q.0),
-  λ same.
-      let first : e ≡ b.effective = omega (arith, p.0, q.0) in
-      let second : b.effective ≡ h.effective = omega (arith, p.0, q.0) in
-      omega (arith, p.1 second, q.1 first),
-)
-
--- what the better of two is
-record Better (best next : Option Head) (h : Head) : Type 0 where
-  is : better best next ≡ Some h
-  old : (b : Head) → best ≡ Some b → Beats h b.effective b.order
-  new : (b : Head) → next ≡ Some b → Beats h b.effective b.order
+beaten : (b h : Head) → goes_before b h ≡ false → Beats h b.effective b.order
+beaten b h e = before_false b.effective h.effective b.order h.order e
 
 head_is : (a b : Head) → Some a ≡ Some b → a ≡ b
 head_is a b h = cc
@@ -44,53 +31,43 @@ head_is a b h = cc
 no_head : (a : Head) → None ≡ Some a → ⊥
 no_head a h = cc
 
-beats_same : (a b : Head) → Some a ≡ Some b → Beats a b.effective b.order
-beats_same a b h = subst (λ (x : Head). Beats a x.effective x.order) (head_is a b h) (beats_itself a)
+either : (a b : Option Head) (h : Head) → option_or a b ≡ Some h → (a ≡ Some h) ⊎ (b ≡ Some h)
+either None b h e = inr e
+either (Some x) b h e = inl e
 
-choose : (b n : Head) (t : Bool) → goes_before n b ≡ t → (h : Head) × (cond t (Some n) (Some b) ≡ Some h) × Beats h b.effective b.order × Beats h n.effective n.order
-choose b n true t = (n, refl, before_true n.effective b.effective n.order b.order t, beats_itself n)
-choose b n false t = (b, refl, beats_itself b, before_false n.effective b.effective n.order b.order t)
-
-old_better : (b : Head) (next : Option Head) → (h : Head) × Better (Some b) next h
-old_better b None = (b, record { is = refl; old = λ x e. beats_same b x e; new = λ x e. absurd (no_head x e) })
-old_better b (Some n) =
-    let c = choose b n (goes_before n b) refl in (
-      c.0,
-      record {
-        is = c.1;
-        old = λ x e. subst (λ (y : Head). Beats c.0 y.effective y.order) (head_is b x e) c.2;
-        new = λ x e. subst (λ (y : Head). Beats c.0 y.effective y.order) (head_is n x e) c.3;
-      },
-    )
-
-new_better : (best : Option Head) (n : Head) → (h : Head) × Better best (Some n) h
-new_better None n = (n, record { is = refl; old = λ x e. absurd (no_head x e); new = λ x e. beats_same n x e })
-new_better (Some b) n = old_better b (Some n)
-
-better_none : (best next : Option Head) → better best next ≡ None → (best ≡ None) × (next ≡ None)
-better_none None next h = (refl, h)
-better_none (Some b) next h = let r = old_better b next in absurd (no_head r.0 (sym h ∙ r.1.is))
-
-picked : (b n h : Head) (t : Bool) → cond t (Some n) (Some b) ≡ Some h → (Some b ≡ Some h) ⊎ (Some n ≡ Some h)
-picked b n h true e = inr e
-picked b n h false e = inl e
-
-better_from : (best next : Option Head) (h : Head) → better best next ≡ Some h → (best ≡ Some h) ⊎ (next ≡ Some h)
-better_from None next h e = inr e
-better_from (Some b) None h e = inl e
-better_from (Some b) (Some n) h e = picked b n h (goes_before n b) e
-
-old_beaten : (best next : Option Head) (h b : Head) → ((c : Head) → better best next ≡ Some c → Beats h c.effective c.order) → best ≡ Some b → Beats h b.effective b.order
-old_beaten None next h b beats e = absurd (no_head b e)
-old_beaten (Some o) next h b beats e = let c = old_better o next in beats_also h c.0 b.effective b.order (beats c.0 c.1.is) (c.1.old b e)
+-- the effective priority of a continuation is odd
+odd_is : (p : Priority) (b : Bool) → is_odd (effective_of p b) ≡ b
+odd_is Background true = refl
+odd_is Background false = refl
+odd_is UserVisible true = refl
+odd_is UserVisible false = refl
+odd_is UserBlocking true = refl
+odd_is UserBlocking false = refl
 
 abbrev pub queue_rank : Queue → ℕ
-queue_rank q = 2 * rank q.priority + cond q.continuation 1 0
+queue_rank q = effective_of q.priority q.continuation
 
 -- one of these queues
 abbrev pub InQueues : Queue → List Queue → Type 0
 InQueues q [] = ⊥
 InQueues q (p ∷ ps) = (p ≡ q) ⊎ InQueues q ps
+
+queue_more : (q : Queue) (l : Level) (qs : List Queue) → InQueues q qs → InQueues q (queues_of l ++ qs)
+queue_more q l qs i = inr (inr i)
+
+queue_here : (l : Level) (b : Bool) (qs : List Queue) → InQueues (queue_in l b) (queues_of l ++ qs)
+queue_here l false qs = inl refl
+queue_here l true qs = inr (inl refl)
+
+-- a source at its place has its queues among all
+pub queued_at : (levels : List Level) (place : ℕ) (d : Level) (b : Bool) → place < length levels → InQueues (queue_in (get_or levels place d) b) (all_queues levels)
+queued_at [] place d b h = absurd (omega arith)
+queued_at (l ∷ ls) zero d b h = queue_here l b (all_queues ls)
+queued_at (l ∷ ls) (suc place) d b h = queue_more (queue_in (get_or ls place d) b) l (all_queues ls) (queued_at ls place d b (omega (arith, h)))
+
+-- some source, where one is asked for
+pub any_level : Level
+any_level = record { source = Fixed Background; priority = Background; plain = record { 0 = 0 }; continuations = record { 0 = 0 } }
 
 module _ {T : Type 0} where
   abbrev pub EachBeaten : Head → ℕ → List (Entry T) → Type 0
@@ -101,88 +78,97 @@ module _ {T : Type 0} where
   AllBeaten pool h [] = Unit {0}
   AllBeaten pool h (q ∷ qs) = EachBeaten h (queue_rank q) (list_of pool q.list) × AllBeaten pool h qs
 
-  abbrev pub head_in : ListId → ℕ → List (Entry T) → Option Head
-  head_in l e es = option_map (λ (entry : Entry T). record { list = l; effective = e; order = entry.number }) (first_entry es)
-
   later_beaten : (h : Head) (e n : ℕ) (es : List (Entry T)) → Beats h e n → Above n es → EachBeaten h e es
   later_beaten h e n [] b a = tt
   later_beaten h e n (x ∷ xs) b a = ((b.0, λ same. omega (arith, b.1 same, a.0)), later_beaten h e n xs b a.1)
 
-  list_beaten : (l : ListId) (e : ℕ) (es : List (Entry T)) (best : Option Head) (h : Head) → Rises es → ((b : Head) → better best (head_in l e es) ≡ Some b → Beats h b.effective b.order) → EachBeaten h e es
-  list_beaten l e [] best h r beats = tt
-  list_beaten l e (x ∷ xs) best h r beats =
-      let n : Head = record { list = l; effective = e; order = x.number } in
-      let c = new_better best n in
-      let first : Beats h e x.number = beats_also h c.0 e x.number (beats c.0 c.1.is) (c.1.new n refl) in
+  lower_beaten : (h : Head) (e : ℕ) (es : List (Entry T)) → e < h.effective → EachBeaten h e es
+  lower_beaten h e [] b = tt
+  lower_beaten h e (x ∷ xs) b = ((omega (arith, b), λ same. absurd (omega (arith, b, same))), lower_beaten h e xs b)
+
+  list_beaten : (h : Head) (e : ℕ) (es : List (Entry T)) → Rises es → ((b : Head) → head_in e es ≡ Some b → Beats h b.effective b.order) → EachBeaten h e es
+  list_beaten h e [] r beats = tt
+  list_beaten h e (x ∷ xs) r beats =
+      let first : Beats h e x.number = beats (record { effective = e; order = x.number }) refl in
       (first, later_beaten h e x.number xs first r.0)
 
-  dominates : (pool : Lists T) (qs : List Queue) (best : Option Head) (h : Head) → AreKept pool qs → best_from pool best qs ≡ Some h → ((b : Head) → best ≡ Some b → Beats h b.effective b.order) × AllBeaten pool h qs
-  dominates pool [] best h k is = (λ b e. beats_same h b (sym is ∙ e), tt)
-  dominates pool (q ∷ qs) best h k is =
-      let r = dominates pool qs (better best (head_of pool q)) h k.3 is in (
-        λ b e. old_beaten best (head_of pool q) h b r.0 e,
-        (list_beaten (record { 0 = q.list }) (queue_rank q) (list_of pool q.list) best h k.1 r.0, r.1),
-      )
+  source_beaten : (h : Head) (r : ℕ) (cs ps : List (Entry T)) → Rises cs → Rises ps → ((b : Head) → option_or (head_in (r + 1) cs) (head_in (r + 0) ps) ≡ Some b → Beats h b.effective b.order)
+      → EachBeaten h (r + 0) ps × EachBeaten h (r + 1) cs
+  source_beaten h r [] ps rc rp beats = (list_beaten h (r + 0) ps rp beats, tt)
+  source_beaten h r (c ∷ cs) ps rc rp beats =
+      let all = list_beaten h (r + 1) (c ∷ cs) rc beats in
+      (lower_beaten h (r + 0) ps (omega (arith, all.0.0)), all)
 
-  empty_list : (l : ListId) (e : ℕ) (q : Queue) (es : List (Entry T)) → head_in l e es ≡ None → map (in_queue q) es ≡ []
-  empty_list l e q [] h = refl
-  empty_list l e q (x ∷ xs) h = absurd (no_head (record { list = l; effective = e; order = x.number }) (sym h))
+  all_beaten : (pool : Lists T) (levels : List Level) (h : Head) → AreKept pool (all_queues levels) → ((place : ℕ) (b : Head) → head_at (firsts levels pool) place ≡ Some b → Beats h b.effective b.order) → AllBeaten pool h (all_queues levels)
+  all_beaten pool [] h k beats = tt
+  all_beaten pool (l ∷ ls) h k beats =
+      let here = source_beaten h (2 * rank l.priority) (list_of pool l.continuations.0) (list_of pool l.plain.0) k.3.1 k.1 (beats 0) in
+      (here.0, (here.1, all_beaten pool ls h k.3.3 (λ place b e. beats (suc place) b e)))
 
-  pub nothing : (pool : Lists T) (qs : List Queue) (best : Option Head) → best_from pool best qs ≡ None → (best ≡ None) × (waiting_in pool qs ≡ [])
-  nothing pool [] best h = (h, refl)
-  nothing pool (q ∷ qs) best h =
-      let r = nothing pool qs (better best (head_of pool q)) h in
-      let none = better_none best (head_of pool q) r.0 in
-      let here : of_queue pool q ≡ [] = empty_list (record { 0 = q.list }) (queue_rank q) q (list_of pool q.list) none.1 in
-      (none.0, ap (λ (x : List (Waiting T)). x ++ waiting_in pool qs) here ∙ r.1)
+  no_first : (e : ℕ) (es : List (Entry T)) → head_in e es ≡ None → es ≡ []
+  no_first e [] h = refl
+  no_first e (x ∷ xs) h = absurd (no_head (record { effective = e; order = x.number }) (sym h))
 
-  abbrev pub HeadIn : Lists T → Head → List Queue → Type 0
-  HeadIn pool h [] = ⊥
-  HeadIn pool h (q ∷ qs) = (head_of pool q ≡ Some h) ⊎ HeadIn pool h qs
+  none_of : (r : ℕ) (cs ps : List (Entry T)) → option_or (head_in (r + 1) cs) (head_in (r + 0) ps) ≡ None → (cs ≡ []) × (ps ≡ [])
+  none_of r [] ps h = (refl, no_first (r + 0) ps h)
+  none_of r (c ∷ cs) ps h = absurd (no_head (record { effective = r + 1; order = c.number }) (sym h))
 
-  from_queue : (pool : Lists T) (qs : List Queue) (best : Option Head) (h : Head) → best_from pool best qs ≡ Some h → (best ≡ Some h) ⊎ HeadIn pool h qs
-  from_queue pool [] best h is = inl is
-  from_queue pool (q ∷ qs) best h is =
-      elim (from_queue pool qs (better best (head_of pool q)) h is) [
-        | inl e ↦ elim (better_from best (head_of pool q) h e) [ inl o ↦ inl o | inr n ↦ inr (inl n) ]
-        | inr i ↦ inr (inr i)
-      ]
+  pub nothing : (pool : Lists T) (levels : List Level) → HasNone (firsts levels pool) → waiting_in pool (all_queues levels) ≡ []
+  nothing pool [] none = refl
+  nothing pool (l ∷ ls) none =
+      let both = none_of (2 * rank l.priority) (list_of pool l.continuations.0) (list_of pool l.plain.0) (none 0) in
+      let rest = waiting_in pool (all_queues ls) in
+      ap (λ (es : List (Entry T)). map (in_queue (queue_in l false)) es ++ (of_queue pool (queue_in l true) ++ rest)) both.1
+      ∙ ap (λ (es : List (Entry T)). map (in_queue (queue_in l true)) es ++ rest) both.0
+      ∙ nothing pool ls (λ place. none (suc place))
 
   -- the queue that a head is from
-  pub record FromQueue (pool : Lists T) (qs : List Queue) (h : Head) : Type 0 where
-    pub queue : Queue
-    pub queued : InQueues queue qs
+  pub record FromQueue (pool : Lists T) (level : Level) (h : Head) : Type 0 where
+    pub continuation : Bool
     pub entry : Entry T
     pub rest : List (Entry T)
-    pub is : list_of pool queue.list ≡ entry ∷ rest
-    pub list : h.list.0 ≡ queue.list
-    pub rank_is : h.effective ≡ queue_rank queue
+    pub is : list_of pool (queue_in level continuation).list ≡ entry ∷ rest
+    pub rank_is : h.effective ≡ effective_of level.priority continuation
     pub order : h.order ≡ entry.number
+    pub odd : is_odd h.effective ≡ continuation
 
-  entry_from : (l : ListId) (e : ℕ) (es : List (Entry T)) (h : Head) → head_in l e es ≡ Some h → (x : Entry T) × (rest : List (Entry T)) × (es ≡ x ∷ rest) × (record { list = l; effective = e; order = x.number } ≡ h)
-  entry_from l e [] h is = absurd (no_head h is)
-  entry_from l e (x ∷ xs) h is = (x, xs, refl, head_is (record { list = l; effective = e; order = x.number }) h is)
+  record First (e : ℕ) (es : List (Entry T)) (h : Head) : Type 0 where
+    entry : Entry T
+    rest : List (Entry T)
+    is : es ≡ entry ∷ rest
+    rank_is : h.effective ≡ e
+    order : h.order ≡ entry.number
 
-  from_head : (pool : Lists T) (qs : List Queue) (h : Head) → HeadIn pool h qs → FromQueue pool qs h
-  from_head pool [] h i = absurd i
-  from_head pool (q ∷ qs) h i =
-      elim i [
-        | inl e ↦
-            let x = entry_from (record { 0 = q.list }) (queue_rank q) (list_of pool q.list) h e in
-            record {
-              queue = q;
-              queued = inl refl;
-              entry = x.0;
-              rest = x.1;
-              is = x.2;
-              list = ap (λ (y : Head). y.list.0) (sym x.3);
-              rank_is = ap (λ (y : Head). y.effective) (sym x.3);
-              order = ap (λ (y : Head). y.order) (sym x.3);
-            }
-        | inr j ↦
-            let r = from_head pool qs h j in
-            record { queue = r.queue; queued = inr r.queued; entry = r.entry; rest = r.rest; is = r.is; list = r.list; rank_is = r.rank_is; order = r.order }
+  first_in : (e : ℕ) (es : List (Entry T)) (h : Head) → head_in e es ≡ Some h → First e es h
+  first_in e [] h is = absurd (no_head h is)
+  first_in e (x ∷ xs) h is =
+      let same = head_is (record { effective = e; order = x.number }) h is in
+      record { entry = x; rest = xs; is = refl; rank_is = ap (λ (y : Head). y.effective) (sym same); order = ap (λ (y : Head). y.order) (sym same) }
+
+  from_first : (pool : Lists T) (level : Level) (h : Head) (b : Bool) → First (effective_of level.priority b) (list_of pool (queue_in level b).list) h → FromQueue pool level h
+  from_first pool level h b f =
+      record {
+        continuation = b;
+        entry = f.entry;
+        rest = f.rest;
+        is = f.is;
+        rank_is = f.rank_is;
+        order = f.order;
+        odd = ap is_odd f.rank_is ∙ odd_is level.priority b;
+      }
+
+  from_level : (pool : Lists T) (level : Level) (h : Head) → first_of pool level ≡ Some h → FromQueue pool level h
+  from_level pool level h is =
+      elim (either (head_in (effective_of level.priority true) (list_of pool level.continuations.0)) (head_in (effective_of level.priority false) (list_of pool level.plain.0)) h is) [
+        | inl e ↦ from_first pool level h true (first_in (effective_of level.priority true) (list_of pool level.continuations.0) h e)
+        | inr e ↦ from_first pool level h false (first_in (effective_of level.priority false) (list_of pool level.plain.0) h e)
       ]
+
+  -- the source at the place of a head has that head
+  pub standing : (pool : Lists T) (levels : List Level) (place : ℕ) (h : Head) → head_at (firsts levels pool) place ≡ Some h → (place < length levels) × ((d : Level) → first_of pool (get_or levels place d) ≡ Some h)
+  standing pool [] place h is = absurd (no_head h is)
+  standing pool (l ∷ ls) zero h is = (omega arith, λ d. is)
+  standing pool (l ∷ ls) (suc place) h is = let s = standing pool ls place h is in (omega (arith, s.0), s.1)
 
   pub among-append_left : (t : Waiting T) (xs ys : List (Waiting T)) → Among t xs → Among t (xs ++ ys)
   among-append_left t [] ys i = absurd i
@@ -220,28 +206,32 @@ module _ {T : Type 0} where
         | inr j ↦ among_beaten pool h qs u b.1 j
       ]
 
-  -- the best head is that of the first task
-  pub record Best (pool : Lists T) (qs : List Queue) (h : Head) : Type 0 where
-    pub from : FromQueue pool qs h
-    pub first : IsFirst (in_queue from.queue from.entry) (waiting_in pool qs)
+  -- the winner is the first task
+  pub record Best (pool : Lists T) (levels : List Level) (level : Level) (h : Head) : Type 0 where
+    pub from : FromQueue pool level h
+    pub queued : InQueues (queue_in level from.continuation) (all_queues levels)
+    pub first : IsFirst (in_queue (queue_in level from.continuation) from.entry) (waiting_in pool (all_queues levels))
 
-  pub best : (pool : Lists T) (qs : List Queue) (h : Head) → AreKept pool qs → best_from pool None qs ≡ Some h → Best pool qs h
-  best pool qs h k is =
-      elim (from_queue pool qs None h is) [
-        | inl e ↦ absurd (no_head h e)
-        | inr i ↦
-            let f = from_head pool qs h i in
-            let beaten = (dominates pool qs None h k is).1 in
-            let here : Among (in_queue f.queue f.entry) (of_queue pool f.queue) =
-            subst (λ (es : List (Entry T)). Among (in_queue f.queue f.entry) (map (in_queue f.queue) es)) (sym f.is) (inl refl) in
-            record {
-              from = f;
-              first = record {
-                waits = among_queue pool qs f.queue (in_queue f.queue f.entry) f.queued here;
-                greatest = λ u a. let b = among_beaten pool h qs u beaten a in subst (λ (n : ℕ). effective u ≤ n) f.rank_is b.0;
-                least = λ u a same.
-                    let b = among_beaten pool h qs u beaten a in
-                    subst (λ (n : ℕ). n ≤ u.order) f.order (b.1 (same ∙ sym f.rank_is));
-              };
-            }
-      ]
+  pub best : (pool : Lists T) (levels : List Level) (w : Winner) (d : Level) → AreKept pool (all_queues levels) → Wins (firsts levels pool) w → Best pool levels (get_or levels w.place d) w.head
+  best pool levels w d k wins =
+      let h = w.head in
+      let s = standing pool levels w.place h wins.stands in
+      let level = get_or levels w.place d in
+      let f = from_level pool level h (s.1 d) in
+      let q = queue_in level f.continuation in
+      let qs = all_queues levels in
+      let queued = queued_at levels w.place d f.continuation s.0 in
+      let all = all_beaten pool levels h k (λ place b e. beaten b h (wins.first place b e)) in
+      let here : Among (in_queue q f.entry) (of_queue pool q) =
+      subst (λ (es : List (Entry T)). Among (in_queue q f.entry) (map (in_queue q) es)) (sym f.is) (inl refl) in
+      record {
+        from = f;
+        queued = queued;
+        first = record {
+          waits = among_queue pool qs q (in_queue q f.entry) queued here;
+          greatest = λ u a. let b = among_beaten pool h qs u all a in subst (λ (n : ℕ). effective u ≤ n) f.rank_is b.0;
+          least = λ u a same.
+              let b = among_beaten pool h qs u all a in
+              subst (λ (n : ℕ). n ≤ u.order) f.order (b.1 (same ∙ sym f.rank_is));
+        };
+      }

@@ -4,3 +4,8 @@ pub mod Moves
 pub mod Calls
 pub mod Waits
 pub mod Sharing
+pub mod Trees
+pub mod Places
+pub mod Firsts
+pub mod Rising
+pub mod InOrder

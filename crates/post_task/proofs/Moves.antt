@@ -1,9 +1,9 @@
 -- What waits once a priority has changed, and once a source has got its lists.
-use Rattle.std.proofs.Common.{◌≡◌, ◌≢◌, ℕ, zero, suc, ◌+◌, ◌≤◌, ◌<◌, Bool, true, false, cond, List, [], ◌∷◌, ◌++◌, map, length, get_or, set, take, drop, Option, Some, None, refl, sym, ◌∙◌, ap, subst, arith, length-append, add-one}
+use Rattle.std.proofs.Common.{◌≡◌, ◌≢◌, ℕ, ◌+◌, ◌≤◌, ◌<◌, Bool, true, false, cond, List, [], ◌∷◌, ◌++◌, map, length, get_or, set, Option, Some, None, refl, sym, ◌∙◌, ap, subst, arith, length-append}
 use Rattle.std.specs.Prelude.{IsSome}
 use Rattle.std.specs.List.{find}
 use Rattle.std.specs.Option.{option_map, option_or}
-use Rattle.std.proofs.lemmas.List.{append_assoc, append-nil, map-append, get_or_past}
+use Rattle.std.proofs.lemmas.List.{append_assoc, append-nil, map-append, map-set, get_or-map, get_or_past}
 use Rattle.std.proofs.lemmas.List.Folds.{find-append}
 use Rattle.std.proofs.lemmas.Bool.{eq-eqb}
 use Rattle.page_types.specs.declared.Priority.{Priority}
@@ -13,8 +13,13 @@ use Rattle.post_task.specs.declared.level.Level.{Level}
 use Rattle.post_task.specs.declared.level.PrioSource.{PrioSource}
 use Rattle.post_task.specs.declared.level.PrioSource.TheVariants.{Fixed, Signal}
 use Rattle.post_task.specs.Waiting.{Waiting, moved, same_source}
-use Rattle.post_task.specs.Levels.{Queue, queues_of, all_queues, has_source, priority_in, moved_level, Lone, in_queue, of_queue, waiting_in, waiting, Rises, AreKept, Kept, Added}
+use Rattle.post_task.specs.declared.tournament.Head.{Head}
+use Rattle.post_task.specs.Tournament.{moved_head}
+use Rattle.post_task.specs.Heads.{effective_of, head_in, first_of, firsts}
+use Rattle.post_task.specs.Levels.{Sched, Queue, queues_of, all_queues, has_source, priority_in, place_of, moved_level, Lone, in_queue, of_queue, waiting_in, waiting, Rises, AreKept, Kept, Added, SameBut}
 use Rattle.post_task.proofs.Tasks.{kept_each}
+use Rattle.post_task.proofs.Firsts.{firsts_same, first_moved}
+use Rattle.post_task.proofs.Places.{none_moved, none_push, same_source-true, same_source-turned}
 
 abbrev pub moved_queue : ℕ → Priority → Queue → Queue
 moved_queue s p q = cond (same_source q.source (Signal s)) (record q { priority = p }) q
@@ -68,13 +73,29 @@ room_moved s p [] some = absurd (cc)
 room_moved s p (l ∷ ls) some =
     room_step l s p (find (has_source (Signal s)) (map (moved_level s p) ls)) (find (has_source (Signal s)) ls) (same_source l.source (Signal s)) refl (λ h. room_moved s p ls h) some
 
-none_step : (l : Level) (s : ℕ) (p : Priority) (ls : List Level) (old : Option Level) (t : Bool) → cond t (Some l) old ≡ None → (old ≡ None → map (moved_level s p) ls ≡ ls) → cond t (record l { priority = p }) l ∷ map (moved_level s p) ls ≡ l ∷ ls
-none_step l s p ls old true is h = absurd (cc)
-none_step l s p ls old false is h = ap (λ (x : List Level). l ∷ x) (h is)
+other_step : (l : Level) (s : ℕ) (p : Priority) (source : PrioSource) (rest old : Option Level) (t : Bool) → same_source l.source (Signal s) ≡ t → same_source source (Signal s) ≡ false → priority_at rest ≡ priority_at old
+    → priority_at (cond (has_source source (cond t (record l { priority = p }) l)) (Some (cond t (record l { priority = p }) l)) rest) ≡ priority_at (cond (has_source source l) (Some l) old)
+other_step l s p source rest old true is other h =
+    let not_it : same_source l.source source ≡ false = ap (λ (x : PrioSource). same_source x source) (same_source-true l.source (Signal s) is) ∙ same_source-turned (Signal s) source ∙ other in
+    ap (λ (b : Bool). priority_at (cond b (Some (record l { priority = p })) rest)) not_it ∙ h ∙ sym (ap (λ (b : Bool). priority_at (cond b (Some l) old)) not_it)
+other_step l s p source rest old false is other h =
+    elim (has_source source l) as (λ b. priority_at (cond b (Some l) rest) ≡ priority_at (cond b (Some l) old)) [ true ↦ refl | false ↦ h ]
 
-pub none_moved : (s : ℕ) (p : Priority) (levels : List Level) → find (has_source (Signal s)) levels ≡ None → map (moved_level s p) levels ≡ levels
-none_moved s p [] h = refl
-none_moved s p (l ∷ ls) h = none_step l s p ls (find (has_source (Signal s)) ls) (same_source l.source (Signal s)) h (λ x. none_moved s p ls x)
+-- every other source keeps its priority
+pub other_moved : (s : ℕ) (p : Priority) (levels : List Level) → SameBut (Signal s) levels (map (moved_level s p) levels)
+other_moved s p [] source other = refl
+other_moved s p (l ∷ ls) source other =
+    other_step l s p source (find (has_source source) (map (moved_level s p) ls)) (find (has_source source) ls) (same_source l.source (Signal s)) refl other (other_moved s p ls source other)
+
+none_else : (o : Option Level) → option_or o None ≡ o
+none_else None = refl
+none_else (Some l) = refl
+
+other_push : (ls : List Level) (l : Level) (source : PrioSource) → same_source l.source source ≡ false → priority_in (ls ++ l ∷ []) source ≡ priority_in ls source
+other_push ls l source other =
+    ap priority_at (find-append (has_source source) ls (l ∷ []))
+    ∙ ap (λ (b : Bool). priority_at (option_or (find (has_source source) ls) (cond b (Some l) None))) other
+    ∙ ap priority_at (none_else (find (has_source source) ls))
 
 pub all-append : (ls : List Level) (l : Level) → all_queues (ls ++ l ∷ []) ≡ all_queues ls ++ queues_of l
 all-append [] l = append-nil (queues_of l)
@@ -117,27 +138,6 @@ each_priority levels Background a b c = a
 each_priority levels UserVisible a b c = b
 each_priority levels UserBlocking a b c = c
 
-pub set_step : (f : Level → Level) (xs : List Level) (i : ℕ) (d : Level) → i < length xs → set (map f (take i xs) ++ drop i xs) i (f (get_or xs i d)) ≡ map f (take (suc i) xs) ++ drop (suc i) xs
-set_step f [] i d h = absurd (omega arith)
-set_step f (x ∷ xs) zero d h = refl
-set_step f (x ∷ xs) (suc i) d h = ap (λ (ls : List Level). f x ∷ ls) (set_step f xs i d (omega arith))
-
-still_there : (f : Level → Level) (xs : List Level) (i : ℕ) (d : Level) → get_or (map f (take i xs) ++ drop i xs) i d ≡ get_or xs i d
-still_there f [] zero d = refl
-still_there f [] (suc i) d = refl
-still_there f (x ∷ xs) zero d = refl
-still_there f (x ∷ xs) (suc i) d = still_there f xs i d
-
--- one more of the levels has changed
-pub moved_step : (f : Level → Level) (xs now : List Level) (i : ℕ) (new d : Level) → now ≡ map f (take i xs) ++ drop i xs → i < length xs → new ≡ f (get_or now i d) → set now i new ≡ map f (take (i + 1) xs) ++ drop (i + 1) xs
-moved_step f xs now i new d is h at =
-    let shown = map f (take i xs) ++ drop i xs in
-    let value : new ≡ f (get_or xs i d) = at ∙ ap (λ (ls : List Level). f (get_or ls i d)) is ∙ ap f (still_there f xs i d) in
-    ap (λ (ls : List Level). set ls i new) is
-    ∙ ap (λ (l : Level). set shown i l) value
-    ∙ set_step f xs i d h
-    ∙ ap (λ (n : ℕ). map f (take n xs) ++ drop n xs) (sym (add-one i))
-
 module _ {T : Type 0} where
   moved_entries : (s : ℕ) (p : Priority) (q : Queue) (es : List (Entry T)) → map (in_queue (moved_queue s p q)) es ≡ map (moved s p) (map (in_queue q) es)
   moved_entries s p q [] = refl
@@ -164,11 +164,23 @@ module _ {T : Type 0} where
         kept_moved s p pool qs k.3,
       )
 
-  pub moved_kept : (s : ℕ) (p : Priority) (levels : List Level) (pool : Lists T) → Kept levels pool → Kept (map (moved_level s p) levels) pool
-  moved_kept s p levels pool k =
+  -- the heads of the sources once the priority at a place has changed
+  pub firsts_moved : (pool : Lists T) (levels : List Level) (heads : List (Option Head)) (place : ℕ) (p : Priority) (d : Level) → place < length levels → heads ≡ firsts levels pool
+      → set heads place (option_map (moved_head p) (get_or heads place None)) ≡ firsts (set levels place (record (get_or levels place d) { priority = p })) pool
+  firsts_moved pool levels heads place p d h is =
+      let old = firsts levels pool in
+      let l = get_or levels place d in
+      ap (λ (hs : List (Option Head)). set hs place (option_map (moved_head p) (get_or hs place None))) is
+      ∙ ap (λ (o : Option Head). set old place (option_map (moved_head p) o)) (get_or-map (first_of pool) levels place d None h)
+      ∙ ap (set old place) (sym (first_moved pool l p))
+      ∙ sym (map-set (first_of pool) levels place (record l { priority = p }))
+
+  pub moved_kept : (s : ℕ) (p : Priority) (sched new : Sched) (pool : Lists T) → new.levels ≡ map (moved_level s p) sched.levels → (sched.heads ≡ firsts sched.levels pool → new.heads ≡ firsts new.levels pool) → Kept sched pool → Kept new pool
+  moved_kept s p sched new pool is heads k =
       record {
-        lists = subst (λ (qs : List Queue). AreKept pool qs) (sym (all_moved s p levels)) (kept_moved s p pool (all_queues levels) k.lists);
-        fixed = λ f. fixed_stays s p f levels ∙ k.fixed f;
+        lists = subst (λ (ls : List Level). AreKept pool (all_queues ls)) (sym is) (subst (λ (qs : List Queue). AreKept pool qs) (sym (all_moved s p sched.levels)) (kept_moved s p pool (all_queues sched.levels) k.lists));
+        fixed = λ f. ap (λ (ls : List Level). priority_in ls (Fixed f)) is ∙ fixed_stays s p f sched.levels ∙ k.fixed f;
+        heads = heads k.heads;
       }
 
   pub moved_waiting : (s : ℕ) (p : Priority) (levels : List Level) (pool : Lists T) → waiting (map (moved_level s p) levels) pool ≡ map (moved s p) (waiting levels pool)
@@ -249,11 +261,33 @@ module _ {T : Type 0} where
       let k2 = added_lone l1 l2 p1 p2 (Fixed UserVisible) UserVisible b l (omega (arith, h, m1)) k1 in
       added_lone l2 l3 p2 p3 (Fixed UserBlocking) UserBlocking c l (omega (arith, h, m1, m2)) k2
 
+  -- a new source has no first task
+  pub firsts_added : (old new : List Level) (before after : Lists T) (source : PrioSource) (priority : Priority) → ((l : ℕ) → list_of after l ≡ list_of before l) → Added old new before after source priority → firsts new after ≡ firsts old before ++ None ∷ []
+  firsts_added old new before after source priority same a =
+      let second : a.level.continuations.0 ≡ length before.lists + 1 = a.continuations ∙ length-append before.lists ([] ∷ []) in
+      let plain : list_of after a.level.plain.0 ≡ [] = same a.level.plain.0 ∙ none_past before a.level.plain.0 (omega (arith, a.plain)) in
+      let more : list_of after a.level.continuations.0 ≡ [] = same a.level.continuations.0 ∙ none_past before a.level.continuations.0 (omega (arith, second)) in
+      let none : first_of after a.level ≡ None =
+      ap (λ (es : List (Entry T)). option_or (head_in (effective_of a.level.priority true) es) (head_in (effective_of a.level.priority false) (list_of after a.level.plain.0))) more
+      ∙ ap (λ (es : List (Entry T)). head_in (effective_of a.level.priority false) es) plain in
+      ap (λ (ls : List Level). firsts ls after) a.is
+      ∙ map-append (first_of after) old (a.level ∷ [])
+      ∙ ap (λ (h : Option Head). firsts old after ++ h ∷ []) none
+      ∙ ap (λ (hs : List (Option Head)). hs ++ None ∷ []) (firsts_same before after old (λ q i. same q.list))
+
+  -- where it stands, and what is no source yet
+  pub next_after : (old new : List Level) (before after : Lists T) (source : PrioSource) (priority : Priority) → Added old new before after source priority → length new ≡ length old + 1
+  next_after old new before after source priority a = ap length a.is ∙ length-append old (a.level ∷ [])
+
+  pub fresh_after : (old new : List Level) (before after : Lists T) (source other : PrioSource) (priority : Priority) → Added old new before after source priority → place_of old other ≡ None → same_source source other ≡ false → place_of new other ≡ None
+  fresh_after old new before after source other priority a none differs =
+      ap (λ (ls : List Level). place_of ls other) a.is ∙ none_push old a.level other none (ap (λ (x : PrioSource). same_source x other) a.source_is ∙ differs)
+
   -- ---- the three fixed priorities
 
   pub three_made : (l0 l1 l2 l3 : List Level) (p0 p1 p2 p3 : Lists T) → l0 ≡ [] → Added l0 l1 p0 p1 (Fixed Background) Background → Added l1 l2 p1 p2 (Fixed UserVisible) UserVisible → Added l2 l3 p2 p3 (Fixed UserBlocking) UserBlocking
       → ((l : ℕ) → list_of p1 l ≡ list_of p0 l) → ((l : ℕ) → list_of p2 l ≡ list_of p1 l) → ((l : ℕ) → list_of p3 l ≡ list_of p2 l)
-      → Kept l3 p3 × (waiting l3 p3 ≡ [])
+      → AreKept p3 (all_queues l3) × ((f : Priority) → priority_in l3 (Fixed f) ≡ Some f) × (waiting l3 p3 ≡ [])
   three_made l0 l1 l2 l3 p0 p1 p2 p3 none a b c s1 s2 s3 =
       let k0 : AreKept p0 (all_queues l0) = subst (λ (ls : List Level). AreKept p0 (all_queues ls)) (sym none) tt in
       let k1 : AreKept p1 (all_queues l1) = added_kept l0 l1 p0 p1 (Fixed Background) Background k0 s1 a in
@@ -269,21 +303,39 @@ module _ {T : Type 0} where
       let m1 : find (has_source (Fixed UserBlocking)) l1 ≡ None = ap (find (has_source (Fixed UserBlocking))) a.is ∙ not_last l0 a.level (Fixed UserBlocking) (none_in (Fixed UserBlocking)) (ap (λ (x : PrioSource). same_source x (Fixed UserBlocking)) a.source_is) in
       let m2 : find (has_source (Fixed UserBlocking)) l2 ≡ None = ap (find (has_source (Fixed UserBlocking))) b.is ∙ not_last l1 b.level (Fixed UserBlocking) m1 (ap (λ (x : PrioSource). same_source x (Fixed UserBlocking)) b.source_is) in
       let h3 : priority_in l3 (Fixed UserBlocking) ≡ Some UserBlocking = ap (λ (ls : List Level). priority_in ls (Fixed UserBlocking)) c.is ∙ found_last l2 c.level (Fixed UserBlocking) c.source_is m2 ∙ ap (λ (x : Priority). Some x) c.priority_is in (
-        record { lists = k3; fixed = λ f. each_priority l3 f f3 g3 h3 },
+        k3,
+        λ f. each_priority l3 f f3 g3 h3,
         added_waiting l2 l3 p2 p3 (Fixed UserBlocking) UserBlocking s3 c
             ∙ added_waiting l1 l2 p1 p2 (Fixed UserVisible) UserVisible s2 b
             ∙ added_waiting l0 l1 p0 p1 (Fixed Background) Background s1 a
             ∙ ap (λ (ls : List Level). waiting ls p0) none,
       )
 
+  pub three_firsts : (l0 l1 l2 l3 : List Level) (p0 p1 p2 p3 : Lists T) (h0 h1 h2 h3 : List (Option Head)) → l0 ≡ [] → Added l0 l1 p0 p1 (Fixed Background) Background → Added l1 l2 p1 p2 (Fixed UserVisible) UserVisible → Added l2 l3 p2 p3 (Fixed UserBlocking) UserBlocking
+      → ((l : ℕ) → list_of p1 l ≡ list_of p0 l) → ((l : ℕ) → list_of p2 l ≡ list_of p1 l) → ((l : ℕ) → list_of p3 l ≡ list_of p2 l)
+      → h0 ≡ [] → h1 ≡ h0 ++ None ∷ [] → h2 ≡ h1 ++ None ∷ [] → h3 ≡ h2 ++ None ∷ [] → h3 ≡ firsts l3 p3
+  three_firsts l0 l1 l2 l3 p0 p1 p2 p3 h0 h1 h2 h3 none a b c s1 s2 s3 e0 e1 e2 e3 =
+      let more = λ (hs : List (Option Head)). hs ++ None ∷ [] in
+      let f0 : h0 ≡ firsts l0 p0 = e0 ∙ sym (ap (λ (ls : List Level). firsts ls p0) none) in
+      let f1 : h1 ≡ firsts l1 p1 = e1 ∙ ap more f0 ∙ sym (firsts_added l0 l1 p0 p1 (Fixed Background) Background s1 a) in
+      let f2 : h2 ≡ firsts l2 p2 = e2 ∙ ap more f1 ∙ sym (firsts_added l1 l2 p1 p2 (Fixed UserVisible) UserVisible s2 b) in
+      e3 ∙ ap more f2 ∙ sym (firsts_added l2 l3 p2 p3 (Fixed UserBlocking) UserBlocking s3 c)
+
   -- ---- a signal gets its lists
 
-  pub signal_kept : (old new : List Level) (before after : Lists T) (source : PrioSource) (priority : Priority) → Kept old before → ((l : ℕ) → list_of after l ≡ list_of before l) → Added old new before after source priority → Kept new after
-  signal_kept old new before after source priority k same a =
+  pub signal_kept : (old new : Sched) (before after : Lists T) (source : PrioSource) (priority : Priority) → Kept old before → ((l : ℕ) → list_of after l ≡ list_of before l) → Added old.levels new.levels before after source priority
+      → new.heads ≡ old.heads ++ None ∷ [] → Kept new after
+  signal_kept old new before after source priority k same a heads =
       record {
-        lists = added_kept old new before after source priority k.lists same a;
-        fixed = λ f. ap (λ (ls : List Level). priority_in ls (Fixed f)) a.is ∙ still_fixed old a.level (Fixed f) f (k.fixed f);
+        lists = added_kept old.levels new.levels before after source priority k.lists same a;
+        fixed = λ f. ap (λ (ls : List Level). priority_in ls (Fixed f)) a.is ∙ still_fixed old.levels a.level (Fixed f) f (k.fixed f);
+        heads = heads ∙ ap (λ (hs : List (Option Head)). hs ++ None ∷ []) k.heads ∙ sym (firsts_added old.levels new.levels before after source priority same a);
       }
+
+  pub added_others : (old new : List Level) (before after : Lists T) (source : PrioSource) (priority : Priority) → Added old new before after source priority → SameBut source old new
+  added_others old new before after source priority a other differs =
+      ap (λ (ls : List Level). priority_in ls other) a.is
+      ∙ other_push old a.level other (ap (λ (x : PrioSource). same_source x other) a.source_is ∙ same_source-turned source other ∙ differs)
 
   pub signal_room : (old new : List Level) (before after : Lists T) (s : ℕ) (priority : Priority) → find (has_source (Signal s)) old ≡ None → Added old new before after (Signal s) priority → priority_in new (Signal s) ≡ Some priority
   signal_room old new before after s priority none a =
@@ -295,5 +347,10 @@ module _ {T : Type 0} where
       ∙ ap (λ (ls : List Level). waiting ls before) (sym (none_moved s p old none))
       ∙ moved_waiting s p old before
 
-  pub still_kept : (levels : List Level) (before after : Lists T) → length before.lists ≤ length after.lists → ((l : ℕ) → list_of after l ≡ list_of before l) → Kept levels before → Kept levels after
-  still_kept levels before after more same k = record { lists = same_kept before after (all_queues levels) more same k.lists; fixed = k.fixed }
+  pub still_kept : (sched : Sched) (before after : Lists T) → length before.lists ≤ length after.lists → ((l : ℕ) → list_of after l ≡ list_of before l) → Kept sched before → Kept sched after
+  still_kept sched before after more same k =
+      record {
+        lists = same_kept before after (all_queues sched.levels) more same k.lists;
+        fixed = k.fixed;
+        heads = k.heads ∙ sym (firsts_same before after sched.levels (λ q i. same q.list));
+      }

@@ -1,35 +1,29 @@
--- The first tasks of the queues, and the best of them. Prioritized Task Scheduling, "Selecting the task queue"
-use Rattle.std.specs.Prelude.{ℕ, ◌+◌, ◌*◌, Bool, ◌||◌, ◌&&◌, ◌==◌, nat_lt, cond, List, [], ◌∷◌, Option, Some, None}
-use Rattle.std.specs.Option.{option_map}
+-- The first tasks of the priority sources. Prioritized Task Scheduling, "Selecting the task queue"
+use Rattle.std.specs.Prelude.{ℕ, ◌+◌, ◌*◌, Bool, true, false, cond, List, Option, map}
+use Rattle.std.specs.Option.{option_map, option_or}
+use Rattle.page_types.specs.declared.Priority.{Priority}
 use Rattle.page_parts.specs.TaskSignals.{rank}
 use Rattle.task_pool.specs.Lists.{Entry, Lists, list_of, first_entry}
-use Rattle.task_pool.specs.declared.pool.ListId.{ListId}
-use Rattle.post_task.specs.declared.heads.Head.{Head}
 use Rattle.post_task.specs.declared.level.Level.{Level}
-use Rattle.post_task.specs.Levels.{Queue, all_queues}
+use Rattle.post_task.specs.declared.tournament.Head.{Head}
 
--- whether a goes before b
-abbrev pub goes_before : Head → Head → Bool
-goes_before a b = nat_lt b.effective a.effective || ((a.effective == b.effective) && nat_lt a.order b.order)
-
-abbrev pub better : Option Head → Option Head → Option Head
-better None next = next
-better (Some best) None = Some best
-better (Some best) (Some next) = cond (goes_before next best) (Some next) (Some best)
+-- the effective priority of tasks of this priority
+abbrev pub effective_of : Priority → Bool → ℕ
+effective_of priority continuation = 2 * rank priority + cond continuation 1 0
 
 module _ {T : Type 0} where
-  -- the first task of a list whose tasks have this effective priority
-  abbrev pub head_at : Lists T → ListId → ℕ → Option Head
-  head_at pool list effective = option_map (λ (entry : Entry T). record { list = list; effective = effective; order = entry.number }) (first_entry (list_of pool list.0))
+  -- the first of these entries under an effective priority
+  abbrev pub head_in : ℕ → List (Entry T) → Option Head
+  head_in effective entries =
+      option_map (λ (entry : Entry T). record { effective = effective; order = entry.number }) (first_entry entries)
 
-  -- the first task of a queue
-  abbrev pub head_of : Lists T → Queue → Option Head
-  head_of pool queue = head_at pool (record { 0 = queue.list }) (2 * rank queue.priority + cond queue.continuation 1 0)
+  -- the first continuation of a priority source, and where it has none the first of its other tasks
+  abbrev pub first_of : Lists T → Level → Option Head
+  first_of pool level =
+      option_or
+      (head_in (effective_of level.priority true) (list_of pool level.continuations.0))
+      (head_in (effective_of level.priority false) (list_of pool level.plain.0))
 
-  -- the best of the first tasks of these queues and the best so far
-  abbrev pub best_from : Lists T → Option Head → List Queue → Option Head
-  best_from pool best [] = best
-  best_from pool best (queue ∷ rest) = best_from pool (better best (head_of pool queue)) rest
-
-  abbrev pub best_of : List Level → Lists T → Option Head
-  best_of levels pool = best_from pool None (all_queues levels)
+  -- the first tasks of all
+  abbrev pub firsts : List Level → Lists T → List (Option Head)
+  firsts levels pool = map (first_of pool) levels

@@ -1,5 +1,5 @@
 -- Scheduler tasks that wait, in one list. Prioritized Task Scheduling, "Scheduling tasks and continuations" and "Selecting the task queue"
-use Rattle.std.specs.Prelude.{◌≡◌, ◌⊎◌, ℕ, ◌+◌, ◌*◌, ◌≤◌, Bool, false, cond, not, ◌==◌, List, [], ◌∷◌, ◌++◌}
+use Rattle.std.specs.Prelude.{◌≡◌, ◌⊎◌, ℕ, ◌+◌, ◌*◌, ◌≤◌, Bool, false, cond, not, ◌==◌, List, [], ◌∷◌, ◌++◌, Option, MatchOption}
 use Rattle.page_types.specs.declared.Priority.{Priority}
 use Rattle.page_parts.specs.TaskSignals.{rank, same_priority}
 use Rattle.cell_room.specs.declared.room.Cell.{Cell}
@@ -14,7 +14,8 @@ same_source (Signal a) (Signal b) = a == b
 same_source (Fixed a) (Signal b) = false
 same_source (Signal a) (Fixed b) = false
 
--- a task that waits: its cell, its priority source, the priority of that source now, whether it is a continuation, its enqueue order and what is to be done
+-- a task that waits: its cell, its priority source, the priority of that source now, whether it is a continuation, its enqueue order and
+-- what is to be done
 pub record Waiting (T : Type 0) : Type 0 where
   pub cell : Cell
   pub source : PrioSource
@@ -42,6 +43,10 @@ module _ {T : Type 0} where
   -- this is the order of the first of these tasks
   abbrev pub IsFirstOrder : ℕ → List (Waiting T) → Type 0
   IsFirstOrder order tasks = (task : Waiting T) × IsFirst task tasks × (order ≡ task.order)
+
+  -- what is selected: the order of the first task, none where no task waits
+  abbrev pub IsSelected : Option ℕ → List (Waiting T) → Type 0
+  IsSelected result tasks = MatchOption result (tasks ≡ []) (λ order. IsFirstOrder order tasks)
 
   -- the second list is the first with one task more
   pub record Inserted (task : Waiting T) (tasks more : List (Waiting T)) : Type 0 where

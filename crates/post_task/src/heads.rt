@@ -1,50 +1,38 @@
-ghost use Rattle.std.specs.Prelude.{◌≡◌, ◌<◌, length};
-ghost use Rattle.post_task.specs.Heads.{head_at, best_from, better as better_head};
-ghost use Rattle.post_task.specs.Levels.{queues_of};
+ghost use Rattle.std.specs.Prelude.{◌≡◌, ℕ, ◌<◌, ◌≢◌, length, IfNone, IfSome};
+ghost use Rattle.post_task.specs.Levels.{ListsRise, HasList};
+ghost use Rattle.post_task.specs.Heads.{first_of};
 
 use crate::level::{Level, rank};
+use crate::tournament::Head;
 use task_pool::{ListId, Pool};
 
-/// The first task of a list: its list, its effective priority now and its order.
-#[derive(Clone, Copy)]
-pub struct Head {
-    pub list: ListId,
-    pub effective: u8,
-    pub order: u64,
-}
-
-/// The first task of a list, whose tasks have this effective priority now.
-pub fn read_head<T>(pool: &Pool<T>, list: ListId, effective: u8) -> Option<Head>
-    requires { list.0 < length pool.now.lists }
-    ensures { result ≡ head_at pool.now list effective }
-{
-    let order = pool.front(list)?;
-    Some(Head {
-        list,
-        effective,
-        order,
-    })
-}
-
-/// The one of greater effective priority, and of lesser order where that is equal.
-pub fn better(best: Option<Head>, next: Option<Head>) -> Option<Head>
-    ensures { result ≡ better_head best next }
-{
-    let Some(old) = best else { return next };
-    let Some(new) = next else { return best };
-    if new.effective > old.effective || new.effective == old.effective && new.order < old.order {
-        return next;
-    }
-    best
-}
-
-/// The best of this head and those of the two lists of a priority source.
-pub fn best_with<T>(best: Option<Head>, pool: &Pool<T>, level: &Level) -> Option<Head>
-    requires plain { level.now.plain.0 < length pool.now.lists }
-    requires continuations { level.now.continuations.0 < length pool.now.lists }
-    ensures { result ≡ best_from pool.now best (queues_of level.now) }
+/// The first task of a priority source: its first continuation, and where it has none the first of its other tasks.
+pub fn read_first<T>(pool: &Pool<T>, level: Level) -> Option<Head>
+    requires plain { level.plain.0 < length pool.now.lists }
+    requires continuations { level.continuations.0 < length pool.now.lists }
+    ensures { result ≡ first_of pool.now level }
 {
     let effective = 2 * rank(level.priority);
-    let plain = better(best, read_head(pool, level.plain, effective));
-    better(plain, read_head(pool, level.continuations, effective + 1))
+    match pool.front(level.continuations) {
+        Some(order) => Some(Head {
+            effective: effective + 1,
+            order,
+        }),
+        None => match pool.front(level.plain) {
+            Some(order) => Some(Head { effective, order }),
+            None => None,
+        },
+    }
+}
+
+/// The place of the priority source that has a list, or may have it. No other one has it. Costs the logarithm of the number of
+/// sources.
+pub fn place_of_list(levels: &[Level], list: ListId) -> Option<usize>
+    requires { ListsRise levels.now }
+    ensures within { IfSome result (λ place. place < length levels.now) }
+    ensures none { IfNone result ((place : ℕ) → HasList list.0 place levels.now → ⊥) }
+    ensures others { IfSome result (λ found. (place : ℕ) → place ≢ found → HasList list.0 place levels.now → ⊥) }
+{
+    let behind = levels.partition_point(|level| level.plain.0 <= list.0);
+    behind.checked_sub(1)
 }

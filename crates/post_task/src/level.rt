@@ -1,7 +1,7 @@
 ghost use Rattle.std.specs.Prelude.{◌≡◌};
 ghost use Rattle.page_parts.specs.TaskSignals.{rank as place};
 ghost use Rattle.post_task.specs.Waiting.{same_source};
-ghost use Rattle.post_task.specs.Levels.{moved_level, queue_in};
+ghost use Rattle.post_task.specs.Levels.{queue_in};
 
 use task_pool::ListId;
 use task_signal::Priority;
@@ -44,15 +44,6 @@ impl Level {
             self.continuations
         } else {
             self.plain
-        }
-    }
-
-    /// Sets the priority where the lists are those of this signal.
-    pub fn set_priority(&mut self, s: u32, p: Priority)
-        ensures { self.new ≡ moved_level s p self.old }
-    {
-        if self.source.is(PrioSource::Signal(s)) {
-            self.priority = p;
         }
     }
 }

@@ -120,7 +120,8 @@ impl Promises {
     /// want of memory nothing changes.
     pub fn follow(&mut self, p: u32, o: Settled) -> Result<Change, MemoryFault>
         requires { IsMade self.old p }
-        ensures ok { IfOk result (λ told. Brings told p (parts.follow p (the_promise self.old.promises p) (settled_seen o)) self.old self.new) }
+        ensures ok { IfOk result (λ told. Brings told p
+            (parts.follow p (the_promise self.old.promises p) (settled_seen o)) self.old self.new) }
         ensures err { OnErr result (self.new ≡ self.old) }
     {
         if record_of(&self.records, p).outcome.is_some() {
@@ -134,7 +135,8 @@ impl Promises {
     /// changes.
     pub fn subscribe(&mut self, p: u32, r: Reaction) -> Result<Change, MemoryFault>
         requires { IsMade self.old p }
-        ensures ok { IfOk result (λ told. Brings told p (parts.subscribe p (the_promise self.old.promises p) (reaction_seen r)) (no_longer_rejected p self.old) self.new) }
+        ensures ok { IfOk result (λ told. Brings told p (parts.subscribe p (the_promise self.old.promises p) (reaction_seen r))
+            (no_longer_rejected p self.old) self.new) }
         ensures err { OnErr result (self.new ≡ self.old) }
     {
         let jobs = subscribe_at(&mut self.records, p, self.alloc, r)?;
@@ -152,7 +154,8 @@ impl Promises {
     /// How the promise was settled, and None exactly while it is pending. Takes no memory.
     pub fn outcome(&self, p: u32) -> Option<&Settled>
         requires { IsMade self.now p }
-        ensures { MatchOption result ((the_promise self.now.promises p).outcome ≡ None) (λ how. (the_promise self.now.promises p).outcome ≡ Some (settled_seen how.now)) }
+        ensures { MatchOption result ((the_promise self.now.promises p).outcome ≡ None)
+            (λ how. (the_promise self.now.promises p).outcome ≡ Some (settled_seen how.now)) }
     {
         record_of(&self.records, p).outcome.as_ref()
     }
@@ -171,7 +174,8 @@ impl Promises {
     // Settles a promise, pending or not.
     fn settle(&mut self, p: u32, how: Settled) -> Result<Change, MemoryFault>
         requires { IsMade self.old p }
-        ensures ok { IfOk result (λ told. Brings told p (parts.settle p (the_promise self.old.promises p) (settled_seen how)) self.old self.new) }
+        ensures ok { IfOk result (λ told. Brings told p
+            (parts.settle p (the_promise self.old.promises p) (settled_seen how)) self.old self.new) }
         ensures err { OnErr result (self.new ≡ self.old) }
     {
         let record = record_of(&self.records, p);
@@ -242,7 +246,8 @@ fn note_rejected(rejected: &mut Vec<u32>, p: u32, newly_rejected: bool) -> Resul
 fn settle_at(records: &mut [Record], p: u32, alloc: Global, how: Settled)
     requires within { p ≤ length records.old }
     requires counted { 0 < p }
-    ensures { records_seen records.new ≡ with_numbered (records_seen records.old) p (parts.settle p (numbered (records_seen records.old) p parts.pending_promise) (settled_seen how)).promise }
+    ensures { records_seen records.new ≡ with_numbered (records_seen records.old) p
+        (parts.settle p (numbered (records_seen records.old) p parts.pending_promise) (settled_seen how)).promise }
 {
     records[p as usize - 1].settle(alloc, how);
 }
@@ -250,7 +255,8 @@ fn settle_at(records: &mut [Record], p: u32, alloc: Global, how: Settled)
 fn lock_at(records: &mut [Record], p: u32)
     requires within { p ≤ length records.old }
     requires counted { 0 < p }
-    ensures { records_seen records.new ≡ with_numbered (records_seen records.old) p (record (numbered (records_seen records.old) p parts.pending_promise) { locked = true }) }
+    ensures { records_seen records.new ≡ with_numbered (records_seen records.old) p
+        (record (numbered (records_seen records.old) p parts.pending_promise) { locked = true }) }
 {
     records[p as usize - 1].lock();
 }
@@ -264,8 +270,11 @@ fn subscribe_at(
 ) -> Result<Vec<Job>, MemoryFault>
     requires within { p ≤ length records.old }
     requires counted { 0 < p }
-    ensures ok { OnOk result (records_seen records.new ≡ with_numbered (records_seen records.old) p (parts.subscribe p (numbered (records_seen records.old) p parts.pending_promise) (reaction_seen reaction)).promise) }
-    ensures jobs { IfOk result (λ jobs. jobs_seen jobs.items ≡ (parts.subscribe p (numbered (records_seen records.old) p parts.pending_promise) (reaction_seen reaction)).jobs) }
+    ensures ok { OnOk result (records_seen records.new
+        ≡ with_numbered (records_seen records.old) p
+        (parts.subscribe p (numbered (records_seen records.old) p parts.pending_promise) (reaction_seen reaction)).promise) }
+    ensures jobs { IfOk result (λ jobs. jobs_seen jobs.items
+        ≡ (parts.subscribe p (numbered (records_seen records.old) p parts.pending_promise) (reaction_seen reaction)).jobs) }
     ensures err { OnErr result (records_seen records.new ≡ records_seen records.old) }
 {
     records[p as usize - 1].subscribe(alloc, p, reaction)

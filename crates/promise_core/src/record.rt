@@ -121,7 +121,8 @@ impl Record {
         reaction: Reaction,
     ) -> Result<Vec<Job>, MemoryFault>
         ensures ok { OnOk result (record_seen self.new ≡ (parts.subscribe of (record_seen self.old) (reaction_seen reaction)).promise) }
-        ensures jobs { IfOk result (λ jobs. jobs_seen jobs.items ≡ (parts.subscribe of (record_seen self.old) (reaction_seen reaction)).jobs) }
+        ensures jobs { IfOk result (λ jobs. jobs_seen jobs.items
+            ≡ (parts.subscribe of (record_seen self.old) (reaction_seen reaction)).jobs) }
         ensures err { OnErr result (record_seen self.new ≡ record_seen self.old) }
     {
         let jobs = match self.outcome {

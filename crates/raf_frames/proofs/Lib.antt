@@ -1,2 +1,3 @@
 pub mod CallbackLemmas
 pub mod NextLemmas
+pub mod TurnLemmas

@@ -10,7 +10,7 @@ abbrev pub registration_in : Frames → ℕ → Option ℕ
 registration_in f handle = option_map (λ (c : Callback). c.registration) (callback_in f.callbacks handle)
 
 -- the callback of a handle has that handle
-handle_found : (handle : ℕ) (cs : List Callback) (callback : Callback) → callback_in cs handle ≡ Some callback → callback.handle ≡ handle
+pub handle_found : (handle : ℕ) (cs : List Callback) (callback : Callback) → callback_in cs handle ≡ Some callback → callback.handle ≡ handle
 handle_found handle [] callback found = cc
 handle_found handle (c ∷ cs) callback found = by (eqb c.handle handle) refl (handle_found handle cs callback) found
   where

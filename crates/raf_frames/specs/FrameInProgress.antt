@@ -10,7 +10,8 @@ pub record FrameInProgress : Type 0 where
 -- the first of these handles that is in the map still, with its callback
 abbrev pub first_waiting : List Callback → List ℕ → Option Callback
 first_waiting callbacks [] = None
-first_waiting callbacks (handle ∷ left) = elim (callback_in callbacks handle) [ None ↦ first_waiting callbacks left | Some callback ↦ Some callback ]
+first_waiting callbacks (handle ∷ left) =
+    elim (callback_in callbacks handle) [ None ↦ first_waiting callbacks left | Some callback ↦ Some callback ]
 
 -- the handles behind that one
 abbrev pub behind_first : List Callback → List ℕ → List ℕ

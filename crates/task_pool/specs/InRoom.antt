@@ -32,7 +32,13 @@ module _ {T : Type 0} where
   abbrev pub IsLinked : (Cell → Option (Node T)) → ℕ → Option Cell → List (Entry T) → Option Cell → Type 0
   IsLinked look l before [] after = Unit {0}
   IsLinked look l before (entry ∷ rest) after =
-      (look entry.cell ≡ Some (record { list = l; number = entry.number; item = entry.item; before = before; after = first_cell rest after }))
+      (look entry.cell ≡ Some (record {
+        list = l;
+        number = entry.number;
+        item = entry.item;
+        before = before;
+        after = first_cell rest after;
+      }))
       × IsLinked look l (Some entry.cell) rest after
 
   -- none of these entries stands in the cell
@@ -50,7 +56,8 @@ module _ {T : Type 0} where
   IsIn cell [] = ⊥
   IsIn cell (entry ∷ rest) = (entry.cell ≡ cell) ⊎ IsIn cell rest
 
-  -- the lists stand in the room: each is linked from its first cell to its last one, and each live cell stands in the list that its node names, once
+  -- the lists stand in the room: each is linked from its first cell to its last one, and each live cell stands in the list that its node
+  -- names, once
   pub record IsPoolOf (look : Cell → Option (Node T)) (ends : List Ends) (lists : List (List (Entry T))) (inserts : ℕ) : Type 0 where
     pub begun : ends ≡ map ends_of lists
     pub linked : (l : ℕ) → IsLinked look l None (slice_index_or lists l []) None

@@ -44,7 +44,8 @@ module _ {T : Type 0} where
   pub record Relinks (old new : Cell → Option (Node T)) (cell : Option Cell) (change : Node T → Node T) : Type 0 where
     pub each : (other : Cell) → new other ≡ cond (is_cell cell other) (option_map change (old other)) (old other)
 
--- the ends of a list once a cell has left that stood between these two: the first of what follows it is first where nothing stood before, and what stood before is last where nothing follows
+-- the ends of a list once a cell has left that stood between these two: the first of what follows it is first where nothing stood before,
+-- and what stood before is last where nothing follows
 abbrev pub joined : Ends → Option Cell → Option First → Option Cell → Ends
 joined ends before first after =
     record {

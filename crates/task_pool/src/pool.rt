@@ -120,7 +120,8 @@ impl<T> Pool<T> {
     ) -> Result<Ticket, T>
         requires list { l.0 < length self.old.lists }
         requires inserts { self.old.inserts + 1 < 2 ^ 64 }
-        ensures put { IfOk result (λ ticket. self.new.lists ≡ slice_set self.old.lists l.0 (list_of self.old l.0 ++ record { cell = ticket.0; number = number; item = item } ∷ [])) }
+        ensures put { IfOk result (λ ticket. self.new.lists
+            ≡ slice_set self.old.lists l.0 (list_of self.old l.0 ++ record { cell = ticket.0; number = number; item = item } ∷ [])) }
         ensures fresh { IfOk result (λ ticket. entry_of self.old ticket.0 ≡ None) }
         ensures generation { IfOk result (λ ticket. ticket.0.generation ≡ self.old.inserts) }
         ensures inserts { OnOk result (self.new.inserts ≡ self.old.inserts + 1) }
@@ -203,7 +204,8 @@ impl<T> Pool<T> {
         steps: &mut Steps<L>,
     ) -> Option<Unlinked<T>>
         ensures item { option_map taken result ≡ option_map numbered (entry_of self.old t.0) }
-        ensures there { (l : ℕ) (entry : Entry T) → find (in_cell t.0) (list_of self.old l) ≡ Some entry → result ≡ Some (taken_from l entry) }
+        ensures there { (l : ℕ) (entry : Entry T) → find (in_cell t.0) (list_of self.old l) ≡ Some entry
+            → result ≡ Some (taken_from l entry) }
         ensures list { IfSome result (λ unlinked. Leaves t.0 unlinked.list.0 self.old self.new) }
         ensures gone { self.new.lists ≡ map (without t.0) self.old.lists }
         ensures one { OnSome result (count self.new.lists + 1 ≡ count self.old.lists) }

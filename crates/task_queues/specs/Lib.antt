@@ -1,1 +1,2 @@
 pub mod BySource
+pub mod OneList

@@ -68,7 +68,8 @@ impl<T> Queues<T> {
         requires stand { StandIn self.old pool.old }
         requires inserts { pool.old.inserts + 1 < 2 ^ 64 }
         ensures same { self.new ≡ self.old }
-        ensures queued { IfOk result (λ ticket. Queued self.old pool.old pool.new s (tasks_of self.old pool.old s ++ record { cell = ticket.0; number = number; item = item } ∷ [])) }
+        ensures queued { IfOk result (λ ticket. Queued self.old pool.old pool.new s
+            (tasks_of self.old pool.old s ++ record { cell = ticket.0; number = number; item = item } ∷ [])) }
         ensures others { (l : ℕ) → IsApart self.old l → list_of pool.new l ≡ list_of pool.old l }
         ensures stand { StandIn self.new pool.new }
         ensures count { length pool.new.lists ≡ length pool.old.lists }

@@ -1,4 +1,4 @@
--- What a change of a priority answers, and what it leaves. Prioritized Task Scheduling, "TaskSignal": signal priority change
+-- What a change of a priority answers, and what it leaves. Prioritized Task Scheduling, "The TaskSignal Interface": signal priority change
 use Rattle.std.specs.Prelude.{◌≡◌, ◌≢◌, ℕ, false, IsTrue, is_some, Option, Some, None, Result, Ok, Err}
 use Rattle.page_types.specs.declared.Priority.{Priority}
 use Rattle.page_parts.specs.TaskSignals.{Prios, priority_of, is_changing, followers, begun}

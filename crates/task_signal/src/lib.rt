@@ -1,5 +1,5 @@
 //! Signals with a priority: which signal follows which, and changes of a priority (Prioritized Task Scheduling,
-//! "TaskSignal").
+//! "The TaskSignal Interface").
 //!
 //! Nothing is called here: a change tells which signals follow, and whoever dispatches its events tells when it is over.
 #![tactic(auto)]

@@ -1,4 +1,4 @@
-ghost use Rattle.std.specs.Prelude.{◌≡◌, ◌≢◌, [], None, Some, OnOk, OnErr, IsTrue, is_some};
+ghost use Rattle.std.specs.Prelude.{◌≡◌, ◌≢◌, [], length, None, Some, OnOk, OnErr, IsTrue, is_some};
 ghost use Rattle.page_parts.specs.TaskSignals.{priority_of, followed as followed_by, give as given, depend as depending, ended};
 ghost use Rattle.task_signal.specs.Changes.{IsAnswer, Leaves, HasPriority};
 ghost use Rattle.task_signal.specs.Places.{place_in, signals};
@@ -65,6 +65,13 @@ impl Prios {
             records: Vec::new(alloc),
             places: BTreeMap::new(alloc),
         }
+    }
+
+    /// How many signals were given a priority. Takes no memory.
+    pub fn len(&self) -> usize
+        ensures { result ≡ length self.now }
+    {
+        self.records.len()
     }
 
     /// Gives a signal its first priority. It follows no signal, and none follows it.

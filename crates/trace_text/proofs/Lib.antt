@@ -21,4 +21,3 @@ mod SoFar
 mod TracesRead
 mod ValuesRead
 mod BadLines
-mod SimpleValues

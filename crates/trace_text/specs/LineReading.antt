@@ -43,7 +43,8 @@ all_sources = None ∷ Some User ∷ Some Net ∷ Some Dom ∷ Some Timer ∷ So
 
 abbrev pub all_kinds : List RegKind
 all_kinds =
-    TimeoutKind ∷ IntervalKind ∷ FrameKind ∷ IdleKind ∷ PostKind ∷ YieldKind ∷ HostKind ∷ ListenerKind ∷ ThenKind ∷ MicroKind ∷ SignalKind ∷ []
+    TimeoutKind ∷ IntervalKind ∷ FrameKind ∷ IdleKind ∷ PostKind ∷ YieldKind ∷ HostKind ∷ ListenerKind ∷ ThenKind ∷ MicroKind ∷ SignalKind ∷
+    []
 
 abbrev pub all_priorities : List Priority
 all_priorities = Background ∷ UserVisible ∷ UserBlocking ∷ []

@@ -4,8 +4,6 @@
 #![tactic(auto)]
 
 mod check;
-#[cfg(test)]
-mod check_tests;
 mod event;
 mod events;
 mod fault;
@@ -14,15 +12,9 @@ mod line_reading;
 mod lines;
 mod printed;
 mod reading;
-#[cfg(test)]
-mod reading_tests;
 mod sink;
-#[cfg(test)]
-mod spelling_tests;
 mod spellings;
 mod summary;
-#[cfg(test)]
-mod tests;
 mod trace_laws;
 mod word_tables;
 mod words;

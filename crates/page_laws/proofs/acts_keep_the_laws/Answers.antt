@@ -16,3 +16,9 @@ returns-clause-nesting g c = λ program setup choices list h. (laws_of_gaps g.R.
 
 pub returns-clause-once : goal.returns-clause-once
 returns-clause-once g c = λ program setup choices list h. (laws_of_gaps g.R.Choosing.rules program setup choices list h).3
+
+pub returns-clause-cancels : goal.returns-clause-cancels
+returns-clause-cancels g c = λ program setup choices list h. (laws_of_gaps g.R.Choosing.rules program setup choices list h).5
+
+pub returns-clause-priorities : goal.returns-clause-priorities
+returns-clause-priorities g c = λ program setup choices list h. (laws_of_gaps g.R.Choosing.rules program setup choices list h).6

@@ -22,14 +22,14 @@ fn put<L: Ledger>(
     item: char,
     steps: &mut Steps<L>,
 ) -> Ticket
-    requires kept { Kept queues.old.levels.items pool.old }
-    requires room { HasRoom queues.old.levels.items source }
-    requires later { (task : Waiting ℕ) → Among task (waiting queues.old.levels.items pool.old) → task.order < order }
+    requires kept { Kept queues.old pool.old }
+    requires room { HasRoom queues.old.levels source }
+    requires later { (task : Waiting ℕ) → Among task (waiting queues.old.levels pool.old) → task.order < order }
     requires inserts { pool.old.inserts + 1 < 2 ^ 64 }
-    ensures same { queues.new.levels.items ≡ queues.old.levels.items }
-    ensures kept { Kept queues.new.levels.items pool.new }
-    ensures earlier { (task : Waiting ℕ) → Among task (waiting queues.new.levels.items pool.new) → task.order < order + 1 }
-    ensures found { find (has_cell result.0) (waiting queues.new.levels.items pool.new) ≢ None }
+    ensures same { queues.new.levels ≡ queues.old.levels }
+    ensures kept { Kept queues.new pool.new }
+    ensures earlier { (task : Waiting ℕ) → Among task (waiting queues.new.levels pool.new) → task.order < order + 1 }
+    ensures found { find (has_cell result.0) (waiting queues.new.levels pool.new) ≢ None }
     ensures inserts { pool.new.inserts ≡ pool.old.inserts + 1 }
 {
     match queues.enqueue(pool, source, continuation, order, item, steps) {

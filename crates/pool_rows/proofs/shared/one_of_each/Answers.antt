@@ -14,13 +14,13 @@ use Rattle.pool_rows.proofs.shared.one_of_each.Goals as goal
 
 pub enqueue-requires-clause-kept : goal.enqueue-requires-clause-kept
 enqueue-requires-clause-kept g c =
-    let levels = c.in_ok-sched.sched.levels.items in
-    apart-kept levels c.new-2.new.pool c.queue.new.pool (omega (arith, c.queue.ensures.count))
+    let levels = c.in_ok-sched.sched.levels in
+    apart-kept c.in_ok-sched.sched c.new-2.new.pool c.queue.new.pool (omega (arith, c.queue.ensures.count))
     (λ q i. c.queue.ensures.others q.list (beside c.in_ok-queues.queues levels c.new.new.pool c.in_ok-queues.ensures.stand c.in_ok-sched.ensures.made q i)) c.in_ok-sched.ensures.kept
 
 pub enqueue-requires-clause-later : goal.enqueue-requires-clause-later
 enqueue-requires-clause-later g c task a =
-    let levels = c.in_ok-sched.sched.levels.items in
+    let levels = c.in_ok-sched.sched.levels in
     let none =
     apart-waiting levels c.new-2.new.pool c.queue.new.pool
     (λ q i. c.queue.ensures.others q.list (beside c.in_ok-queues.queues levels c.new.new.pool c.in_ok-queues.ensures.stand c.in_ok-sched.ensures.made q i)) ∙ c.in_ok-sched.ensures.empty in
@@ -28,11 +28,11 @@ enqueue-requires-clause-later g c task a =
 
 pub take-scheduled-requires : goal.take-scheduled-requires
 take-scheduled-requires g c =
-    let levels = c.enqueue.new.self.levels.items in
+    let levels = c.enqueue.new.self.levels in
     let stand = c.in_ok-queues.ensures.stand in
     let made = λ (l : ℕ) (h : l < length c.new.new.pool.lists). subst (λ (ls : List Level). Lone l (all_queues ls)) (sym c.enqueue.ensures.same) (c.in_ok-sched.ensures.made l h) in
     let apart = λ (q : Queue) (i : InQueues q (all_queues levels)). subst (λ (x : Queues g.row.T.Denot). IsApart x q.list) (sym c.queue.ensures.same) (beside c.in_ok-queues.queues levels c.new.new.pool stand made q i) in
-    apart-kept levels c.enqueue.new.pool c.take-user.new.pool (omega (arith, c.take-user.ensures.count)) (λ q i. c.take-user.ensures.others q.list (apart q i)) c.enqueue.ensures.kept
+    apart-kept c.enqueue.new.self c.enqueue.new.pool c.take-user.new.pool (omega (arith, c.take-user.ensures.count)) (λ q i. c.take-user.ensures.others q.list (apart q i)) c.enqueue.ensures.kept
 
 pub returns-clause-user : goal.returns-clause-user
 returns-clause-user g c =
@@ -49,6 +49,6 @@ returns-clause-user g c =
 
 pub returns-clause-scheduled : goal.returns-clause-scheduled
 returns-clause-scheduled g c =
-    scheduled c.in_ok-queues.queues c.queue.new.self c.in_ok-sched.sched.levels.items c.enqueue.new.self.levels.items c.new.new.pool c.new-2.new.pool c.queue.new.pool c.enqueue.new.pool c.take-user.new.pool _ _ c.take-scheduled.result
+    scheduled c.in_ok-queues.queues c.queue.new.self c.in_ok-sched.sched.levels c.enqueue.new.self.levels c.new.new.pool c.new-2.new.pool c.queue.new.pool c.enqueue.new.pool c.take-user.new.pool _ _ c.take-scheduled.result
     c.in_ok-queues.ensures.stand c.in_ok-sched.ensures.made c.in_ok-sched.ensures.empty c.queue.ensures.others c.in-Ok-enqueue.ensures.waits c.enqueue.ensures.same c.queue.ensures.same c.take-user.ensures.others
     c.take-scheduled.ensures.first

@@ -1,9 +1,8 @@
-use Rattle.std.proofs.Common.{◌≡◌, ◌+◌, ◌≤◌, ℕ, length, length-append, ◌∷◌, [], sym, ap, subst, ◌∙◌, nat_cmp, arith, rules}
-use Rattle.std.specs.BTreeMap.{is_at, btree_map_len}
+use Rattle.std.proofs.Common.{◌≡◌, ◌+◌, length, length-append, ◌∷◌, [], sym, ap, subst, ◌∙◌, nat_cmp, arith, rules}
+use Rattle.std.specs.BTreeMap.{is_at}
 use Rattle.std.specs.Map.{remove_entry, values_of}
-use Rattle.std.specs.Vec.{vec_capacity}
 use Rattle.page_parts.specs.Words.{and_last}
-use Rattle.abort_graph.specs.Indexed.{AreSerials, AreBelow, AddsSerial, SameSerials, serials_in}
+use Rattle.abort_graph.specs.Indexed.{AreSerials, AreBelow, AddsSerial, serials_in}
 use Rattle.abort_graph.proofs.IndexLemmas.{insert_last, remove_last, serials_put, below_put, values_last}
 use Rattle.abort_graph.proofs.algorithms.Algorithms.add.Goals as goal
 

@@ -1,4 +1,4 @@
-use Rattle.std.proofs.Common.{◌≡◌, not, List, ℕ, [], Option, None, Some, eqb, nat_cmp, sym, ap, subst, ◌∙◌, arith}
+use Rattle.std.proofs.Common.{◌≡◌, not, List, ℕ, [], Option, None, Some, eqb, sym, ap, subst, ◌∙◌, arith}
 use Rattle.std.specs.Map.{values_of}
 use Rattle.std.specs.declared.alloc.Global.{Global}
 use Rattle.std.specs.declared.vec.Vec.{Vec}

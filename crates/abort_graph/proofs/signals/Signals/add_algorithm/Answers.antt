@@ -1,8 +1,7 @@
-use Rattle.std.proofs.Common.{◌≡◌, ◌<◌, ◌≤◌, ◌-◌, ℕ, List, [], length, take, refl, sym, ap, ◌∙◌, arith}
-use Rattle.page_parts.specs.Words.{with_numbered, without, has_number}
+use Rattle.std.proofs.Common.{◌<◌, ◌≤◌, ℕ, List, length, sym, ap, ◌∙◌, arith}
 use Rattle.page_parts.specs.AbortGraph as parts
 use Rattle.abort_graph.specs.Seen.{signal_seen}
-use Rattle.abort_graph.proofs.SignalLemmas.{changed, nothing_written, signal_absent, signal_read, leaves, same_there, with_more}
+use Rattle.abort_graph.proofs.SignalLemmas.{changed, nothing_written, with_more}
 use Rattle.abort_graph.proofs.signals.Signals.add_algorithm.Goals as goal
 
 pub returns-in_default-clause-added : goal.returns-in_default-clause-added

@@ -1,8 +1,6 @@
-use Rattle.std.proofs.Common.{◌≡◌, ◌<◌, ◌≤◌, ◌-◌, ℕ, List, [], length, take, refl, sym, ap, ◌∙◌, arith}
-use Rattle.page_parts.specs.Words.{with_numbered, without, has_number}
+use Rattle.std.proofs.Common.{◌<◌, length, sym, ap, ◌∙◌, arith}
 use Rattle.page_parts.specs.AbortGraph as parts
-use Rattle.abort_graph.specs.Seen.{signal_seen}
-use Rattle.abort_graph.proofs.SignalLemmas.{changed, nothing_written, signal_absent, signal_read, leaves, same_there, with_less}
+use Rattle.abort_graph.proofs.SignalLemmas.{signal_read}
 use Rattle.abort_graph.proofs.signals.Signals.signal.Goals as goal
 
 pub returns-clause-there : goal.returns-clause-there

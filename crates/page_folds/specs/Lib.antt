@@ -1,0 +1,5 @@
+pub mod Begins
+pub mod OfModel
+pub mod Seen
+pub mod Steps
+pub mod Visits

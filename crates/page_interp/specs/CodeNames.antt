@@ -1,0 +1,29 @@
+-- The names that a machine has of its script.
+use Rattle.std.specs.Prelude.{◌≡◌, ◌<◌, ◌^◌, ◌++◌, ℕ, List, [], map, length, Option, slice_get, Vec}
+use Rattle.std.specs.declared.alloc.Global.{Global}
+use Rattle.lang_meaning.specs.Evaluation.{Function, functions_of}
+use Rattle.lang_ast.specs.declared.program.Program.{Program}
+use Rattle.lang_ast.specs.SeenProgram.{seen_program}
+use Rattle.lang_ast.specs.Programs.{function_names}
+use Rattle.page_interp.specs.Runs.{frame_names, global_names}
+
+-- the function of a script with this number
+abbrev pub function_at : Program → ℕ → Option Function
+function_at script number = slice_get (functions_of (seen_program script).items) number
+
+-- the names of the variables of each function
+abbrev pub names_of_frames : Program → List (List (List ℕ))
+names_of_frames script = map frame_names (functions_of (seen_program script).items)
+
+-- the names that a script gives: those of its functions, of its global variables, of the variables of its own body besides
+-- them, and of the variables of each function
+pub record AreNamesOf (script : Program) (functions globals none : List (List ℕ)) (locals : List (List (List ℕ))) : Type 0 where
+  pub functions_named : functions ≡ function_names (seen_program script).items
+  pub globals_named : globals ≡ global_names (seen_program script)
+  pub no_names : none ≡ []
+  pub locals_named : locals ≡ names_of_frames script
+  pub few : length functions < 2 ^ 32
+
+-- these names come behind the old ones
+abbrev pub Appends : (old new : Vec (List ℕ) Global) → List (List ℕ) → Type 0
+Appends old new names = new.items ≡ old.items ++ names

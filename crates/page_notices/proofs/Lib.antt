@@ -1,0 +1,5 @@
+pub mod Timing
+pub mod Marking
+pub mod Changing
+pub mod Telling
+pub mod Queuing

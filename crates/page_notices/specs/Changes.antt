@@ -1,0 +1,39 @@
+-- What a change of one promise does to the notices, and what is told of it.
+use Rattle.std.specs.Prelude.{◌≡◌, ℕ, Bool, true, false, cond, List, [], Option, Some, None, ◌==◌}
+use Rattle.page_types.specs.Events.{Event}
+use Rattle.page_parts.specs.Words.{without}
+use Rattle.page_parts.specs.Promises as Parts
+use Rattle.page_parts.specs.Promises.{Settled, Fulfilled, Failed, PromiseRecord, PromiseJob, resolve, reject, settled_value, the_promise}
+use Rattle.page_parts.specs.Notices.{Notices, Noticed, Context, settle_line, queue_jobs, followed_by, promise_changed}
+use Rattle.page_values.specs.Written.{IsNumbered}
+use Rattle.promise_core.specs.declared.record.Change.{Change}
+use Rattle.promise_core.specs.Changes.{Tells}
+
+-- the change by which a promise is resolved or rejected
+abbrev pub settling : ℕ → PromiseRecord → Settled → Parts.Change
+settling n q (Fulfilled v) = resolve n q v
+settling n q (Failed v) = reject n q v
+
+-- promise number n is not to be notified about, nor outstanding
+abbrev pub no_longer_unhandled : ℕ → Notices → Notices
+no_longer_unhandled n s = record s { rejected = without (λ m. m == n) s.rejected; outstanding = without (λ m. m == n) s.outstanding }
+
+-- a call brought this change of promise number n about, its lines and jobs not yet, and tells it
+pub record Brings (told : Change) (n : ℕ) (change : Parts.Change) (old new : Notices) : Type 0 where
+  pub state : new ≡ (promise_changed [] n change old).notices
+  pub tells : Tells told change
+
+-- the line of a promise with this outcome, where it was settled
+abbrev pub settled_line : List (List ℕ) → ℕ → (settled : Bool) → Option Settled → List Event
+settled_line names n settled outcome = cond settled (settle_line names n outcome) []
+
+-- what follows a change of promise number n: the line, and the jobs with theirs
+abbrev pub telling : Context → List (List ℕ) → ℕ → (settled : Bool) → List PromiseJob → Notices → Noticed
+telling now names n settled jobs s =
+    followed_by (record { notices = s; lines = settled_line names n settled (the_promise s.promises n).outcome }) (queue_jobs now jobs)
+
+-- each function that the outcome of a settled promise names is one of so many
+abbrev pub IsNamed : ℕ → (settled : Bool) → Option Settled → Type 0
+IsNamed count false outcome = Unit {0}
+IsNamed count true None = Unit {0}
+IsNamed count true (Some how) = IsNumbered count (settled_value how)

@@ -1,0 +1,5 @@
+pub mod Seen
+pub mod Marks
+pub mod Steps
+pub mod State
+pub mod Changes

@@ -1,0 +1,5 @@
+pub mod Outcomes
+pub mod Places
+pub mod Answering
+pub mod Heavy
+pub mod Kept

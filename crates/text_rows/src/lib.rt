@@ -1,0 +1,20 @@
+//! Worked examples of what is read and written: values, scripts and their names, arrivals files, and traces.
+//!
+//! There is nothing here but tests. They stand apart from the crates that they test, so that the proofs of those are not made a
+//! second time for their tests. The tables hold what is wanted, which was worked out by hand. Memory is ample in each.
+#![tactic(auto)]
+
+#[cfg(test)]
+mod arrivals;
+#[cfg(test)]
+mod script_names;
+#[cfg(test)]
+mod spellings;
+#[cfg(test)]
+mod trace_lines;
+#[cfg(test)]
+mod traces_compared;
+#[cfg(test)]
+mod traces_read;
+#[cfg(test)]
+mod values;

@@ -1,0 +1,119 @@
+//! Which bytes are the spelling of a value.
+
+use std::alloc::{AllocError, Global};
+use std::test::Fail;
+use trace_text::{TraceFault, read_trace};
+
+// Whether a trace may log these bytes as a value.
+fn is_spelling(alloc: Global, bytes: &[u8]) -> Result<bool, Fail> {
+    let mut trace = b"trace 1\n0 log ".to_vec(alloc)?;
+    trace.extend_from_slice(bytes)?;
+    trace.extend_from_slice(b"\n0 end done\n")?;
+    match read_trace(alloc, &trace) {
+        Ok(_) => Ok(true),
+        Err(TraceFault::Is(_)) => Ok(false),
+        Err(_) => Err(Fail::new("no memory")),
+    }
+}
+
+#[test]
+fn spellings_are_taken(rt: HostRuntime) -> Result<(), Fail> {
+    let table = [
+        "unit",
+        "true",
+        "false",
+        "0",
+        "-1",
+        "9223372036854775807",
+        "-9223372036854775808",
+        "\"\"",
+        "\"a ~ \\\" \\\\ \\n\"",
+        "promise#0",
+        "signal#12",
+        "controller#4294967295",
+        "deadline",
+        "deadline@0",
+        "deadline@18446744073709551615",
+        "NotAllowedError(\"no\")",
+        "[]",
+        "fn:f()",
+        "fn:_9(1,[unit,fn:g(deadline)],deadline@5)",
+    ];
+    for text in table {
+        assert_eq!(rt;
+            is_spelling(rt.alloc(), text.as_bytes())?,
+            true,
+            "at {text}"
+        );
+    }
+    Ok(())
+}
+
+#[test]
+fn other_bytes_are_refused(rt: HostRuntime) -> Result<(), Fail> {
+    let table = [
+        "",
+        "units",
+        "-0",
+        "007",
+        "+1",
+        "9223372036854775808",
+        "-9223372036854775809",
+        "\"",
+        "\"a\tb\"",
+        "\"\\t\"",
+        "\"\u{7f}\"",
+        "\"é\"",
+        "promise#4294967296",
+        "promise#",
+        "deadline@",
+        "deadline@18446744073709551616",
+        "Error(no)",
+        "[1,]",
+        "[,1]",
+        "[1 2]",
+        "[1)",
+        "[]]",
+        "fn:()",
+        "fn:9()",
+        "fn:f[]",
+    ];
+    for text in table {
+        assert_eq!(rt;
+            is_spelling(rt.alloc(), text.as_bytes())?,
+            false,
+            "at {text}"
+        );
+    }
+    Ok(())
+}
+
+// Lists that nest so deep.
+fn nested(alloc: Global, deep: usize) -> Result<Vec<u8>, AllocError> {
+    let mut text = Vec::new(alloc);
+    text.resize(deep, b'[')?;
+    for _ in 0..deep {
+        text.push(b']')?;
+    }
+    Ok(text)
+}
+
+// A function whose name has so many bytes.
+fn named(alloc: Global, length: usize) -> Result<Vec<u8>, AllocError> {
+    let mut text = b"fn:".to_vec(alloc)?;
+    for _ in 0..length {
+        text.push(b'f')?;
+    }
+    text.extend_from_slice(b"()")?;
+    Ok(text)
+}
+
+#[test]
+fn lists_nest_64_deep_and_names_have_64_bytes(rt: HostRuntime) -> Result<(), Fail> {
+    let alloc = rt.alloc();
+    assert_eq!(rt; is_spelling(alloc, &nested(alloc, 64)?)?, true);
+    assert_eq!(rt; is_spelling(alloc, &nested(alloc, 65)?)?, false);
+    assert_eq!(rt; is_spelling(alloc, &named(alloc, 64)?)?, true);
+    assert_eq!(rt; is_spelling(alloc, &named(alloc, 65)?)?, false);
+    Ok(())
+}
