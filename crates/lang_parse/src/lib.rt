@@ -14,15 +14,11 @@ mod leaves;
 mod limits;
 mod log_parser;
 pub mod log_script;
-#[cfg(test)]
-mod log_tests;
 mod operators;
 mod parser;
 mod parts;
 mod reading;
 mod statements;
-#[cfg(test)]
-mod tests;
 mod toplevel;
 
 pub use begins::a_script_begins;

@@ -25,6 +25,7 @@ pub mod Answering
 pub mod Finding
 pub mod Cancelled
 pub mod HostCounts
+pub mod HostAnswers
 pub mod CancelledHosts
 pub mod First
 pub mod Priorities

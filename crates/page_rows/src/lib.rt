@@ -13,6 +13,8 @@ mod refusals;
 #[cfg(test)]
 mod scripts;
 #[cfg(test)]
+mod sums;
+#[cfg(test)]
 mod traces;
 #[cfg(test)]
 mod write_faults;

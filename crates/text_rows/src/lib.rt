@@ -7,7 +7,11 @@
 #[cfg(test)]
 mod arrivals;
 #[cfg(test)]
+mod log_scripts;
+#[cfg(test)]
 mod script_names;
+#[cfg(test)]
+mod scripts_read;
 #[cfg(test)]
 mod spellings;
 #[cfg(test)]

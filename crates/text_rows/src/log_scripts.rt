@@ -1,4 +1,6 @@
-use crate::{LogStatement, Logged, NoTree, TreeFault, parse_log_script};
+//! Log scripts, which are run so far.
+
+use lang_parse::{LogStatement, Logged, NoTree, TreeFault, parse_log_script};
 use lang_tokens::tokens;
 use std::test::Fail;
 

@@ -1,5 +1,7 @@
-use crate::{ParseFault, parse};
+//! The trees of scripts, and scripts that have none.
+
 use lang_ast::{Expr, Item, Stmt, Tree};
+use lang_parse::{ParseFault, parse};
 use lang_tokens::tokens;
 use std::alloc::Global;
 use std::test::Fail;
