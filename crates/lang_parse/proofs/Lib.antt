@@ -18,7 +18,6 @@ pub mod Script
 pub mod StmtSteps
 pub mod ItemSteps
 pub mod Openers
-pub mod NameLists
 pub mod NameSteps
 pub mod Trees
 pub mod NamedTexts

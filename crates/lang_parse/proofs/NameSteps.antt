@@ -13,8 +13,8 @@ use Rattle.lang_ast.specs.declared.tree.Stmt as S
 use Rattle.lang_ast.specs.Sizes.{stmt_size, block_size, others_size, else_size}
 use Rattle.lang_ast.proofs.Trees.{seen-Var, seen-Assign, seen-Expr, seen-If, seen-While, seen-Return, seen-Throw, seen-Try}
 use Rattle.lang_ast.specs.Seen.{seen_name, seen_else, seen_expr, seen_stmt, seen_block, seen_others, seen_items}
-use Rattle.lang_parse.specs.Grammar.{distinct}
-use Rattle.lang_parse.specs.NameSets.{HoldsNames, Adds}
+use Rattle.lang_place.specs.NameSets.{distinct}
+use Rattle.lang_place.specs.NameSets.{HoldsNames, Adds}
 
 pub adds_nothing : (a : List (Vec ℕ Global)) → Adds a a []
 adds_nothing a = record { more = λ xs h. subst (HoldsNames a) (sym (append-nil xs)) h }

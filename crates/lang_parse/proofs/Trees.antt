@@ -8,7 +8,8 @@ use Rattle.lang_parse.specs.declared.fault.TreeFault.{TreeFault}
 use Rattle.lang_parse.specs.declared.error.ParseError.{ParseError}
 use Rattle.lang_parse.specs.declared.error.ParseError.TheVariants as error
 use Rattle.lang_parse.specs.Symbols.{Symbol}
-use Rattle.lang_parse.specs.Grammar.{HasTree, IsShallow, distinct, script_spelling}
+use Rattle.lang_parse.specs.Grammar.{HasTree, IsShallow, script_spelling}
+use Rattle.lang_place.specs.NameSets.{distinct}
 use Rattle.lang_parse.specs.Parts.{Many, ItemRead, AtEnd}
 use Rattle.lang_parse.specs.Deciding.{Never, Fails}
 use Rattle.lang_parse.specs.Faults.{IsFaultOf}

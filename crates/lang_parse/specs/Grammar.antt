@@ -12,6 +12,7 @@ use Rattle.page_types.specs.declared.UnarySign.{UnarySign}
 use Rattle.page_types.specs.declared.UnarySign.TheVariants.{Negative, Not}
 use Rattle.page_parts.specs.Words.{same_bytes}
 use Rattle.lang_meaning.specs.Evaluation.{names_in, own_body, functions_of}
+use Rattle.lang_place.specs.NameSets.{distinct}
 use Rattle.lang_parse.specs.Symbols.{Symbol, NameAt, WordOf, NumberOf, TextOf, SignOf}
 
 -- ---- signs
@@ -260,15 +261,6 @@ brackets_after n (TextOf bs) = n
 abbrev pub IsShallow : ℕ → List Symbol → Type 0
 IsShallow n [] = ⊤
 IsShallow n (k ∷ ks) = (brackets_after n k ≤ 64) × IsShallow (brackets_after n k) ks
-
-abbrev pub has_name : List (List ℕ) → List ℕ → Bool
-has_name [] x = false
-has_name (y ∷ ys) x = same_bytes y x || has_name ys x
-
--- the names, each once
-abbrev pub distinct : List (List ℕ) → List (List ℕ)
-distinct [] = []
-distinct (x ∷ xs) = cond (has_name xs x) (distinct xs) (x ∷ distinct xs)
 
 -- The symbols are those of the tree: it is one by the grammar, and it is spelled so. At most 64 brackets are open at a
 -- symbol, there are at most 4,096 functions, and at most 4,096 different global names.

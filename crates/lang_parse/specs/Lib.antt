@@ -5,5 +5,4 @@ pub mod LogSeen
 pub mod Readings
 pub mod Parts
 pub mod Deciding
-pub mod NameSets
 pub mod Faults

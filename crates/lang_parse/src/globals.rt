@@ -4,8 +4,7 @@ ghost use Rattle.std.specs.Prelude.{◌≡◌, ◌∷◌, [], IfOk, IfErr, OnOk,
 ghost use Rattle.lang_meaning.specs.Evaluation.{names_in, names_in_stmt, names_in_others, own_body, functions_of};
 ghost use Rattle.lang_ast.specs.Seen.{seen_stmt, seen_block, seen_others, seen_items};
 ghost use Rattle.lang_parse.specs.declared.error.ParseError.TheVariants.{OutOfMemory};
-ghost use Rattle.lang_parse.specs.Grammar.{distinct};
-ghost use Rattle.lang_parse.specs.NameSets.{Adds};
+ghost use Rattle.lang_place.specs.NameSets.{distinct, Adds};
 
 use crate::error::ParseError;
 use lang_ast::{Expr, Item, Named, Stmt};
@@ -17,8 +16,7 @@ fn add_name(alloc: Global, name: &Named, names: &mut HashSet<Vec<u8>>) -> Result
     ensures added { OnOk result (Adds names.old.keys names.new.keys (name.now.name ∷ [])) }
     ensures memory { IfErr result (λ e. e ≡ OutOfMemory) }
 {
-    let bytes = name.name.bytes().to_vec(alloc)?;
-    names.insert(bytes)?;
+    lang_place::add_name(alloc, names, name.name.bytes())?;
     Ok(())
 }
 

@@ -12,6 +12,7 @@ pub mod terminal;
 #[cfg(test)]
 mod tests;
 
+pub use counting::add_name;
 pub use expected::{Closer, Expected, Next, Taken, Within};
 pub use laws::fewer_tokens_begin;
 pub use placing::place;
