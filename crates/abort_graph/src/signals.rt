@@ -5,9 +5,6 @@ ghost use Rattle.page_parts.specs.AbortGraph as parts;
 ghost use Rattle.page_parts.specs.AbortGraph.{the_signal, reason_of, fresh_signal};
 ghost use Rattle.abort_graph.specs.Seen.{signal_seen};
 
-#[cfg(test)]
-mod tests;
-
 use crate::algorithms::Algorithms;
 use crate::numbers::Numbers;
 use crate::signal::Signal;

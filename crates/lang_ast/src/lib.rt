@@ -9,8 +9,6 @@ mod named;
 mod operations;
 pub mod program;
 pub mod role;
-#[cfg(test)]
-mod tests;
 pub mod tree;
 
 pub use host::{Host, HostStep, Outcome};

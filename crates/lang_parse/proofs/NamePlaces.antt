@@ -18,7 +18,7 @@ use Rattle.lang_tokens.specs.declared.token.TokenKind.TheVariants as token
 use Rattle.lang_ast.specs.declared.role.Role.TheVariants as role
 use Rattle.lang_ast.specs.Names.{Mention, mention, in_expr, in_exprs, in_terms, in_factors, in_returned, in_stmt, in_block, in_others, in_else, Occurrence, inside, in_function, in_items, occurrences, Rise}
 use Rattle.lang_parse.specs.Symbols.{Symbol, NameAt, WordOf, NumberOf, TextOf, SignOf, symbol_by, symbols_of}
-use Rattle.lang_parse.specs.Grammar.{sum_sign, product_sign, compare_sign, unary_sign, spelling, each_behind, terms, factors, places_spelled, separated, return_spelling, in_braces, in_brackets, stmt_spelling, stmts_spelling, else_ifs_spelling, else_spelling, names_behind, names_spelling, item_spelling, script_spelling, HasTree}
+use Rattle.lang_parse.specs.Grammar.{sum_sign, product_sign, compare_sign, unary_sign, spelling, each_behind, terms, factors, places_spelled, separated, return_spelling, in_braces, in_brackets, stmt_spelling, stmts_spelling, else_ifs_spelling, else_spelling, names_behind, names_spelling, script_spelling, HasTree}
 
 -- the bytes of the names among symbols
 abbrev places_in : List Symbol → List ℕ

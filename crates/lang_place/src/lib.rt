@@ -9,8 +9,6 @@ mod placing;
 mod recogniser;
 pub mod standing;
 pub mod terminal;
-#[cfg(test)]
-mod tests;
 
 pub use counting::add_name;
 pub use expected::{Closer, Expected, Next, Taken, Within};

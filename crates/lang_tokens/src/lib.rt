@@ -8,8 +8,6 @@ pub mod fault;
 mod laws;
 mod lexing;
 mod piece;
-#[cfg(test)]
-mod tests;
 pub mod token;
 
 pub use fault::{BadByte, TokensFault};

@@ -3,9 +3,6 @@ ghost use Rattle.page_parts.specs.Listeners.{add as with_listener, off as withou
 ghost use Rattle.page_events.specs.Seen.{seen_target};
 ghost use Rattle.page_events.specs.Dispatching.{next_listening, behind_next};
 
-#[cfg(test)]
-mod tests;
-
 use crate::dispatch::Dispatch;
 use crate::index::{
     Kinds, Listed, Serials, has_serials, note_serial, put, registrations, take_out, take_out_all,

@@ -7,8 +7,6 @@
 mod jobs;
 mod noted;
 mod notices;
-#[cfg(test)]
-mod tests;
 
 pub use jobs::{NextJob, Todo};
 pub use notices::Notices;

@@ -9,9 +9,6 @@ ghost use Rattle.promise_combine.specs.Seen.{kind_seen, outcome_of, report_of};
 ghost use Rattle.promise_combine.specs.Answers.{answer_seen, IsAnswer};
 ghost use Rattle.promise_combine.specs.Reports.{HasCount, has_reported};
 
-#[cfg(test)]
-mod tests;
-
 use crate::kind::{Kind, answer_at_once, settled_with};
 use crate::listing::listed;
 use page_values::{FaultName, Items, MemoryFault, Value, ValueFault, fault};

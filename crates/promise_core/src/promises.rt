@@ -9,9 +9,6 @@ ghost use Rattle.page_parts.specs.Promises.{the_promise};
 ghost use Rattle.promise_core.specs.Seen.{settled_seen, reaction_seen, jobs_seen, records_seen, record_seen};
 ghost use Rattle.promise_core.specs.Changes.{Brings};
 
-#[cfg(test)]
-mod tests;
-
 use crate::record::{Change, Job, Reaction, Record, Settled};
 use page_values::{FaultName, MemoryFault, Value, as_promise, fault};
 use std::alloc::Global;

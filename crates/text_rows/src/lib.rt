@@ -9,11 +9,17 @@ mod arrivals;
 #[cfg(test)]
 mod log_scripts;
 #[cfg(test)]
+mod operations;
+#[cfg(test)]
+mod places;
+#[cfg(test)]
 mod script_names;
 #[cfg(test)]
 mod scripts_read;
 #[cfg(test)]
 mod spellings;
+#[cfg(test)]
+mod tokens_read;
 #[cfg(test)]
 mod trace_lines;
 #[cfg(test)]

@@ -3,9 +3,9 @@
 ghost use Rattle.promise_core.specs.Held.{IsMade};
 ghost use Rattle.page_notices.specs.Steps.{held};
 
-use crate::{Job, NextJob, Notices, Reaction, Todo};
 use page_base::Micros;
 use page_io::MemSink;
+use page_notices::{Job, NextJob, Notices, Reaction, Todo};
 use page_values::{FunNames, Value};
 use std::alloc::Global;
 use std::process::Abort;

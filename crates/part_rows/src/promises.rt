@@ -1,19 +1,22 @@
+//! Promises and the jobs that they bring.
+
 ghost use Rattle.promise_core.specs.Held.{IsMade};
 
-use super::*;
 use microtasks::Jobs;
-use page_values::{as_fault, as_int, copy};
+use page_values::{FaultName, Value, as_fault, as_int, copy};
+use promise_core::{Change, Job, MemoryFault, Promises, Reaction};
+use std::alloc::Global;
 use std::process::Abort;
 
 // The condition of every call that names a promise.
 fn assert_made(rt: &impl Abort, promises: &Promises, p: u32)
     ensures { IsMade promises.now p }
 {
-    assert!(rt; p > 0 && p as usize <= promises.records.len());
+    assert!(rt; p > 0 && p <= promises.made());
 }
 
 fn make(rt: &impl Abort, promises: &mut Promises) -> Result<u32, MemoryFault> {
-    assert!(rt; promises.records.len() < 100);
+    assert!(rt; promises.made() < 100);
     promises.make()
 }
 

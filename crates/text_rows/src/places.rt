@@ -1,4 +1,6 @@
-use crate::place;
+//! The places of syntax errors.
+
+use lang_place::place;
 use lang_tokens::tokens;
 use std::alloc::Global;
 use std::test::Fail;

@@ -1,4 +1,6 @@
-use crate::{BadByte, Token, TokenKind, TokensFault, tokens};
+//! The tokens of scripts.
+
+use lang_tokens::{BadByte, Token, TokenKind, TokensFault, tokens};
 use std::test::Fail;
 
 type Wanted = (usize, usize, TokenKind, &'static [u8]);

@@ -1,7 +1,11 @@
+//! Listeners, and what a dispatch calls of them.
+
 ghost use Rattle.std.specs.Prelude.{IsTrue};
 ghost use Rattle.page_values.specs.Texts.{is_text};
 
-use super::*;
+use page_events::{Dispatch, Listeners, Target};
+use page_values::Str;
+use std::alloc::Global;
 use std::process::Abort;
 use std::test::Fail;
 

@@ -1,10 +1,7 @@
 ghost use Rattle.std.specs.Prelude.{IsTrue};
 ghost use Rattle.page_values.specs.Texts.{is_text};
 
-use crate::host::{Host, HostStep, Outcome};
-use crate::operations::{argument_count, is_busy, operation_named};
-use crate::program::Program;
-use crate::tree::{Item, Named, Tree};
+use lang_ast::{Host, HostStep, Item, Named, Outcome, Program, Tree, argument_count, is_busy, operation_named};
 use page_types::Op;
 use page_values::{Str, Value};
 use std::alloc::Global;

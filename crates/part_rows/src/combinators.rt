@@ -1,10 +1,13 @@
+//! The answers of combinators.
+
 ghost use Rattle.std.specs.Prelude.{◌≡◌, ◌<◌, OnOk, false};
 ghost use Rattle.page_parts.specs.Combinators.{with_report};
 ghost use Rattle.promise_combine.specs.Seen.{report_of};
 ghost use Rattle.promise_combine.specs.Reports.{has_reported};
 
-use super::*;
-use page_values::{FunNames, make_list, print};
+use page_values::{FunNames, Items, Value, make_list, print};
+use promise_combine::{Combine, Kind, Settled};
+use std::alloc::Global;
 use std::process::Abort;
 use std::test::Fail;
 
