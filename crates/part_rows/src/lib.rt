@@ -1,4 +1,4 @@
-//! Worked examples of the parts of a page: signals, listeners, promises, combinators, and the lines of promises.
+//! Worked examples of the parts of a page: signals, listeners, combinators, and promises with their lines.
 //!
 //! There is nothing here but tests. They stand apart from the crates that they test, so that the proofs of those are not made a
 //! second time for their tests. What is wanted was worked out by hand. Memory is ample in each.
@@ -10,7 +10,5 @@ mod combinators;
 mod listeners;
 #[cfg(test)]
 mod notices;
-#[cfg(test)]
-mod promises;
 #[cfg(test)]
 mod signals;

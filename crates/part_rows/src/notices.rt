@@ -259,3 +259,23 @@ fn a_failed_line_is_the_last(rt: HostRuntime) -> Result<(), Fail> {
     page.expect(&rt, b"5 settle 1 ok 3\n5 jo");
     Ok(())
 }
+
+#[test]
+fn the_first_resolution_wins(rt: HostRuntime) -> Result<(), Fail> {
+    let alloc = rt.alloc();
+    let mut page = Written::new(alloc, Vec::new(alloc))?;
+    let p = page.resolved(&rt, 1)?;
+    page.reject(&rt, p, 2)?;
+    page.expect(&rt, b"5 settle 1 ok 1\n");
+    Ok(())
+}
+
+#[test]
+fn a_promise_resolved_with_itself_is_rejected(rt: HostRuntime) -> Result<(), Fail> {
+    let alloc = rt.alloc();
+    let mut page = Written::new(alloc, Vec::new(alloc))?;
+    let p = page.make(&rt)?;
+    page.adopt(&rt, p, p)?;
+    page.expect(&rt, b"5 settle 1 err TypeError(\"\")\n");
+    Ok(())
+}
