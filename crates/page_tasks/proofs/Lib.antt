@@ -1,0 +1,4 @@
+pub mod Beside
+pub mod Made
+pub mod Sources
+pub mod SourceCalls

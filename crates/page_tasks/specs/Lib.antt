@@ -1,0 +1,5 @@
+pub mod Seen
+pub mod Coded
+pub mod Queued
+pub mod Standing
+pub mod Asking
