@@ -1,13 +1,16 @@
 -- The calls on the task sources, on the whole.
 use Rattle.std.proofs.Common.{◌≡◌, ◌≢◌, ℕ, suc, ◌+◌, ◌<◌, ◌≤◌, Bool, true, false, not, List, [], ◌∷◌, ◌++◌, drop, length, Option, None, Some, eqb, filter, refl, sym, ◌∙◌, ap, subst, arith}
+use Rattle.std.specs.Prelude.{unwrap_or}
 use Rattle.std.specs.List.{AllByRecursion}
 use Rattle.std.specs.Option.{option_to_list, option_map}
 use Rattle.page_types.specs.declared.Source.{Source}
 use Rattle.page_types.specs.declared.Source.TheVariants.{Sched}
 use Rattle.page_parts.specs.Words.{and_last, without}
 use Rattle.page_model.specs.State as Model
+use Rattle.page_model.specs.PageTime.{first_task}
+use Rattle.page_fields.specs.Fields as Fields
 use Rattle.cell_room.specs.declared.room.Cell.{Cell}
-use Rattle.task_pool.specs.Lists.{Entry, Lists, list_of, first_entry}
+use Rattle.task_pool.specs.Lists.{Entry, Lists, list_of, first_entry, numbered}
 use Rattle.task_pool.specs.declared.pool.Ticket.{Ticket}
 use Rattle.task_queues.specs.declared.queues.Queues.{Queues}
 use Rattle.task_queues.specs.BySource.{tasks_of, StandIn, IsApart, Queued as IsQueued}
@@ -19,12 +22,12 @@ use Rattle.page_tasks.specs.declared.asked.Asked.{Asked}
 use Rattle.page_tasks.specs.declared.page_task.TaskSteps.{TaskSteps}
 use Rattle.page_tasks.specs.declared.page_task.PageTask.{PageTask}
 use Rattle.page_tasks.specs.declared.page_task.PageTask.TheVariants.{OfSource}
-use Rattle.page_tasks.specs.Seen.{steps_of}
+use Rattle.page_tasks.specs.Seen.{steps_of, steps_in}
 use Rattle.page_tasks.specs.Asking.{asked_by}
-use Rattle.page_tasks.specs.Queued.{Queued, queued, with_spare, without_number}
+use Rattle.page_tasks.specs.Queued.{Queued, queued, with_spare, without_number, taken}
 use Rattle.page_tasks.specs.Standing.{seen_in, tasks_in, sched_tasks_in, priorities_in, AreApart, AreTasks, AreScheduled, IsKnown, AreOnce, IsStanding}
 use Rattle.page_tasks.proofs.Beside.{same_waiting, source_changed}
-use Rattle.page_tasks.proofs.Sources.{all_last, all_without, queued_merged, queued_seen, queued_tasks, taken_merged, taken_seen, taken_tasks}
+use Rattle.page_tasks.proofs.Sources.{all_last, all_without, queued_merged, queued_seen, queued_tasks, taken_merged, taken_seen, taken_tasks, first_by_list}
 
 -- more was put in, and more numbers were given out
 pub later : (levels : List Level) (ws : List (Waiting PageTask)) (tickets : ℕ → Option Ticket) (i j m n : ℕ) → i ≤ j → m ≤ n → AreScheduled levels ws tickets i m → AreScheduled levels ws tickets j n
@@ -111,3 +114,33 @@ module _ (old new : Lists PageTask) (queues : Queues PageTask) (sched : SchedLev
     taken_as =
         ap (λ (ws : List (Waiting PageTask)). record (seen_in new queues sched made) { sched_tasks = sched_tasks_in ws }) still_waits
         ∙ ap (λ (ts : List Model.Task). record (seen_in old queues sched made) { tasks = ts; spare = new.spare }) (taken_seen (tasks_of queues old) (tasks_of queues new) asked made s entry st.tasks first taking)
+
+-- ---- what is given
+
+-- the first entry, by what is handed out of it
+pub record Gives (es : List (Entry PageTask)) (number : ℕ) (task : PageTask) : Type 0 where
+  pub entry : Entry PageTask
+  pub first : first_entry es ≡ Some entry
+  pub number_is : entry.number ≡ number
+  pub item_is : entry.item ≡ task
+
+pub gives : (es : List (Entry PageTask)) (number : ℕ) (task : PageTask) → option_map numbered (first_entry es) ≡ Some (number, task) → Gives es number task
+gives [] number task e = absurd (cc)
+gives (x ∷ xs) number task e =
+    let p : (x.number, x.item) ≡ (number, task) = ap (λ (o : Option (ℕ × PageTask)). unwrap_or o (number, task)) e in
+    record { entry = x; first = refl; number_is = ap (λ (q : ℕ × PageTask). q.0) p; item_is = ap (λ (q : ℕ × PageTask). q.1) p }
+
+none_given : (es : List (Entry PageTask)) → option_map numbered (first_entry es) ≡ None → first_entry es ≡ None
+none_given [] e = refl
+none_given (x ∷ xs) e = absurd (cc)
+
+module _ (lists : BySource PageTask) (asked : List Asked) (made : ℕ) (s : Source) (a : AreTasks lists asked made) where
+  pub no_first : option_map numbered (first_entry (lists s)) ≡ None → None ≡ first_task s (tasks_in lists)
+  no_first none = sym (first_by_list lists asked made s a ∙ ap (λ o. option_map (Fields.task_of steps_in) (option_map (sourced s) o)) (none_given (lists s) none))
+
+  pub the_first : (number : ℕ) (steps : TaskSteps) → option_map numbered (first_entry (lists s)) ≡ Some (number, OfSource steps) → Some (taken s (number, steps)) ≡ first_task s (tasks_in lists)
+  the_first number steps e =
+      let g = gives (lists s) number (OfSource steps) e in
+      ap (λ (n : ℕ). Some (taken s (n, steps))) (sym g.number_is)
+      ∙ ap (λ (t : PageTask). Some (record { number = g.entry.number; source = s; steps = steps_in t })) (sym g.item_is)
+      ∙ sym (first_by_list lists asked made s a ∙ ap (λ o. option_map (Fields.task_of steps_in) (option_map (sourced s) o)) g.first)

@@ -56,11 +56,7 @@ pub fn note(asked: &mut Vec<Asked>, more: Option<Asked>)
 pub fn forget(asked: &mut Vec<Asked>, number: u64)
     ensures { asked.new.items ≡ filter (λ a. not (a.number == number)) asked.old.items }
 {
-    asked.retain(|a: &Asked| -> bool
-        ensures { result ≡ not (a.now.number == number) }
-    {
-        a.number != number
-    });
+    asked.retain(|a| a.number != number);
 }
 
 /// The first task noted that a registration asked for.
