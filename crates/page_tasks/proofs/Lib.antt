@@ -2,3 +2,4 @@ pub mod Beside
 pub mod Made
 pub mod Sources
 pub mod SourceCalls
+pub mod Scheduled
