@@ -3,3 +3,5 @@ pub mod Made
 pub mod Sources
 pub mod SourceCalls
 pub mod Scheduled
+pub mod Priorities
+pub mod SchedCalls

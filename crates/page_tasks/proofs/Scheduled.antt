@@ -45,7 +45,7 @@ not_there a e = cc
 
 -- ---- among
 
-abbrev Waits : Type 0
+abbrev pub Waits : Type 0
 Waits = Waiting PageTask
 
 front_among : (t u : Waits) (front back : List Waits) → Among u (front ++ back) → Among u (front ++ t ∷ back)
@@ -136,7 +136,7 @@ once_inserted t xs ys i r a =
 -- ---- a task is enqueued
 
 module _ (levels : List Level) (ws more : List Waits) (tickets after : ℕ → Option Ticket) (i j made n r : ℕ) (source : PrioSource) (continuation : Bool) (cell : Cell) where
-  abbrev new_one : Waits
+  abbrev pub new_one : Waits
   new_one = new_task levels cell source continuation n (OfScheduler (record { registration = r; source = source; continuation = continuation }))
 
   pub record IsPut : Type 0 where
@@ -222,7 +222,7 @@ module _ (r : ℕ) (cell : Cell) where
       by false rest = ap (λ (ts : List Model.SchedTask). sched_task_in x ∷ ts) rest
 
 module _ (r : ℕ) where
-  abbrev is_for : Model.SchedTask → Bool
+  abbrev pub is_for : Model.SchedTask → Bool
   is_for t = eqb t.registration r
 
   found : (w : Waits) (xs : List Waits) → Among w xs → registration_in w.item ≡ r → is_there (find is_for (map sched_task_in xs)) ≡ true
