@@ -5,3 +5,4 @@ pub mod SourceCalls
 pub mod Scheduled
 pub mod Priorities
 pub mod SchedCalls
+pub mod Firsts

@@ -1,18 +1,21 @@
 -- The calls on the scheduler's queues, on the whole.
 use Rattle.std.proofs.Common.{◌≡◌, ◌≢◌, ◌⊎◌, ℕ, suc, ◌+◌, ◌<◌, ◌≤◌, Bool, true, false, cond, List, [], ◌∷◌, length, Option, None, Some, eqb, filter, refl, sym, ◌∙◌, ap, subst, inl, inr, arith}
 use mathlib.Core.Path.{fun_ext}
-use Rattle.std.specs.List.{AllByRecursion}
+use Rattle.std.specs.Prelude.{OnSome, is_some, option_map}
+use Rattle.std.specs.List.{AllByRecursion, find}
+use Rattle.std.proofs.lemmas.Bool.{eqb-true}
 use Rattle.page_parts.specs.Words.{and_last, without}
 use Rattle.page_model.specs.State as Model
 use Rattle.cell_room.specs.declared.room.Cell.{Cell}
-use Rattle.task_pool.specs.Lists.{Lists, list_of}
+use Rattle.task_pool.specs.Lists.{Lists, list_of, same_cell}
+use Rattle.task_pool.proofs.CellTests.{same_cell-refl}
 use Rattle.task_pool.specs.declared.pool.Ticket.{Ticket}
 use Rattle.task_queues.specs.declared.queues.Queues.{Queues}
 use Rattle.task_queues.specs.BySource.{tasks_of}
 use Rattle.task_queues.specs.OneList.{SourcedTask, BySource, merged}
 use Rattle.post_task.specs.declared.level.Level.{Level}
 use Rattle.post_task.specs.declared.level.PrioSource.{PrioSource}
-use Rattle.post_task.specs.Waiting.{Waiting, Among, lacks_cell}
+use Rattle.post_task.specs.Waiting.{Waiting, Among, has_cell, lacks_cell}
 use Rattle.post_task.specs.Levels.{Sched as SchedLevels, all_queues, Lone, waiting, Kept}
 use Rattle.post_task.proofs.Waits.{among_inserted}
 use Rattle.page_tasks.specs.declared.asked.Asked.{Asked}
@@ -124,3 +127,34 @@ module _ (old new : Lists PageTask) (queues : Queues PageTask) (sched after : Sc
 
 pub same_tickets : (pool : Lists PageTask) (queues : Queues PageTask) (sched : SchedLevels) (tickets now : ℕ → Option Ticket) (asked : List Asked) (made : ℕ) → ((q : ℕ) → now q ≡ tickets q) → IsStanding pool queues sched tickets asked made → IsStanding pool queues sched now asked made
 same_tickets pool queues sched tickets now asked made same st = subst (λ (f : ℕ → Option Ticket). IsStanding pool queues sched f asked made) (sym (fun_ext same)) st
+
+-- ---- a ticket is taken
+
+pub gone_same : (tickets now : ℕ → Option Ticket) (r : ℕ) → tickets r ≡ None → ((q : ℕ) → now q ≡ cond (eqb r q) None (tickets q)) → (q : ℕ) → now q ≡ tickets q
+gone_same tickets now r none gone q = gone q ∙ by (eqb r q) refl
+  where
+    by : (b : Bool) → eqb r q ≡ b → cond b None (tickets q) ≡ tickets q
+    by true is = sym (sym (ap tickets (eqb-true r q is)) ∙ none)
+    by false is = refl
+
+cell_there : (c : Cell) (w : Waiting PageTask) (ws : List (Waiting PageTask)) → Among w ws → w.cell ≡ c → is_some (find (has_cell c) ws) ≡ true
+cell_there c w [] i e = absurd i
+cell_there c w (x ∷ xs) i e = by (has_cell c x) refl i (λ j. cell_there c w xs j e)
+  where
+    by : (b : Bool) → has_cell c x ≡ b → Among w (x ∷ xs) → (Among w xs → is_some (find (has_cell c) xs) ≡ true) → is_some (cond b (Some x) (find (has_cell c) xs)) ≡ true
+    by true is i rest = refl
+    by false is i rest = elim i [
+      | inl s ↦ absurd (let h : has_cell c x ≡ true = ap (has_cell c) s ∙ ap (λ (d : Cell). same_cell d c) e ∙ same_cell-refl c in cc)
+      | inr j ↦ rest j
+    ]
+
+-- what a ticket names waits in its cell
+pub named_waits : (levels : List Level) (ws : List (Waiting PageTask)) (tickets : ℕ → Option Ticket) (inserts made r : ℕ) (t : Ticket) → AreScheduled levels ws tickets inserts made → tickets r ≡ Some t → is_some (find (has_cell t.0) ws) ≡ true
+named_waits levels ws tickets inserts made r t a there = let k = a.known r t there in cell_there t.0 k.task ws k.waits k.cell_is
+
+pub not_none : {X : Type 0} (o : Option X) → is_some o ≡ true → o ≢ None
+not_none o e none = let h = ap is_some none in cc
+
+pub on_some : {X Y P : Type 0} (f : X → Y) (o : Option X) (r : Option Y) → is_some o ≡ true → r ≡ option_map f o → OnSome r P → P
+on_some f None r e is h = absurd (cc)
+on_some {P = P} f (Some x) r e is h = subst (λ u. OnSome u P) is h
