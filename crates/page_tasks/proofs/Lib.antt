@@ -6,3 +6,4 @@ pub mod Scheduled
 pub mod Priorities
 pub mod SchedCalls
 pub mod Firsts
+pub mod Moved

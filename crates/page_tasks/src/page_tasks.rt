@@ -239,7 +239,14 @@ impl<L: Ledger> PageTasks<L> {
     pub fn is_empty(&self) -> bool
         ensures { (p : Page) → IsOf self.now p → result ≡ is_empty (view p) }
     {
-        self.first_numbers() == [None; 7]
+        let [user, render, sched, timer, net, dom, idle] = self.first_numbers();
+        user.is_none()
+            && render.is_none()
+            && sched.is_none()
+            && timer.is_none()
+            && net.is_none()
+            && dom.is_none()
+            && idle.is_none()
     }
 
     /// Whether a task of the rendering source waits. Takes no memory.
@@ -257,7 +264,9 @@ impl<L: Ledger> PageTasks<L> {
         ensures same { OnOk result (self.new ≡ record self.old { priorities = self.new.priorities }) }
         ensures err { OnErr result (self.new ≡ self.old) }
     {
-        self.sched.make_room_for(&mut self.pool, signal, priority)
+        self.sched
+            .make_room_for(&mut self.pool, signal, priority)?;
+        Ok(())
     }
 
     /// The scheduler tasks of a signal have this priority from now on, where room was made for them. Takes no memory.
