@@ -7,3 +7,4 @@ pub mod Priorities
 pub mod SchedCalls
 pub mod Firsts
 pub mod Moved
+pub mod Noting

@@ -86,11 +86,11 @@ noted_one n s (V.IdleTimeout handle) = refl
 noted_one n s (V.NotifyRejected ps) = refl
 noted_one n s (V.NotifyHandled m) = refl
 
-abbrev noted_list : Option NotedHost → List NotedHost → List NotedHost
+abbrev pub noted_list : Option NotedHost → List NotedHost → List NotedHost
 noted_list None more = more
 noted_list (Some x) more = x ∷ more
 
-noted_cons : (t : Model.Task) (ts : List Model.Task) → filter_map noted_of (t ∷ ts) ≡ noted_list (noted_of t) (filter_map noted_of ts)
+pub noted_cons : (t : Model.Task) (ts : List Model.Task) → filter_map noted_of (t ∷ ts) ≡ noted_list (noted_of t) (filter_map noted_of ts)
 noted_cons t ts = by (noted_of t) refl
   where
     by : (o : Option NotedHost) → noted_of t ≡ o → filter_map noted_of (t ∷ ts) ≡ noted_list o (filter_map noted_of ts)
