@@ -11,7 +11,7 @@ use Rattle.page_tasks.proofs.page_tasks.PageTasks.set_priority.Given.{Over}
 use Rattle.page_tasks.proofs.page_tasks.PageTasks.set_priority.Goals as goal
 
 -- the level list afterwards, and the lists beside it
-lists_apart : (g : Over) (c : goal.After-self-1 g) → AreApart c.self.inside.pool c.self.inside.queues c.move_priority.new.self
+lists_apart : (g : Over) (c : goal.After-move_priority g) → AreApart c.self.inside.pool c.self.inside.queues c.move_priority.new.self
 lists_apart g c =
     let i = c.self.inside in
     let l = c.self.invariant.lists in
@@ -19,7 +19,7 @@ lists_apart g c =
     sched_changed i.queues i.pool i.pool i.sched c.move_priority.new.self l (λ n lone. refl) (c.move_priority.ensures.kept i.pool l.kept)
     (λ n h lone. c.move_priority.ensures.others n lone) (λ n lone. lone_still c.args.signal c.args.priority i.sched.levels n (subst (L n) c.move_priority.ensures.levels lone)) (omega arith)
 
-prioritised : (g : Over) (c : goal.After-self-1 g) → Prioritised c.args.signal c.args.priority c.self.inside.sched.levels c.move_priority.new.self.levels
+prioritised : (g : Over) (c : goal.After-move_priority g) → Prioritised c.args.signal c.args.priority c.self.inside.sched.levels c.move_priority.new.self.levels
 prioritised g c = subst (λ (ls : List Level). Prioritised c.args.signal c.args.priority c.self.inside.sched.levels ls) (sym c.move_priority.ensures.levels) (changed c.args.signal c.args.priority c.self.inside.sched.levels)
 
 pub invariant_of-self : goal.invariant_of-self
