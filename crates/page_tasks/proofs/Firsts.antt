@@ -1,6 +1,11 @@
 -- The scheduler task that is next, and the numbers of first tasks, as a page of the model has them.
 use Rattle.std.proofs.Common.{◌≡◌, ◌≢◌, ℕ, ◌+◌, ◌*◌, Bool, true, false, cond, ◌&&◌, ◌||◌, nat_lt, ◌==◌, List, [], ◌∷◌, map, Option, None, Some, refl, sym, ◌∙◌, ap, subst, inl, inr}
-use Rattle.std.specs.Prelude.{option_map, unwrap_or, MatchOption}
+use Rattle.std.specs.Prelude.{option_map, unwrap_or, MatchOption, is_some, not}
+use Rattle.std.specs.List.{list_all}
+use Rattle.page_parts.specs.Words.{is_empty, is_there}
+use Rattle.page_model.specs.PageTime.{first_task}
+use Rattle.page_fields.specs.Fields.{task_of}
+use Rattle.page_tasks.proofs.Sources.{first_by_list}
 use Rattle.page_types.specs.declared.Priority.{Priority}
 use Rattle.page_types.specs.declared.Priority.TheVariants.{UserVisible}
 use Rattle.page_types.specs.declared.Source.{Source}
@@ -15,7 +20,7 @@ use Rattle.task_pool.specs.Lists.{Entry, Lists, first_entry}
 use Rattle.task_pool.specs.declared.pool.Ticket.{Ticket}
 use Rattle.task_queues.specs.declared.queues.Queues.{Queues}
 use Rattle.task_queues.specs.BySource.{tasks_of, head}
-use Rattle.task_queues.specs.OneList.{BySource, merged}
+use Rattle.task_queues.specs.OneList.{BySource, merged, sourced}
 use Rattle.post_task.specs.declared.level.Level.{Level}
 use Rattle.post_task.specs.declared.level.PrioSource.{PrioSource}
 use Rattle.post_task.specs.declared.level.PrioSource.TheVariants.{Fixed, Signal}
@@ -111,3 +116,26 @@ module _ (pool : Lists PageTask) (queues : Queues PageTask) (asked : List Asked)
 
 pub view_is : (p : Page) → runnables (map (first_number p) default_list) ≡ view p
 view_is p = refl
+
+-- no source has a number exactly where none is runnable
+pub none_runnable : (a b c d e f g : Option ℕ) → list_all (λ (o : Option ℕ). not (is_some o)) (a ∷ b ∷ c ∷ d ∷ e ∷ f ∷ g ∷ []) ≡ is_empty (runnables (a ∷ b ∷ c ∷ d ∷ e ∷ f ∷ g ∷ []))
+none_runnable (Some x) b c d e f g = refl
+none_runnable None (Some x) c d e f g = refl
+none_runnable None None (Some x) d e f g = refl
+none_runnable None None None (Some x) e f g = refl
+none_runnable None None None None (Some x) f g = refl
+none_runnable None None None None None (Some x) g = refl
+none_runnable None None None None None None (Some x) = refl
+none_runnable None None None None None None None = refl
+
+pub none_in : (p : Page) → list_all (λ (o : Option ℕ). not (is_some o)) (map (first_number p) default_list) ≡ is_empty (view p)
+none_in p = none_runnable (first_number p User) (first_number p Render) (first_number p Sched) (first_number p Timer) (first_number p Net) (first_number p Dom) (first_number p Idle)
+
+-- ---- the rendering source
+
+there_by : (o : Option (Entry PageTask)) → is_some (option_map (λ (e : Entry PageTask). e.number) o) ≡ is_there (option_map (task_of steps_in) (option_map (sourced Render) o))
+there_by None = refl
+there_by (Some e) = refl
+
+pub render_is : (lists : BySource PageTask) (asked : List Asked) (made : ℕ) → AreTasks lists asked made → is_some (option_map (λ (e : Entry PageTask). e.number) (first_entry (lists Render))) ≡ is_there (first_task Render (tasks_in lists))
+render_is lists asked made a = there_by (first_entry (lists Render)) ∙ sym (ap is_there (first_by_list lists asked made Render a))

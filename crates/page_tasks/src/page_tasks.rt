@@ -1,4 +1,5 @@
-ghost use Rattle.std.specs.Prelude.{◌≡◌, ◌≢◌, ℕ, ◌+◌, ◌^◌, ◌<◌, ◌≤◌, map, None, Some, IsSome, IfOk, OnOk, OnErr, IsOk, IfSome, IfNone, cond, option_map, is_some};
+ghost use Rattle.std.specs.Prelude.{◌≡◌, ◌≢◌, ℕ, ◌+◌, ◌^◌, ◌<◌, ◌≤◌, map, None, Some, IsSome, IfOk, OnOk, OnErr, IsOk, IfSome, IfNone, cond, option_map, is_some, not};
+ghost use Rattle.std.specs.List.{list_all};
 
 use crate::asked::{Asked, asked_of, find_asked, forget, make_room, note};
 use crate::page_task::{PageTask, PostedTask, SchedTask, TaskSteps};
@@ -239,14 +240,7 @@ impl<L: Ledger> PageTasks<L> {
     pub fn is_empty(&self) -> bool
         ensures { (p : Page) → IsOf self.now p → result ≡ is_empty (view p) }
     {
-        let [user, render, sched, timer, net, dom, idle] = self.first_numbers();
-        user.is_none()
-            && render.is_none()
-            && sched.is_none()
-            && timer.is_none()
-            && net.is_none()
-            && dom.is_none()
-            && idle.is_none()
+        has_none(&self.first_numbers())
     }
 
     /// Whether a task of the rendering source waits. Takes no memory.
@@ -276,4 +270,11 @@ impl<L: Ledger> PageTasks<L> {
     {
         self.sched.move_priority(signal, priority);
     }
+}
+
+// Whether no source has a number.
+fn has_none(numbers: &[Option<u64>; 7]) -> bool
+    ensures { result ≡ list_all (λ number. not (is_some number)) numbers.now }
+{
+    numbers.iter().all(|number| number.is_none())
 }
