@@ -8,3 +8,4 @@ pub mod SchedCalls
 pub mod Firsts
 pub mod Moved
 pub mod Noting
+pub mod PageLaws

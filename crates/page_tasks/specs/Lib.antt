@@ -3,3 +3,4 @@ pub mod Coded
 pub mod Queued
 pub mod Standing
 pub mod Asking
+pub mod PageLaws

@@ -2,11 +2,13 @@
 #![tactic(auto)]
 
 mod asked;
+mod laws;
 mod page_task;
 mod page_tasks;
 mod tasks;
 mod tickets;
 
+pub use laws::queued_tasks_are_those_of_a_page;
 pub use page_base::{Micros, Source};
 pub use page_task::{PageTask, PostedTask, SchedTask, TaskSteps};
 pub use page_tasks::PageTasks;
