@@ -9,3 +9,4 @@ pub mod Firsts
 pub mod Moved
 pub mod Noting
 pub mod PageLaws
+pub mod HeldLemmas

@@ -4,3 +4,4 @@ pub mod Queued
 pub mod Standing
 pub mod Asking
 pub mod PageLaws
+pub mod Held

@@ -60,6 +60,7 @@ impl<L: Ledger> PageTasks<L> {
     ghost use Rattle.page_model.specs.SchedulerTasks.{first_sched};
     ghost use Rattle.page_model.specs.View.{first_number, view};
     ghost use Rattle.page_tasks.specs.Seen.{steps_of, host_task, prio_source, sched_task};
+    ghost use Rattle.page_tasks.specs.Held.{Holds};
     ghost use Rattle.page_tasks.specs.Queued.{IsOf, HasPriority, IsMoved, HasRoomFor, none_queued, with_spare, queued, without_number, enqueued, without_registration, sched_task_for, taken, runnables};
 
     /// No task, and no number given out. At least so many tasks are sure to find room in the pool.
@@ -248,6 +249,16 @@ impl<L: Ledger> PageTasks<L> {
         ensures { result ≡ is_there (first_task Render self.now.tasks) }
     {
         self.queues.heads(&self.pool)[1].is_some()
+    }
+
+    /// The pool that the tasks stand in.
+    pub fn pool(&self) -> &Pool<PageTask>
+        ensures held { Holds result.now self.now }
+        ensures spare { result.now.spare ≡ self.now.spare }
+    {
+        // What stands in it is known by the invariant.
+        let _ = &self.queues;
+        &self.pool
     }
 
     /// Makes room for the scheduler tasks of a signal, which have this priority from now on.
