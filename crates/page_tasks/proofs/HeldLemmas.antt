@@ -211,10 +211,12 @@ module _ (pool : Lists PageTask) (queues : Queues PageTask) (sched : SchedLevels
       let k = st.scheduled.each r.0 waits in
       let f = from_waiting r.0 (all_queues sched.levels) (from_among r.0 ws waits) in
       let item : f.1.item ≡ r.0.item = ap (λ (w : Waiting PageTask). w.item) f.3 in
-      let number : f.1.number ≡ r.0.order = ap (λ (w : Waiting PageTask). w.order) f.3 in
-      (f.1, record { list = f.0.list; stands = f.2 },
-          subst (λ (x : PageTask). IsSchedTaskOf t f.1.number x) (sym (item ∙ k.posted))
-          (sym (ap (λ (n : ℕ). record (sched_task_in r.0) { order = n }) number ∙ r.2)))
+      let number : f.1.number ≡ r.0.order = ap (λ (w : Waiting PageTask). w.order) f.3 in (
+        f.1,
+        record { list = f.0.list; stands = f.2 },
+        subst (λ (x : PageTask). IsSchedTaskOf t f.1.number x) (sym (item ∙ k.posted))
+            (sym (ap (λ (n : ℕ). record (sched_task_in r.0) { order = n }) number ∙ r.2)),
+      )
 
 -- ---- as many
 
@@ -314,7 +316,7 @@ tasks_length lists none =
       of_each_length lists Net (Dom ∷ Idle ∷ []),
       of_each_length lists Dom (Idle ∷ []),
       of_each_length lists Idle [],
-      ap length none
+      ap length none,
     )
 
 module _ (pool : Lists PageTask) (queues : Queues PageTask) (sched : SchedLevels) (tickets : ℕ → Option Ticket) (asked : List Asked) (made : ℕ) (st : IsStanding pool queues sched tickets asked made) where
@@ -340,10 +342,16 @@ module _ (pool : Lists PageTask) (queues : Queues PageTask) (sched : SchedLevels
       let d = λ (m n : ℕ) (h : m < n). less_differs m n h in
       let u = queues.user.0 in let n = queues.net.0 in let o = queues.dom.0 in let t = queues.timer.0 in let r = queues.render.0 in let i = queues.idle.0 in (
         (d u n r0, (d u o (omega (arith, r0, r1)), (d u t (omega (arith, r0, r1, r2)), (d u r (omega (arith, r0, r1, r2, r3)), (d u i (omega (arith, r0, r1, r2, r3, r4)), beside_sched User (λ h. cc)))))),
-        ((d n o r1, (d n t (omega (arith, r1, r2)), (d n r (omega (arith, r1, r2, r3)), (d n i (omega (arith, r1, r2, r3, r4)), beside_sched Net (λ h. cc))))),
-            ((d o t r2, (d o r (omega (arith, r2, r3)), (d o i (omega (arith, r2, r3, r4)), beside_sched Dom (λ h. cc)))),
-                ((d t r r3, (d t i (omega (arith, r3, r4)), beside_sched Timer (λ h. cc))),
-                    ((d r i r4, beside_sched Render (λ h. cc)), (beside_sched Idle (λ h. cc), kept_differ pool (all_queues sched.levels) st.lists.kept.lists))))),
+        (
+          (d n o r1, (d n t (omega (arith, r1, r2)), (d n r (omega (arith, r1, r2, r3)), (d n i (omega (arith, r1, r2, r3, r4)), beside_sched Net (λ h. cc))))),
+          (
+            (d o t r2, (d o r (omega (arith, r2, r3)), (d o i (omega (arith, r2, r3, r4)), beside_sched Dom (λ h. cc)))),
+            (
+              (d t r r3, (d t i (omega (arith, r3, r4)), beside_sched Timer (λ h. cc))),
+              ((d r i r4, beside_sched Render (λ h. cc)), (beside_sched Idle (λ h. cc), kept_differ pool (all_queues sched.levels) st.lists.kept.lists)),
+            ),
+          ),
+        ),
       )
 
   all_within : AllByRecursion (λ (n : ℕ). n < length pool.lists) all_numbers
@@ -366,7 +374,7 @@ module _ (pool : Lists PageTask) (queues : Queues PageTask) (sched : SchedLevels
         tasks_length (tasks_of queues pool) refl,
         map_length sched_task_in (in_order ws),
         order_length ws,
-        waiting_length pool (all_queues sched.levels)
+        waiting_length pool (all_queues sched.levels),
       )
 
   pub holds : Holds pool (seen_in pool queues sched made)

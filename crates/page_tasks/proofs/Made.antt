@@ -43,9 +43,11 @@ none_scheduled levels tickets inserts made none =
 module _ (rest : List Level) (level : Level) where
   at_source : (source : PrioSource) → level.source ≡ source → ((s : ℕ) → priority_in (level ∷ rest) (Signal s) ≡ None) → (priority_by level ≡ None) × ((s : ℕ) → priority_in rest (Signal s) ≡ None)
   at_source (Fixed f) is none =
-      let by : priority_by level ≡ None = rw is in
-      (by, λ s. let h = none s in let e : has_source (Signal s) level ≡ false = ap (λ (x : PrioSource). same_source x (Signal s)) is in
-      sym (ap (λ (b : Bool). option_map (λ (l : Level). l.priority) (cond b (Some level) (find (has_source (Signal s)) rest))) e) ∙ h)
+      let by : priority_by level ≡ None = rw is in (
+        by,
+        λ s. let h = none s in let e : has_source (Signal s) level ≡ false = ap (λ (x : PrioSource). same_source x (Signal s)) is in
+            sym (ap (λ (b : Bool). option_map (λ (l : Level). l.priority) (cond b (Some level) (find (has_source (Signal s)) rest))) e) ∙ h,
+      )
   at_source (Signal a) is none =
       let e : has_source (Signal a) level ≡ true = ap (λ (x : PrioSource). same_source x (Signal a)) is ∙ eq-eqb a a refl in
       let h : Some level.priority ≡ None = sym (ap (λ (b : Bool). option_map (λ (l : Level). l.priority) (cond b (Some level) (find (has_source (Signal a)) rest))) e) ∙ none a in

@@ -277,8 +277,8 @@ module _ (levels : List Level) (ws : List Waits) (tickets : ℕ → Option Ticke
         let k = a.known r t there in
         elim (cell_cases w.cell t.0) [
           | inl e ↦ let same : w ≡ k.task = a.cells w k.task i k.waits (e ∙ sym k.cell_is) in
-          let reg : registration_in w.item ≡ r = ap (λ (u : Waits). registration_in u.item) same ∙ k.registration in
-          ap (λ (c : Cell). same_cell c t.0) e ∙ same_cell-refl t.0 ∙ sym (ap (λ (m : ℕ). eqb m r) reg ∙ same_number r)
+              let reg : registration_in w.item ≡ r = ap (λ (u : Waits). registration_in u.item) same ∙ k.registration in
+              ap (λ (c : Cell). same_cell c t.0) e ∙ same_cell-refl t.0 ∙ sym (ap (λ (m : ℕ). eqb m r) reg ∙ same_number r)
           | inr h ↦ same_cell-false w.cell t.0 h ∙ sym (other_number (registration_in w.item) r (λ e. h (ap (λ (x : Ticket). x.0) (inside (record { 0 = w.cell }) t (sym (a.each w i).ticket ∙ ap tickets e ∙ there)))))
         ]
 

@@ -63,8 +63,6 @@ pub fn forget(asked: &mut Vec<Asked>, number: u64)
 pub fn find_asked(asked: &[Asked], registration: u32) -> Option<HostTask>
     ensures { result ≡ asked_for registration asked.now }
 {
-    let asked = asked
-        .iter()
-        .find(|a| a.task.registration == registration)?;
+    let asked = asked.iter().find(|a| a.task.registration == registration)?;
     Some(asked.task)
 }

@@ -13,10 +13,7 @@ pub enum TaskSteps {
     /// The signal is aborted by its timeout.
     TimeOutSignal(u32),
     /// An event of an arrival is fired at the window.
-    FireAtWindow {
-        name: Str,
-        value: Value,
-    },
+    FireAtWindow { name: Str, value: Value },
     AnswerHost(HostTask),
     /// A frame, with its timestamp.
     RunFrame(Micros),

@@ -1,6 +1,9 @@
 ghost use Rattle.std.specs.Prelude.{◌≡◌, ◌≢◌, ℕ, ◌+◌, ◌^◌, ◌<◌, ◌≤◌, map, None, Some, IsSome, IfOk, OnOk, OnErr, IsOk, IfSome, IfNone, cond, option_map, is_some, not};
 ghost use Rattle.std.specs.List.{list_all};
 
+#[cfg(test)]
+mod tests;
+
 use crate::asked::{Asked, asked_of, find_asked, forget, make_room, note};
 use crate::page_task::{PageTask, PostedTask, SchedTask, TaskSteps};
 use crate::tasks::HostTask;
@@ -66,11 +69,7 @@ impl<L: Ledger> PageTasks<L> {
     /// No task, and no number given out. At least so many tasks are sure to find room in the pool.
     ///
     /// An error comes only for want of memory.
-    pub fn new(
-        alloc: Global,
-        room: usize,
-        accesses: Steps<L>,
-    ) -> Result<PageTasks<L>, MemoryFault>
+    pub fn new(alloc: Global, room: usize, accesses: Steps<L>) -> Result<PageTasks<L>, MemoryFault>
         ensures none { IfOk result (λ tasks. tasks ≡ none_queued tasks.spare) }
         ensures room { IfOk result (λ tasks. room ≤ tasks.spare) }
     {
@@ -127,7 +126,9 @@ impl<L: Ledger> PageTasks<L> {
         ensures gone { IfSome result (λ given. self.new ≡ with_spare (self.old.spare + 1) (without_number given.0 self.old)) }
         ensures none { IfNone result (self.new ≡ self.old) }
     {
-        let (number, task) = self.queues.take(&mut self.pool, source, &mut self.accesses)?;
+        let (number, task) = self
+            .queues
+            .take(&mut self.pool, source, &mut self.accesses)?;
         forget(&mut self.asked, number);
         match task {
             PageTask::OfSource(steps) => Some((number, steps)),
@@ -269,8 +270,7 @@ impl<L: Ledger> PageTasks<L> {
         ensures same { OnOk result (self.new ≡ record self.old { priorities = self.new.priorities }) }
         ensures err { OnErr result (self.new ≡ self.old) }
     {
-        self.sched
-            .make_room_for(&mut self.pool, signal, priority)?;
+        self.sched.make_room_for(&mut self.pool, signal, priority)?;
         Ok(())
     }
 
