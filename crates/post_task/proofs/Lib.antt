@@ -9,3 +9,4 @@ pub mod Places
 pub mod Firsts
 pub mod Rising
 pub mod InOrder
+pub mod Stays

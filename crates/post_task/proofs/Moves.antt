@@ -24,7 +24,7 @@ use Rattle.post_task.proofs.Places.{none_moved, none_push, same_source-true, sam
 abbrev pub moved_queue : ℕ → Priority → Queue → Queue
 moved_queue s p q = cond (same_source q.source (Signal s)) (record q { priority = p }) q
 
-list_stays : (s : ℕ) (p : Priority) (q : Queue) → (moved_queue s p q).list ≡ q.list
+pub list_stays : (s : ℕ) (p : Priority) (q : Queue) → (moved_queue s p q).list ≡ q.list
 list_stays s p q = elim (same_source q.source (Signal s)) as (λ t. (cond t (record q { priority = p }) q).list ≡ q.list) [ true ↦ refl | false ↦ refl ]
 
 queues_moved : (s : ℕ) (p : Priority) (l : Level) → queues_of (moved_level s p l) ≡ map (moved_queue s p) (queues_of l)

@@ -52,6 +52,7 @@ impl<T> SchedQueues<T> {
         ensures kept { IfOk result (λ queues. Kept queues pool.new) }
         ensures empty { IfOk result (λ queues. waiting queues.levels pool.new ≡ []) }
         ensures made { IfOk result (λ queues. (l : ℕ) → l < length pool.old.lists → Lone l (all_queues queues.levels)) }
+        ensures signals { IfOk result (λ queues. (s : ℕ) → priority_in queues.levels (PrioSource.Signal s) ≡ None) }
         ensures more { length pool.old.lists ≤ length pool.new.lists }
         ensures lists { (l : ℕ) → list_of pool.new l ≡ list_of pool.old l }
         ensures spare { pool.new.spare ≡ pool.old.spare }
@@ -99,6 +100,7 @@ impl<T> SchedQueues<T> {
         ensures waiting { OnOk result (waiting self.new.levels pool.new ≡ map (moved s p) (waiting self.old.levels pool.old)) }
         ensures err { OnErr result (self.new ≡ self.old) }
         ensures made { (l : ℕ) → l < length pool.old.lists → Lone l (all_queues self.old.levels) → Lone l (all_queues self.new.levels) }
+        ensures stay { (l : ℕ) → Lone l (all_queues self.new.levels) → Lone l (all_queues self.old.levels) }
         ensures more { length pool.old.lists ≤ length pool.new.lists }
         ensures waiting_still { OnErr result (waiting self.new.levels pool.new ≡ waiting self.old.levels pool.old) }
         ensures lists { (l : ℕ) → list_of pool.new l ≡ list_of pool.old l }

@@ -2,8 +2,9 @@ use Rattle.std.proofs.Common.{◌≡◌, true, false, List, refl, sym, ap, subst
 use Rattle.std.specs.Prelude.{is_some}
 use Rattle.post_task.specs.declared.level.Level.{Level}
 use Rattle.post_task.specs.declared.level.PrioSource.TheVariants.{Signal}
-use Rattle.post_task.specs.Levels.{Sched, Kept, place_of, priority_in}
+use Rattle.post_task.specs.Levels.{Sched, Kept, Lone, all_queues, place_of, priority_in}
 use Rattle.post_task.proofs.Moves.{room_moved, other_moved, added_others, signal_kept, signal_room, signal_waiting, still_kept, added_lone}
+use Rattle.post_task.proofs.Stays.{lone_still, lone_stays}
 use Rattle.post_task.proofs.Places.{some_found, missing, none_place}
 use Rattle.post_task.proofs.Best.{any_level}
 use Rattle.post_task.proofs.sched.SchedQueues.make_room_for.Goals as goal
@@ -47,3 +48,13 @@ returns-clause-waiting g c =
 
 pub returns-clause-made : goal.returns-clause-made
 returns-clause-made g c l h lone = added_lone c.args.self.now.levels c.add.new.self.levels c.args.pool.now c.add.new.pool (Signal c.args.s) c.args.p c.in_ok-add.ensures.added l h lone
+
+pub returns-then-is_some-clause-stay : goal.returns-then-is_some-clause-stay
+returns-then-is_some-clause-stay g c l lone =
+    lone_still c.args.s c.args.p c.args.self.now.levels l (subst (λ (ls : List Level). Lone l (all_queues ls)) c.move_priority.ensures.levels lone)
+
+pub returns-in_err-add-clause-stay : goal.returns-in_err-add-clause-stay
+returns-in_err-add-clause-stay g c l lone = subst (λ (s : Sched). Lone l (all_queues s.levels)) c.in_err-add.ensures.err lone
+
+pub returns-clause-stay : goal.returns-clause-stay
+returns-clause-stay g c l lone = lone_stays c.args.self.now.levels c.add.new.self.levels c.args.pool.now c.add.new.pool (Signal c.args.s) c.args.p c.in_ok-add.ensures.added l lone

@@ -1,4 +1,5 @@
 use Rattle.post_task.proofs.Moves.{three_made, three_firsts}
+use Rattle.post_task.proofs.Stays.{three_signals}
 use Rattle.post_task.proofs.sched.SchedQueues.new.Goals as goal
 
 pub returns-clause-kept : goal.returns-clause-kept
@@ -20,3 +21,8 @@ pub returns-clause-empty : goal.returns-clause-empty
 returns-clause-empty g c =
     (three_made c.new.result.items c.add.new.self.levels c.add-2.new.self.levels c.add-3.new.self.levels c.args.pool.now c.add.new.pool c.add-2.new.pool c.add-3.new.pool
     c.new.ensures.items c.in_ok-add.ensures.added c.in_ok-add-2.ensures.added c.in_ok-add-3.ensures.added c.in_ok-add.ensures.lists c.in_ok-add-2.ensures.lists c.in_ok-add-3.ensures.lists).2
+
+pub returns-clause-signals : goal.returns-clause-signals
+returns-clause-signals g c s =
+    three_signals c.new.result.items c.add.new.self.levels c.add-2.new.self.levels c.add-3.new.self.levels c.args.pool.now c.add.new.pool c.add-2.new.pool c.add-3.new.pool
+    c.new.ensures.items c.in_ok-add.ensures.added c.in_ok-add-2.ensures.added c.in_ok-add-3.ensures.added s

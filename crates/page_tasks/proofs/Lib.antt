@@ -1,0 +1,12 @@
+pub mod Beside
+pub mod Made
+pub mod Sources
+pub mod SourceCalls
+pub mod Scheduled
+pub mod Priorities
+pub mod SchedCalls
+pub mod Firsts
+pub mod Moved
+pub mod Noting
+pub mod PageLaws
+pub mod HeldLemmas

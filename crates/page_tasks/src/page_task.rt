@@ -1,0 +1,53 @@
+//! What a queued task is: the steps of a task of a task source, or a scheduler task.
+
+use crate::tasks::{HostTask, TimerTask};
+use page_base::Micros;
+use page_values::{Str, Value};
+use post_task::PrioSource;
+
+/// The steps of a task of a task source (HTML, "Event loops: definitions").
+#[derive(Drop)]
+pub enum TaskSteps {
+    RunScript,
+    RunTimer(TimerTask),
+    /// The signal is aborted by its timeout.
+    TimeOutSignal(u32),
+    /// An event of an arrival is fired at the window.
+    FireAtWindow { name: Str, value: Value },
+    AnswerHost(HostTask),
+    /// A frame, with its timestamp.
+    RunFrame(Micros),
+    InvokeIdle,
+    /// The idle timeout of the callback with this handle.
+    IdleTimeout(u32),
+    /// Scripts are notified about these rejected promises.
+    NotifyRejected(Vec<u32>),
+    /// Scripts are notified that this promise was handled after all.
+    NotifyHandled(u32),
+}
+
+/// A scheduler task as it stands in its queue (Prioritized Task Scheduling, "Scheduling tasks and continuations").
+#[derive(Clone, Copy, Debug, PartialEq, Eq)]
+pub struct PostedTask {
+    pub registration: u32,
+    pub source: PrioSource,
+    pub continuation: bool,
+}
+
+/// A scheduler task that was taken, with its enqueue order, which is its task number.
+#[derive(Clone, Copy, Debug, PartialEq, Eq)]
+pub struct SchedTask {
+    pub registration: u32,
+    pub source: PrioSource,
+    pub continuation: bool,
+    pub order: u64,
+}
+
+/// What stands in the pool of all queued tasks.
+#[derive(Drop)]
+pub enum PageTask {
+    /// A task of a task source other than the scheduler's.
+    OfSource(TaskSteps),
+    /// A scheduler task.
+    OfScheduler(PostedTask),
+}
