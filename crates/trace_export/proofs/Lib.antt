@@ -1,0 +1,7 @@
+pub mod Ending
+mod NameTexts
+mod ReadTexts
+mod ReadSpans
+mod ReadLists
+mod Written
+mod Walking

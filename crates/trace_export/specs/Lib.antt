@@ -1,0 +1,6 @@
+pub mod Calls
+pub mod Export
+pub mod Seen
+pub mod Ends
+pub mod EndsSeen
+pub mod Reading
