@@ -87,7 +87,7 @@ part_first bytes list head not = record {
   fit = All-nil IsSpan;
   forth = λ next more is. behind_whole (codes "{\"traceEvents\":[") bytes list head ∙ ap (λ xs. codes "{\"traceEvents\":[" ++ xs) is;
   back = λ all export.
-  first_left list all not (same_some list (spans_text all ++ closing) (sym head ∙ head_left bytes all export.spelled)) export.fit;
+      first_left list all not (same_some list (spans_text all ++ closing) (sym head ∙ head_left bytes all export.spelled)) export.fit;
 }
 
 -- ---- a call
@@ -114,7 +114,7 @@ part_read bytes good rest s after part is =
     record {
       fit = All-append IsSpan good (s ∷ []) part.fit (All-cons IsSpan s [] at.fit (All-nil IsSpan));
       forth = λ more same.
-      part.forth s more (at.whole ∙ ap (λ xs. span_text s ++ xs) same ∙ sym (append_assoc (span_text s) (more_spans_text more) closing)) ∙ ap export_text (sym (append_assoc good (s ∷ []) more));
+          part.forth s more (at.whole ∙ ap (λ xs. span_text s ++ xs) same ∙ sym (append_assoc (span_text s) (more_spans_text more) closing)) ∙ ap export_text (sym (append_assoc good (s ∷ []) more));
       back = λ all export. after_by good rest all s after (part.back all export) is;
     }
 

@@ -40,9 +40,9 @@ walked_over all rest after e kinds new ends spans walked cut none made =
       told = noted e before kinds new walked.told made;
       left = walked.left ∙ ap ends_of cut ∙ ap (λ o. with_end o after (ends_of after)) (sym none);
       found =
-      ap (λ o. spans ++ map span_of (with_call before e.time o after (calls_behind (e ∷ before) after))) none
-      ∙ ap (λ es. spans ++ map span_of (calls_behind before es)) (sym cut)
-      ∙ walked.found;
+          ap (λ o. spans ++ map span_of (with_call before e.time o after (calls_behind (e ∷ before) after))) none
+          ∙ ap (λ es. spans ++ map span_of (calls_behind before es)) (sym cut)
+          ∙ walked.found;
     }
 
 -- the ends of a line that calls a registration, and of the lines behind it
@@ -66,11 +66,11 @@ walked_call all rest after e kinds new ends left end spans r span walked cut som
       told = noted e before kinds new walked.told made;
       left = more;
       found =
-      append_assoc spans (span ∷ []) (map span_of (calls_behind (e ∷ before) after))
-      ∙ ap (λ s. spans ++ s ∷ map span_of (calls_behind (e ∷ before) after)) named
-      ∙ ap (λ o. spans ++ map span_of (with_call before e.time o after (calls_behind (e ∷ before) after))) some
-      ∙ ap (λ es. spans ++ map span_of (calls_behind before es)) (sym cut)
-      ∙ walked.found;
+          append_assoc spans (span ∷ []) (map span_of (calls_behind (e ∷ before) after))
+          ∙ ap (λ s. spans ++ s ∷ map span_of (calls_behind (e ∷ before) after)) named
+          ∙ ap (λ o. spans ++ map span_of (with_call before e.time o after (calls_behind (e ∷ before) after))) some
+          ∙ ap (λ es. spans ++ map span_of (calls_behind before es)) (sym cut)
+          ∙ walked.found;
     }
 
 -- ---- what is exported of a whole trace

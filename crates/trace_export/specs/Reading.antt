@@ -50,4 +50,4 @@ span_at bytes = do
   begin ← count_at third
   rest ← behind (codes "}") begin.1
   where_true (nat_le (begin.0 + length.0) 18446744073709551615)
-    (record { name = name.0; begin = begin.0; end = begin.0 + length.0 }, rest)
+      (record { name = name.0; begin = begin.0; end = begin.0 + length.0 }, rest)

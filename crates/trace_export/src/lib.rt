@@ -3,15 +3,15 @@
 //! Times are in microseconds, as they are in that format.
 #![tactic(auto)]
 
-
 mod ends;
 mod fault;
 mod laws;
 mod reading;
 mod span;
+#[cfg(test)]
+mod tests;
 mod trace_calls;
 mod writing;
-
 
 pub use ends::call_ends;
 pub use fault::{ExportFault, NotExport};

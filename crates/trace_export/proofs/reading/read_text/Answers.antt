@@ -16,8 +16,8 @@ loop-byte-preserved c =
     record {
       text = subst (λ xs. IsTrue (is_text xs)) (sym c.in_ok-push.ensures.items) (is_text-append was (b ∷ []) c.loop-byte.invariant.text (both (is_text_byte b) _ c.in-Some-read_byte.ensures.text refl));
       same =
-      ap (λ xs. behind_bytes xs (text_at next)) c.in_ok-push.ensures.items
-      ∙ behind_more was b (text_at next)
-      ∙ ap (behind_bytes was) (sym c.in-Some-read_byte.ensures.part ∙ ap text_at (sym c.in-Some.ensures.cases.0))
-      ∙ c.loop-byte.invariant.same;
+          ap (λ xs. behind_bytes xs (text_at next)) c.in_ok-push.ensures.items
+          ∙ behind_more was b (text_at next)
+          ∙ ap (behind_bytes was) (sym c.in-Some-read_byte.ensures.part ∙ ap text_at (sym c.in-Some.ensures.cases.0))
+          ∙ c.loop-byte.invariant.same;
     }

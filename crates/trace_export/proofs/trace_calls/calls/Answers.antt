@@ -28,30 +28,30 @@ loop-e-preserved c =
     let spans = map span_seen c.loop-e.calls.items in
     elim c.match-called.branch [
       | in-Some-called+in-Some-pop_front+in_ok-call_name+in_ok-push w ↦
-      let left = micros w.pop_front.new.self.items in
-      let r = w.in-Some-called.registration in
-      let end = w.in-Some-pop_front.end.0 in
-      let span : Span = record { name = w.in_ok-call_name.field-0; begin = c.in-Some.e.now.time.0; end = end } in
-      let grown : map span_seen c.match-called.calls.items ≡ spans ++ span ∷ [] =
-      ap (λ v. map span_seen v.items) w.calls-is ∙ ap (map span_seen) w.in_ok-push.ensures.items ∙ map-append span_seen c.loop-e.calls.items _
-      in
-      let below : end < 2 ^ 64 = search rules in
-      record {
-        walked =
-        subst (λ s. IsWalked all after new (micros c.match-called.ends.items) s) (sym grown)
-        (subst (λ v. IsWalked all after new (micros v.items) (spans ++ span ∷ [])) (sym w.ends-is)
-        (walked_call all rest after e kinds new ends left end spans r span c.loop-e.invariant.walked cut w.in-Some-called.ensures (ap micros w.in-Some-pop_front.ensures.items) c.in_ok-note_kind.ensures
-        (ap (λ name. record { name = name; begin = c.in-Some.e.now.time.0; end = end }) (w.in_ok-call_name.ensures ∙ ap (name_of r) (w.copied.ensures ∙ w.get.ensures.value)))));
-        below = subst (All EndsBelow) (sym grown) (All-push EndsBelow spans span c.loop-e.invariant.below below);
-      }
+          let left = micros w.pop_front.new.self.items in
+          let r = w.in-Some-called.registration in
+          let end = w.in-Some-pop_front.end.0 in
+          let span : Span = record { name = w.in_ok-call_name.field-0; begin = c.in-Some.e.now.time.0; end = end } in
+          let grown : map span_seen c.match-called.calls.items ≡ spans ++ span ∷ [] =
+          ap (λ v. map span_seen v.items) w.calls-is ∙ ap (map span_seen) w.in_ok-push.ensures.items ∙ map-append span_seen c.loop-e.calls.items _
+          in
+          let below : end < 2 ^ 64 = search rules in
+          record {
+            walked =
+                subst (λ s. IsWalked all after new (micros c.match-called.ends.items) s) (sym grown)
+                (subst (λ v. IsWalked all after new (micros v.items) (spans ++ span ∷ [])) (sym w.ends-is)
+                (walked_call all rest after e kinds new ends left end spans r span c.loop-e.invariant.walked cut w.in-Some-called.ensures (ap micros w.in-Some-pop_front.ensures.items) c.in_ok-note_kind.ensures
+                (ap (λ name. record { name = name; begin = c.in-Some.e.now.time.0; end = end }) (w.in_ok-call_name.ensures ∙ ap (name_of r) (w.copied.ensures ∙ w.get.ensures.value)))));
+            below = subst (All EndsBelow) (sym grown) (All-push EndsBelow spans span c.loop-e.invariant.below below);
+          }
       | in_default-called w ↦
-      record {
-        walked =
-        subst (λ v. IsWalked all after new (micros c.match-called.ends.items) (map span_seen v.items)) (sym w.calls-is)
-        (subst (λ v. IsWalked all after new (micros v.items) spans) (sym w.ends-is)
-        (walked_over all rest after e kinds new ends spans c.loop-e.invariant.walked cut w.in_default-called.ensures c.in_ok-note_kind.ensures));
-        below = subst (λ v. All EndsBelow (map span_seen v.items)) (sym w.calls-is) c.loop-e.invariant.below;
-      }
+          record {
+            walked =
+                subst (λ v. IsWalked all after new (micros c.match-called.ends.items) (map span_seen v.items)) (sym w.calls-is)
+                (subst (λ v. IsWalked all after new (micros v.items) spans) (sym w.ends-is)
+                (walked_over all rest after e kinds new ends spans c.loop-e.invariant.walked cut w.in_default-called.ensures c.in_ok-note_kind.ensures));
+            below = subst (λ v. All EndsBelow (map span_seen v.items)) (sym w.calls-is) c.loop-e.invariant.below;
+          }
     ]
 
 pub returns-clause-spans : goal.returns-clause-spans

@@ -10,7 +10,7 @@ use Rattle.trace_export.proofs.trace_calls.calls.Given as goal
 abbrev pub invariant-loop-e : goal.invariant-loop-e
 invariant-loop-e l = record {
   walked : IsWalked (map stamped_seen l.trace.events) (map stamped_seen l.rest) (get nat_cmp l.kinds) (micros l.ends.items) (map span_seen l.calls.items);
-  below : All EndsBelow (map span_seen l.calls.items)
+  below : All EndsBelow (map span_seen l.calls.items);
 }
 
 abbrev pub decreases-loop-e : goal.decreases-loop-e

@@ -18,7 +18,7 @@ loop-call-preserved c =
     record {
       fit = All-tail IsSpan call after (subst (All IsSpan) cut c.loop-call.invariant.fit);
       same =
-      two_more c.loop-call.into.items c.push.new.self.items c.write_call.new.into.items (44 ∷ []) (span_text call) (more_spans_text after) c.in_ok-push.ensures.items c.in_ok-write_call.ensures
-      ∙ ap (λ spans. c.loop-call.into.items ++ more_spans_text spans) (sym cut)
-      ∙ c.loop-call.invariant.same;
+          two_more c.loop-call.into.items c.push.new.self.items c.write_call.new.into.items (44 ∷ []) (span_text call) (more_spans_text after) c.in_ok-push.ensures.items c.in_ok-write_call.ensures
+          ∙ ap (λ spans. c.loop-call.into.items ++ more_spans_text spans) (sym cut)
+          ∙ c.loop-call.invariant.same;
     }

@@ -6,7 +6,7 @@ use Rattle.trace_export.proofs.writing.write_more.Given as goal
 abbrev pub invariant-loop-call : goal.invariant-loop-call
 invariant-loop-call l = record {
   fit : All IsSpan (map span_seen l.rest);
-  same : l.into.items ++ more_spans_text (map span_seen l.rest) ≡ l.fn.into.items ++ more_spans_text (map span_seen l.calls)
+  same : l.into.items ++ more_spans_text (map span_seen l.rest) ≡ l.fn.into.items ++ more_spans_text (map span_seen l.calls);
 }
 
 abbrev pub decreases-loop-call : goal.decreases-loop-call
