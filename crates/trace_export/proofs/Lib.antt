@@ -5,3 +5,4 @@ mod ReadSpans
 mod ReadLists
 mod Written
 mod Walking
+mod JsonText

@@ -46,7 +46,7 @@ count_read n rest h none =
 then_some : {A X : Type 0} (o : Option A) (next : A → Option X) (a : A) (x : Option X) → o ≡ Some a → next a ≡ x → (o >>= next) ≡ x
 then_some o next a x first second = ap (λ p. p >>= next) first ∙ second
 
-flat : (a d b q c n e rest : List ℕ) → a ++ d ++ b ++ q ++ c ++ n ++ e ++ rest ≡ a ++ (d ++ (b ++ (q ++ (c ++ (n ++ (e ++ rest))))))
+pub flat : (a d b q c n e rest : List ℕ) → a ++ d ++ b ++ q ++ c ++ n ++ e ++ rest ≡ a ++ (d ++ (b ++ (q ++ (c ++ (n ++ (e ++ rest))))))
 flat a d b q c n e rest = simp append_assoc
 
 unquoted : (name more : List ℕ) → quoted name ++ more ≡ 34 ∷ (all_escaped name ++ 34 ∷ more)

@@ -1,5 +1,6 @@
 pub mod Calls
 pub mod Export
+pub mod Json
 pub mod Seen
 pub mod Ends
 pub mod EndsSeen

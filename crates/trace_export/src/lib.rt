@@ -15,7 +15,7 @@ mod writing;
 
 pub use ends::call_ends;
 pub use fault::{ExportFault, NotExport};
-pub use laws::an_export_has_one_reading;
+pub use laws::{an_export_has_one_reading, an_export_is_json};
 pub use reading::read_export;
 pub use span::CallSpan;
 pub use trace_calls::{called, calls};
