@@ -1,7 +1,6 @@
 -- The text about the long turns of a trace.
 use Rattle.std.specs.Prelude.{ℕ, List, [], ◌∷◌, ◌++◌, length, codes}
 use Rattle.page_types.specs.Events.{Stamped}
-use Rattle.page_parts.specs.Words.{decimal_of}
 use Rattle.page_parts.specs.TraceText.{source_text, field, number_field}
 use Rattle.trace_blame.specs.Turns.{TurnOf, turns_of, long_ones}
 

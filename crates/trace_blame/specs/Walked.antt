@@ -1,5 +1,5 @@
 -- A turn of which some lines were met.
-use Rattle.std.specs.Prelude.{ℕ, zero, suc, ◌-◌, List, [], ◌∷◌, Option, Some, None, option_map}
+use Rattle.std.specs.Prelude.{ℕ, zero, suc, ◌-◌, List, Option, Some, None}
 use Rattle.page_types.specs.declared.Source.{Source}
 use Rattle.page_types.specs.Events.{Event, Stamped}
 use Rattle.trace_blame.specs.Turns.{TurnCall, TurnOf, last_line, open_after, outermost, longer, longest, blamed}

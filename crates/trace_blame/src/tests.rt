@@ -27,7 +27,12 @@ fn expect_blamed(rt: &impl Abort, alloc: Global, trace: &[u8], wanted: &[u8]) ->
 
 #[test]
 fn long_turns_are_told_with_their_longest_call(rt: HostRuntime) -> Result<(), Fail> {
-    expect_blamed(&rt, rt.alloc(), BUSY_IDLE, b"long 2 idle 0 60000 2\ntotal 1\n")?;
+    expect_blamed(
+        &rt,
+        rt.alloc(),
+        BUSY_IDLE,
+        b"long 2 idle 0 60000 2\ntotal 1\n",
+    )?;
     expect_blamed(
         &rt,
         rt.alloc(),

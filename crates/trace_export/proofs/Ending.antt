@@ -1,13 +1,13 @@
 -- When calls end: from the last line to the first, and not before they begin.
-use Rattle.std.proofs.Common.{◌≡◌, ◌≤◌, ℕ, zero, suc, true, false, Bool, List, [], ◌∷◌, ◌++◌, get_or, refl, sym, ap, ◌∙◌, arith, append_assoc}
+use Rattle.std.proofs.Common.{◌≡◌, ◌≤◌, ℕ, zero, suc, true, false, List, [], ◌∷◌, ◌++◌, get_or, refl, sym, ap, ◌∙◌, arith, append_assoc}
 use Rattle.std.specs.Prelude.{IsTrue, ◌&&◌, not, nat_le}
 use Rattle.std.proofs.lemmas.Bool.{false≢true}
 use Rattle.std.proofs.lemmas.Bool.Decides.{nat_tests}
 use Rattle.page_types.specs.Events.{Event, Call, Ret, Throw, EndLine, Stamped}
 use Rattle.trace_text.specs.Trace.{is_end, are_in_order, ends, is_whole}
 use Rattle.trace_text.proofs.Behind.{left, right, both}
-use Rattle.trace_export.specs.Calls.{called, left_at, end_by, end_of}
-use Rattle.trace_export.specs.Ends.{with_end, ends_of, Known, first_or, without_first, known_with}
+use Rattle.trace_export.specs.Calls.{left_at, end_by, end_of}
+use Rattle.trace_export.specs.Ends.{ends_of, Known, first_or, without_first, known_with}
 
 -- ---- from the last line to the first
 

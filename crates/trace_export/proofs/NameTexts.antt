@@ -1,5 +1,5 @@
 -- The name of a call is a text.
-use Rattle.std.proofs.Common.{◌≡◌, ℕ, zero, suc, ◌+◌, ◌*◌, ◌^◌, ◌/◌, ◌%◌, ◌<◌, ◌≤◌, Bool, true, false, List, [], ◌∷◌, ◌++◌, Option, Some, None, refl, sym, ap, ◌∙◌, arith, nat_lt, add-one}
+use Rattle.std.proofs.Common.{◌≡◌, ℕ, zero, suc, ◌+◌, ◌*◌, ◌^◌, ◌/◌, ◌%◌, ◌<◌, Bool, true, false, [], ◌∷◌, Option, Some, None, refl, sym, ap, ◌∙◌, arith, nat_lt, add-one}
 use Rattle.std.specs.Prelude.{IsTrue, ◌==◌, codes, if◌then◌else◌}
 use Rattle.std.proofs.Math.Nat.{pow-succ'}
 use Rattle.std.proofs.lemmas.Bool.Decides.{nat_tests}
@@ -8,7 +8,7 @@ use Rattle.page_types.specs.declared.RegKind.TheVariants.{Timeout, Interval, Fra
 use Rattle.page_parts.specs.Words.{digits, digit_or_more, decimal_of}
 use Rattle.page_parts.specs.TraceText.{kind_text}
 use Rattle.page_parts.proofs.Decimals.{below-own_power}
-use Rattle.page_values.specs.Texts.{is_text, is_text_byte}
+use Rattle.page_values.specs.Texts.{is_text}
 use Rattle.page_values.proofs.Texts.{is_text-append}
 use Rattle.trace_export.specs.Calls.{word_of, call_word_of, name_of}
 

@@ -1,17 +1,15 @@
 -- Calls, read one after another.
-use Rattle.std.proofs.Common.{◌≡◌, ℕ, zero, suc, ◌+◌, ◌-◌, ◌<◌, ◌≤◌, ◌^◌, Bool, true, false, List, [], ◌∷◌, ◌++◌, length, Option, Some, None, All, refl, sym, ap, ◌∙◌, subst, arith, append_assoc, append-nil, length-append}
-use Rattle.std.specs.Prelude.{IsTrue, codes, nat_le}
+use Rattle.std.proofs.Common.{◌≡◌, ℕ, ◌+◌, ◌-◌, ◌<◌, ◌≤◌, ◌^◌, Bool, true, false, List, [], ◌∷◌, ◌++◌, length, Option, Some, None, refl, sym, ap, ◌∙◌, subst, arith, append_assoc}
+use Rattle.std.specs.Prelude.{codes, nat_le}
 use Rattle.std.specs.Option.{option_map}
-use Rattle.std.proofs.lemmas.Bool.{false≢true}
 use Rattle.std.proofs.lemmas.Bool.Decides.{nat_tests}
-use Rattle.std.proofs.lemmas.List.Elements.{All-nil, All-cons, All-head, All-tail, All-append}
 use Rattle.page_parts.specs.Words.{decimal_of}
 use Rattle.page_parts.specs.Spelling.{all_escaped, quoted}
 use Rattle.page_base.specs.Decimals.{digits_of, after_digits, number_at}
-use Rattle.page_base.specs.Fields.{behind, is_word, ◌>>=◌, where_true}
-use Rattle.trace_text.proofs.Cutting.{behind_whole, word_whole, some_then}
+use Rattle.page_base.specs.Fields.{behind, ◌>>=◌, where_true}
+use Rattle.trace_text.proofs.Cutting.{behind_whole, some_then}
 use Rattle.trace_text.proofs.ValueNumbers.{number_in_front, left_in_front, number_at_is}
-use Rattle.trace_export.specs.Export.{Span, IsSpan, span_text, spans_text, more_spans_text, export_text, IsExport}
+use Rattle.trace_export.specs.Export.{Span, IsSpan, span_text}
 use Rattle.trace_export.specs.Reading.{text_at, count_at, span_at}
 use Rattle.trace_export.proofs.ReadTexts.{TextAt, text_found, text_read}
 

@@ -1,14 +1,14 @@
 -- Texts between quotation marks, read.
-use Rattle.std.proofs.Common.{◌≡◌, ℕ, zero, suc, Bool, true, false, cond, List, [], ◌∷◌, ◌++◌, Option, Some, None, refl, sym, ap, ◌∙◌, subst, arith, append_assoc}
-use Rattle.std.specs.Prelude.{◌&&◌, ◌||◌, ◌==◌, not, nat_le, IsTrue, if◌then◌else◌}
+use Rattle.std.proofs.Common.{◌≡◌, ℕ, Bool, true, false, List, [], ◌∷◌, ◌++◌, Option, Some, None, refl, sym, ap, ◌∙◌, subst, arith, append_assoc}
+use Rattle.std.specs.Prelude.{◌==◌, IsTrue, if◌then◌else◌}
 use Rattle.std.specs.Option.{option_map}
-use Rattle.std.proofs.lemmas.Bool.{false≢true, eqb-true}
+use Rattle.std.proofs.lemmas.Bool.{eqb-true}
 use Rattle.std.proofs.lemmas.Bool.Decides.{nat_tests}
 use Rattle.page_parts.specs.Spelling.{escaped, all_escaped}
 use Rattle.page_values.specs.Texts.{is_text, is_text_byte}
 use Rattle.page_base.specs.Fields.{◌>>=◌}
 use Rattle.trace_text.proofs.Behind.{left, right, both}
-use Rattle.trace_export.specs.Reading.{is_plain, with_byte, unescaped, text_at, escape_at}
+use Rattle.trace_export.specs.Reading.{is_plain, with_byte, text_at, escape_at}
 
 -- ---- bytes read so far, before those still to be read
 

@@ -1,5 +1,5 @@
 -- Calls that are written one after another.
-use Rattle.std.proofs.Common.{◌≡◌, ℕ, List, ◌++◌, sym, ap, ◌∙◌, append_assoc}
+use Rattle.std.proofs.Common.{◌≡◌, ℕ, List, ◌++◌, ap, ◌∙◌, append_assoc}
 
 -- two parts behind what stood there, and what is still to come
 pub two_more : (front pushed written a b more : List ℕ) → pushed ≡ front ++ a → written ≡ pushed ++ b → written ++ more ≡ front ++ (a ++ (b ++ more))

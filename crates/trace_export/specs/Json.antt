@@ -1,6 +1,6 @@
 -- Calls as JSON, in the trace event format.
 use Rattle.std.specs.Prelude.{ℕ, ◌-◌, List, [], ◌∷◌, codes}
-use Rattle.serde_json.specs.Data.{unsigned, Data, number, string, array, object, Items, no_items, item, Members, no_members, member}
+use Rattle.serde_json.specs.Data.{unsigned, Data, number, string, array, object, Items, no_items, item, no_members, member}
 use Rattle.trace_export.specs.Export.{Span}
 
 -- ---- Trace Event Format, "Complete Events"

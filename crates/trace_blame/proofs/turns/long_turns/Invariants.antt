@@ -9,7 +9,7 @@ use Rattle.trace_blame.proofs.turns.long_turns.Given as goal
 abbrev pub invariant-loop-e : goal.invariant-loop-e
 invariant-loop-e l = record {
   ends : micros l.ends.items ≡ ends_of (map stamped_seen l.rest);
-  turns : map turn_seen l.turns.items ++ long_ones (turns_of (map stamped_seen l.rest)) ≡ long_ones (turns_of (map stamped_seen l.trace.events))
+  turns : map turn_seen l.turns.items ++ long_ones (turns_of (map stamped_seen l.rest)) ≡ long_ones (turns_of (map stamped_seen l.trace.events));
 }
 
 abbrev pub decreases-loop-e : goal.decreases-loop-e

@@ -12,7 +12,7 @@ invariant-loop-e l = record {
   closed : closed_by (open_seen l.turn) (map stamped_seen l.rest) ≡ closed_by (open_seen l.fn.turn) (map stamped_seen l.after);
   others : turns_of (map stamped_seen l.rest) ≡ turns_of (map stamped_seen l.after);
   ends : micros l.ends.items ≡ ends_of (map stamped_seen l.rest);
-  depth : l.turn.depth + length l.rest ≤ length l.after
+  depth : l.turn.depth + length l.rest ≤ length l.after;
 }
 
 abbrev pub decreases-loop-e : goal.decreases-loop-e

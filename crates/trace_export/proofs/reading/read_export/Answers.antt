@@ -1,8 +1,8 @@
-use Rattle.std.proofs.Common.{◌≡◌, map, List, [], ◌∷◌, ◌++◌, ap, sym, ◌∙◌, subst}
+use Rattle.std.proofs.Common.{map, [], ◌∷◌, ◌++◌, ap, sym, ◌∙◌, subst}
 use Rattle.std.proofs.lemmas.List.{map-append}
-use Rattle.trace_export.specs.Export.{Span, IsExport}
+use Rattle.trace_export.specs.Export.{IsExport}
 use Rattle.trace_export.specs.Seen.{span_seen}
-use Rattle.trace_export.proofs.ReadLists.{IsPart, IsAfter, no_head, no_calls, part_first, part_refused, part_read, after_ends, after_refused, after_more, shorter}
+use Rattle.trace_export.proofs.ReadLists.{IsPart, no_head, no_calls, part_first, part_refused, part_read, after_ends, after_refused, after_more, shorter}
 use Rattle.trace_export.proofs.reading.read_export.Goals as goal
 
 pub returns-in_default-clause-none : goal.returns-in_default-clause-none

@@ -1,4 +1,4 @@
-use Rattle.std.proofs.Common.{◌≡◌, ◌<◌, ◌^◌, ℕ, map, List, [], ◌∷◌, ◌++◌, All, ap, sym, ◌∙◌, subst, arith, rules}
+use Rattle.std.proofs.Common.{◌≡◌, ◌<◌, ◌^◌, map, [], ◌∷◌, ◌++◌, All, ap, sym, ◌∙◌, subst, rules}
 use Rattle.std.proofs.lemmas.List.{map-append}
 use Rattle.std.proofs.lemmas.List.Elements.{All-push}
 use Rattle.std.specs.BTreeMap.{get}
@@ -9,7 +9,7 @@ use Rattle.trace_text.specs.Trace.{is_whole}
 use Rattle.trace_text.proofs.Counting.{empty_by_length}
 use Rattle.trace_export.specs.Calls.{name_of}
 use Rattle.trace_export.specs.EndsSeen.{micros}
-use Rattle.trace_export.specs.Export.{Span, IsSpan}
+use Rattle.trace_export.specs.Export.{Span}
 use Rattle.trace_export.specs.Seen.{span_seen}
 use Rattle.trace_export.proofs.Walking.{IsWalked, EndsBelow, walked_over, walked_call, walked_last, spans_fit}
 use Rattle.trace_export.proofs.trace_calls.calls.Goals as goal

@@ -1,6 +1,5 @@
-use Rattle.std.proofs.Common.{◌≡◌, map, ap, ◌++◌, ◌∙◌, sym}
-use Rattle.trace_text.specs.EventSeen.{stamped_seen}
-use Rattle.trace_export.specs.Export.{IsExport, export_text, spans_of}
+use Rattle.std.proofs.Common.{◌≡◌, map, ap, ◌++◌, ◌∙◌}
+use Rattle.trace_export.specs.Export.{export_text}
 use Rattle.trace_export.specs.Seen.{span_seen}
 use Rattle.trace_export.proofs.ReadLists.{one_reading}
 use Rattle.trace_export.proofs.writing.export.Goals as goal
