@@ -39,7 +39,7 @@ use Rattle.loop_turn.specs.Stops.{line_fault}
 use Rattle.loop_turn.proofs.LogLaw.{run-events, run-ends}
 use Rattle.page_model.specs.Turns.{events_of_run}
 use Rattle.page_cli.specs.declared.answer.Answer.{Answer}
-use Rattle.page_cli.specs.declared.answer.Answer.TheVariants.{Done, Usage, NoParse, NotRun, BadName, BadArrivals, TooLong, ReadFault, WriteFault, OutOfMemory}
+use Rattle.page_cli.specs.declared.answer.Answer.TheVariants.{Done, Usage, NoParse, NotRun, BadName, BadArrivals, BadTrace, TooLong, ReadFault, WriteFault, OutOfMemory}
 use Rattle.page_cli.specs.declared.answer.WhichFile.TheVariants.{Script, Arrivals}
 use Rattle.page_cli.specs.declared.reading.FileFault.{FileFault}
 use Rattle.page_cli.specs.declared.reading.FileFault.TheVariants as file
@@ -131,6 +131,7 @@ files-answers ss (NoParse at) script arrivals old new is fits set h = absurd h
 files-answers ss NotRun script arrivals old new is fits set h = absurd h
 files-answers ss (BadName fault) script arrivals old new is fits set h = absurd h
 files-answers ss (BadArrivals line) script arrivals old new is fits set h = absurd h
+files-answers ss (BadTrace line) script arrivals old new is fits set h = absurd h
 files-answers ss (TooLong file) script arrivals old new is fits set h = absurd h
 files-answers ss (ReadFault file) script arrivals old new is fits set h = absurd h
 files-answers ss WriteFault script arrivals old new is fits set h = record { tree = log_tree ss; setup = default_setup; is_run = log-run ss script arrivals is fits set; start = any_start ss old new h }
@@ -179,7 +180,7 @@ refused-answers script.OutOfMemory script arrivals told fits also h = inl refl
 -- ---- the files as they are told
 
 -- the script was not read
-pub told-script : (fault : FileFault) (told_script told_arrivals : Option (List ℕ)) (out : Option (List ℕ)) → IfSome told_script (λ content. GivesFile content (Err fault)) → AnswersTold (answer_to_file fault Script) told_script told_arrivals out out
+pub told-script : (fault : FileFault) (told_script told_arrivals : Option (List ℕ)) (out : Option (List ℕ)) → IfSome told_script (λ content. GivesFile 1048576 content (Err fault)) → AnswersTold (answer_to_file fault Script) told_script told_arrivals out out
 told-script fault None told_arrivals out s = tt
 told-script fault (Some script) None out s = tt
 told-script file.Failed (Some script) (Some arrivals) out s = refl
@@ -187,15 +188,15 @@ told-script file.TooLong (Some script) (Some arrivals) out s = (s, refl)
 told-script file.OutOfMemory (Some script) (Some arrivals) out s = inl refl
 
 -- the arrivals were not read
-pub told-arrivals : (fault : FileFault) (script : Vec ℕ Global) (told_script told_arrivals : Option (List ℕ)) (out : Option (List ℕ)) → length script.items ≤ 1048576 → IfSome told_script (λ content. GivesFile content (Ok script)) →
-    IfSome told_arrivals (λ content. GivesFile content (Err fault)) → AnswersTold (answer_to_file fault Arrivals) told_script told_arrivals out out
+pub told-arrivals : (fault : FileFault) (script : Vec ℕ Global) (told_script told_arrivals : Option (List ℕ)) (out : Option (List ℕ)) → length script.items ≤ 1048576 → IfSome told_script (λ content. GivesFile 1048576 content (Ok script)) →
+    IfSome told_arrivals (λ content. GivesFile 1048576 content (Err fault)) → AnswersTold (answer_to_file fault Arrivals) told_script told_arrivals out out
 told-arrivals fault script None told_arrivals out size s a = tt
 told-arrivals fault script (Some content) None out size s a = tt
 told-arrivals file.Failed script (Some content) (Some arrivals) out size s a = refl
 told-arrivals file.TooLong script (Some content) (Some arrivals) out size s a = ((let P : List ℕ → Type 0 = λ z. length z ≤ 1048576 in subst P s size, a), refl)
 told-arrivals file.OutOfMemory script (Some content) (Some arrivals) out size s a = inl refl
 
-pub told-answers : (answer : Answer) (told_script told_arrivals : Option (List ℕ)) (script arrivals : Vec ℕ Global) (old new : Option (List ℕ)) → IfSome told_script (λ content. GivesFile content (Ok script)) → IfSome told_arrivals (λ content. GivesFile content (Ok arrivals)) →
+pub told-answers : (answer : Answer) (told_script told_arrivals : Option (List ℕ)) (script arrivals : Vec ℕ Global) (old new : Option (List ℕ)) → IfSome told_script (λ content. GivesFile 1048576 content (Ok script)) → IfSome told_arrivals (λ content. GivesFile 1048576 content (Ok arrivals)) →
     AnswersFiles answer script.items arrivals.items old new → AnswersTold answer told_script told_arrivals old new
 told-answers answer None told_arrivals script arrivals old new s a h = tt
 told-answers answer (Some script_file) None script arrivals old new s a h = tt

@@ -24,9 +24,9 @@ use Rattle.lang_ast.specs.NameFaults.{IsResolved, IsFirstFault}
 use Rattle.lang_names.specs.Told.{seen_fault}
 use Rattle.lang_names.specs.declared.fault.NameFault.{NameFault}
 use Rattle.page_cli.specs.declared.answer.WhichFile.{WhichFile}
-use Rattle.page_cli.specs.declared.answer.WhichFile.TheVariants.{Script, Arrivals}
+use Rattle.page_cli.specs.declared.answer.WhichFile.TheVariants.{Script, Arrivals, Trace}
 use Rattle.page_cli.specs.declared.answer.Answer.{Answer}
-use Rattle.page_cli.specs.declared.answer.Answer.TheVariants.{Done, Usage, NoParse, NotRun, BadName, BadArrivals, TooLong, ReadFault, WriteFault, OutOfMemory}
+use Rattle.page_cli.specs.declared.answer.Answer.TheVariants.{Done, Usage, NoParse, NotRun, BadName, BadArrivals, BadTrace, TooLong, ReadFault, WriteFault, OutOfMemory}
 
 -- a file within its limit
 abbrev pub Fits : List ℕ → Type 0
@@ -96,6 +96,7 @@ pub record WroteStart (script arrivals : List ℕ) (old new : Option (List ℕ))
 abbrev pub IsTooLong : WhichFile → List ℕ → List ℕ → Type 0
 IsTooLong Script script arrivals = 1048576 < length script
 IsTooLong Arrivals script arrivals = Fits script × (1048576 < length arrivals)
+IsTooLong Trace script arrivals = ⊥
 
 -- what an answer says of the two files
 abbrev pub AnswersFiles : Answer → List ℕ → List ℕ → Option (List ℕ) → Option (List ℕ) → Type 0
@@ -105,6 +106,7 @@ AnswersFiles (NoParse at) script arrivals old new = Fits script × Fits arrivals
 AnswersFiles NotRun script arrivals old new = Fits script × Fits arrivals × IsNotRun script × (new ≡ old)
 AnswersFiles (BadName fault) script arrivals old new = Fits arrivals × HasBadName script fault × (new ≡ old)
 AnswersFiles (BadArrivals line) script arrivals old new = Fits arrivals × HasLogTree script × (setup_of arrivals ≡ Err line) × (new ≡ old)
+AnswersFiles (BadTrace line) script arrivals old new = ⊥
 AnswersFiles (TooLong file) script arrivals old new = IsTooLong file script arrivals × (new ≡ old)
 AnswersFiles (ReadFault file) script arrivals old new = new ≡ old
 AnswersFiles WriteFault script arrivals old new = WroteStart script arrivals old new
@@ -122,6 +124,7 @@ IsRefusal (NoParse at) = ⊤
 IsRefusal NotRun = ⊤
 IsRefusal (BadName fault) = ⊤
 IsRefusal (BadArrivals line) = ⊤
+IsRefusal (BadTrace line) = ⊤
 IsRefusal (TooLong file) = ⊤
 IsRefusal (ReadFault file) = ⊤
 IsRefusal WriteFault = ⊥
@@ -154,6 +157,7 @@ AnswersRun tree (NoParse at) old new = ⊥
 AnswersRun tree NotRun old new = ⊥
 AnswersRun tree (BadName fault) old new = ⊥
 AnswersRun tree (BadArrivals line) old new = ⊥
+AnswersRun tree (BadTrace line) old new = ⊥
 AnswersRun tree (TooLong file) old new = ⊥
 AnswersRun tree (ReadFault file) old new = ⊥
 AnswersRun tree WriteFault old new = AppendsStartOf old new (default_text tree)

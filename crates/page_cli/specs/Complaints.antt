@@ -6,10 +6,10 @@ use Rattle.page_parts.specs.Words.{decimal_of}
 use Rattle.lang_names.specs.declared.fault.NameFault.{NameFault}
 use Rattle.lang_names.specs.declared.fault.NameFault.TheVariants as fault
 use Rattle.page_cli.specs.declared.answer.Answer.{Answer}
-use Rattle.page_cli.specs.declared.answer.Answer.TheVariants.{Done, Usage, NoParse, NotRun, BadName, BadArrivals, TooLong, ReadFault, WriteFault, OutOfMemory}
-use Rattle.page_cli.specs.Forms.{RunForm, name_of}
+use Rattle.page_cli.specs.declared.answer.Answer.TheVariants.{Done, Usage, NoParse, NotRun, BadName, BadArrivals, BadTrace, TooLong, ReadFault, WriteFault, OutOfMemory}
+use Rattle.page_cli.specs.Forms.{Form, name_of}
 
-abbrev pub name_in : Option RunForm → (RunForm → List ℕ) → List ℕ
+abbrev pub name_in : Option Form → (Form → List ℕ) → List ℕ
 name_in None name = []
 name_in (Some form) name = name form
 
@@ -20,13 +20,14 @@ name_complaint (fault.Twice at) = codes "pageloop: name defined twice at byte " 
 name_complaint (fault.Arity at) = codes "pageloop: wrong argument count at byte " ++ (decimal_of at ++ codes "\n")
 
 -- the line of an answer
-abbrev pub complaint : Option RunForm → Answer → List ℕ
+abbrev pub complaint : Option Form → Answer → List ℕ
 complaint form Done = []
-complaint form Usage = codes "usage: pageloop run S A | check S A T | storm N | stat T\n"
+complaint form Usage = codes "usage: pageloop run S A | check S A T | storm N | stat T | export T | blame T\n"
 complaint form (NoParse at) = codes "pageloop: script: no parse at byte " ++ (decimal_of at ++ codes "\n")
 complaint form NotRun = codes "pageloop: script: no parse\n"
 complaint form (BadArrivals line) = codes "pageloop: arrivals: line " ++ (decimal_of line ++ codes "\n")
 complaint form (BadName fault) = name_complaint fault
+complaint form (BadTrace line) = codes "pageloop: trace: line " ++ (decimal_of line ++ codes "\n")
 complaint form (TooLong file) = codes "pageloop: too long: " ++ (name_in form (name_of file) ++ codes "\n")
 complaint form (ReadFault file) = codes "pageloop: read fault: " ++ (name_in form (name_of file) ++ codes "\n")
 complaint form WriteFault = codes "pageloop: write fault\n"

@@ -4,3 +4,4 @@ pub mod Names
 pub mod Answering
 pub mod Complaints
 pub mod Refusals
+pub mod Pictures

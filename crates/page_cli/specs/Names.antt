@@ -1,7 +1,12 @@
--- The names that the words give, as their form.
+-- What the words ask for, as their form.
 use Rattle.std.specs.Prelude.{Option, option_map}
-use Rattle.page_cli.specs.declared.names.Names.{Names}
-use Rattle.page_cli.specs.Forms.{RunForm}
+use Rattle.page_cli.specs.declared.names.Asked.{Asked}
+use Rattle.page_cli.specs.declared.names.Asked.TheVariants as asked
+use Rattle.page_cli.specs.Forms.{Form, RunForm, PictureForm}
 
-abbrev pub names_seen : Option Names → Option RunForm
-names_seen names = option_map (λ n. record { script = n.script.now; arrivals = n.arrivals.now }) names
+abbrev pub form_seen : Asked → Form
+form_seen (asked.Run names) = RunForm (record { script = names.script.now; arrivals = names.arrivals.now })
+form_seen (asked.Picture what trace) = PictureForm what trace.now
+
+abbrev pub names_seen : Option Asked → Option Form
+names_seen asked = option_map form_seen asked

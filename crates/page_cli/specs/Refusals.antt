@@ -49,11 +49,11 @@ Refuses (Name fault) script = HasBadName script fault
 Refuses OutOfMemory script = ⊤
 
 -- what is read of a file with this content: all of it, or it is longer than the limit
-abbrev pub GivesFile : List ℕ → Result (Vec ℕ Global) FileFault → Type 0
-GivesFile content (Ok bytes) = bytes.items ≡ content
-GivesFile content (Err file.Failed) = ⊤
-GivesFile content (Err file.TooLong) = 1048576 < length content
-GivesFile content (Err file.OutOfMemory) = ⊤
+abbrev pub GivesFile : (most : ℕ) → List ℕ → Result (Vec ℕ Global) FileFault → Type 0
+GivesFile most content (Ok bytes) = bytes.items ≡ content
+GivesFile most content (Err file.Failed) = ⊤
+GivesFile most content (Err file.TooLong) = most < length content
+GivesFile most content (Err file.OutOfMemory) = ⊤
 
 -- the answer to a file that was not read
 abbrev pub answer_to_file : FileFault → WhichFile → Answer

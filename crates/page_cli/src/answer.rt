@@ -10,12 +10,13 @@ use lang_names::NameFault;
 pub enum WhichFile {
     Script,
     Arrivals,
+    Trace,
 }
 
 /// How the program answers. Each answer has its status.
 #[derive(Clone, Copy, Debug, PartialEq, Eq)]
 pub enum Answer {
-    /// The run ended for nothing is left to do.
+    /// The run ended for nothing is left to do, or what was asked of a trace was written.
     Done,
     /// The words are of no form.
     Usage,
@@ -28,6 +29,8 @@ pub enum Answer {
     BadName { fault: NameFault },
     /// The arrivals are refused at this line, counted from 1.
     BadArrivals { line: usize },
+    /// The bytes are no trace: this line is the first that is refused, counted from 1.
+    BadTrace { line: usize },
     /// A file is longer than its limit.
     TooLong { file: WhichFile },
     /// A file could not be read.
@@ -51,6 +54,7 @@ impl Answer {
             Answer::BadArrivals { .. } => 4,
             Answer::BadName { .. } => 5,
             Answer::TooLong { .. } => 6,
+            Answer::BadTrace { .. } => 8,
             Answer::ReadFault { .. } => 74,
             Answer::WriteFault => 75,
             Answer::OutOfMemory => 70,

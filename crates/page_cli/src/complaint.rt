@@ -7,7 +7,7 @@ ghost use Rattle.page_cli.specs.Names.{names_seen};
 ghost use Rattle.page_cli.specs.Complaints.{complaint, name_complaint, name_in, Puts, PutsOrFails};
 
 use crate::answer::{Answer, WhichFile};
-use crate::names::Names;
+use crate::names::Asked;
 use lang_names::NameFault;
 use page_io::{Failed, Sink};
 
@@ -40,29 +40,30 @@ fn put_digits<E: Sink>(err: &mut E, n: usize) -> Result<(), Failed>
 }
 
 /// Puts the line of an answer.
-fn put_complaint<E: Sink>(err: &mut E, answer: Answer, names: Option<Names>) -> Result<(), Failed>
-    ensures { Puts (E.bytes err.old) (E.faults err.old) (complaint (names_seen names.entry) answer) result (E.bytes err.new)
+fn put_complaint<E: Sink>(err: &mut E, answer: Answer, asked: Option<Asked>) -> Result<(), Failed>
+    ensures { Puts (E.bytes err.old) (E.faults err.old) (complaint (names_seen asked.entry) answer) result (E.bytes err.new)
         (E.faults err.new) }
 {
     match answer {
         Answer::Done => Ok(()),
         Answer::Usage => put(
             err,
-            b"usage: pageloop run S A | check S A T | storm N | stat T\n",
+            b"usage: pageloop run S A | check S A T | storm N | stat T | export T | blame T\n",
         ),
         Answer::NoParse { at } => { put_numbered(err, b"pageloop: script: no parse at byte ", at) }
         Answer::NotRun => put(err, b"pageloop: script: no parse\n"),
         Answer::BadName { fault } => put_bad_name(err, fault),
         Answer::BadArrivals { line } => put_numbered(err, b"pageloop: arrivals: line ", line),
+        Answer::BadTrace { line } => put_numbered(err, b"pageloop: trace: line ", line),
         Answer::TooLong { file } => put_named(
             err,
             b"pageloop: too long: ",
-            name_of(file, names).as_bytes(),
+            name_of(file, asked).as_bytes(),
         ),
         Answer::ReadFault { file } => put_named(
             err,
             b"pageloop: read fault: ",
-            name_of(file, names).as_bytes(),
+            name_of(file, asked).as_bytes(),
         ),
         Answer::WriteFault => put(err, b"pageloop: write fault\n"),
         Answer::OutOfMemory => put(err, b"pageloop: out of memory\n"),
@@ -102,21 +103,22 @@ fn put_named<E: Sink>(err: &mut E, words: &[u8], name: &[u8]) -> Result<(), Fail
     put(err, b"\n")
 }
 
-/// The name that the words give to a file, and nothing where they have no form.
-fn name_of<'a>(file: WhichFile, names: Option<Names<'a>>) -> &'a str
-    ensures { result.now ≡ name_in (names_seen names.entry) (name_of file) }
+/// The name that the words give to a file, and nothing where they name no such file.
+fn name_of<'a>(file: WhichFile, asked: Option<Asked<'a>>) -> &'a str
+    ensures { result.now ≡ name_in (names_seen asked.entry) (name_of file) }
 {
-    match (names, file) {
-        (None, _) => "",
-        (Some(names), WhichFile::Script) => names.script,
-        (Some(names), WhichFile::Arrivals) => names.arrivals,
+    match (asked, file) {
+        (Some(Asked::Run(names)), WhichFile::Script) => names.script,
+        (Some(Asked::Run(names)), WhichFile::Arrivals) => names.arrivals,
+        (Some(Asked::Picture { trace, .. }), WhichFile::Trace) => trace,
+        _ => "",
     }
 }
 
 /// Gives the line of an answer to the error output. A fault of that changes no answer.
-pub(crate) fn complain<E: Sink>(err: &mut E, answer: Answer, names: Option<Names>)
-    ensures { PutsOrFails (E.bytes err.old) (E.faults err.old) (complaint (names_seen names.entry) answer) (E.bytes err.new)
+pub(crate) fn complain<E: Sink>(err: &mut E, answer: Answer, asked: Option<Asked>)
+    ensures { PutsOrFails (E.bytes err.old) (E.faults err.old) (complaint (names_seen asked.entry) answer) (E.bytes err.new)
         (E.faults err.new) }
 {
-    let _ = put_complaint(err, answer, names);
+    let _ = put_complaint(err, answer, asked);
 }

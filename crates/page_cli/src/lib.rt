@@ -5,6 +5,7 @@ pub mod answer;
 mod complaint;
 mod main_call;
 pub mod names;
+mod picturing;
 mod reading;
 mod running;
 mod script_fault;

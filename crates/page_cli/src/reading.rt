@@ -1,12 +1,13 @@
-//! Reading the two files.
+//! Reading files.
 
 ghost use Rattle.std.specs.Prelude.{◌≡◌, ◌≤◌, ◌<◌, ℕ, List, IfOk, IfErr, IfSome, length};
 ghost use Rattle.page_types.specs.Counts.{Rose};
 ghost use Rattle.lang_parse.specs.LogScript.{IsScript, log_tree};
 ghost use Rattle.lang_parse.specs.LogSeen.{script_seen};
-ghost use Rattle.page_cli.specs.Refusals.{Refuses, GivesFile};
+ghost use Rattle.page_cli.specs.Refusals.{Refuses, GivesFile, answer_to_file};
 ghost use Rattle.page_cli.specs.declared.reading.FileFault.TheVariants.{Failed, TooLong};
 
+use crate::answer::{Answer, WhichFile};
 use crate::script_fault::ScriptFault;
 use lang_names::resolve;
 use lang_parse::{LogScript, parse, parse_log_script};
@@ -16,6 +17,9 @@ use std::alloc::Global;
 
 /// The greatest number of bytes of a script and of an arrivals file.
 pub const MOST_BYTES: usize = 1_048_576;
+
+/// The greatest number of bytes of a trace.
+pub const MOST_TRACE_BYTES: usize = 4_194_304;
 
 /// Why a file is not read.
 #[derive(Clone, Copy, Debug, PartialEq, Eq)]
@@ -27,25 +31,37 @@ pub(crate) enum FileFault {
     OutOfMemory,
 }
 
-/// The bytes of a file that is no longer than its limit.
+/// The bytes of a file that is no longer than this limit.
 pub(crate) fn fetched<F: Folder>(
     alloc: Global,
     folder: &mut F,
     name: &str,
+    most: usize,
 ) -> Result<Vec<u8>, FileFault>
-    ensures content { IfSome (F.file folder.old name.now) (λ content. GivesFile content result) }
-    ensures size { IfOk result (λ bytes. length bytes.items ≤ MOST_BYTES) }
+    ensures content { IfSome (F.file folder.old name.now) (λ content. GivesFile most content result) }
+    ensures size { IfOk result (λ bytes. length bytes.items ≤ most) }
     ensures same { (other : List ℕ) → F.file folder.new other ≡ F.file folder.old other }
     ensures later { (other : List ℕ) → F.faults folder.old other ≤ F.faults folder.new other }
     ensures cause { IfErr result (λ e. e ≡ Failed → Rose (F.faults folder.old name.now) (F.faults folder.new name.now)) }
 {
     let mut bytes = Vec::new(alloc);
-    match folder.fetch(name, MOST_BYTES, &mut bytes) {
+    match folder.fetch(name, most, &mut bytes) {
         // A folder that tells no content may call a longer file whole.
-        Ok(Fetched::Whole) if bytes.len() <= MOST_BYTES => Ok(bytes),
+        Ok(Fetched::Whole) if bytes.len() <= most => Ok(bytes),
         Ok(_) => Err(FileFault::TooLong),
         Err(FetchFault::Failed) => Err(FileFault::Failed),
         Err(FetchFault::OutOfMemory) => Err(FileFault::OutOfMemory),
+    }
+}
+
+/// The answer to a file that was not read.
+pub(crate) fn answer_to(fault: FileFault, file: WhichFile) -> Answer
+    ensures answer { result ≡ answer_to_file fault file }
+{
+    match fault {
+        FileFault::Failed => Answer::ReadFault { file },
+        FileFault::TooLong => Answer::TooLong { file },
+        FileFault::OutOfMemory => Answer::OutOfMemory,
     }
 }
 

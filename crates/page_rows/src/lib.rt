@@ -9,6 +9,8 @@
 mod example;
 pub mod nested_host;
 #[cfg(test)]
+mod pictures;
+#[cfg(test)]
 mod refusals;
 #[cfg(test)]
 mod scripts;

@@ -5,7 +5,8 @@ use std::test::Fail;
 
 const NOT_RUN: &str = "pageloop: script: no parse\n";
 
-const USAGE: &str = "usage: pageloop run S A | check S A T | storm N | stat T\n";
+const USAGE: &str =
+    "usage: pageloop run S A | check S A T | storm N | stat T | export T | blame T\n";
 
 const SCRIPT_FAULT: &str = "pageloop: read fault: s\n";
 
@@ -17,8 +18,11 @@ fn is_refusal(ended: &Ended, status: u8, line: &str) -> bool {
 
 #[test]
 fn words_of_no_form_give_the_usage_line_and_status_2(rt: HostRuntime) -> Result<(), Fail> {
-    let examples: [&[&str]; 5] = [
+    let examples: [&[&str]; 8] = [
         &[],
+        &["export"],
+        &["blame", "s", "a"],
+        &["Export", "s"],
         &["run", "s"],
         &["run", "a", "b", "c"],
         &["storm", "0"],

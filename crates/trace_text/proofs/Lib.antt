@@ -10,7 +10,7 @@ pub mod OneDecimal
 pub mod ValueNumbers
 pub mod ValueWords
 pub mod WholeValues
-mod Cutting
+pub mod Cutting
 mod Counts
 mod FieldWords
 mod EventsRead

@@ -28,13 +28,19 @@ no_digits : (rest : List ℕ) → IsTrue (may_follow rest) → digits_of rest �
 no_digits [] h = refl
 no_digits (b ∷ rest) h = rw (take_while-cons, no_digit b h) refl
 
+-- the number is read where no digit follows, and what follows is left
+pub number_in_front : (most n : ℕ) (rest : List ℕ) → n < 2 ^ 64 → n ≤ most → digits_of rest ≡ [] → number_at most (decimal_of n ++ rest) ≡ Some n
+number_in_front most n rest h small none = subst (λ ds. number_at most (ds ++ rest) ≡ Some n) (sym (decimal_is n h)) (number_at-decimal most n rest h small none)
+
+pub left_in_front : (n : ℕ) (rest : List ℕ) → n < 2 ^ 64 → digits_of rest ≡ [] → after_digits (decimal_of n ++ rest) ≡ rest
+left_in_front n rest h none =
+    subst (λ ds. after_digits (ds ++ rest) ≡ rest) (sym (decimal_is n h)) (after_digits-append (decimal n) rest (digits_decimal numerals n h) none)
+
 number_at_front : (most n : ℕ) (rest : List ℕ) → n < 2 ^ 64 → n ≤ most → IsTrue (may_follow rest) → number_at most (decimal_of n ++ rest) ≡ Some n
-number_at_front most n rest h small follows =
-    subst (λ ds. number_at most (ds ++ rest) ≡ Some n) (sym (decimal_is n h)) (number_at-decimal most n rest h small (no_digits rest follows))
+number_at_front most n rest h small follows = number_in_front most n rest h small (no_digits rest follows)
 
 after_front : (n : ℕ) (rest : List ℕ) → n < 2 ^ 64 → IsTrue (may_follow rest) → after_digits (decimal_of n ++ rest) ≡ rest
-after_front n rest h follows =
-    subst (λ ds. after_digits (ds ++ rest) ≡ rest) (sym (decimal_is n h)) (after_digits-append (decimal n) rest (digits_decimal numerals n h) (no_digits rest follows))
+after_front n rest h follows = left_in_front n rest h (no_digits rest follows)
 
 pub number_read : (most n : ℕ) (rest : List ℕ) → n < 2 ^ 64 → n ≤ most → IsTrue (may_follow rest) → after_number most (decimal_of n ++ rest) ≡ Some rest
 unfolding after_number
@@ -99,7 +105,7 @@ by_test most n bytes true true limit e f is =
 by_test most n bytes true false limit e f is = absurd cc
 by_test most n bytes false small limit e f is = absurd cc
 
-number_at_is : (most n : ℕ) (bytes : List ℕ) → most < 2 ^ 64 → number_at most bytes ≡ Some n → (n ≤ most) × (bytes ≡ decimal_of n ++ after_digits bytes)
+pub number_at_is : (most n : ℕ) (bytes : List ℕ) → most < 2 ^ 64 → number_at most bytes ≡ Some n → (n ≤ most) × (bytes ≡ decimal_of n ++ after_digits bytes)
 number_at_is most n bytes limit is = by_test most n bytes (is_canonical (digits_of bytes)) (nat_le (number_of (digits_of bytes)) most) limit refl refl is
 
 number_by : (most : ℕ) (bytes rest : List ℕ) (o : Option ℕ) → most < 2 ^ 64 → number_at most bytes ≡ o → (o >>= λ n. Some (after_digits bytes)) ≡ Some rest → NumberAt most bytes rest

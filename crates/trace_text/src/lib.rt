@@ -31,4 +31,5 @@ pub use reading::read_trace;
 pub use sink::LineSink;
 pub use summary::{LineCount, Summary, counting_gives_the_summary, summary_of};
 pub use trace_laws::{a_trace_has_one_reading, a_trace_is_read, there_is_one_bad_line};
+pub use words::{kind_word, source_word};
 pub use writing::write_event;

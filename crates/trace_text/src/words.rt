@@ -20,7 +20,8 @@ pub(crate) fn head_line(form: u32) -> &'static [u8]
     }
 }
 
-pub(crate) fn source_word(source: Option<Source>) -> &'static [u8]
+/// The word of a turn's source. Takes no memory.
+pub fn source_word(source: Option<Source>) -> &'static [u8]
     ensures { result.now ≡ source_text source }
 {
     match source {
@@ -45,7 +46,8 @@ pub(crate) fn end_word(end: End) -> &'static [u8]
     }
 }
 
-pub(crate) fn kind_word(kind: RegKind) -> &'static [u8]
+/// The word for what a registration is for. Takes no memory.
+pub fn kind_word(kind: RegKind) -> &'static [u8]
     ensures { result.now ≡ kind_text kind }
 {
     match kind {

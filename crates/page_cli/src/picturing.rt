@@ -1,0 +1,84 @@
+//! What is told of a trace.
+
+ghost use Rattle.std.specs.Prelude.{◌≡◌, ◌≤◌, length, map, IfOk, IfSome};
+ghost use Rattle.page_types.specs.Counts.{Rose};
+ghost use Rattle.trace_text.specs.EventSeen.{stamped_seen};
+ghost use Rattle.page_cli.specs.declared.answer.WhichFile.{WhichFile};
+ghost use Rattle.page_cli.specs.declared.answer.WhichFile.TheVariants.{Trace};
+ghost use Rattle.page_cli.specs.Answering.{IsRefusal};
+ghost use Rattle.page_cli.specs.Pictures.{AnswersTrace, AnswersEvents, IsPicture};
+
+use crate::answer::{Answer, WhichFile};
+use crate::names::Picture;
+use crate::reading::{MOST_TRACE_BYTES, answer_to, fetched};
+use crate::running::Answered;
+use page_io::{Folder, Sink};
+use std::alloc::{AllocError, Global};
+use trace_blame::blame;
+use trace_export::export;
+use trace_text::{Events, TraceFault, read_trace};
+
+/// Fetches a trace, and writes what is asked of it.
+pub(crate) fn picture_named<F: Folder, O: Sink>(
+    alloc: Global,
+    folder: &mut F,
+    what: Picture,
+    trace: &str,
+    out: O,
+) -> Answered<O>
+    ensures answers { IfSome (F.file folder.old trace.now) (λ bytes.
+        AnswersTrace result.answer what bytes (O.bytes out) (O.bytes result.out)) }
+    ensures refused { IsRefusal result.answer → O.bytes result.out ≡ O.bytes out }
+    ensures read { (file : WhichFile) → result.answer ≡ Answer.ReadFault file →
+        (file ≡ Trace) × Rose (F.faults folder.old trace.now) (F.faults folder.new trace.now) }
+    ensures write { result.answer ≡ Answer.WriteFault → Rose (O.faults out) (O.faults result.out) }
+    ensures usage { result.answer ≡ Answer.Usage → ⊥ }
+{
+    match fetched(alloc, folder, trace, MOST_TRACE_BYTES) {
+        Ok(bytes) => picture_of(alloc, what, &bytes, out),
+        Err(fault) => Answered {
+            answer: answer_to(fault, WhichFile::Trace),
+            out,
+        },
+    }
+}
+
+/// Reads a trace, and writes what is asked of it.
+fn picture_of<O: Sink>(alloc: Global, what: Picture, bytes: &[u8], mut out: O) -> Answered<O>
+    requires { length bytes.now ≤ 4194304 }
+    ensures answers { AnswersTrace result.answer what bytes.now (O.bytes out) (O.bytes result.out) }
+    ensures refused { IsRefusal result.answer → O.bytes result.out ≡ O.bytes out }
+    ensures other { (file : WhichFile) → result.answer ≡ Answer.ReadFault file → ⊥ }
+    ensures write { result.answer ≡ Answer.WriteFault → Rose (O.faults out) (O.faults result.out) }
+{
+    let answer = match read_trace(alloc, bytes) {
+        Ok(trace) => write_picture(alloc, what, &trace, &mut out),
+        Err(TraceFault::Is(bad)) => Answer::BadTrace { line: bad.line },
+        Err(TraceFault::OutOfMemory) => Answer::OutOfMemory,
+    };
+    Answered { answer, out }
+}
+
+/// Writes what is asked of a trace.
+fn write_picture<O: Sink>(alloc: Global, what: Picture, trace: &Events, out: &mut O) -> Answer
+    ensures answers { AnswersEvents result what (map stamped_seen trace.now.events) (O.bytes out.old) (O.bytes out.new) }
+    ensures write { result ≡ Answer.WriteFault → Rose (O.faults out.old) (O.faults out.new) }
+{
+    let Ok(text) = picture_text(alloc, what, trace) else {
+        return Answer::OutOfMemory;
+    };
+    match out.put(&text) {
+        Ok(()) => Answer::Done,
+        Err(_) => Answer::WriteFault,
+    }
+}
+
+/// What is told of a trace.
+fn picture_text(alloc: Global, what: Picture, trace: &Events) -> Result<Vec<u8>, AllocError>
+    ensures { IfOk result (λ text. IsPicture what (map stamped_seen trace.now.events) text.items) }
+{
+    match what {
+        Picture::Export => export(alloc, trace),
+        Picture::Blame => blame(alloc, trace),
+    }
+}

@@ -1,0 +1,4 @@
+pub mod Turns
+pub mod Blame
+pub mod Walked
+pub mod Seen
