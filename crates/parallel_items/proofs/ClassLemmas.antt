@@ -1,0 +1,2 @@
+-- The first item of one class.
+use Rattle.std.proofs.Common.{◌≡◌}

@@ -1,1 +1,0 @@
--- The first item of several classes.
