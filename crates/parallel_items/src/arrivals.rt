@@ -1,7 +1,9 @@
 //! What is still to arrive.
-ghost use Rattle.std.specs.Prelude.{◌≡◌, ◌+◌, ◌^◌, ◌<◌, [], length, map, true, OnOk, OnErr, IfOk};
+ghost use Rattle.std.specs.Prelude.{◌≡◌, ◌+◌, ◌^◌, ◌<◌, List, is_some, length, map, true, OnOk, OnErr, IfOk};
 ghost use Rattle.std.specs.Option.{option_map};
 ghost use Rattle.page_parts.specs.Setup.{are_in_order};
+ghost use Rattle.page_parts.specs.Words.{is_there};
+ghost use Rattle.page_model.specs.State.{Completing};
 ghost use Rattle.page_model.specs.Parallel.{first_item_of, arrival_items, with_arrival};
 ghost use Rattle.arrivals_text.specs.SeenParts.{arrival_of};
 ghost use Rattle.parallel_items.specs.InParallel.{Waiting};
@@ -76,8 +78,9 @@ impl Arrivals {
 
     // Takes the first one.
     pub(crate) fn take_first(&mut self) -> Option<Arrival>
-        ensures taken { option_map (λ a. TakenArrival (arrival_of a)) result
-            ≡ taken_of (first_item_of (arrival_items 1 self.old.arrivals)) [] }
+        ensures taken { (cs : List Completing) → option_map (λ a. TakenArrival (arrival_of a)) result
+            ≡ taken_of (first_item_of (arrival_items 1 self.old.arrivals)) cs }
+        ensures some { is_some result ≡ is_there (first_item_of (arrival_items 1 self.old.arrivals)) }
         ensures left { (w : Waiting) → left_of (first_item_of (arrival_items 1 self.old.arrivals))
             (record w { arrivals = self.old.arrivals }) ≡ record w { arrivals = self.new.arrivals } }
         ensures made { self.new.made ≡ self.old.made }

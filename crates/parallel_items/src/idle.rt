@@ -1,7 +1,8 @@
 //! The timeouts of idle callbacks.
-ghost use Rattle.std.specs.Prelude.{◌≡◌, ◌+◌, ◌*◌, ◌^◌, ◌<◌, [], OnOk, OnErr};
+ghost use Rattle.std.specs.Prelude.{◌≡◌, ◌+◌, ◌*◌, ◌^◌, ◌<◌, [], List, is_some, OnOk, OnErr};
 ghost use Rattle.std.specs.Option.{option_map};
-ghost use Rattle.page_parts.specs.Words.{and_last};
+ghost use Rattle.page_parts.specs.Words.{and_last, is_there};
+ghost use Rattle.page_model.specs.State.{Completing};
 ghost use Rattle.page_model.specs.Parallel.{first_item_of};
 ghost use Rattle.parallel_items.specs.InParallel.{Waiting};
 ghost use Rattle.parallel_items.specs.Items.{idle_items, due_of, TakenIdleTimeout, taken_of, left_of};
@@ -81,8 +82,9 @@ impl IdleTimeouts {
 
     // Takes the first of those that are due earliest.
     pub(crate) fn take_first(&mut self) -> Option<IdleTimeout>
-        ensures taken { option_map (λ t. TakenIdleTimeout t.handle t.registration) result
-            ≡ taken_of (first_item_of (idle_items self.old.timers)) [] }
+        ensures taken { (cs : List Completing) → option_map (λ t. TakenIdleTimeout t.handle t.registration) result
+            ≡ taken_of (first_item_of (idle_items self.old.timers)) cs }
+        ensures some { is_some result ≡ is_there (first_item_of (idle_items self.old.timers)) }
         ensures left { (w : Waiting) → left_of (first_item_of (idle_items self.old.timers)) (record w { idle_timers = self.old.timers })
             ≡ record w { idle_timers = self.new.timers } }
         ensures last { self.new.last ≡ self.old.last }
