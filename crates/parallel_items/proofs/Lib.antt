@@ -1,2 +1,5 @@
-pub mod FirstLemmas
 pub mod ClassLemmas
+pub mod FirstLemmas
+pub mod IdleLemmas
+pub mod MapLemmas
+pub mod TimerLemmas

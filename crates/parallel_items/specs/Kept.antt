@@ -1,5 +1,5 @@
 -- What the parts keep.
-use Rattle.std.specs.Prelude.{◌≡◌, ℕ, ◌≤◌, Bool, true, false, cond, List, [], ◌∷◌, map, All, nat_eq, count_by}
+use Rattle.std.specs.Prelude.{◌≡◌, ℕ, ◌+◌, ◌≤◌, Bool, true, List, [], ◌∷◌, map, All, nat_eq, if◌then◌else◌}
 use Rattle.std.specs.BinaryHeap.{IsHeap}
 use Rattle.std.specs.List.{list_any, AllByRecursion}
 use Rattle.std.specs.Ordering.{nat_cmp, ordering_then}
@@ -21,9 +21,14 @@ use Rattle.parallel_items.specs.Seen.{completings_of, owners_of, idle_timers_of,
 
 -- ---- timers
 
+-- how many items pass a test
+abbrev pub how_many : {X : Type 0} → (X → Bool) → List X → ℕ
+how_many test [] = 0
+how_many test (x ∷ xs) = (if test x then 1 else 0) + how_many test xs
+
 -- how many completion steps are the delayed `postTask` of a registration
 abbrev pub delays_of : ℕ → List Completing → ℕ
-delays_of r cs = count_by (λ c. is_delay_of r c.completion) cs
+delays_of r cs = how_many (λ c. is_delay_of r c.completion) cs
 
 -- the completion steps are those of the active timers
 abbrev pub HaveSteps : List ActiveTimer → List Completing → Type 0
@@ -31,7 +36,7 @@ HaveSteps active cs = map (λ t. t.start) active ≡ map (λ c. c.start) cs
 
 -- the set of registrations tells which have a delayed `postTask`, and none has two
 abbrev pub AreDelays : List ℕ → List Completing → Type 0
-AreDelays set cs = (r : ℕ) → delays_of r cs ≡ cond (list_any (nat_eq r) set) 1 0
+AreDelays set cs = (r : ℕ) → delays_of r cs ≡ (if list_any (nat_eq r) set then 1 else 0)
 
 -- each id in the map of ids has an owner, and no other id has
 abbrev pub HaveOwners : Timers → List TimerOwner → Type 0
@@ -48,7 +53,9 @@ pub record AreKept (t : Timers) (completions : List (ℕ × Completion)) (set : 
 
 -- the order of the heap: an idle timeout is greater where it is due earlier, or is due together and was started earlier
 abbrev pub sooner : Reverse IdleTimeout → Reverse IdleTimeout → Ordering
-sooner x y = ordering_then (nat_cmp y.0.due.0 x.0.due.0) (nat_cmp y.0.handle x.0.handle)
+sooner x y =
+    ordering_then (nat_cmp y.0.due.0 x.0.due.0)
+    (ordering_then (nat_cmp y.0.handle x.0.handle) (nat_cmp y.0.registration x.0.registration))
 
 -- the timeouts stand as in a heap, and by their handles
 pub record AreIdleKept (last : ℕ) (timeouts : List (Reverse IdleTimeout)) : Type 0 where
