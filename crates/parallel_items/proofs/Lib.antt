@@ -1,5 +1,6 @@
 pub mod ClassLemmas
 pub mod FirstLemmas
 pub mod IdleLemmas
+pub mod KeptLemmas
 pub mod MapLemmas
 pub mod TimerLemmas

@@ -1,5 +1,5 @@
 -- The active timers and their completion steps.
-use Rattle.std.proofs.Common.{◌≡◌, ℕ, zero, suc, ◌+◌, ◌<◌, ◌≤◌, Bool, true, false, cond, not, ◌&&◌, ◌||◌, List, [], ◌∷◌, ◌++◌, map, find, Option, Some, None, nat_eq, nat_lt, eqb, refl, sym, subst, ◌∙◌, ap, true≢false, arith}
+use Rattle.std.proofs.Common.{◌≡◌, ℕ, zero, suc, ◌+◌, ◌<◌, ◌≤◌, Bool, true, false, cond, not, ◌&&◌, ◌||◌, List, [], ◌∷◌, ◌++◌, map, find, Option, Some, None, is_some, nat_eq, nat_lt, eqb, refl, sym, subst, ◌∙◌, ap, true≢false, arith}
 use Rattle.std.proofs.lemmas.Bool.{eq-eqb, eqb-true}
 use Rattle.std.proofs.lemmas.List.{map-append}
 use Rattle.std.specs.List.{AllByRecursion, list_any}
@@ -336,3 +336,7 @@ owners_left t s n owners is have = λ id.
     ∙ ap (λ b. b && not (eqb n id)) (have id ∙ there_map (λ (o : TimerOwner). o.registration) (find (λ (o : TimerOwner). eqb o.id id) owners))
     ∙ sym (there_left owned_id id n owners)
     ∙ sym (there_map (λ (o : TimerOwner). o.registration) (find (λ (o : TimerOwner). eqb o.id id) (without (λ (o : TimerOwner). eqb o.id n) owners)))
+
+pub some_is_there : {X : Type 0} (o : Option X) → is_some o ≡ is_there o
+some_is_there None = refl
+some_is_there (Some x) = refl
