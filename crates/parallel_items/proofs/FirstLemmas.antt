@@ -1,11 +1,15 @@
 -- The first item of several classes, one behind the other.
-use Rattle.std.proofs.Common.{◌≡◌, ℕ, ◌<◌, Bool, true, false, cond, not, ◌&&◌, List, [], ◌∷◌, ◌++◌, map, Option, Some, None, nat_lt, refl, sym, ap, ◌∙◌, arith}
+use Rattle.std.proofs.Common.{◌≡◌, ℕ, ◌<◌, Bool, true, false, cond, not, ◌&&◌, List, [], ◌∷◌, ◌++◌, map, Option, Some, None, is_some, nat_eq, nat_lt, nat_le, ◌≤◌, true≢false, refl, sym, subst, ap, ◌∙◌, arith}
+use Rattle.std.proofs.lemmas.Bool.{eq-eqb, eqb-true}
+use Rattle.std.specs.Option.{option_map, option_eq}
+use Rattle.page_base.specs.declared.moment.Micros.{Micros}
+use Rattle.page_parts.specs.Setup.{Arrival}
 use Rattle.page_parts.specs.Words.{is_empty, is_there, least}
 use Rattle.page_model.specs.State.{Page}
 use Rattle.page_model.specs.PageTime.{next_frame}
-use Rattle.page_model.specs.Parallel.{Item, FrameItem, first_item, frame_items, first_item_from, first_item_of, arrival_items}
-use Rattle.parallel_items.specs.InParallel.{Waiting, waiting_of}
-use Rattle.parallel_items.specs.Items.{waiting_items, first_waiting, answer_items, timer_items, idle_items, due_of, earlier}
+use Rattle.page_model.specs.Parallel.{Item, FrameItem, first_item, frame_items, first_item_from, first_item_of, arrival_items, due_item}
+use Rattle.parallel_items.specs.InParallel.{Waiting, InParallel, waiting_of}
+use Rattle.parallel_items.specs.Items.{waiting_items, first_waiting, nothing_waits, answer_items, timer_items, idle_items, due_of, earlier, Taken, Takes}
 use Rattle.parallel_items.specs.Laws.{is_before}
 
 -- ---- of two items
@@ -81,16 +85,16 @@ chosen_right (Some a) (Some b) other = by (nat_lt b.due a.due) other
 -- ---- the four classes
 
 module _ (w : Waiting) where
-  abbrev arrival : Option Item
+  abbrev pub arrival : Option Item
   arrival = first_item_of (arrival_items 1 w.arrivals)
 
-  abbrev answer : Option Item
+  abbrev pub answer : Option Item
   answer = first_item_of (answer_items w.host_answers)
 
-  abbrev timer : Option Item
+  abbrev pub timer : Option Item
   timer = first_item_of (timer_items w.timers.active)
 
-  abbrev idle : Option Item
+  abbrev pub idle : Option Item
   idle = first_item_of (idle_items w.idle_timers)
 
   pub first_of_four : first_waiting w ≡ earlier (earlier (earlier arrival answer) timer) idle
@@ -165,3 +169,109 @@ empty_append (x ∷ xs) ys = refl
 empty_map : {X Y : Type 0} (f : X → Y) (xs : List X) → is_empty (map f xs) ≡ is_empty xs
 empty_map f [] = refl
 empty_map f (x ∷ xs) = refl
+
+-- nothing goes on where there is no first item
+pub first_of_nothing : (w : Waiting) → is_there (first_waiting w) ≡ not (nothing_waits w)
+first_of_nothing w =
+    let a = arrival_items 1 w.arrivals in
+    let b = answer_items w.host_answers in
+    let c = timer_items w.timers.active in
+    let d = idle_items w.idle_timers in
+    let each = ap (λ x. x && is_empty b && is_empty c && is_empty d) (empty_arrivals 1 w.arrivals)
+        ∙ ap (λ x. is_empty w.arrivals && x && is_empty c && is_empty d) (empty_map _ w.host_answers)
+        ∙ ap (λ x. is_empty w.arrivals && is_empty w.host_answers && x && is_empty d) (empty_map _ w.timers.active)
+        ∙ ap (λ x. is_empty w.arrivals && is_empty w.host_answers && is_empty w.timers.active && x) (empty_map _ w.idle_timers) in
+    there_is_first (waiting_items w)
+    ∙ ap not (empty_append (a ++ b ++ c) d
+        ∙ ap (λ x. x && is_empty d) (empty_append (a ++ b) c ∙ ap (λ x. x && is_empty c) (empty_append a b))
+        ∙ each)
+  where
+    empty_arrivals : (n : ℕ) (arrivals : List Arrival) → is_empty (arrival_items n arrivals) ≡ is_empty arrivals
+    empty_arrivals n [] = refl
+    empty_arrivals n (a ∷ more) = refl
+
+-- ---- the first item, where it is due
+
+pub due_of_four : (w : Waiting) → due_of (first_waiting w) ≡ least (least (least (due_of (arrival w)) (due_of (answer w))) (due_of (timer w))) (due_of (idle w))
+due_of_four w =
+    ap due_of (first_of_four w)
+    ∙ due_earlier (earlier (earlier (arrival w) (answer w)) (timer w)) (idle w)
+    ∙ ap (λ x. least x (due_of (idle w))) (due_earlier (earlier (arrival w) (answer w)) (timer w) ∙ ap (λ x. least x (due_of (timer w))) (due_earlier (arrival w) (answer w)))
+
+pub none_first : (o : Option Item) → None ≡ due_of o → o ≡ None
+none_first None e = refl
+none_first (Some i) e = cc
+
+pub not_due : (now due : ℕ) (o : Option Item) → Some due ≡ due_of o → now < due → due_item now o ≡ None
+not_due now due None e less = refl
+not_due now due (Some i) e less =
+    let same : due ≡ i.due = cc in
+    let test : nat_le i.due now ≡ false = grind (arith, same, less) in
+    ap (λ b. cond b (Some i) None) test
+
+pub is_due : (now due : ℕ) (o : Option Item) → Some due ≡ due_of o → due ≤ now → due_item now o ≡ o
+is_due now due None e le = refl
+is_due now due (Some i) e le =
+    let same : due ≡ i.due = cc in
+    let test : nat_le i.due now ≡ true = grind (arith, same, le) in
+    ap (λ b. cond b (Some i) None) test
+
+pub some_map : {X Y : Type 0} (f : X → Y) (o : Option X) → is_some o ≡ is_some (option_map f o)
+some_map f None = refl
+some_map f (Some x) = refl
+
+pub some_due : (o : Option Item) → is_some (due_of o) ≡ is_there o
+some_due None = refl
+some_due (Some i) = refl
+
+pub not_same : (a b : Bool) → not a ≡ not b → a ≡ b
+not_same true true e = refl
+not_same true false e = cc
+not_same false true e = cc
+not_same false false e = refl
+
+-- moments that are compared
+
+pub same_due : (a b : Option Micros) → option_eq (λ (x y : Micros). nat_eq x.0 y.0) a b ≡ true → option_map (λ (m : Micros). m.0) a ≡ option_map (λ (m : Micros). m.0) b
+same_due None None e = refl
+same_due None (Some y) e = cc
+same_due (Some x) None e = cc
+same_due (Some x) (Some y) e = ap Some (eqb-true x.0 y.0 e)
+
+pub other_due : (a b : Option Micros) → option_eq (λ (x y : Micros). nat_eq x.0 y.0) a b ≡ false → option_map (λ (m : Micros). m.0) a ≡ option_map (λ (m : Micros). m.0) b → ⊥
+other_due None None e same = true≢false e
+other_due None (Some y) e same = let never : ⊥ = cc in never
+other_due (Some x) None e same = let never : ⊥ = cc in never
+other_due (Some x) (Some y) e same =
+    let is : x.0 ≡ y.0 = cc in
+    true≢false (sym (eq-eqb x.0 y.0 is) ∙ e)
+
+abbrev moment : Option Micros → Option ℕ
+moment m = option_map (λ (m : Micros). m.0) m
+
+-- the least of the moments of the four classes
+pub least_of_four : (w : Waiting) (a b c d x y z : Option Micros)
+    → option_map (λ (m : Micros). m.0) a ≡ due_of (arrival w) → option_map (λ (m : Micros). m.0) b ≡ due_of (answer w)
+    → option_map (λ (m : Micros). m.0) c ≡ due_of (timer w) → option_map (λ (m : Micros). m.0) d ≡ due_of (idle w)
+    → option_map (λ (m : Micros). m.0) x ≡ least (option_map (λ (m : Micros). m.0) a) (option_map (λ (m : Micros). m.0) b)
+    → option_map (λ (m : Micros). m.0) y ≡ least (option_map (λ (m : Micros). m.0) x) (option_map (λ (m : Micros). m.0) c)
+    → option_map (λ (m : Micros). m.0) z ≡ least (option_map (λ (m : Micros). m.0) y) (option_map (λ (m : Micros). m.0) d)
+    → option_map (λ (m : Micros). m.0) z ≡ due_of (first_waiting w)
+least_of_four w a b c d x y z ea eb ec ed ex ey ez =
+    let two = ex ∙ ap (λ t. least t (moment b)) ea ∙ ap (least (due_of (arrival w))) eb in
+    let three = ey ∙ ap (λ t. least t (moment c)) two ∙ ap (least (least (due_of (arrival w)) (due_of (answer w)))) ec in
+    ez ∙ ap (λ t. least t (moment d)) three ∙ ap (least (least (least (due_of (arrival w)) (due_of (answer w))) (due_of (timer w)))) ed
+    ∙ sym (due_of_four w)
+
+-- ---- an item is taken
+
+pub seen_takes : (item : InParallel → Option Item) (old seen : InParallel) (given : Option Taken) (new : InParallel) → old ≡ seen
+    → Takes (item old) old given new → Takes (item seen) seen given new
+seen_takes item old seen given new is takes = subst (λ s. Takes (item s) s given new) is takes
+
+pub same_takes : (item other : Option Item) (old : InParallel) (given : Option Taken) (new : InParallel) → other ≡ item
+    → Takes item old given new → Takes other old given new
+same_takes item other old given new is takes = subst (λ o. Takes o old given new) (sym is) takes
+
+pub takes_none : (item : Option Item) (old : InParallel) → item ≡ None → Takes item old None old
+takes_none item old is = subst (λ o. Takes o old None old) (sym is) (record { taken = refl; some = refl; left = refl })

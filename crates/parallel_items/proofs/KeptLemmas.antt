@@ -5,7 +5,7 @@ use Rattle.std.specs.List.{list_any}
 use Rattle.std.specs.List.Sorted.{IsPermutation}
 use Rattle.std.specs.Map.{lookup, remove_entry}
 use Rattle.std.specs.Option.{option_map}
-use Rattle.page_parts.specs.Timers.{Timers, TimerId, ActiveTimer, has_id, with_id, clear, completed}
+use Rattle.page_parts.specs.Timers.{Timers, TimerId, ActiveTimer, has_id, with_id, clear, completed, first_timer, next_due}
 use Rattle.page_parts.specs.Words.{is_there, without}
 use Rattle.page_model.specs.State.{Completing}
 use Rattle.page_model.specs.PageSignals.{is_delay_of}
@@ -16,7 +16,7 @@ use Rattle.timer_map.specs.Kept.{AreNumbered}
 use Rattle.timer_map.proofs.OrderLemmas.{order_permuted, numbered_permuted}
 use Rattle.parallel_items.specs.declared.completion.Completion.{Completion}
 use Rattle.parallel_items.specs.InParallel.{Waiting, TimerOwner}
-use Rattle.parallel_items.specs.Items.{timer_item, timer_items, TakenCompletion, taken_of, left_of}
+use Rattle.parallel_items.specs.Items.{timer_item, timer_items, TakenCompletion, due_of, taken_of, left_of}
 use Rattle.parallel_items.specs.Kept.{HaveSteps, AreDelays, HaveOwners, AreKept}
 use Rattle.parallel_items.specs.Seen.{completion_seen, completing_seen, completings_of, owner_seen, owners_of}
 use Rattle.parallel_items.proofs.ClassLemmas.{map_without}
@@ -231,3 +231,14 @@ module _ (t : Timers) (comps : List (ℕ × Completion)) (set : List ℕ) (held 
       ∙ ap (λ (u : Timers). record w { timers = completed start u; completions = without (λ (c : Completing). eqb c.start start) w.completions }) (sym is)
       ∙ ap (λ n. record w { timers = completed n w.timers; completions = without (λ (c : Completing). eqb c.start n) w.completions }) (sym done.is_start)
       ∙ sym (ap (λ (o : Option Item). left_of o w) first_timer_item)
+
+-- the first active timer is the first item, whenever it is due
+pub timer_due : (t : Timers) (comps : List (ℕ × Completion)) (set : List ℕ) (held : List (ℕ × ℕ)) → AreKept t comps set held
+    → next_due t ≡ due_of (first_item_of (timer_items t.active))
+timer_due t comps set held kept =
+    sym (by (first_timer t))
+    ∙ sym (ap due_of (timer_is_first t.starts_made t.active (subst (λ ns. Rise 0 ns t.starts_made) (sym kept.steps) (starts_rise t.starts_made comps))))
+  where
+    by : (o : Option ActiveTimer) → due_of (option_map timer_item o) ≡ option_map (λ (a : ActiveTimer). a.due) o
+    by None = refl
+    by (Some a) = refl

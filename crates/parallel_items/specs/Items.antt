@@ -1,12 +1,12 @@
 -- The items that go on in parallel, which is first, and what taking one gives and leaves.
-use Rattle.std.specs.Prelude.{ℕ, ◌==◌, ◌&&◌, Bool, List, [], ◌∷◌, ◌++◌, map, Option, Some, None, option_map, nat_lt, if◌then◌else◌}
-use Rattle.page_parts.specs.Words.{is_empty, without, without_numbered}
+use Rattle.std.specs.Prelude.{◌≡◌, ℕ, ◌==◌, ◌&&◌, Bool, List, [], ◌∷◌, ◌++◌, map, Option, Some, None, option_map, nat_lt, if◌then◌else◌}
+use Rattle.page_parts.specs.Words.{is_empty, is_there, without, without_numbered}
 use Rattle.page_parts.specs.Setup.{Arrival}
 use Rattle.page_parts.specs.Timers as Timers
 use Rattle.page_parts.specs.Timers.{ActiveTimer}
 use Rattle.page_model.specs.State.{Completion, Completing, HostTask, HostAnswer, IdleTimer}
 use Rattle.page_model.specs.PageTime.{completion_of}
-use Rattle.page_model.specs.Parallel.{Item, ItemKind, ArrivalItem, HostItem, TimerItem, IdleItem, FrameItem, arrival_items, first_item_of, due_item}
+use Rattle.page_model.specs.Parallel.{Item, ItemKind, ArrivalItem, HostItem, TimerItem, IdleItem, FrameItem, arrival_items, first_item_of}
 use Rattle.parallel_items.specs.InParallel.{Waiting, InParallel}
 
 -- ---- each class of items, in its order
@@ -81,13 +81,11 @@ abbrev pub left_of : Option Item → Waiting → Waiting
 left_of None w = w
 left_of (Some i) w = left_by i.what w
 
--- what the first item gives, where it is due
-abbrev pub taken_due : (now : ℕ) → Waiting → Option Taken
-taken_due now w = taken_of (due_item now (first_waiting w)) w.completions
-
--- and what it leaves
-abbrev pub first_taken : (now : ℕ) → InParallel → InParallel
-first_taken now s = record s { waiting = left_of (due_item now (first_waiting s.waiting)) s.waiting }
+-- an item, where there is one, is taken: what is given, and what is left
+pub record Takes (item : Option Item) (old : InParallel) (given : Option Taken) (new : InParallel) : Type 0 where
+  pub taken : given ≡ taken_of item old.waiting.completions
+  pub some : is_there given ≡ is_there item
+  pub left : new ≡ record old { waiting = left_of item old.waiting }
 
 -- nothing goes on in parallel
 abbrev pub nothing_waits : Waiting → Bool

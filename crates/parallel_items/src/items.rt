@@ -4,12 +4,12 @@ ghost use Rattle.page_parts.specs.Setup.{are_in_order};
 ghost use Rattle.page_parts.specs.Timers.{armed as armed_of, has_id, is_live, next_due as next_due_of};
 ghost use Rattle.page_parts.specs.Words.{is_there};
 ghost use Rattle.page_model.specs.PageSignals.{is_delay_of};
-ghost use Rattle.page_model.specs.Parallel.{due_item, first_item_of};
+ghost use Rattle.page_model.specs.Parallel.{due_item, first_item_of, arrival_items};
 ghost use Rattle.arrivals_text.specs.SeenParts.{arrival_of};
 ghost use Rattle.timer_map.specs.Seen.{seen_armed};
 ghost use Rattle.parallel_items.specs.InParallel.{only_arrivals};
 ghost use Rattle.parallel_items.specs.Steps.{timer_started, delay_started, id_cleared, owner_of, is_delayed as is_delay, answer_asked, pending_answer as pending_of, answer_given_up, idle_timeout_started, arrival_to_come};
-ghost use Rattle.parallel_items.specs.Items.{first_waiting, due_of, timer_items, TakenCompletion, taken_of, left_of, taken_due, first_taken, nothing_waits};
+ghost use Rattle.parallel_items.specs.Items.{first_waiting, due_of, answer_items, timer_items, idle_items, TakenCompletion, taken_of, left_of, Takes, nothing_waits};
 ghost use Rattle.parallel_items.specs.Seen.{completion_seen, task_seen, answer_seen, taken_seen};
 
 use crate::answers::HostAnswers;
@@ -258,9 +258,7 @@ impl ParallelItems {
     ///
     /// None exactly where no item is due, and then nothing changes. Takes no memory.
     pub fn take_due(&mut self, now: Micros) -> Option<Taken>
-        ensures taken { option_map taken_seen result ≡ taken_due now.0 self.old.waiting }
-        ensures some { is_some result ≡ is_there (due_item now.0 (first_waiting self.old.waiting)) }
-        ensures left { self.new ≡ first_taken now.0 self.old }
+        ensures { Takes (due_item now.0 (first_waiting self.old.waiting)) self.old (option_map taken_seen result) self.new }
     {
         if self.next_due()? > now {
             return None;
@@ -272,24 +270,49 @@ impl ParallelItems {
     ///
     /// None exactly where nothing goes on. Takes no memory.
     pub fn take_first(&mut self) -> Option<Taken>
-        ensures taken { option_map taken_seen result ≡ taken_of (first_waiting self.old.waiting) self.old.waiting.completions }
-        ensures some { is_some result ≡ is_there (first_waiting self.old.waiting) }
-        ensures left { self.new ≡ record self.old { waiting = left_of (first_waiting self.old.waiting) self.old.waiting } }
+        ensures { Takes (first_waiting self.old.waiting) self.old (option_map taken_seen result) self.new }
     {
         let due = self.next_due();
         if self.arrivals.next_due() == due {
-            self.arrivals.take_first().map(Taken::Arrival)
+            self.take_arrival()
         } else if self.answers.next_due() == due {
-            self.answers.take_first().map(Taken::HostAnswer)
+            self.take_answer()
         } else if self.timers.next_due() == due {
-            self.take_timer().map(Taken::Completion)
+            self.take_completion()
         } else {
-            let timeout = self.idle.take_first()?;
-            Some(Taken::IdleTimeout {
-                handle: timeout.handle,
-                registration: timeout.registration,
-            })
+            self.take_idle_timeout()
         }
+    }
+
+    fn take_arrival(&mut self) -> Option<Taken>
+        ensures { Takes (first_item_of (arrival_items 1 self.old.waiting.arrivals)) self.old (option_map taken_seen result) self.new }
+    {
+        let arrival = self.arrivals.take_first()?;
+        Some(Taken::Arrival(arrival))
+    }
+
+    fn take_answer(&mut self) -> Option<Taken>
+        ensures { Takes (first_item_of (answer_items self.old.waiting.host_answers)) self.old (option_map taken_seen result) self.new }
+    {
+        let task = self.answers.take_first()?;
+        Some(Taken::HostAnswer(task))
+    }
+
+    fn take_completion(&mut self) -> Option<Taken>
+        ensures { Takes (first_item_of (timer_items self.old.waiting.timers.active)) self.old (option_map taken_seen result) self.new }
+    {
+        let completion = self.take_timer()?;
+        Some(Taken::Completion(completion))
+    }
+
+    fn take_idle_timeout(&mut self) -> Option<Taken>
+        ensures { Takes (first_item_of (idle_items self.old.waiting.idle_timers)) self.old (option_map taken_seen result) self.new }
+    {
+        let timeout = self.idle.take_first()?;
+        Some(Taken::IdleTimeout {
+            handle: timeout.handle,
+            registration: timeout.registration,
+        })
     }
 
     // Takes the active timer that is due first, with its completion steps.

@@ -15,4 +15,4 @@ returns-clause-set g c =
     let put =
     subst (λ (r : Option g.row.V.Denot). MatchOption r (IsPermutation ((key, c.args.value) ∷ mid) new) (λ _. new ≡ set_value (g.K.PartialEq.eq key) mid c.args.value))
     (old ∙ c.remove.ensures.updates.1) puts in
-    IsPermutation-trans _ _ _ (IsPermutation-cons (key, c.args.value) _ _ c.remove.ensures.entries) put
+    IsPermutation-trans ((key, c.args.value) ∷ _) ((key, c.args.value) ∷ mid) new (IsPermutation-cons (key, c.args.value) _ _ c.remove.ensures.entries) put
