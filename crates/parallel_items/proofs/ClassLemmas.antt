@@ -1,5 +1,5 @@
 -- The first item of one class, in the order of the class.
-use Rattle.std.proofs.Common.{◌≡◌, ℕ, suc, ◌<◌, ◌≤◌, Bool, true, false, cond, not, ◌&&◌, ◌||◌, ◌⊎◌, inl, inr, List, [], ◌∷◌, ◌++◌, map, filter, find, take, get_or, length, ◌+◌, Option, Some, None, nat_lt, nat_le, eqb, slice_get, refl, sym, subst, ap, ◌∙◌, arith}
+use Rattle.std.proofs.Common.{◌≡◌, ℕ, suc, ◌<◌, Bool, true, false, cond, not, ◌&&◌, List, [], ◌∷◌, ◌++◌, map, filter, find, take, get_or, length, ◌+◌, Option, Some, None, nat_lt, nat_le, eqb, slice_get, refl, sym, subst, ap, ◌∙◌, arith}
 use Rattle.std.proofs.lemmas.List.{map-append, take_more}
 use Rattle.std.specs.List.{AllByRecursion}
 use Rattle.std.specs.Option.{option_map}
@@ -11,18 +11,16 @@ use Rattle.page_base.specs.declared.moment.Micros.{Micros}
 use Rattle.arrivals_text.specs.SeenParts.{arrival_of}
 use Rattle.arrivals_text.specs.declared.arrival.Arrival as read
 use Rattle.page_parts.specs.Setup.{Arrival, are_in_order, is_not_after}
-use Rattle.page_parts.specs.Timers.{ActiveTimer, first_from, first_of}
 use Rattle.page_parts.specs.Words.{without, without_numbered}
 use Rattle.page_model.specs.State.{IdleTimer}
 use Rattle.page_model.specs.State as model
 use Rattle.page_model.specs.Parallel.{Item, ArrivalItem, first_item_from, first_item_of, arrival_items, with_arrival}
-use Rattle.timer_map.proofs.OrderLemmas.{Member}
 use Rattle.parallel_items.specs.declared.taken.HostAnswer.{HostAnswer}
-use Rattle.parallel_items.specs.Items.{answer_item, answer_items, timer_item, timer_items, idle_item, idle_items, due_of, earlier, left_of}
+use Rattle.parallel_items.specs.Items.{answer_item, answer_items, due_of, earlier, left_of}
 use Rattle.parallel_items.specs.InParallel.{Waiting}
 use Rattle.parallel_items.specs.Seen.{task_seen, answer_seen, answers_of, arrivals_of}
 use Rattle.parallel_items.specs.Kept.{IsPlaced, AreArrivalsKept}
-use Rattle.parallel_items.proofs.FirstLemmas.{first_cons, first_append, earlier_assoc}
+use Rattle.parallel_items.proofs.FirstLemmas.{first_append}
 
 -- ---- host answers
 

@@ -178,13 +178,13 @@ first_of_nothing w =
     let c = timer_items w.timers.active in
     let d = idle_items w.idle_timers in
     let each = ap (λ x. x && is_empty b && is_empty c && is_empty d) (empty_arrivals 1 w.arrivals)
-        ∙ ap (λ x. is_empty w.arrivals && x && is_empty c && is_empty d) (empty_map _ w.host_answers)
-        ∙ ap (λ x. is_empty w.arrivals && is_empty w.host_answers && x && is_empty d) (empty_map _ w.timers.active)
-        ∙ ap (λ x. is_empty w.arrivals && is_empty w.host_answers && is_empty w.timers.active && x) (empty_map _ w.idle_timers) in
+    ∙ ap (λ x. is_empty w.arrivals && x && is_empty c && is_empty d) (empty_map _ w.host_answers)
+    ∙ ap (λ x. is_empty w.arrivals && is_empty w.host_answers && x && is_empty d) (empty_map _ w.timers.active)
+    ∙ ap (λ x. is_empty w.arrivals && is_empty w.host_answers && is_empty w.timers.active && x) (empty_map _ w.idle_timers) in
     there_is_first (waiting_items w)
     ∙ ap not (empty_append (a ++ b ++ c) d
-        ∙ ap (λ x. x && is_empty d) (empty_append (a ++ b) c ∙ ap (λ x. x && is_empty c) (empty_append a b))
-        ∙ each)
+    ∙ ap (λ x. x && is_empty d) (empty_append (a ++ b) c ∙ ap (λ x. x && is_empty c) (empty_append a b))
+    ∙ each)
   where
     empty_arrivals : (n : ℕ) (arrivals : List Arrival) → is_empty (arrival_items n arrivals) ≡ is_empty arrivals
     empty_arrivals n [] = refl

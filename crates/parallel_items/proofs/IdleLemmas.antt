@@ -112,7 +112,7 @@ module _ (last due handle r : ℕ) (old new : List (Reverse IdleTimeout)) (kept 
   idle_started =
       ap (λ n. in_order handle_of n (idle_timers_of new)) before_it
       ∙ order_pushed handle_of (handle - 1) started (idle_timers_of old) (idle_timers_of new) before_it (IsPermutation-map idle_seen _ new p)
-          (distinct_pushed handle_of (handle - 1) started (idle_timers_of old) before_it numbered_before)
+      (distinct_pushed handle_of (handle - 1) started (idle_timers_of old) before_it numbered_before)
       ∙ ap (λ ts. ts ++ started ∷ []) (order_more handle_of last (handle - 1) (idle_timers_of old) (omega (arith, above)) given_before)
 
 -- ---- one leaves

@@ -1,5 +1,5 @@
 -- What the part keeps of its timers, from call to call.
-use Rattle.std.proofs.Common.{◌≡◌, ℕ, ◌+◌, Bool, true, false, cond, not, ◌&&◌, ◌||◌, List, [], ◌∷◌, ◌++◌, map, find, Option, Some, None, nat_eq, eqb, refl, sym, subst, ◌∙◌, ap, true≢false}
+use Rattle.std.proofs.Common.{◌≡◌, ℕ, ◌+◌, true, false, cond, not, ◌&&◌, ◌||◌, List, [], ◌∷◌, ◌++◌, map, find, Option, Some, None, nat_eq, eqb, refl, sym, subst, ◌∙◌, ap, true≢false}
 use Rattle.std.proofs.lemmas.List.{map-append}
 use Rattle.std.specs.List.{list_any}
 use Rattle.std.specs.List.Sorted.{IsPermutation}
@@ -143,7 +143,7 @@ module _ (t : Timers) (comps : List (ℕ × Completion)) (set : List ℕ) (held 
       (p : IsPermutation ((s.starts_made, v) ∷ remove_entry (nat_eq s.starts_made) comps) comps')
       (is : (r : ℕ) → list_any (nat_eq r) set' ≡ (list_any (nat_eq r) set || is_delay_of r (completion_seen v)))
       (once : (r : ℕ) → is_delay_of r (completion_seen v) ≡ true
-          → is_there (find (λ (d : Completing). is_delay_of r d.completion) (completings_of t.starts_made comps)) ≡ false) where
+      → is_there (find (λ (d : Completing). is_delay_of r d.completion) (completings_of t.starts_made comps)) ≡ false) where
     put : completings_of s.starts_made comps' ≡ completings_of t.starts_made comps ++ record { start = s.starts_made; completion = completion_seen v } ∷ []
     put = completings_put t.starts_made s.starts_made v comps comps' made kept.numbered p
 

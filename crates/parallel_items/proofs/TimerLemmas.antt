@@ -1,16 +1,16 @@
 -- The active timers and their completion steps.
-use Rattle.std.proofs.Common.{◌≡◌, ℕ, zero, suc, ◌+◌, ◌<◌, ◌≤◌, Bool, true, false, cond, not, ◌&&◌, ◌||◌, List, [], ◌∷◌, ◌++◌, map, find, Option, Some, None, is_some, nat_eq, nat_lt, eqb, refl, sym, subst, ◌∙◌, ap, true≢false, arith}
+use Rattle.std.proofs.Common.{◌≡◌, ℕ, ◌+◌, ◌≤◌, Bool, true, false, cond, not, ◌&&◌, ◌||◌, List, [], ◌∷◌, ◌++◌, map, find, Option, Some, None, is_some, nat_eq, nat_lt, eqb, refl, sym, subst, ◌∙◌, ap, true≢false, arith}
 use Rattle.std.proofs.lemmas.Bool.{eq-eqb, eqb-true}
 use Rattle.std.proofs.lemmas.List.{map-append}
 use Rattle.std.specs.List.{AllByRecursion, list_any}
 use Rattle.std.specs.Map.{lookup}
 use Rattle.std.specs.Option.{option_map}
 use Rattle.page_parts.specs.Timers.{Timers, TimerId, ActiveTimer, first_from, first_of, first_timer, next_due, completed, has_id, with_id}
-use Rattle.page_parts.specs.Words.{is_there, without, and_last, has_number}
-use Rattle.page_model.specs.State.{Completion, Completing}
+use Rattle.page_parts.specs.Words.{is_there, without, has_number}
+use Rattle.page_model.specs.State.{Completing}
 use Rattle.page_model.specs.PageSignals.{is_delay_of}
 use Rattle.page_model.specs.PageTime.{completion_of}
-use Rattle.page_model.specs.Parallel.{Item, first_item_from, first_item_of}
+use Rattle.page_model.specs.Parallel.{first_item_from, first_item_of}
 use Rattle.timer_map.specs.Due.{due_timer, after_due}
 use Rattle.timer_map.specs.InOrder.{in_order}
 use Rattle.timer_map.specs.Kept.{AreNumbered}

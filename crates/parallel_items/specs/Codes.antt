@@ -7,7 +7,7 @@ use Rattle.page_types.specs.contracts.Source as source_code
 use Rattle.page_types.specs.declared.Priority.{Priority}
 use Rattle.page_parts.specs.Setup.{Arrival}
 use Rattle.page_parts.specs.Timers.{TimerId, ActiveTimer, Timers}
-use Rattle.page_model.specs.State.{TimerTask, HostTask, PrioSource, Fixed, OfSignal, Completion, QueueTimer, EnqueuePost, QueueSignal, Completing, IdleTimer, HostAnswer}
+use Rattle.page_model.specs.State.{TimerTask, PrioSource, Fixed, OfSignal, Completion, QueueTimer, EnqueuePost, QueueSignal, Completing, IdleTimer, HostAnswer}
 use Rattle.parallel_items.specs.InParallel.{Waiting, TimerOwner, InParallel}
 use Rattle.parallel_items.specs.Views.{ArrivalList}
 use mathlib.Core.Logic.{inl, inr}

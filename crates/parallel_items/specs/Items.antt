@@ -1,5 +1,5 @@
 -- The items that go on in parallel, which is first, and what taking one gives and leaves.
-use Rattle.std.specs.Prelude.{◌≡◌, ℕ, ◌==◌, ◌&&◌, Bool, List, [], ◌∷◌, ◌++◌, map, Option, Some, None, option_map, nat_lt, if◌then◌else◌}
+use Rattle.std.specs.Prelude.{◌≡◌, ℕ, ◌==◌, ◌&&◌, Bool, List, ◌++◌, map, Option, Some, None, option_map, nat_lt, if◌then◌else◌}
 use Rattle.page_parts.specs.Words.{is_empty, is_there, without, without_numbered}
 use Rattle.page_parts.specs.Setup.{Arrival}
 use Rattle.page_parts.specs.Timers as Timers

@@ -50,12 +50,12 @@ abbrev pub GiveUpIs : ℕ → Page → Type 0
 GiveUpIs r p =
     drop_registration r p
     ≡ emit (Drop r)
-        (without_sched r
-        (with_waiting (without_answer r (waiting_of p))
-        (record p {
-          hosts =
-              drop_closure (task_in_answer (waiting_answer r p)) (drop_closure (task_in_net (waiting_net_task r p)) p.hosts);
-        })))
+    (without_sched r
+    (with_waiting (without_answer r (waiting_of p))
+    (record p {
+      hosts =
+          drop_closure (task_in_answer (waiting_answer r p)) (drop_closure (task_in_net (waiting_net_task r p)) p.hosts);
+    })))
 
 abbrev pub ArriveIs : Arrival → Page → Type 0
 ArriveIs a p = arrive a p ≡ with_waiting (with_further a (waiting_of p)) p

@@ -1,10 +1,9 @@
 -- The types of the code as those of the model.
-use Rattle.std.specs.Prelude.{ℕ, List, map, Option, option_map}
+use Rattle.std.specs.Prelude.{ℕ, List, map}
 use Rattle.std.specs.declared.cmp.Reverse.{Reverse}
 use Rattle.page_base.specs.declared.moment.Micros.{Micros}
 use Rattle.page_parts.specs.Setup.{Arrival}
 use Rattle.page_model.specs.State as model
-use Rattle.page_model.specs.Parallel.{Item, ArrivalItem}
 use Rattle.arrivals_text.specs.SeenParts.{arrival_of}
 use Rattle.arrivals_text.specs.declared.arrival.Arrival as read
 use Rattle.post_task.specs.declared.level.PrioSource as post

@@ -1,5 +1,5 @@
 -- What each call makes of what goes on in parallel. Each is a step of the model's page, less its lines and tasks.
-use Rattle.std.specs.Prelude.{ℕ, suc, ◌+◌, ◌*◌, ◌==◌, Bool, true, false, List, Option, Some, None, ℤ, find, option_map}
+use Rattle.std.specs.Prelude.{ℕ, suc, ◌+◌, ◌*◌, ◌==◌, Bool, List, Option, Some, None, ℤ, find, option_map}
 use Rattle.page_parts.specs.Words.{and_last, without, is_there}
 use Rattle.page_parts.specs.Setup.{Arrival}
 use Rattle.page_parts.specs.Timers as Timers

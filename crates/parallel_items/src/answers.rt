@@ -91,7 +91,8 @@ impl HostAnswers {
     pub(crate) fn give_up(&mut self, registration: u32)
         ensures { self.new ≡ without (λ a. a.task.registration == registration) self.old }
     {
-        self.answers.retain(|answer| answer.task.registration != registration);
+        self.answers
+            .retain(|answer| answer.task.registration != registration);
     }
 
     pub(crate) fn next_due(&self) -> Option<Micros>

@@ -20,7 +20,13 @@ pub enum Completion {
     /// Queue the task of a timer.
     QueueTimer(TimerTask),
     /// Enqueue the delayed `postTask` of a registration.
-    EnqueuePost { registration: u32, source: PrioSource },
+    EnqueuePost {
+        registration: u32,
+        source: PrioSource,
+    },
     /// Queue the task that aborts a signal by its timeout.
-    QueueSignal { registration: u32, signal: u32 },
+    QueueSignal {
+        registration: u32,
+        signal: u32,
+    },
 }

@@ -55,7 +55,13 @@ impl IdleTimeouts {
     }
 
     // Starts an idle timeout, so many milliseconds from now, for a callback with a greater handle than those before.
-    pub(crate) fn start(&mut self, handle: u32, registration: u32, ms: u64, now: Micros) -> Result<(), MemoryFault>
+    pub(crate) fn start(
+        &mut self,
+        handle: u32,
+        registration: u32,
+        ms: u64,
+        now: Micros,
+    ) -> Result<(), MemoryFault>
         requires handle { self.old.last < handle }
         requires milliseconds { ms < 2 ^ 32 }
         requires moment { now.0 < 2 ^ 63 }

@@ -124,7 +124,11 @@ impl ParallelItems {
             repeats,
             timeout,
         };
-        put(&mut self.completions, armed.start, Completion::QueueTimer(task));
+        put(
+            &mut self.completions,
+            armed.start,
+            Completion::QueueTimer(task),
+        );
         if again.is_none() {
             put(&mut self.owners, armed.id, registration);
         }
@@ -135,7 +139,12 @@ impl ParallelItems {
     /// steps after a timeout).
     ///
     /// Of a registration at most one `postTask` is delayed. An error leaves all as it was.
-    pub fn after(&mut self, ms: u64, completion: Completion, now: Micros) -> Result<u64, MemoryFault>
+    pub fn after(
+        &mut self,
+        ms: u64,
+        completion: Completion,
+        now: Micros,
+    ) -> Result<u64, MemoryFault>
         requires once { (r : ℕ) → is_delay_of r (completion_seen completion) ≡ true → is_delay r self.old.waiting ≡ false }
         requires start { self.old.waiting.timers.starts_made + 1 < 2 ^ 64 }
         requires milliseconds { ms < 2 ^ 32 }
@@ -219,7 +228,13 @@ impl ParallelItems {
     /// method"). Handles rise from call to call.
     ///
     /// An error leaves all as it was.
-    pub fn start_idle_timeout(&mut self, handle: u32, registration: u32, ms: u64, now: Micros) -> Result<(), MemoryFault>
+    pub fn start_idle_timeout(
+        &mut self,
+        handle: u32,
+        registration: u32,
+        ms: u64,
+        now: Micros,
+    ) -> Result<(), MemoryFault>
         requires handle { self.old.last_idle < handle }
         requires milliseconds { ms < 2 ^ 32 }
         requires moment { now.0 < 2 ^ 63 }
@@ -243,7 +258,10 @@ impl ParallelItems {
         ensures { option_map (λ moment. moment.0) result ≡ due_of (first_waiting self.now.waiting) }
     {
         let outside = sooner(self.arrivals.next_due(), self.answers.next_due());
-        sooner(sooner(outside, self.timers.next_due()), self.idle.next_due())
+        sooner(
+            sooner(outside, self.timers.next_due()),
+            self.idle.next_due(),
+        )
     }
 
     /// Whether nothing goes on in parallel. Takes no memory.

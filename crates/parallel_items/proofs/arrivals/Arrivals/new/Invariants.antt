@@ -1,4 +1,4 @@
-use Rattle.std.proofs.Common.{◌≡◌, ◌++◌, map, length, true}
+use Rattle.std.proofs.Common.{◌≡◌, ◌++◌, map, length}
 use Rattle.std.specs.Vec.Iter.{into_iter_items}
 use Rattle.arrivals_text.specs.SeenParts.{arrival_of}
 use Rattle.parallel_items.proofs.arrivals.Arrivals.new.Given as goal

@@ -9,10 +9,10 @@ pub returns-clause-taken : goal.returns-clause-taken
 returns-clause-taken c =
     let i = c.in_ok-arrival in
     λ cs. sym (ap (λ (o : Option Item). taken_of o cs) (arrival_taken c.self.inside.made i.field-0-0 i.arrival _ _ c.self.invariant i.ensures.removal))
-        ∙ ap (λ (l : ArrivalList). taken_of (first_item_of (arrival_items 1 l.arrivals)) cs) c.self.view_is
+    ∙ ap (λ (l : ArrivalList). taken_of (first_item_of (arrival_items 1 l.arrivals)) cs) c.self.view_is
 
 pub returns-clause-left : goal.returns-clause-left
 returns-clause-left c =
     let i = c.in_ok-arrival in
     λ w. sym (ap (λ (l : ArrivalList). left_of (first_item_of (arrival_items 1 l.arrivals)) (record w { arrivals = l.arrivals })) c.self.view_is)
-        ∙ arrival_left c.self.inside.made i.field-0-0 i.arrival _ _ c.self.invariant i.ensures.removal w
+    ∙ arrival_left c.self.inside.made i.field-0-0 i.arrival _ _ c.self.invariant i.ensures.removal w

@@ -1,4 +1,4 @@
-use Rattle.std.proofs.Common.{◌≡◌, ◌+◌, ◌*◌, ◌∙◌, ◌<◌, ◌++◌, ◌∷◌, [], ap, sym, subst}
+use Rattle.std.proofs.Common.{◌+◌, ◌*◌, ◌∙◌, ◌<◌, ◌++◌, ◌∷◌, [], ap, sym, subst}
 use Rattle.parallel_items.specs.Views.{IdleTimers}
 use Rattle.parallel_items.proofs.IdleLemmas.{idle_kept, idle_started}
 use Rattle.parallel_items.proofs.idle.IdleTimeouts.start.Goals as goal

@@ -27,8 +27,8 @@ returns-in_err-first-clause-left c =
     let empty : length (heap_items c.self.inside.waiting) ≡ 0 = omega (arith, c.self.inside.waiting.data.ok.0, c.in_err-first.ensures.none) in
     let none = no_idle c.self.inside.last (heap_items c.self.inside.waiting) empty in
     λ w. sym (ap (λ (t : IdleTimers). left_of (first_item_of (idle_items t.timers)) (record w { idle_timers = t.timers })) c.self.view_is)
-        ∙ ap (λ (o : Option Item). left_of o (record w { idle_timers = idle_in_order c.self.inside.last (heap_items c.self.inside.waiting) })) none
-        ∙ ap (λ (ts : List (Reverse IdleTimeout)). record w { idle_timers = idle_in_order c.self.inside.last ts }) (sym c.in_err-first.ensures.unchanged.0)
+    ∙ ap (λ (o : Option Item). left_of o (record w { idle_timers = idle_in_order c.self.inside.last (heap_items c.self.inside.waiting) })) none
+    ∙ ap (λ (ts : List (Reverse IdleTimeout)). record w { idle_timers = idle_in_order c.self.inside.last ts }) (sym c.in_err-first.ensures.unchanged.0)
 
 pub invariant_of-self-2 : goal.invariant_of-self-2
 invariant_of-self-2 c =
@@ -50,7 +50,7 @@ returns-clause-left c =
     let some : 0 < length (heap_items c.self.inside.waiting) = omega (arith, length_permutation _ _ e.permutation) in
     let first = first_idle c.self.inside.last x _ c.self.invariant some e.top (e.heap_order c.self.invariant.heap).1 in
     λ w. sym (ap (λ (t : IdleTimers). left_of (first_item_of (idle_items t.timers)) (record w { idle_timers = t.timers })) c.self.view_is)
-        ∙ idle_left c.self.inside.last x _ _ c.self.invariant e.permutation first w
+    ∙ idle_left c.self.inside.last x _ _ c.self.invariant e.permutation first w
 
 pub returns-clause-some : goal.returns-clause-some
 returns-clause-some c =

@@ -30,5 +30,5 @@ returns-clause-cleared c =
     let v : InParallel = the_view i in
     ap (λ (t : Timers). the_view (record i { timers = t; owners = c.remove.new.self })) c.clear.ensures.gone
     ∙ ap (λ (owners : List TimerOwner). record v { waiting = record v.waiting { timers = clear c.args.id i.timers }; owners = owners })
-        (owners_removed c.args.id i.timers.ids_made i.owners.entries c.remove.new.self.entries c.self.invariant.owners_numbered c.remove.ensures.entries)
+    (owners_removed c.args.id i.timers.ids_made i.owners.entries c.remove.new.self.entries c.self.invariant.owners_numbered c.remove.ensures.entries)
     ∙ ap (id_cleared c.args.id) c.self.view_is

@@ -1,4 +1,4 @@
-use Rattle.std.proofs.Common.{◌∙◌, sym, ap, is_some, not}
+use Rattle.std.proofs.Common.{◌∙◌, sym, ap, is_some}
 use Rattle.parallel_items.specs.Items.{nothing_waits, first_waiting}
 use Rattle.parallel_items.proofs.FirstLemmas.{first_of_nothing, some_map, some_due, not_same}
 use Rattle.parallel_items.proofs.items.ParallelItems.is_empty.Goals as goal

@@ -28,7 +28,7 @@ returns-then-eq-3 c =
     let a = c.next_due.ensures ∙ ap (λ (s : InParallel). due_of (arrival s.waiting)) c.self.view_is in
     let b = c.next_due-else-eq.ensures ∙ ap (λ (s : InParallel). due_of (answer s.waiting)) c.self.view_is in
     let t = c.next_due-else-eq-2.ensures ∙ timer_due i.timers i.completions.entries i.delayed.keys i.owners.entries c.self.invariant
-        ∙ ap (λ (s : InParallel). due_of (timer s.waiting)) c.self.view_is in
+    ∙ ap (λ (s : InParallel). due_of (timer s.waiting)) c.self.view_is in
     let other : due_of (arrival w) ≡ due_of (first_waiting w) → ⊥ = λ e. other_due _ _ (sym c.eq.ensures ∙ c.if-eq.false) (a ∙ e ∙ sym c.next_due-due.ensures) in
     let another : due_of (answer w) ≡ due_of (first_waiting w) → ⊥ = λ e. other_due _ _ (sym c.eq-else-eq.ensures ∙ c.if-eq-2.false) (b ∙ e ∙ sym c.next_due-due.ensures) in
     let first = is_timer w other another (sym t ∙ same_due _ _ (sym c.eq-else-eq-2.ensures ∙ c.if-eq-3.true) ∙ c.next_due-due.ensures) in
@@ -41,7 +41,7 @@ returns-else-eq-3 c =
     let a = c.next_due.ensures ∙ ap (λ (s : InParallel). due_of (arrival s.waiting)) c.self.view_is in
     let b = c.next_due-else-eq.ensures ∙ ap (λ (s : InParallel). due_of (answer s.waiting)) c.self.view_is in
     let t = c.next_due-else-eq-2.ensures ∙ timer_due i.timers i.completions.entries i.delayed.keys i.owners.entries c.self.invariant
-        ∙ ap (λ (s : InParallel). due_of (timer s.waiting)) c.self.view_is in
+    ∙ ap (λ (s : InParallel). due_of (timer s.waiting)) c.self.view_is in
     let other : due_of (arrival w) ≡ due_of (first_waiting w) → ⊥ = λ e. other_due _ _ (sym c.eq.ensures ∙ c.if-eq.false) (a ∙ e ∙ sym c.next_due-due.ensures) in
     let another : due_of (answer w) ≡ due_of (first_waiting w) → ⊥ = λ e. other_due _ _ (sym c.eq-else-eq.ensures ∙ c.if-eq-2.false) (b ∙ e ∙ sym c.next_due-due.ensures) in
     let third : due_of (timer w) ≡ due_of (first_waiting w) → ⊥ = λ e. other_due _ _ (sym c.eq-else-eq-2.ensures ∙ c.if-eq-3.false) (t ∙ e ∙ sym c.next_due-due.ensures) in

@@ -1,9 +1,9 @@
-use Rattle.std.proofs.Common.{◌≡◌, ◌∙◌, Option, Some, None, refl, sym, subst, ap}
+use Rattle.std.proofs.Common.{◌∙◌, sym, ap}
 use Rattle.std.specs.Option.{option_map}
 use Rattle.page_parts.specs.Words.{is_there}
-use Rattle.page_model.specs.Parallel.{first_item_of, arrival_items}
+use Rattle.page_model.specs.Parallel.{first_item_of}
 use Rattle.parallel_items.specs.InParallel.{InParallel, Waiting}
-use Rattle.parallel_items.specs.Items.{answer_items, idle_items, Taken, Takes}
+use Rattle.parallel_items.specs.Items.{idle_items}
 use Rattle.parallel_items.specs.Seen.{taken_seen}
 use Rattle.parallel_items.specs.contracts.items.ParallelItems.{the_view}
 use Rattle.parallel_items.proofs.FirstLemmas.{seen_takes}

@@ -1,7 +1,7 @@
-use Rattle.std.proofs.Common.{◌≡◌, ◌∙◌, List, Option, refl, sym, subst, ap}
+use Rattle.std.proofs.Common.{◌∙◌, refl, sym, subst, ap}
 use Rattle.page_parts.specs.Timers.{Timers}
 use Rattle.page_parts.specs.Words.{is_there}
-use Rattle.page_model.specs.Parallel.{Item, first_item_of}
+use Rattle.page_model.specs.Parallel.{first_item_of}
 use Rattle.parallel_items.specs.InParallel.{InParallel, Waiting}
 use Rattle.parallel_items.specs.Items.{timer_items, taken_of, left_of}
 use Rattle.parallel_items.specs.Kept.{AreKept}
@@ -41,7 +41,7 @@ invariant_of-self-2 c =
     let done = completes i.timers c.in_ok-due.due.0 c.in_ok-start.start c.in_ok-due.ensures c.in_ok-start.ensures.start in
     subst (λ (t : Timers). AreKept t c.remove.new.self.entries c.forget_delay.new.delayed.keys i.owners.entries) (sym (c.in_ok-start.ensures.gone ∙ done.after))
     (kept_completed i.timers i.completions.entries i.delayed.keys i.owners.entries c.self.invariant c.in_ok-start.start c.in_ok-completion.completion
-        c.remove.new.self.entries c.forget_delay.new.delayed.keys (sym e.value) e.entries c.forget_delay.ensures)
+    c.remove.new.self.entries c.forget_delay.new.delayed.keys (sym e.value) e.entries c.forget_delay.ensures)
 
 pub returns-clause-taken : goal.returns-clause-taken
 returns-clause-taken c =
@@ -64,5 +64,5 @@ returns-clause-left c =
     let done = completes i.timers c.in_ok-due.due.0 c.in_ok-start.start c.in_ok-due.ensures c.in_ok-start.ensures.start in
     ap (λ (t : Timers). the_view (record i { timers = t; completions = c.remove.new.self; delayed = c.forget_delay.new.delayed })) (c.in_ok-start.ensures.gone ∙ done.after)
     ∙ ap (λ (w : Waiting). record v { waiting = w })
-        (timer_left i.timers i.completions.entries i.delayed.keys i.owners.entries _ _ c.self.invariant done v.waiting refl refl c.remove.new.self.entries c.in_ok-completion.ensures.entries)
+    (timer_left i.timers i.completions.entries i.delayed.keys i.owners.entries _ _ c.self.invariant done v.waiting refl refl c.remove.new.self.entries c.in_ok-completion.ensures.entries)
     ∙ ap (λ (s : InParallel). record s { waiting = left_of (first_item_of (timer_items s.waiting.timers.active)) s.waiting }) c.self.view_is
