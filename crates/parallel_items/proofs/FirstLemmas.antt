@@ -5,12 +5,14 @@ use Rattle.std.specs.Option.{option_map, option_eq}
 use Rattle.page_base.specs.declared.moment.Micros.{Micros}
 use Rattle.page_parts.specs.Setup.{Arrival}
 use Rattle.page_parts.specs.Words.{is_empty, is_there, least}
-use Rattle.page_model.specs.State.{Page}
-use Rattle.page_model.specs.PageTime.{next_frame}
+use Rattle.page_model.specs.State.{Page, emit}
+use Rattle.page_model.specs.PageTime.{clear_id, clear_timer, registration_with_id, next_frame}
 use Rattle.page_model.specs.Parallel.{Item, FrameItem, first_item, frame_items, first_item_from, first_item_of, arrival_items, due_item}
-use Rattle.parallel_items.specs.InParallel.{Waiting, InParallel, waiting_of}
+use Rattle.parallel_items.specs.InParallel.{Waiting, TimerOwner, InParallel, waiting_of}
 use Rattle.parallel_items.specs.Items.{waiting_items, first_waiting, nothing_waits, answer_items, timer_items, idle_items, due_of, earlier, Taken, Takes}
-use Rattle.parallel_items.specs.Laws.{is_before}
+use Rattle.parallel_items.specs.Laws.{is_before, AreOwners, cleared_by}
+use Rattle.parallel_items.specs.Steps.{owner_of}
+use Rattle.page_types.specs.Events.{Drop}
 
 -- ---- of two items
 
@@ -275,3 +277,22 @@ same_takes item other old given new is takes = subst (λ o. Takes o old given ne
 
 pub takes_none : (item : Option Item) (old : InParallel) → item ≡ None → Takes item old None old
 takes_none item old is = subst (λ o. Takes o old None old) (sym is) (record { taken = refl; some = refl; left = refl })
+
+pub due_of_page : (p : Page) → due_of (first_item p) ≡ least (due_of (first_waiting (waiting_of p))) (next_frame p)
+due_of_page p =
+    ap due_of (first_of_page p) ∙ due_earlier (first_waiting (waiting_of p)) (first_item_of (frame_items (next_frame p)))
+    ∙ ap (least (due_of (first_waiting (waiting_of p)))) (by (next_frame p))
+  where
+    by : (o : Option ℕ) → due_of (first_item_of (frame_items o)) ≡ o
+    by None = refl
+    by (Some t) = refl
+
+-- ---- an id is cleared
+
+pub clears_timer : (id : ℕ) (owners : List TimerOwner) (p : Page) → AreOwners owners p → clear_timer id p ≡ cleared_by (owner_of id owners) id p
+clears_timer id owners p are =
+    ap (λ b. cond b (emit (Drop (registration_with_id id 1 p.registrations)) (clear_id id p)) p) (sym (are.there id)) ∙ by (owner_of id owners) refl
+  where
+    by : (o : Option ℕ) → owner_of id owners ≡ o → cond (is_there o) (emit (Drop (registration_with_id id 1 p.registrations)) (clear_id id p)) p ≡ cleared_by o id p
+    by None e = refl
+    by (Some r) e = ap (λ n. emit (Drop n) (clear_id id p)) (are.named id r e)

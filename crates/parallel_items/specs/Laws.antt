@@ -1,19 +1,21 @@
 -- How the part's calls are what the model's page does.
-use Rattle.std.specs.Prelude.{◌≡◌, ℕ, ◌+◌, ◌*◌, Bool, true, List, ◌++◌, Option, Some, None, ℤ, nat_lt, if◌then◌else◌}
+use Rattle.std.specs.Prelude.{◌≡◌, ℕ, ◌+◌, ◌*◌, not, ◌&&◌, ◌||◌, Bool, true, List, ◌++◌, Option, Some, None, ℤ, nat_lt, if◌then◌else◌}
 use Rattle.page_types.specs.Events.{Arm, Drop, Due}
 use Rattle.page_types.specs.declared.Source.TheVariants.{Net, Idle}
-use Rattle.page_parts.specs.Words.{and_last}
+use Rattle.page_parts.specs.Words.{and_last, is_empty, is_there, least}
 use Rattle.page_parts.specs.Setup.{Arrival}
-use Rattle.page_parts.specs.Timers.{armed}
+use Rattle.page_parts.specs.Timers.{armed, has_id}
+use Rattle.page_parts.specs.IdleCallbacks.{waits}
 use Rattle.page_parts.specs.HostClosures.{HostClosure}
 use Rattle.page_model.specs.State.{Completion, HostAnswer, IdleTimeout, FireAtWindow, AnswerHost, Page, emit, queue_task}
-use Rattle.page_model.specs.PageTime.{run_after, init_timer, clear_id, idle_timeout, next_frame}
+use Rattle.page_model.specs.PageTime.{run_after, init_timer, clear_id, clear_timer, registration_with_id, idle_timeout, next_frame}
 use Rattle.page_model.specs.PageSignals.{drop_registration, drop_closure, waiting_answer, waiting_net_task, task_in_answer, task_in_net}
 use Rattle.page_model.specs.SchedulerTasks.{without_sched}
 use Rattle.page_model.specs.Parallel.{Item, FrameItem, first_item, frame_items, first_item_of, items_in_order, arrive, complete, take_item}
-use Rattle.parallel_items.specs.InParallel.{Waiting, waiting_of, with_waiting}
-use Rattle.parallel_items.specs.Steps.{with_delay, with_timer, without_id, with_answer, pending_answer, without_answer, with_idle_timeout, with_further}
-use Rattle.parallel_items.specs.Items.{waiting_items, first_waiting, earlier, Taken, TakenArrival, TakenAnswer, TakenCompletion, TakenIdleTimeout, taken_by, left_by}
+use Rattle.page_model.specs.Turns.{is_pending}
+use Rattle.parallel_items.specs.InParallel.{Waiting, TimerOwner, waiting_of, with_waiting}
+use Rattle.parallel_items.specs.Steps.{with_delay, with_timer, without_id, owner_of, with_answer, pending_answer, without_answer, with_idle_timeout, with_further}
+use Rattle.parallel_items.specs.Items.{waiting_items, first_waiting, nothing_waits, due_of, earlier, Taken, TakenArrival, TakenAnswer, TakenCompletion, TakenIdleTimeout, taken_by, left_by}
 
 -- the fields of a page that was given others are those
 abbrev pub WaitingIs : Waiting → Page → Type 0
@@ -44,6 +46,19 @@ AskIs hosts answer p =
 
 abbrev pub PendingIs : ℕ → Page → Type 0
 PendingIs r p = task_in_answer (waiting_answer r p) ≡ pending_answer r (waiting_of p)
+
+-- of each id in the map, and of no other, the owner is the registration that has this timer id
+pub record AreOwners (owners : List TimerOwner) (p : Page) : Type 0 where
+  pub there : (id : ℕ) → is_there (owner_of id owners) ≡ has_id id p.timers
+  pub named : (id r : ℕ) → owner_of id owners ≡ Some r → registration_with_id id 1 p.registrations ≡ r
+
+-- an id is cleared, where it has an owner, with the line that drops it
+abbrev pub cleared_by : Option ℕ → (id : ℕ) → Page → Page
+cleared_by None id p = p
+cleared_by (Some r) id p = emit (Drop r) (with_waiting (without_id id (waiting_of p)) p)
+
+abbrev pub ClearTimerIs : ℕ → List TimerOwner → Page → Type 0
+ClearTimerIs id owners p = AreOwners owners p → clear_timer id p ≡ cleared_by (owner_of id owners) id p
 
 -- a registration that is dropped gives its answer up
 abbrev pub GiveUpIs : ℕ → Page → Type 0
@@ -92,3 +107,11 @@ FrameIsFirst t p =
     let others = first_waiting (waiting_of p) in
     next_frame p ≡ Some t
     → first_item p ≡ (if is_before t others then Some (record { due = t; what = FrameItem }) else others)
+
+-- the moment of the first item
+abbrev pub DueIs : Page → Type 0
+DueIs p = due_of (first_item p) ≡ least (due_of (first_waiting (waiting_of p))) (next_frame p)
+
+-- whether anything is pending
+abbrev pub PendsIs : Page → Type 0
+PendsIs p = is_pending p ≡ (not (nothing_waits (waiting_of p) && is_empty p.frames.callbacks) || waits p.idle)

@@ -4,8 +4,8 @@ ghost use Rattle.page_parts.specs.Setup.{Arrival};
 ghost use Rattle.page_parts.specs.HostClosures.{HostClosure};
 ghost use Rattle.page_model.specs.State.{Completion, HostAnswer, Page};
 ghost use Rattle.page_model.specs.Parallel.{Item};
-ghost use Rattle.parallel_items.specs.InParallel.{Waiting};
-ghost use Rattle.parallel_items.specs.Laws.{WaitingIs, RunAfterIs, InitIs, ClearIs, IdleTimeoutIs, AskIs, PendingIs, GiveUpIs, ArriveIs, TakeIs, ItemsAre, FirstIs, FrameIsFirst};
+ghost use Rattle.parallel_items.specs.InParallel.{Waiting, TimerOwner};
+ghost use Rattle.parallel_items.specs.Laws.{WaitingIs, RunAfterIs, InitIs, ClearIs, ClearTimerIs, IdleTimeoutIs, AskIs, PendingIs, GiveUpIs, ArriveIs, TakeIs, ItemsAre, FirstIs, FrameIsFirst, DueIs, PendsIs};
 
 /// On every page the model's step is the call's on the fields that go on in parallel, and then the line that tells it.
 pub fn calls_are_steps_of_a_page()
@@ -13,6 +13,7 @@ pub fn calls_are_steps_of_a_page()
     ensures after { (ms : ℕ) (completion : Completion) (p : Page) → RunAfterIs ms completion p }
     ensures init { (again : Option ℕ) (r : ℕ) (repeats : Bool) (timeout : ℤ) (p : Page) → InitIs again r repeats timeout p }
     ensures clear { (id : ℕ) (p : Page) → ClearIs id p }
+    ensures clear_timer { (id : ℕ) (owners : List TimerOwner) (p : Page) → ClearTimerIs id owners p }
     ensures idle_timeout { (ms r : ℕ) (p : Page) → IdleTimeoutIs ms r p }
     ensures ask { (hosts : List HostClosure) (answer : HostAnswer) (p : Page) → AskIs hosts answer p }
     ensures pending { (r : ℕ) (p : Page) → PendingIs r p }
@@ -31,4 +32,6 @@ pub fn items_are_those_of_a_page()
     ensures items { (p : Page) → ItemsAre p }
     ensures first { (p : Page) → FirstIs p }
     ensures frame { (t : ℕ) (p : Page) → FrameIsFirst t p }
+    ensures due { (p : Page) → DueIs p }
+    ensures pends { (p : Page) → PendsIs p }
 {}
