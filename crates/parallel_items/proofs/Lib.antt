@@ -1,0 +1,7 @@
+pub mod ClassLemmas
+pub mod FirstLemmas
+pub mod IdleLemmas
+pub mod InitLemmas
+pub mod KeptLemmas
+pub mod MapLemmas
+pub mod TimerLemmas
