@@ -1,0 +1,24 @@
+-- Registrations and calls: a change of the script's part, and then its line.
+use Rattle.std.proofs.Common.{◌≡◌, ℕ, suc, ◌+◌, length, add-one, refl, ◌∙◌, subst, Option}
+use Rattle.page_types.specs.declared.RegKind.{RegKind}
+use Rattle.page_types.specs.Events.{Reg}
+use Rattle.page_parts.specs.Words.{and_last}
+use Rattle.page_model.specs.State.{Registration, Page, caller, emit}
+use Rattle.page_model.specs.Invoke.{register_as}
+use Rattle.trace_text.specs.declared.lines.NoLine.{NoLine}
+use Rattle.trace_text.specs.Given.{Keeping, Seen}
+use Rattle.trace_text.specs.Acts.{At, Does}
+use Rattle.page_script.specs.Script.{Script, holding}
+use Rattle.page_script.specs.ScriptActs.{on_script, on, read_by}
+use Rattle.page_script.proofs.Lifting.{Does-asked, Does-line}
+
+-- a registration was kept, and then comes its line
+pub Does-registered : {T : Type 0} {k : Keeping T} (kind : RegKind) (x : Registration) (r : ℕ) (by : Option ℕ) (s mid : Script) {old : Seen T} {new : At Script T} {why : Option NoLine}
+    → r ≡ length s.registrations + 1 → by ≡ read_by caller s → mid ≡ record s { registrations = and_last s.registrations x }
+    → Does k (on mid old) (on_script (emit (Reg r kind by))) why new → Does k (on s old) (on_script (register_as kind x)) why new
+Does-registered {k = k} kind x r by s mid {old = old} {new = new} {why = why} number from is h =
+    let n = suc (length s.registrations) in
+    let P : ℕ → Type 0 = λ m. Does k (on mid old) (on_script (emit (Reg m kind by))) why new in
+    let Q : Option ℕ → Type 0 = λ b. Does k (on mid old) (on_script (emit (Reg n kind b))) why new in
+    Does-asked (λ q p. emit (Reg (suc (length q.registrations)) kind (caller q)) (record p { registrations = and_last p.registrations x })) (on s old)
+    (Does-line (λ p. record p { registrations = and_last p.registrations x }) (Reg n kind (caller (holding s))) s mid refl is (subst Q from (subst P (number ∙ add-one (length s.registrations)) h)))

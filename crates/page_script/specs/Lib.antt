@@ -1,0 +1,6 @@
+pub mod Script
+pub mod PageActs
+pub mod ScriptActs
+pub mod Seen
+pub mod Codes
+pub mod Marks

@@ -1,0 +1,153 @@
+//! The script's part of a page: its state, its lines, its registrations and its calls.
+
+ghost use Rattle.std.specs.Prelude.{◌≡◌, ◌+◌, ◌^◌, ◌<◌, length, IfOk, IfErr, OnOk, Option};
+ghost use Rattle.std.specs.Result.{result_err};
+ghost use Rattle.page_parts.specs.Words.{and_last};
+ghost use Rattle.page_types.specs.Tree.{Program};
+ghost use Rattle.page_parts.specs.Setup.{Setup};
+ghost use Rattle.page_parts.specs.HostClosures.{HostClosure};
+ghost use Rattle.page_model.specs.State as model;
+ghost use Rattle.page_model.specs.Invoke.{register_as};
+ghost use Rattle.page_model.specs.Turns.{first_page};
+ghost use Rattle.trace_text.specs.EventSeen.{event_seen};
+ghost use Rattle.trace_text.specs.declared.lines.NoLine.TheVariants.{OutOfMemory};
+ghost use Rattle.trace_text.specs.Acts.{Does};
+ghost use Rattle.page_script.specs.Script.{script_of, holding};
+ghost use Rattle.page_script.specs.ScriptActs.{on, on_script, read_by};
+ghost use Rattle.page_script.specs.Seen.{registration_seen};
+
+use crate::parts::{Current, Mark, Post, Registration, Run, SchedulingState};
+use page_base::Micros;
+use page_notices::Notices;
+use page_values::FunNames;
+use promise_combine::Combine;
+use std::alloc::Global;
+use std::marker::Model;
+use trace_text::{Event, Lines, NoLine, RegKind, Stamped};
+
+/// The part of a page in which the script's callbacks and promises live. It is seen as those fields of the model's page.
+///
+/// A call that writes lines stamps each with the time now. It answers `Failed` and `Differs` exactly where the lines answered
+/// so in this call, and `OutOfMemory` also for want of memory of its own. After any `NoLine` the lines that were written are
+/// the first ones of the call's lines, and the `PageScript` is not used again.
+#[derive(Drop)]
+pub struct PageScript {
+    alloc: Global,
+    run: Run,
+    current: Current,
+    names: FunNames,
+    // The innermost call is the last one.
+    calls: Vec<u32>,
+    registrations: Vec<Registration>,
+    states: Vec<SchedulingState>,
+    posts: Vec<Post>,
+    notices: Notices,
+    // A mark for each promise.
+    marks: Vec<Mark>,
+    combinators: Vec<Combining>,
+}
+
+// A combinator, and the promise that its answer settles.
+#[derive(Drop)]
+pub(crate) struct Combining {
+    pub(crate) combine: Combine,
+    pub(crate) result: u32,
+}
+
+impl Model for PageScript {
+    ghost use Rattle.std.specs.Prelude.{◌≡◌, length, map, reverse};
+    ghost use Rattle.page_script.specs.Script.{Script};
+    ghost use Rattle.page_script.specs.Codes.{coded_script};
+    ghost use Rattle.page_script.specs.Seen.{registration_seen, state_seen, post_seen};
+    ghost use Rattle.page_script.specs.Marks.{script_numbers, elements_from};
+
+    ghost Value = { Script };
+
+    ghost coded = { coded_script };
+
+    ghost view = { λ a. record {
+      form = a.run.form;
+      trace = a.run.trace;
+      now = a.run.now.0;
+      turns = a.run.turns;
+      names = a.names;
+      calls = reverse a.calls.items;
+      level = a.current.level;
+      scheduling = a.current.scheduling;
+      performing = a.current.performing;
+      registrations = map registration_seen a.registrations.items;
+      script_promises = script_numbers 1 a.marks.items;
+      notices = a.notices;
+      combinators = map (λ c. record { combine = c.combine; result = c.result }) a.combinators.items;
+      elements = elements_from 1 a.marks.items;
+      scheduling_states = map state_seen a.states.items;
+      posts = map post_seen a.posts.items;
+    } };
+
+    ghost invariant = { λ a. length a.marks.items ≡ length a.notices.promises };
+}
+
+impl PageScript {
+    /// Writes the line of an event, at the time now.
+    pub fn emit<L: Lines>(&self, event: Event, lines: &mut L) -> Result<(), NoLine>
+        ensures { Does L.keeping (on self.now (L.seen lines.old)) (on_script (model.emit (event_seen event)))
+            (result_err result) (on self.now (L.seen lines.new)) }
+    {
+        lines.emit(&Stamped {
+            time: self.run.now,
+            event,
+        })
+    }
+
+    /// Makes a registration, with its line, and answers its number, which has to be below 2^32. Registrations are counted
+    /// from 1.
+    pub fn register<L: Lines>(
+        &mut self,
+        kind: RegKind,
+        registration: Registration,
+        lines: &mut L,
+    ) -> Result<u32, NoLine>
+        requires { length self.old.registrations + 1 < 2 ^ 32 }
+        ensures does { Does L.keeping (on self.old (L.seen lines.old)) (on_script (register_as kind (registration_seen registration)))
+            (result_err result) (on self.new (L.seen lines.new)) }
+        ensures number { IfOk result (λ r. r ≡ length self.old.registrations + 1) }
+    {
+        let by = self.caller();
+        let r = self.keep(registration)?;
+        self.emit(
+            Event::Reg {
+                r: r as u64,
+                kind,
+                by,
+            },
+            lines,
+        )?;
+        Ok(r)
+    }
+
+    // The registration of the innermost open call, which a trace of form 2 tells.
+    fn caller(&self) -> Option<u64>
+        ensures { result ≡ read_by model.caller self.now }
+    {
+        if self.run.trace != 2 {
+            return None;
+        }
+        match self.calls.last() {
+            Some(r) => Some(*r as u64),
+            None => Some(0),
+        }
+    }
+
+    // Keeps a registration, and answers its number.
+    fn keep(&mut self, registration: Registration) -> Result<u32, NoLine>
+        requires { length self.old.registrations + 1 < 2 ^ 32 }
+        ensures number { IfOk result (λ r. r ≡ length self.old.registrations + 1) }
+        ensures memory { IfErr result (λ why. why ≡ OutOfMemory) }
+        ensures kept { OnOk result (self.new ≡ record self.old { registrations = and_last self.old.registrations (registration_seen registration) }) }
+    {
+        if self.registrations.push(registration).is_err() {
+            return Err(NoLine::OutOfMemory);
+        }
+        Ok(self.registrations.len() as u32)
+    }
+}
