@@ -1,2 +1,4 @@
 pub mod Lifting
 pub mod Calling
+pub mod Marking
+pub mod Counting

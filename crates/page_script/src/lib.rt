@@ -3,6 +3,7 @@
 //! The calls are those of the model's page in `page_model`, on the fields of this part. Times are in microseconds.
 #![tactic(auto)]
 
+mod marked;
 mod parts;
 mod script;
 

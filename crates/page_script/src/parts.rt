@@ -66,3 +66,11 @@ pub(crate) struct Current {
     pub(crate) scheduling: Option<u32>,
     pub(crate) performing: bool,
 }
+
+// When something happens, and what is current then.
+#[derive(Clone, Copy)]
+pub(crate) struct Moment {
+    pub(crate) level: u32,
+    pub(crate) state: Option<u32>,
+    pub(crate) at: Micros,
+}

@@ -16,9 +16,9 @@ ghost use Rattle.page_script.specs.Script.{script_of, holding};
 ghost use Rattle.page_script.specs.ScriptActs.{on, on_script, read_by};
 ghost use Rattle.page_script.specs.Seen.{registration_seen};
 
-use crate::parts::{Current, Mark, Post, Registration, Run, SchedulingState};
+use crate::marked::Marked;
+use crate::parts::{Current, Post, Registration, Run, SchedulingState};
 use page_base::Micros;
-use page_notices::Notices;
 use page_values::FunNames;
 use promise_combine::Combine;
 use std::alloc::Global;
@@ -41,9 +41,7 @@ pub struct PageScript {
     registrations: Vec<Registration>,
     states: Vec<SchedulingState>,
     posts: Vec<Post>,
-    notices: Notices,
-    // A mark for each promise.
-    marks: Vec<Mark>,
+    promises: Marked,
     combinators: Vec<Combining>,
 }
 
@@ -55,11 +53,10 @@ pub(crate) struct Combining {
 }
 
 impl Model for PageScript {
-    ghost use Rattle.std.specs.Prelude.{◌≡◌, length, map, reverse};
+    ghost use Rattle.std.specs.Prelude.{map, reverse};
     ghost use Rattle.page_script.specs.Script.{Script};
     ghost use Rattle.page_script.specs.Codes.{coded_script};
     ghost use Rattle.page_script.specs.Seen.{registration_seen, state_seen, post_seen};
-    ghost use Rattle.page_script.specs.Marks.{script_numbers, elements_from};
 
     ghost Value = { Script };
 
@@ -76,15 +73,13 @@ impl Model for PageScript {
       scheduling = a.current.scheduling;
       performing = a.current.performing;
       registrations = map registration_seen a.registrations.items;
-      script_promises = script_numbers 1 a.marks.items;
-      notices = a.notices;
+      script_promises = a.promises.script_promises;
+      notices = a.promises.notices;
       combinators = map (λ c. record { combine = c.combine; result = c.result }) a.combinators.items;
-      elements = elements_from 1 a.marks.items;
+      elements = a.promises.elements;
       scheduling_states = map state_seen a.states.items;
       posts = map post_seen a.posts.items;
     } };
-
-    ghost invariant = { λ a. length a.marks.items ≡ length a.notices.promises };
 }
 
 impl PageScript {
