@@ -1,5 +1,5 @@
 -- Registrations and calls: a change of the script's part, and then its line.
-use Rattle.std.proofs.Common.{◌≡◌, ℕ, suc, ◌+◌, length, add-one, refl, ◌∙◌, subst, Option}
+use Rattle.std.proofs.Common.{◌≡◌, ℕ, suc, ◌+◌, length, add-one, List, map, get_or, ◌-◌, ◌<◌, ◌≤◌, refl, ◌∙◌, subst, Option}
 use Rattle.page_types.specs.declared.RegKind.{RegKind}
 use Rattle.page_types.specs.Events.{Reg}
 use Rattle.page_parts.specs.Words.{and_last}
@@ -10,6 +10,11 @@ use Rattle.trace_text.specs.Given.{Keeping, Seen}
 use Rattle.trace_text.specs.Acts.{At, Does}
 use Rattle.page_script.specs.Script.{Script, holding}
 use Rattle.page_script.specs.ScriptActs.{on_script, on, read_by}
+use Rattle.page_types.specs.Values.{Value}
+use Rattle.page_types.specs.Events.{Throw, Report}
+use Rattle.page_parts.specs.Spelling.{spelled}
+use Rattle.lang_meaning.specs.Evaluation.{without_first}
+use Rattle.page_model.specs.Invoke.{thrown, report}
 use Rattle.page_script.proofs.Lifting.{Does-asked, Does-line}
 
 -- a registration was kept, and then comes its line
@@ -22,3 +27,19 @@ Does-registered {k = k} kind x r by s mid {old = old} {new = new} {why = why} nu
     let Q : Option ℕ → Type 0 = λ b. Does k (on mid old) (on_script (emit (Reg n kind b))) why new in
     Does-asked (λ q p. emit (Reg (suc (length q.registrations)) kind (caller q)) (record p { registrations = and_last p.registrations x })) (on s old)
     (Does-line (λ p. record p { registrations = and_last p.registrations x }) (Reg n kind (caller (holding s))) s mid refl is (subst Q from (subst P (number ∙ add-one (length s.registrations)) h)))
+
+-- the innermost call was closed, and then comes the line of its throw
+pub Does-thrown : {T : Type 0} {k : Keeping T} (v : Value) (text : List ℕ) (s mid : Script) {old : Seen T} {new : At Script T} {why : Option NoLine}
+    → text ≡ spelled s.names v → mid ≡ record s { calls = without_first s.calls }
+    → Does k (on mid old) (on_script (emit (Throw text))) why new → Does k (on s old) (on_script (thrown v)) why new
+Does-thrown {k = k} v text s mid {old = old} {new = new} {why = why} from is h =
+    let P : List ℕ → Type 0 = λ x. Does k (on mid old) (on_script (emit (Throw x))) why new in
+    Does-asked (λ q p. emit (Throw (spelled q.names v)) (record p { calls = without_first p.calls })) (on s old)
+    (Does-line (λ p. record p { calls = without_first p.calls }) (Throw (spelled s.names v)) s mid refl is (subst P from h))
+
+-- the line of a report
+pub Does-reported : {T : Type 0} {k : Keeping T} (v : Value) (text : List ℕ) (s : Script) {old : Seen T} {new : At Script T} {why : Option NoLine}
+    → text ≡ spelled s.names v → Does k (on s old) (on_script (emit (Report text))) why new → Does k (on s old) (on_script (report v)) why new
+Does-reported {k = k} v text s {old = old} {new = new} {why = why} from h =
+    let P : List ℕ → Type 0 = λ x. Does k (on s old) (on_script (emit (Report x))) why new in
+    Does-asked (λ q. emit (Report (spelled q.names v))) (on s old) (subst P from h)

@@ -2,3 +2,4 @@ pub mod Lifting
 pub mod Calling
 pub mod Marking
 pub mod Counting
+pub mod Promising

@@ -20,7 +20,7 @@ use Rattle.page_script.specs.ScriptActs.{on_script, on, changed_by}
 
 -- ---- Lists of events
 
-append_none : {X : Type 0} (xs : List X) → xs ++ [] ≡ xs
+pub append_none : {X : Type 0} (xs : List X) → xs ++ [] ≡ xs
 append_none [] = refl
 append_none (x ∷ xs) = ap (λ ys. x ∷ ys) (append_none xs)
 
@@ -121,6 +121,11 @@ pub Does-wants : {T X : Type 0} (k : Keeping T) (f : Page → Page) (s mid : Scr
 Does-wants k f s mid seen r {why = why} is memory =
     let P : NoLine → Type 0 = λ w. Does k (on s seen) (on_script f) (Some w) (on mid seen) in
     Does-last r is (subst P (sym memory) (Does-memory k (on_script f) s mid seen))
+
+-- nothing
+pub Does-idle : {T : Type 0} (k : Keeping T) (s : Script) (seen : Seen T) → Does k (on s seen) (on_script (λ p. p)) None (on s seen)
+unfolding on_script
+Does-idle k s seen = record { lines = Gives-none k seen; state = λ _. refl }
 
 -- ---- The whole page
 

@@ -4,3 +4,4 @@ pub mod ScriptActs
 pub mod Seen
 pub mod Codes
 pub mod Marks
+pub mod Reports

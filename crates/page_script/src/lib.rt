@@ -9,6 +9,6 @@ mod script;
 
 pub use page_notices::{Job, NextJob, Reaction, Settled, Todo};
 pub use page_values::MemoryFault;
-pub use parts::{Post, Registration, Role, SchedulingState};
+pub use parts::{Post, Registration, Role, SchedulingState, WhenReported};
 pub use post_task::{PrioSource, Priority};
 pub use script::PageScript;

@@ -1,5 +1,7 @@
 //! What a page keeps of a script's callbacks, scheduling states and messages.
 
+ghost use Rattle.std.specs.Prelude.{◌≡◌};
+
 use page_base::Micros;
 use page_values::{Func, Value};
 use post_task::PrioSource;
@@ -10,6 +12,32 @@ use trace_text::RegKind;
 pub enum Role {
     Script,
     Of(RegKind),
+}
+
+/// When a throw is reported (HTML, "Calling scripts"): of the script before the checkpoint; of a `then` handler or a posted
+/// callback never; of any other after the checkpoint.
+#[derive(Clone, Copy, PartialEq, Eq, Debug)]
+pub enum WhenReported {
+    BeforeCheckpoint,
+    AfterCheckpoint,
+    Never,
+}
+
+impl Role {
+    ghost use Rattle.page_model.specs.Invoke as model;
+    ghost use Rattle.page_script.specs.Seen.{role_seen};
+    ghost use Rattle.page_script.specs.Reports.{when_seen};
+
+    /// When a throw of a callback of this role is reported.
+    pub fn when_reported(self) -> WhenReported
+        ensures { when_seen result ≡ model.when_reported (role_seen self) }
+    {
+        match self {
+            Role::Script => WhenReported::BeforeCheckpoint,
+            Role::Of(RegKind::Post) | Role::Of(RegKind::Then) => WhenReported::Never,
+            Role::Of(_) => WhenReported::AfterCheckpoint,
+        }
+    }
 }
 
 /// A callback that was handed in: what it is for, the functions to call, and where it has one its timer id, its promise and
@@ -50,24 +78,15 @@ pub(crate) enum Mark {
     Element { combinator: u32, place: u32 },
 }
 
-// The forms of the run and of its trace, the time, and how many turns have begun.
+// The forms of the run and of its trace, and how many turns have begun.
 #[derive(Clone, Copy)]
 pub(crate) struct Run {
     pub(crate) form: u32,
     pub(crate) trace: u32,
-    pub(crate) now: Micros,
     pub(crate) turns: u64,
 }
 
-// The nesting level and the scheduling state that are current, and whether a checkpoint is being performed.
-#[derive(Clone, Copy)]
-pub(crate) struct Current {
-    pub(crate) level: u32,
-    pub(crate) scheduling: Option<u32>,
-    pub(crate) performing: bool,
-}
-
-// When something happens, and what is current then.
+// The nesting level and the scheduling state that are current, and the time.
 #[derive(Clone, Copy)]
 pub(crate) struct Moment {
     pub(crate) level: u32,

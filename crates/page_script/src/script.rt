@@ -1,8 +1,11 @@
 //! The script's part of a page: its state, its lines, its registrations and its calls.
 
-ghost use Rattle.std.specs.Prelude.{◌≡◌, ◌+◌, ◌^◌, ◌<◌, length, IfOk, IfErr, OnOk, Option};
+ghost use Rattle.std.specs.Prelude.{◌≡◌, ◌+◌, ◌^◌, ◌<◌, ◌≤◌, length, IfOk, IfErr, OnOk, Option};
 ghost use Rattle.std.specs.Result.{result_err};
 ghost use Rattle.page_parts.specs.Words.{and_last};
+ghost use Rattle.page_parts.specs.Spelling.{spelled};
+ghost use Rattle.page_values.specs.Seen.{seen};
+ghost use Rattle.page_values.specs.Written.{IsNumbered};
 ghost use Rattle.page_types.specs.Tree.{Program};
 ghost use Rattle.page_parts.specs.Setup.{Setup};
 ghost use Rattle.page_parts.specs.HostClosures.{HostClosure};
@@ -16,14 +19,17 @@ ghost use Rattle.page_script.specs.Script.{script_of, holding};
 ghost use Rattle.page_script.specs.ScriptActs.{on, on_script, read_by};
 ghost use Rattle.page_script.specs.Seen.{registration_seen};
 
+mod calls;
+mod promises;
+
 use crate::marked::Marked;
-use crate::parts::{Current, Post, Registration, Run, SchedulingState};
+use crate::parts::{Moment, Post, Registration, Run, SchedulingState};
 use page_base::Micros;
-use page_values::FunNames;
+use page_values::{FunNames, MemoryFault, Value, print};
 use promise_combine::Combine;
 use std::alloc::Global;
 use std::marker::Model;
-use trace_text::{Event, Lines, NoLine, RegKind, Stamped};
+use trace_text::{Event, Lines, NoLine, Printed, RegKind, Stamped};
 
 /// The part of a page in which the script's callbacks and promises live. It is seen as those fields of the model's page.
 ///
@@ -34,7 +40,8 @@ use trace_text::{Event, Lines, NoLine, RegKind, Stamped};
 pub struct PageScript {
     alloc: Global,
     run: Run,
-    current: Current,
+    moment: Moment,
+    performing: bool,
     names: FunNames,
     // The innermost call is the last one.
     calls: Vec<u32>,
@@ -65,13 +72,13 @@ impl Model for PageScript {
     ghost view = { λ a. record {
       form = a.run.form;
       trace = a.run.trace;
-      now = a.run.now.0;
+      now = a.moment.at.0;
       turns = a.run.turns;
       names = a.names;
       calls = reverse a.calls.items;
-      level = a.current.level;
-      scheduling = a.current.scheduling;
-      performing = a.current.performing;
+      level = a.moment.level;
+      scheduling = a.moment.state;
+      performing = a.performing;
       registrations = map registration_seen a.registrations.items;
       script_promises = a.promises.script_promises;
       notices = a.promises.notices;
@@ -89,7 +96,7 @@ impl PageScript {
             (result_err result) (on self.now (L.seen lines.new)) }
     {
         lines.emit(&Stamped {
-            time: self.run.now,
+            time: self.moment.at,
             event,
         })
     }
@@ -120,6 +127,22 @@ impl PageScript {
         Ok(r)
     }
 
+    /// A registration that was made. Takes no memory.
+    pub fn registration(&self, r: u32) -> &Registration
+        requires counted { 0 < r }
+        requires made { r ≤ length self.now.registrations }
+        ensures { registration_seen result.now ≡ read_by (λ p. model.the_registration p r) self.now }
+    {
+        &self.registrations[r as usize - 1]
+    }
+
+    /// How many registrations were ever made. Takes no memory.
+    pub fn registered(&self) -> usize
+        ensures { result ≡ length self.now.registrations }
+    {
+        self.registrations.len()
+    }
+
     // The registration of the innermost open call, which a trace of form 2 tells.
     fn caller(&self) -> Option<u64>
         ensures { result ≡ read_by model.caller self.now }
@@ -145,4 +168,26 @@ impl PageScript {
         }
         Ok(self.registrations.len() as u32)
     }
+
+    // The spelling of a value.
+    fn printed(&self, value: &Value) -> Result<Printed, NoLine>
+        requires { IsNumbered (length self.now.names) (seen value.now) }
+        ensures spelling { IfOk result (λ v. v ≡ spelled self.now.names (seen value.now)) }
+        ensures memory { IfErr result (λ why. why ≡ OutOfMemory) }
+    {
+        match printed(self.alloc, value, &self.names) {
+            Ok(v) => Ok(v),
+            Err(_) => Err(NoLine::OutOfMemory),
+        }
+    }
+}
+
+// The spelling of a value, by the names of functions.
+fn printed(alloc: Global, value: &Value, names: &FunNames) -> Result<Printed, MemoryFault>
+    requires { IsNumbered (length names.now) (seen value.now) }
+    ensures { IfOk result (λ v. v ≡ spelled names.now (seen value.now)) }
+{
+    let mut spelling = Vec::new(alloc);
+    print(alloc, value, names, &mut spelling)?;
+    Ok(Printed::new(spelling))
 }
