@@ -5,3 +5,4 @@ pub mod Seen
 pub mod Codes
 pub mod Marks
 pub mod Reports
+pub mod Jobs

@@ -199,6 +199,14 @@ impl Marked {
         self.notices.made()
     }
 
+    // Whether a promise has or had a handler. Takes no memory.
+    pub(crate) fn handled(&self, p: u32) -> bool
+        requires { IsMade (held self.now.notices) p }
+        ensures { result ≡ (the_promise self.now.notices.promises p).handled }
+    {
+        self.notices.handled(p)
+    }
+
     // How a promise was settled. Takes no memory.
     pub(crate) fn outcome(&self, p: u32) -> Option<&Settled>
         requires { IsMade (held self.now.notices) p }

@@ -20,7 +20,10 @@ ghost use Rattle.page_script.specs.ScriptActs.{on, on_script, read_by};
 ghost use Rattle.page_script.specs.Seen.{registration_seen};
 
 mod calls;
+mod jobs;
 mod promises;
+mod running;
+mod states;
 
 use crate::marked::Marked;
 use crate::parts::{Moment, Post, Registration, Run, SchedulingState};
