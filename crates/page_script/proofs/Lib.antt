@@ -2,6 +2,8 @@ pub mod Lifting
 pub mod Calling
 pub mod Marking
 pub mod Counting
+pub mod PageDoing
+pub mod Tasking
 pub mod Touching
 pub mod Numbering
 pub mod Promising

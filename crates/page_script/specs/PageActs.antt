@@ -4,7 +4,8 @@ use Rattle.page_types.specs.Events.{Stamped}
 use Rattle.page_model.specs.State.{Task, Page, queue_task}
 use Rattle.page_model.specs.Additions.{Adds}
 use Rattle.trace_text.specs.Line.{Line, Of}
-use Rattle.trace_text.specs.Acts.{Act}
+use Rattle.trace_text.specs.Given.{Seen}
+use Rattle.trace_text.specs.Acts.{Act, At}
 use Rattle.page_script.specs.Script.{Script, script_of, with_script, holding}
 
 -- the page without its events
@@ -18,6 +19,10 @@ lines_of events = map Of (reverse events)
 -- what a function makes of a page with no events, and its lines
 unfoldable pub act : (Page → Page) → Act Page
 act f p = record { state = bare (f (bare p)); lines = lines_of (f (bare p)).events }
+
+-- a page, and what is seen of the lines
+abbrev pub on_page : {T : Type 0} → Page → Seen T → At Page T
+on_page p seen = record { state = p; seen = seen }
 
 -- g only adds lines, whatever stands before them
 abbrev pub OnlyAdds : (Page → Page) → Type 0

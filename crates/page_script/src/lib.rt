@@ -3,10 +3,16 @@
 //! The calls are those of the model's page in `page_model`, on the fields of this part. Times are in microseconds.
 #![tactic(auto)]
 
+mod laws;
 mod marked;
 mod parts;
 mod script;
 
+pub use laws::{
+    acts_follow_one_another, calls_touch_the_script_alone, functions_that_touch_the_script_alone_compose,
+    promises_touch_the_script_alone, what_is_done_to_the_script_is_done_to_the_page,
+    what_queues_tasks_touches_the_script_alone,
+};
 pub use page_notices::{Job, NextJob, Reaction, Settled, Todo};
 pub use page_values::MemoryFault;
 pub use parts::{Post, Registration, Role, SchedulingState, WhenReported};
