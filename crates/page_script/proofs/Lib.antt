@@ -1,6 +1,7 @@
 pub mod Lifting
 pub mod Calling
 pub mod Marking
+pub mod Combined
 pub mod Counting
 pub mod PageDoing
 pub mod Tasking

@@ -1,8 +1,8 @@
 -- Items by their number, of a list that is seen item by item.
 use Rattle.std.proofs.Common.{◌≡◌, ℕ, zero, suc, ◌-◌, ◌<◌, ◌≤◌, arith, List, [], ◌∷◌, length, map, get_or, refl, sym, ap, ◌∙◌, subst, Option, Some, None}
-use Rattle.std.specs.Prelude.{slice_get, unwrap_or}
+use Rattle.std.specs.Prelude.{slice_get, slice_set, unwrap_or}
 use Rattle.std.proofs.lemmas.List.{length-map}
-use Rattle.page_parts.specs.Words.{numbered}
+use Rattle.page_parts.specs.Words.{numbered, with_numbered}
 
 module _ {X Y : Type 0} (f : X → Y) (d : Y) where
   at_index : (xs : List X) (i : ℕ) (x : X) → i < length xs → x ≡ get_or xs i x → f x ≡ unwrap_or (slice_get (map f xs) i) d
@@ -30,3 +30,17 @@ module _ {X Y : Type 0} (f : X → Y) (d : Y) where
 
   pub numbered_absent : (xs : List X) (n i : ℕ) → 0 < n → i ≡ n - 1 → length xs ≤ i → d ≡ numbered (map f xs) n d
   numbered_absent xs n i h at k = past_index xs i k ∙ number_of xs n i h at
+
+  set_index : (xs : List X) (i : ℕ) (y : X) → map f (slice_set xs i y) ≡ slice_set (map f xs) i (f y)
+  set_index [] i y = refl
+  set_index (x ∷ xs) zero y = refl
+  set_index (x ∷ xs) (suc i) y = ap (λ zs. f x ∷ zs) (set_index xs i y)
+
+  -- another item at a number's place
+  pub numbered_set : (xs : List X) (n : ℕ) (y : X) → 0 < n → map f (slice_set xs (n - 1) y) ≡ with_numbered (map f xs) n (f y)
+  numbered_set xs n y h =
+      set_index xs (n - 1) y ∙ ap (λ m. with_numbered (map f xs) m (f y)) (let same : suc (n - 1) ≡ n = omega (arith, h) in same)
+
+  -- the length of the list as it is seen
+  pub length_seen : (xs : List X) (n : ℕ) → n ≤ length xs → n ≤ length (map f xs)
+  length_seen xs n h = omega (arith, h, length-map xs f)

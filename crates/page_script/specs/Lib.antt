@@ -5,4 +5,6 @@ pub mod Seen
 pub mod Codes
 pub mod Marks
 pub mod Reports
+pub mod First
+pub mod Combined
 pub mod Jobs

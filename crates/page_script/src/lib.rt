@@ -3,6 +3,8 @@
 //! The calls are those of the model's page in `page_model`, on the fields of this part. Times are in microseconds.
 #![tactic(auto)]
 
+mod combiner;
+mod combining;
 mod laws;
 mod marked;
 mod parts;

@@ -1,35 +1,32 @@
 //! The script's part of a page: its state, its lines, its registrations and its calls.
 
-ghost use Rattle.std.specs.Prelude.{◌≡◌, ◌+◌, ◌^◌, ◌<◌, ◌≤◌, length, IfOk, IfErr, OnOk, Option};
+ghost use Rattle.std.specs.Prelude.{◌≡◌, ◌+◌, ◌^◌, ◌<◌, ◌≤◌, length, IfOk, IfErr, OnOk, MatchOption, Some, None};
 ghost use Rattle.std.specs.Result.{result_err};
 ghost use Rattle.page_parts.specs.Words.{and_last};
 ghost use Rattle.page_parts.specs.Spelling.{spelled};
 ghost use Rattle.page_values.specs.Seen.{seen};
 ghost use Rattle.page_values.specs.Written.{IsNumbered};
-ghost use Rattle.page_types.specs.Tree.{Program};
-ghost use Rattle.page_parts.specs.Setup.{Setup};
-ghost use Rattle.page_parts.specs.HostClosures.{HostClosure};
 ghost use Rattle.page_model.specs.State as model;
-ghost use Rattle.page_model.specs.Invoke.{register_as};
-ghost use Rattle.page_model.specs.Turns.{first_page};
+ghost use Rattle.page_model.specs.Invoke.{register_as, callback_of};
 ghost use Rattle.trace_text.specs.EventSeen.{event_seen};
 ghost use Rattle.trace_text.specs.declared.lines.NoLine.TheVariants.{OutOfMemory};
 ghost use Rattle.trace_text.specs.Acts.{Does};
-ghost use Rattle.page_script.specs.Script.{script_of, holding};
 ghost use Rattle.page_script.specs.ScriptActs.{on, on_script, read_by};
-ghost use Rattle.page_script.specs.Seen.{registration_seen};
+ghost use Rattle.page_script.specs.Seen.{registration_seen, function_seen};
+ghost use Rattle.page_script.specs.First.{IsFirst};
 
 mod calls;
+mod combinators;
 mod jobs;
 mod promises;
 mod running;
 mod states;
 
+use crate::combiner::Combining;
 use crate::marked::Marked;
-use crate::parts::{Moment, Post, Registration, Run, SchedulingState};
+use crate::parts::{Moment, Post, Registration, Role, Run, SchedulingState};
 use page_base::Micros;
-use page_values::{FunNames, MemoryFault, Value, print};
-use promise_combine::Combine;
+use page_values::{Func, FunNames, Items, MemoryFault, Value, print};
 use std::alloc::Global;
 use std::marker::Model;
 use trace_text::{Event, Lines, NoLine, Printed, RegKind, Stamped};
@@ -55,18 +52,12 @@ pub struct PageScript {
     combinators: Vec<Combining>,
 }
 
-// A combinator, and the promise that its answer settles.
-#[derive(Drop)]
-pub(crate) struct Combining {
-    pub(crate) combine: Combine,
-    pub(crate) result: u32,
-}
-
 impl Model for PageScript {
     ghost use Rattle.std.specs.Prelude.{map, reverse};
     ghost use Rattle.page_script.specs.Script.{Script};
     ghost use Rattle.page_script.specs.Codes.{coded_script};
     ghost use Rattle.page_script.specs.Seen.{registration_seen, state_seen, post_seen};
+    ghost use Rattle.page_script.specs.Combined.{combining_seen};
 
     ghost Value = { Script };
 
@@ -85,7 +76,7 @@ impl Model for PageScript {
       registrations = map registration_seen a.registrations.items;
       script_promises = a.promises.script_promises;
       notices = a.promises.notices;
-      combinators = map (λ c. record { combine = c.combine; result = c.result }) a.combinators.items;
+      combinators = map combining_seen a.combinators.items;
       elements = a.promises.elements;
       scheduling_states = map state_seen a.states.items;
       posts = map post_seen a.posts.items;
@@ -93,6 +84,49 @@ impl Model for PageScript {
 }
 
 impl PageScript {
+    /// The script's part of a page before its first turn, in a form of the run and a form of its trace: the script itself is
+    /// the one registration. The one error is want of memory.
+    pub fn new(alloc: Global, form: u32, trace: u32, names: FunNames) -> Result<PageScript, MemoryFault>
+        requires { length names < 2 ^ 32 }
+        ensures { IfOk result (IsFirst form trace names) }
+    {
+        let script = Func {
+            function: names.names().len() as u32,
+            bound: Items::new(Vec::new(alloc)),
+        };
+        let mut registrations = Vec::new(alloc);
+        registrations.push(Registration {
+            role: Role::Script,
+            callback: Some(script),
+            second_callback: None,
+            timer_id: 0,
+            promise: 0,
+            signal: None,
+            finally: false,
+        })?;
+        Ok(PageScript {
+            alloc,
+            run: Run {
+                form,
+                trace,
+                turns: 0,
+            },
+            moment: Moment {
+                level: 0,
+                state: None,
+                at: Micros(0),
+            },
+            performing: false,
+            names,
+            calls: Vec::new(alloc),
+            registrations,
+            states: Vec::new(alloc),
+            posts: Vec::new(alloc),
+            promises: Marked::new(alloc),
+            combinators: Vec::new(alloc),
+        })
+    }
+
     /// Writes the line of an event, at the time now.
     pub fn emit<L: Lines>(&self, event: Event, lines: &mut L) -> Result<(), NoLine>
         ensures { Does L.keeping (on self.now (L.seen lines.old)) (on_script (model.emit (event_seen event)))
@@ -137,6 +171,22 @@ impl PageScript {
         ensures { registration_seen result.now ≡ read_by (λ p. model.the_registration p r) self.now }
     {
         &self.registrations[r as usize - 1]
+    }
+
+    /// The function that a registration calls: its second callback, or the first. None exactly where there is none. Takes no
+    /// memory.
+    pub fn callback(&self, r: u32, second: bool) -> Option<&Func>
+        requires counted { 0 < r }
+        requires made { r ≤ length self.now.registrations }
+        ensures { MatchOption result (read_by (λ p. callback_of second (model.the_registration p r)) self.now ≡ None)
+            (λ f. read_by (λ p. callback_of second (model.the_registration p r)) self.now ≡ Some (function_seen f.now)) }
+    {
+        let registration = self.registration(r);
+        if second {
+            registration.second_callback.as_ref()
+        } else {
+            registration.callback.as_ref()
+        }
     }
 
     /// How many registrations were ever made. Takes no memory.

@@ -1,0 +1,47 @@
+//! A combinator of a page, and what it is told.
+
+ghost use Rattle.std.specs.Prelude.{◌≡◌, ◌<◌, ◌≤◌, length, map, false, IfOk, OnOk};
+ghost use Rattle.page_parts.specs.Words.{numbered, with_numbered};
+ghost use Rattle.page_parts.specs.Combinators.{with_report, report_answer};
+ghost use Rattle.page_model.specs.PageCombinators.{no_combining};
+ghost use Rattle.promise_combine.specs.Seen.{report_of};
+ghost use Rattle.promise_combine.specs.Answers.{answer_seen};
+ghost use Rattle.promise_combine.specs.Reports.{has_reported};
+ghost use Rattle.page_script.specs.Combined.{combining_seen};
+
+use crate::combiner::Combining;
+use page_notices::Settled;
+use page_values::MemoryFault;
+
+// What the answer of a combinator settles, and the answer, where there is one.
+#[derive(Drop)]
+pub(crate) struct Answered {
+    pub(crate) result: u32,
+    pub(crate) answer: Option<Settled>,
+}
+
+// Notes what the element of a combinator at a place was settled with.
+pub(crate) fn note_report(
+    combinators: &mut Vec<Combining>,
+    number: u32,
+    place: u32,
+    how: Settled,
+) -> Result<Answered, MemoryFault>
+    requires counted { 0 < number }
+    requires made { number ≤ length combinators.old.items }
+    requires within { place < (numbered (map combining_seen combinators.old.items) number no_combining).combine.count }
+    requires fresh { has_reported place (numbered (map combining_seen combinators.old.items) number no_combining).combine ≡ false }
+    ensures result { IfOk result (λ a. a.result ≡ (numbered (map combining_seen combinators.old.items) number no_combining).result) }
+    ensures answer { IfOk result (λ a. answer_seen a.answer
+        ≡ report_answer (report_of place how) (numbered (map combining_seen combinators.old.items) number no_combining).combine) }
+    ensures noted { OnOk result (let c = numbered (map combining_seen combinators.old.items) number no_combining in
+        map combining_seen combinators.new.items
+        ≡ with_numbered (map combining_seen combinators.old.items) number (record c { combine = with_report (report_of place how) c.combine })) }
+{
+    let c = &mut combinators[number as usize - 1];
+    let answer = c.combine.report(place, how)?;
+    Ok(Answered {
+        result: c.result,
+        answer,
+    })
+}
