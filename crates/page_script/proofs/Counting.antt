@@ -23,7 +23,7 @@ changed-count : (now : Context) (names : List (List ℕ)) (n : ℕ) (c : Change)
 changed-count now names n c s =
     ap length (queue_jobs-promises now c.jobs (promise_changed names n c s).notices) ∙ length-with_numbered s.promises n c.promise
 
-settle-count : (now : Context) (names : List (List ℕ)) (n : ℕ) (how : Settled) (s : Notices) → length (settle_promise now names n how s).notices.promises ≡ length s.promises
+pub settle-count : (now : Context) (names : List (List ℕ)) (n : ℕ) (how : Settled) (s : Notices) → length (settle_promise now names n how s).notices.promises ≡ length s.promises
 settle-count now names n (Fulfilled v) s = changed-count now names n (resolve n (the_promise s.promises n) v) s
 settle-count now names n (Failed v) s = changed-count now names n (reject n (the_promise s.promises n) v) s
 

@@ -1,8 +1,9 @@
 pub mod Lifting
 pub mod Calling
 pub mod Marking
-pub mod Combined
+pub mod Reporting
 pub mod Counting
+pub mod Making
 pub mod PageDoing
 pub mod Tasking
 pub mod Touching

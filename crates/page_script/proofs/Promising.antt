@@ -29,7 +29,7 @@ emit_each-lines (e ∷ es) p =
     ∙ ap (λ ls. ls ++ lines_at p.now es) (lines_of-append (record { time = p.now; event = e } ∷ []) p.events)
     ∙ append_assoc (lines_of p.events) (Of (record { time = p.now; event = e }) ∷ []) (lines_at p.now es)
 
-emit_each-script : (es : List Event) (p : Page) → script_of (emit_each es p) ≡ script_of p
+pub emit_each-script : (es : List Event) (p : Page) → script_of (emit_each es p) ≡ script_of p
 emit_each-script [] p = refl
 emit_each-script (e ∷ es) p = emit_each-script es (emit e p)
 

@@ -1,5 +1,5 @@
 -- Functions of the page that queue tasks besides what they do to the script's part.
-use Rattle.std.proofs.Common.{◌≡◌, ℕ, suc, Bool, true, false, cond, List, [], ◌∷◌, ◌++◌, append_assoc, length, ◌+◌, Option, Some, None, refl, sym, ap, ◌∙◌, subst}
+use Rattle.std.proofs.Common.{◌≡◌, ℕ, suc, Bool, true, false, cond, List, [], ◌∷◌, ◌++◌, append_assoc, length, ◌+◌, Option, Some, None, Result, refl, sym, ap, ◌∙◌, subst}
 use Rattle.page_types.specs.Values.{Value, PromiseValue}
 use Rattle.page_types.specs.declared.FaultName.TheVariants.{RangeError}
 use Rattle.page_types.specs.declared.Source.TheVariants.{Dom}
@@ -16,11 +16,13 @@ use Rattle.page_model.specs.PageCombinators.{combinator_made, item_made, item_nu
 use Rattle.page_model.specs.Invoke.{notify_rejected, checkpoint_ended}
 use Rattle.trace_text.specs.declared.lines.NoLine.{NoLine}
 use Rattle.trace_text.specs.Given.{Keeping, Seen, Gives}
-use Rattle.trace_text.specs.Acts.{Does}
+use Rattle.trace_text.specs.Acts.{At, Does, seq}
+use Rattle.trace_text.proofs.Doing.{Does-then, Does-exit}
+use Rattle.std.specs.Result.{IsErrAnd, result_err}
 use Rattle.page_script.specs.Script.{Script, script_of, with_script, holding}
 use Rattle.page_script.specs.PageActs.{bare, lines_of, act, spread, OnlyScript, queue_each, OnlyScriptAndTasks}
 use Rattle.page_script.specs.ScriptActs.{on_script, on}
-use Rattle.page_script.proofs.Lifting.{append_none}
+use Rattle.page_script.proofs.Lifting.{append_none, lines_of-append, Does-same}
 use Rattle.page_script.proofs.Touching.{on_notices-only, new_promise-only, combinator_made-only, item_made-only, with_element-only, resolve-only, reject-only}
 
 -- ---- Tasks that are queued one after another
@@ -164,6 +166,28 @@ pass_on-tasks into how v p =
     let refused = promises.reject into (a_fault RangeError) in
     cond_of-tasks (are_promises_left (promises_for v + 2) p) (passed_on into how v) refused (passed_on-tasks into how v)
     (OnlyScript-tasks refused (reject-only into (a_fault RangeError))) p
+
+-- ---- Acts on the script's part one after another
+
+on_script-then_tasks : (f g : Page → Page) → OnlyScriptAndTasks g → (s : Script) → on_script (λ p. g (f p)) s ≡ seq (on_script f) (on_script g) s
+unfolding on_script seq
+on_script-then_tasks f g only s =
+    let made = f (holding s) in
+    let next = g (holding (script_of made)) in
+    ap (λ q. record { state = script_of q; lines = lines_of q.events }) (only made)
+    ∙ ap (λ t. record { state = t; lines = lines_of (queue_each next.tasks (spread next made)).events }) (queue_each-script next.tasks (spread next made))
+    ∙ ap (λ es. record { state = script_of next; lines = lines_of es }) (queue_each-events next.tasks (spread next made))
+    ∙ ap (λ ls. record { state = script_of next; lines = ls }) (lines_of-append next.events made.events)
+
+-- an act on the script's part that was done, and then another, which may stop and may queue tasks
+pub Does-next_tasks : {T : Type 0} {k : Keeping T} {old mid new : At Script T} (f g : Page → Page) {why : Option NoLine} → OnlyScriptAndTasks g
+    → Does k old (on_script f) None mid → Does k mid (on_script g) why new → Does k old (on_script (λ p. g (f p))) why new
+Does-next_tasks {old = old} f g only h rest = Does-same (seq (on_script f) (on_script g)) (on_script (λ p. g (f p))) (sym (on_script-then_tasks f g only old.state)) (Does-then h rest)
+
+-- the exit of a `?` behind the first one
+pub Does-leave_tasks : {T X : Type 0} {k : Keeping T} {old new : At Script T} (f g : Page → Page) (r : Result X NoLine) {why : NoLine} → OnlyScriptAndTasks g
+    → IsErrAnd r (λ e. e ≡ why) → Does k old (on_script f) (Some why) new → Does k old (on_script (λ p. g (f p))) (result_err r) new
+Does-leave_tasks {old = old} f g r only is h = Does-same (seq (on_script f) (on_script g)) (on_script (λ p. g (f p))) (sym (on_script-then_tasks f g only old.state)) (Does-exit (on_script g) r is h)
 
 -- ---- The whole page
 

@@ -6,5 +6,5 @@ pub mod Codes
 pub mod Marks
 pub mod Reports
 pub mod First
-pub mod Combined
+pub mod Leading
 pub mod Jobs

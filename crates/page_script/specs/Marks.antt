@@ -5,7 +5,8 @@ use Rattle.page_parts.specs.Words.{and_last}
 use Rattle.page_parts.specs.Notices.{Notices, make, no_notices}
 use Rattle.page_notices.specs.State.{coded_notices}
 use Rattle.page_model.specs.State.{Element, Page}
-use Rattle.page_model.specs.PagePromises.{new_promise}
+use Rattle.page_parts.specs.Promises.{Settled}
+use Rattle.page_model.specs.PagePromises.{new_promise, last_promise, settle}
 use Rattle.page_model.specs.PageCombinators.{with_element}
 use Rattle.page_model.specs.Operations.{script_promise}
 use Rattle.page_script.specs.Codes.{coded_element}
@@ -75,3 +76,7 @@ abbrev pub made_with : Mark → Page → Page
 made_with mark.Plain = new_promise
 made_with mark.OfScript = script_promise
 made_with (mark.Element combinator place) = λ p. with_element combinator place (new_promise p)
+
+-- a new promise which is settled at once: `new_settled` of the page, by the outcome
+abbrev pub settled_at_once : Settled → Page → Page
+settled_at_once how p = let made = new_promise p in settle (last_promise made) how made

@@ -7,7 +7,7 @@ ghost use Rattle.page_model.specs.PageCombinators.{no_combining};
 ghost use Rattle.promise_combine.specs.Seen.{report_of};
 ghost use Rattle.promise_combine.specs.Answers.{answer_seen};
 ghost use Rattle.promise_combine.specs.Reports.{has_reported};
-ghost use Rattle.page_script.specs.Combined.{combining_seen};
+ghost use Rattle.page_script.specs.Leading.{combining_seen};
 
 use crate::combiner::Combining;
 use page_notices::Settled;

@@ -17,6 +17,7 @@ pub use laws::{
 };
 pub use page_notices::{Job, NextJob, Reaction, Settled, Todo};
 pub use page_values::MemoryFault;
-pub use parts::{Post, Registration, Role, SchedulingState, WhenReported};
+pub use parts::{Combined, Post, Registration, Role, SchedulingState, WhenReported};
 pub use post_task::{PrioSource, Priority};
+pub use promise_combine::Kind;
 pub use script::PageScript;

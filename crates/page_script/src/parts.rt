@@ -70,6 +70,13 @@ pub struct Post {
     pub at: Micros,
 }
 
+/// A combinator that was made, by its number, and the number of the promise that its answer settles.
+#[derive(Clone, Copy, PartialEq, Eq, Debug)]
+pub struct Combined {
+    pub combinator: u32,
+    pub result: u32,
+}
+
 // What a promise is besides: one that the script made itself, or the element of a combinator, at a place from 0.
 #[derive(Clone, Copy, PartialEq, Eq, Debug)]
 pub(crate) enum Mark {

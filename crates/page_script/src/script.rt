@@ -57,7 +57,7 @@ impl Model for PageScript {
     ghost use Rattle.page_script.specs.Script.{Script};
     ghost use Rattle.page_script.specs.Codes.{coded_script};
     ghost use Rattle.page_script.specs.Seen.{registration_seen, state_seen, post_seen};
-    ghost use Rattle.page_script.specs.Combined.{combining_seen};
+    ghost use Rattle.page_script.specs.Leading.{combining_seen};
 
     ghost Value = { Script };
 

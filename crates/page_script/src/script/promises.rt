@@ -1,6 +1,6 @@
 //! The promises of a page: making and settling them, and giving them handlers.
 
-ghost use Rattle.std.specs.Prelude.{◌≡◌, ◌+◌, ◌^◌, ◌<◌, ◌==◌, length, find, IfOk, OnOk, OnErr, MatchOption, None, Some};
+ghost use Rattle.std.specs.Prelude.{◌≡◌, ◌+◌, ◌^◌, ◌<◌, ◌==◌, length, find, IfOk, IfErr, OnOk, OnErr, MatchOption, None, Some};
 ghost use Rattle.std.specs.Option.{option_map};
 ghost use Rattle.std.specs.Result.{result_err};
 ghost use Rattle.page_parts.specs.Words.{has_number};
@@ -16,7 +16,8 @@ ghost use Rattle.page_model.specs.PagePromises as model;
 ghost use Rattle.page_model.specs.Operations.{script_promise};
 ghost use Rattle.trace_text.specs.Acts.{Does};
 ghost use Rattle.page_script.specs.ScriptActs.{on, on_script, changed_by, read_by};
-ghost use Rattle.page_script.specs.Marks.{made_with};
+ghost use Rattle.trace_text.specs.declared.lines.NoLine.TheVariants.{OutOfMemory};
+ghost use Rattle.page_script.specs.Marks.{made_with, settled_at_once};
 
 use super::PageScript;
 use crate::parts::Mark;
@@ -84,6 +85,21 @@ impl PageScript {
         self.promises.settle(p, how, self.moment, &self.names, lines)
     }
 
+    /// Makes a promise which is settled at once, and answers its number, as [`PageScript::new_promise`] and
+    /// [`PageScript::settle`] do.
+    pub fn settled_promise<L: Lines>(&mut self, how: Settled, lines: &mut L) -> Result<u32, NoLine>
+        requires left { length self.old.notices.promises + 1 < 2 ^ 32 }
+        requires named { IsNumbered (length self.old.names) (settled_value (settled_seen how)) }
+        ensures does { Does L.keeping (on self.old (L.seen lines.old)) (on_script (settled_at_once (settled_seen how)))
+            (result_err result) (on self.new (L.seen lines.new)) }
+        ensures number { IfOk result (λ p. p ≡ length self.old.notices.promises + 1) }
+        ensures count { OnOk result (length self.new.notices.promises ≡ length self.old.notices.promises + 1) }
+    {
+        let p = self.make_marked(Mark::Plain)?;
+        self.settle(p, how, lines)?;
+        Ok(p)
+    }
+
     /// Settles a pending promise as the promise was that it was resolved with, also where it is locked, and leaves a settled
     /// one. The lines, the jobs and the cost are those of [`PageScript::settle`].
     pub fn follow<L: Lines>(&mut self, p: u32, how: Settled, lines: &mut L) -> Result<(), NoLine>
@@ -123,12 +139,25 @@ impl PageScript {
     }
 
     // Makes a promise with this mark, and answers its number.
-    pub(crate) fn make(&mut self, mark: Mark) -> Result<u32, MemoryFault>
+    fn make(&mut self, mark: Mark) -> Result<u32, MemoryFault>
         requires { length self.old.notices.promises + 1 < 2 ^ 32 }
         ensures number { IfOk result (λ p. p ≡ length self.old.notices.promises + 1) }
         ensures made { OnOk result (self.new ≡ changed_by (made_with mark) self.old) }
         ensures err { OnErr result (self.new ≡ self.old) }
     {
         self.promises.make(mark)
+    }
+
+    // The same, where want of memory is a fault of the lines.
+    pub(super) fn make_marked(&mut self, mark: Mark) -> Result<u32, NoLine>
+        requires { length self.old.notices.promises + 1 < 2 ^ 32 }
+        ensures number { IfOk result (λ p. p ≡ length self.old.notices.promises + 1) }
+        ensures made { OnOk result (self.new ≡ changed_by (made_with mark) self.old) }
+        ensures memory { IfErr result (λ why. why ≡ OutOfMemory) }
+    {
+        match self.make(mark) {
+            Ok(p) => Ok(p),
+            Err(_) => Err(NoLine::OutOfMemory),
+        }
     }
 }

@@ -5,7 +5,7 @@ use Rattle.page_model.specs.State as m
 use Rattle.page_model.specs.PageCombinators.{no_combining}
 use Rattle.promise_combine.specs.Seen.{report_of}
 use Rattle.promise_combine.specs.Reports.{has_reported}
-use Rattle.page_script.specs.Combined.{combining_seen}
+use Rattle.page_script.specs.Leading.{combining_seen}
 use Rattle.page_script.proofs.Numbering.{numbered_read, numbered_set, length_seen}
 use Rattle.page_script.proofs.combining.note_report.Goals as goal
 

@@ -3,8 +3,8 @@ use Rattle.std.specs.Prelude.{find, ◌==◌}
 use Rattle.page_model.specs.State.{Element}
 use Rattle.promise_core.specs.Seen.{settled_seen}
 use Rattle.page_script.specs.Script.{Script}
-use Rattle.page_script.specs.Combined.{MayLead}
-use Rattle.page_script.proofs.Combined.{Does-led}
+use Rattle.page_script.specs.Leading.{MayLead}
+use Rattle.page_script.proofs.Reporting.{Does-led}
 use Rattle.page_script.proofs.script.PageScript.lead_into.Goals as goal
 
 pub follow-requires-clause-made : goal.follow-requires-clause-made

@@ -2,7 +2,7 @@ use Rattle.page_model.specs.PageCombinators.{report}
 use Rattle.promise_core.specs.Seen.{settled_seen}
 use Rattle.promise_combine.specs.Answers.{answer_seen}
 use Rattle.page_script.proofs.Lifting.{Does-wants}
-use Rattle.page_script.proofs.Combined.{Does-report}
+use Rattle.page_script.proofs.Reporting.{Does-report}
 use Rattle.page_script.proofs.script.PageScript.report_for.Goals as goal
 
 pub returns-in_err-result : goal.returns-in_err-result

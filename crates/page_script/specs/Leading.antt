@@ -1,5 +1,5 @@
 -- The combinators of the code, and when an outcome may be led into a promise.
-use Rattle.std.specs.Prelude.{◌≡◌, ℕ, false, ◌<◌, ◌≤◌, List, length, Option, Some, None}
+use Rattle.std.specs.Prelude.{◌≡◌, ℕ, false, ◌<◌, ◌≤◌, ◌+◌, ◌^◌, List, length, Option, Some, None}
 use Rattle.page_parts.specs.Promises.{Settled, settled_value}
 use Rattle.page_parts.specs.Combinators.{report_answer}
 use Rattle.page_values.specs.Written.{IsNumbered}
@@ -8,6 +8,8 @@ use Rattle.promise_combine.specs.Reports.{has_reported}
 use Rattle.page_notices.specs.Steps.{held}
 use Rattle.page_model.specs.State as m
 use Rattle.page_model.specs.State.{Element}
+use Rattle.page_types.specs.Values.{Value}
+use Rattle.page_parts.specs.Kinds.{promise_in}
 use Rattle.page_model.specs.PageCombinators.{combining_at}
 use Rattle.page_script.specs.declared.combiner.Combining.{Combining}
 use Rattle.page_script.specs.Script.{Script, holding}
@@ -39,3 +41,11 @@ pub record MayReport (e : Element) (how : Settled) (s : Script) : Type 0 where
 abbrev pub MayLead : Option Element → ℕ → Settled → Script → Type 0
 MayLead None n how s = MayFollow n how s
 MayLead (Some e) n how s = MayReport e how s
+
+-- a value may become the item of a combinator: a promise was made, and for any other value one more promise is left
+abbrev pub IsItemBy : Option ℕ → Script → Type 0
+IsItemBy None s = length s.notices.promises + 1 < 2 ^ 32
+IsItemBy (Some n) s = IsMade (held s.notices) n
+
+abbrev pub IsItem : Value → Script → Type 0
+IsItem v s = IsItemBy (promise_in v) s
