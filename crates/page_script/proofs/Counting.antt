@@ -19,7 +19,7 @@ length-with_numbered : {X : Type 0} (xs : List X) (n : ℕ) (x : X) → length (
 length-with_numbered xs zero x = refl
 length-with_numbered xs (suc n) x = length-set xs n x
 
-changed-count : (now : Context) (names : List (List ℕ)) (n : ℕ) (c : Change) (s : Notices) → length (changed now names n c s).notices.promises ≡ length s.promises
+pub changed-count : (now : Context) (names : List (List ℕ)) (n : ℕ) (c : Change) (s : Notices) → length (changed now names n c s).notices.promises ≡ length s.promises
 changed-count now names n c s =
     ap length (queue_jobs-promises now c.jobs (promise_changed names n c s).notices) ∙ length-with_numbered s.promises n c.promise
 

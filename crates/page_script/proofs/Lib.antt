@@ -3,6 +3,7 @@ pub mod Calling
 pub mod Marking
 pub mod Reporting
 pub mod Counting
+pub mod Lengths
 pub mod Making
 pub mod PageDoing
 pub mod Tasking

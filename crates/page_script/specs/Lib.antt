@@ -6,5 +6,6 @@ pub mod Codes
 pub mod Marks
 pub mod Reports
 pub mod First
+pub mod Lengths
 pub mod Leading
 pub mod Jobs

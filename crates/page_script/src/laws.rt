@@ -1,7 +1,7 @@
 //! What the layer above goes by: what a call does to the script's part it does to a page that has this part. Laws alone, as
 //! functions with empty bodies.
 
-ghost use Rattle.std.specs.Prelude.{ℕ, suc, List, Option, None};
+ghost use Rattle.std.specs.Prelude.{◌≡◌, ◌+◌, ℕ, suc, List, Option, None};
 ghost use Rattle.page_types.specs.Values.{Value};
 ghost use Rattle.page_types.specs.declared.RegKind.{RegKind};
 ghost use Rattle.page_types.specs.declared.Source.{Source};
@@ -13,7 +13,9 @@ ghost use Rattle.page_model.specs.State.{Page, Registration, SchedulingState, em
 ghost use Rattle.page_model.specs.Invoke.{WhenReported, register_as, call_begun, call_ended, thrown, report, report_before};
 ghost use Rattle.page_model.specs.Invoke.{report_after, under, notify_rejected, checkpoint_begun, checkpoint_ended};
 ghost use Rattle.page_model.specs.PagePromises as promises;
-ghost use Rattle.page_model.specs.PageCombinators.{lead_into, combinator_made, item_made, with_element, all_made, race_made, pass_on};
+ghost use Rattle.page_model.specs.PageCombinators.{lead_into, combinator_made, item_made, with_element, element_made};
+ghost use Rattle.page_model.specs.PageCombinators.{all_made, race_made, pass_on, promises_for};
+ghost use Rattle.page_script.specs.Lengths.{made_in, Leaves};
 ghost use Rattle.page_model.specs.Operations.{script_promise, posted, posts_taken};
 ghost use Rattle.page_model.specs.SchedulerTasks.{with_state};
 ghost use Rattle.page_model.specs.Tasks.{outstanding_if_unhandled};
@@ -23,7 +25,7 @@ ghost use Rattle.trace_text.specs.Given.{Seen};
 ghost use Rattle.trace_text.specs.Acts.{Does};
 ghost use Rattle.page_script.specs.Script.{Script, script_of, with_script, holding};
 ghost use Rattle.page_script.specs.PageActs.{act, bare, OnlyAdds, OnlyScript, OnlyScriptAndTasks, queue_each, on_page};
-ghost use Rattle.page_script.specs.ScriptActs.{on, on_script};
+ghost use Rattle.page_script.specs.ScriptActs.{on, on_script, changed_by};
 ghost use Rattle.page_script.specs.Jobs.{oldest_begun};
 
 use trace_text::Lines;
@@ -103,4 +105,17 @@ pub fn acts_follow_one_another<L: Lines>()
     ensures page { (f g : Page → Page) (p mid new : Page) (old seen after : Seen L.Told) (why : Option NoLine) → OnlyAdds g
         → Does L.keeping (on_page p old) (act f) None (on_page mid seen) → Does L.keeping (on_page mid seen) (act g) why (on_page new after)
         → Does L.keeping (on_page p old) (act (λ p. g (f p))) why (on_page new after) }
+{}
+
+/// How many promises there are after each function: what it was, but where one is made.
+pub fn promises_are_counted()
+    ensures settled { (n : ℕ) (how : Settled) → Leaves (promises.settle n how) }
+    ensures followed { (n : ℕ) (how : Settled) → Leaves (promises.follow n how) }
+    ensures subscribed { (n : ℕ) (r : Reaction) → Leaves (promises.subscribe n r) }
+    ensures led { (into : ℕ) (how : Settled) → Leaves (lead_into into how) }
+    ensures combinator { (kind : CombinatorKind) (count : ℕ) (s : Script)
+        → made_in (changed_by (combinator_made kind count) s) ≡ made_in s + 1 }
+    ensures element { (combinator place n : ℕ) (s : Script)
+        → made_in (changed_by (element_made combinator place n) s) ≡ made_in s + 1 }
+    ensures item { (v : Value) (s : Script) → made_in (changed_by (item_made v) s) ≡ made_in s + promises_for v }
 {}
