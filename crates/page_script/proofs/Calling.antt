@@ -1,9 +1,9 @@
 -- Registrations and calls: a change of the script's part, and then its line.
-use Rattle.std.proofs.Common.{◌≡◌, ℕ, suc, ◌+◌, length, add-one, List, [], ◌∷◌, refl, sym, ◌∙◌, subst, Option, None}
+use Rattle.std.proofs.Common.{◌≡◌, ℕ, suc, ◌+◌, length, add-one, List, [], refl, sym, ◌∙◌, subst, Option, None}
 use Rattle.page_types.specs.declared.RegKind.{RegKind}
 use Rattle.page_types.specs.Events.{Reg}
 use Rattle.page_parts.specs.Words.{and_last}
-use Rattle.page_model.specs.State.{Registration, Page, caller, emit}
+use Rattle.page_model.specs.State.{Registration, caller, emit}
 use Rattle.page_model.specs.Invoke.{register_as}
 use Rattle.trace_text.specs.declared.lines.NoLine.{NoLine}
 use Rattle.trace_text.specs.Given.{Keeping, Seen}

@@ -7,7 +7,7 @@ use Rattle.page_parts.specs.Words.{with_numbered}
 use Rattle.page_parts.specs.Promises.{Settled, Fulfilled, Failed, Reaction, Change, PromiseJob, the_promise, resolve, reject, follow, subscribe}
 use Rattle.page_parts.specs.Notices.{Notices, Noticed, Context, OfPromise, queue_job, queue_jobs, promise_changed, changed, settle_promise, follow_promise, subscribe_promise}
 use Rattle.trace_text.specs.Given.{Keeping, Seen}
-use Rattle.trace_text.specs.Acts.{At, Does}
+use Rattle.trace_text.specs.Acts.{Does}
 use Rattle.page_notices.specs.Steps.{timed, on}
 use Rattle.page_notices.specs.Changes.{no_longer_unhandled}
 

@@ -1,5 +1,5 @@
 -- How many promises there are after each function of the page.
-use Rattle.std.proofs.Common.{◌≡◌, ℕ, suc, ◌+◌, add-zero, add-one, Bool, true, false, cond, List, [], length, Option, Some, None, refl, sym, ap, ◌∙◌}
+use Rattle.std.proofs.Common.{◌≡◌, ℕ, ◌+◌, add-zero, add-one, Bool, true, false, cond, [], length, Option, Some, None, refl, sym, ap, ◌∙◌}
 use Rattle.page_types.specs.Values.{Value}
 use Rattle.page_types.specs.declared.Source.TheVariants.{Dom}
 use Rattle.page_parts.specs.Kinds.{promise_in}

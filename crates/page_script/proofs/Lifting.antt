@@ -1,12 +1,12 @@
 -- From what is done to the script's part to what is done to a whole page, and acts that are done one after another.
-use Rattle.std.proofs.Common.{◌≡◌, ℕ, List, [], ◌∷◌, ◌++◌, map, append_assoc, refl, sym, ◌∙◌, ap, subst, Option, Some, None, Result, Ok, Err}
+use Rattle.std.proofs.Common.{◌≡◌, ℕ, List, [], ◌∷◌, ◌++◌, map, append_assoc, refl, sym, ◌∙◌, ap, subst, Option, Some, None, Result}
 use Rattle.std.specs.Prelude.{reverse}
 use Rattle.std.proofs.lemmas.List.{reverse-append}
 use Rattle.std.specs.Result.{IsErrAnd, result_err}
 use Rattle.page_types.specs.Events.{Stamped, Event}
 use Rattle.page_model.specs.State.{Page, emit}
-use Rattle.page_model.specs.Additions.{after, Adds}
-use Rattle.trace_text.specs.Line.{Line, Of}
+use Rattle.page_model.specs.Additions.{after}
+use Rattle.trace_text.specs.Line.{Of}
 use Rattle.trace_text.specs.declared.lines.NoLine.{NoLine}
 use Rattle.trace_text.specs.declared.lines.NoLine.TheVariants.{OutOfMemory}
 use Rattle.trace_text.specs.Given.{Keeping, Seen, Gives}

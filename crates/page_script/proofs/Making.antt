@@ -1,11 +1,9 @@
 -- Promises, combinators and elements that are made, and then what is done with them.
-use Rattle.std.proofs.Common.{◌≡◌, ℕ, suc, ◌+◌, ◌<◌, ◌≤◌, arith, length, List, [], Option, Some, None, Result, add-one, refl, sym, ap, ◌∙◌, subst}
-use Rattle.std.specs.Result.{IsErrAnd, result_err}
+use Rattle.std.proofs.Common.{◌≡◌, ℕ, ◌+◌, length, Option, Some, None, add-one, refl, sym, ap, ◌∙◌, subst}
 use Rattle.page_types.specs.Values.{Value}
-use Rattle.page_parts.specs.Words.{and_last}
 use Rattle.page_parts.specs.Kinds.{promise_in}
-use Rattle.page_parts.specs.Promises.{Settled, Fulfilled, Reaction, pending_promise}
-use Rattle.page_parts.specs.Combinators.{CombinatorKind, Combine, combine, answer_of}
+use Rattle.page_parts.specs.Promises.{Settled, Fulfilled, pending_promise}
+use Rattle.page_parts.specs.Combinators.{CombinatorKind, combine, answer_of}
 use Rattle.page_model.specs.State.{Page, context}
 use Rattle.page_model.specs.PagePromises as promises
 use Rattle.page_model.specs.PagePromises.{new_promise, last_promise, inner_subscription, new_settled}

@@ -2,7 +2,7 @@
 use Rattle.std.proofs.Common.{◌≡◌, ℕ, zero, suc, ◌+◌, ◌-◌, ◌<◌, arith, Bool, true, false, cond, ◌||◌, List, [], ◌∷◌, ◌++◌, length, Option, Some, None, refl, sym, ap, ◌∙◌, inl, inr}
 use Rattle.std.specs.Prelude.{find, ◌==◌}
 use Rattle.std.proofs.lemmas.Bool.Decides.{eqb_tells}
-use Rattle.page_parts.specs.Words.{and_last, has_number, numbered}
+use Rattle.page_parts.specs.Words.{has_number, numbered}
 use Rattle.page_parts.specs.Notices.{Notices, make}
 use Rattle.page_parts.specs.Promises.{pending_promise}
 use Rattle.page_model.specs.State.{Element}

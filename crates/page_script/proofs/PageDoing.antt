@@ -1,5 +1,5 @@
 -- Functions of the whole page that are done one after another.
-use Rattle.std.proofs.Common.{◌≡◌, ◌∷◌, [], ◌++◌, refl, sym, ◌∙◌, ap, Option, Some, None, Result}
+use Rattle.std.proofs.Common.{◌≡◌, ◌∷◌, [], refl, sym, ◌∙◌, ap, Option, Some, None, Result}
 use Rattle.std.specs.Result.{IsErrAnd, result_err}
 use Rattle.page_types.specs.Events.{Event}
 use Rattle.page_model.specs.State.{Page, emit}

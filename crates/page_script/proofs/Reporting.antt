@@ -1,9 +1,8 @@
 -- Reports to combinators.
-use Rattle.std.proofs.Common.{◌≡◌, ℕ, ◌∷◌, List, [], Option, Some, None, Result, refl, sym, ap, ◌∙◌, subst}
-use Rattle.std.specs.Prelude.{OnOk, find, ◌==◌}
-use Rattle.std.specs.Result.{IsErrAnd, result_err}
+use Rattle.std.proofs.Common.{◌≡◌, ℕ, Option, Some, None, refl, subst}
+use Rattle.std.specs.Prelude.{find, ◌==◌}
 use Rattle.page_parts.specs.Promises.{Settled}
-use Rattle.page_parts.specs.Combinators.{Report, Combine, with_report, report_answer}
+use Rattle.page_parts.specs.Combinators.{Report, with_report, report_answer}
 use Rattle.page_model.specs.State as m
 use Rattle.page_model.specs.State.{Element, Page}
 use Rattle.page_model.specs.PagePromises as promises

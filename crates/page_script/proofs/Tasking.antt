@@ -23,7 +23,7 @@ use Rattle.page_script.specs.Script.{Script, script_of, with_script, holding}
 use Rattle.page_script.specs.PageActs.{bare, lines_of, act, spread, OnlyScript, queue_each, OnlyScriptAndTasks}
 use Rattle.page_script.specs.ScriptActs.{on_script, on}
 use Rattle.page_script.proofs.Lifting.{append_none, lines_of-append, Does-same}
-use Rattle.page_script.proofs.Touching.{on_notices-only, new_promise-only, combinator_made-only, item_made-only, with_element-only, resolve-only, reject-only}
+use Rattle.page_script.proofs.Touching.{on_notices-only, new_promise-only, combinator_made-only, item_made-only, resolve-only, reject-only}
 
 -- ---- Tasks that are queued one after another
 

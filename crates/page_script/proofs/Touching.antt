@@ -1,11 +1,11 @@
 -- Functions of the page that read and change the script's part alone, and those that queue tasks besides.
-use Rattle.std.proofs.Common.{◌≡◌, ℕ, suc, Bool, true, false, cond, List, [], ◌∷◌, ◌++◌, length, Option, Some, None, refl, sym, ap, ◌∙◌}
+use Rattle.std.proofs.Common.{ℕ, suc, List, [], ◌∷◌, Option, Some, None, refl}
 use Rattle.page_types.specs.Values.{Value}
 use Rattle.page_types.specs.declared.RegKind.{RegKind}
 use Rattle.page_types.specs.declared.Source.{Source}
 use Rattle.page_types.specs.Events.{Event, Turn, Wait}
 use Rattle.page_parts.specs.Kinds.{promise_in}
-use Rattle.page_parts.specs.Promises.{Settled, Fulfilled, Failed, Reaction}
+use Rattle.page_parts.specs.Promises.{Settled, Fulfilled, Failed}
 use Rattle.page_parts.specs.Notices as parts
 use Rattle.page_parts.specs.Notices.{Notices, Noticed, Context, WaitingJob, settle_promise, follow_promise}
 use Rattle.page_parts.specs.Combinators.{CombinatorKind, Report, combine, with_report, answer_of, report_answer}
@@ -19,8 +19,8 @@ use Rattle.page_model.specs.Operations.{script_promise, posted, posts_taken}
 use Rattle.page_model.specs.SchedulerTasks.{with_state}
 use Rattle.page_model.specs.Tasks.{outstanding_if_unhandled}
 use Rattle.page_model.specs.Turns.{at_time}
-use Rattle.page_script.specs.Script.{Script, script_of, holding}
-use Rattle.page_script.specs.PageActs.{OnlyScript, spread}
+use Rattle.page_script.specs.Script.{Script, script_of}
+use Rattle.page_script.specs.PageActs.{OnlyScript}
 use Rattle.page_script.specs.Jobs.{begun_of, oldest_begun}
 use Rattle.page_script.proofs.Lifting.{OnlyScript-then, OnlyScript-none, emit-only}
 

@@ -1,21 +1,37 @@
 -- The combinators of the code, and when an outcome may be led into a promise.
-use Rattle.std.specs.Prelude.{◌≡◌, ℕ, false, ◌<◌, ◌≤◌, ◌+◌, ◌^◌, List, length, Option, Some, None}
+use Rattle.std.specs.Prelude.{◌≡◌, ℕ, false, ◌<◌, ◌≤◌, ◌+◌, ◌^◌, length, Option, Some, None, List, map}
 use Rattle.page_parts.specs.Promises.{Settled, settled_value}
-use Rattle.page_parts.specs.Combinators.{report_answer}
+use Rattle.page_parts.specs.Words.{numbered}
+use Rattle.page_parts.specs.Combinators.{Report, with_report, report_answer}
 use Rattle.page_values.specs.Written.{IsNumbered}
 use Rattle.promise_core.specs.Held.{IsMade}
 use Rattle.promise_combine.specs.Reports.{has_reported}
 use Rattle.page_notices.specs.Steps.{held}
 use Rattle.page_model.specs.State as m
-use Rattle.page_model.specs.State.{Element}
+use Rattle.page_model.specs.State.{Element, Page}
 use Rattle.page_types.specs.Values.{Value}
 use Rattle.page_parts.specs.Kinds.{promise_in}
-use Rattle.page_model.specs.PageCombinators.{combining_at}
+use Rattle.page_model.specs.PageCombinators.{no_combining, combining_at, with_combining}
 use Rattle.page_script.specs.declared.combiner.Combining.{Combining}
 use Rattle.page_script.specs.Script.{Script, holding}
 
 abbrev pub combining_seen : Combining → m.Combining
 combining_seen c = record { combine = c.combine; result = c.result }
+
+-- the combinators as they are seen, and the one with number n
+abbrev pub all_seen : List Combining → List m.Combining
+all_seen cs = map combining_seen cs
+
+abbrev pub combining_in : List Combining → ℕ → m.Combining
+combining_in cs n = numbered (all_seen cs) n no_combining
+
+-- a combinator with one more report
+abbrev pub reported : Report → m.Combining → m.Combining
+reported r c = record c { combine = with_report r c.combine }
+
+-- a report is noted at combinator number n, what it brings not yet
+abbrev pub noted_at : ℕ → Report → Page → Page
+noted_at n r p = with_combining n (reported r (combining_at p n)) p
 
 -- promise number n was made, and each function that the outcome names has a name
 abbrev pub MayFollow : ℕ → Settled → Script → Type 0

@@ -6,7 +6,7 @@ use Rattle.page_model.specs.Additions.{Adds}
 use Rattle.trace_text.specs.Line.{Line, Of}
 use Rattle.trace_text.specs.Given.{Seen}
 use Rattle.trace_text.specs.Acts.{Act, At}
-use Rattle.page_script.specs.Script.{Script, script_of, with_script, holding}
+use Rattle.page_script.specs.Script.{script_of, with_script, holding}
 
 -- the page without its events
 abbrev pub bare : Page → Page

@@ -1,6 +1,6 @@
 -- The part of a page in which the script's callbacks and promises live.
-use Rattle.std.specs.Prelude.{ℕ, Bool, false, List, [], Option, None}
-use Rattle.page_parts.specs.Notices.{Notices, no_notices}
+use Rattle.std.specs.Prelude.{ℕ, Bool, List, [], Option}
+use Rattle.page_parts.specs.Notices.{Notices}
 use Rattle.page_parts.specs.Timers.{no_timers}
 use Rattle.page_parts.specs.Frames.{no_frames}
 use Rattle.page_parts.specs.IdleCallbacks.{no_idle}

@@ -1,5 +1,5 @@
 -- What a function of the model's page does to the script's part, as an act.
-use Rattle.std.specs.Prelude.{◌≡◌, Option, List, map}
+use Rattle.std.specs.Prelude.{List, map}
 use Rattle.page_model.specs.State.{Steps, Page}
 use Rattle.trace_text.specs.Given.{Seen}
 use Rattle.trace_text.specs.Acts.{Act, At}

@@ -1,5 +1,4 @@
 -- What registrations, scheduling states and messages of the code are seen as.
-use Rattle.std.specs.Prelude.{ℕ, Option, Some, None}
 use Rattle.std.specs.Option.{option_map}
 use Rattle.page_values.specs.declared.Func.{Func}
 use Rattle.page_values.specs.Seen.{seen}

@@ -1,13 +1,12 @@
 //! A combinator of a page, and what it is told.
 
-ghost use Rattle.std.specs.Prelude.{◌≡◌, ◌<◌, ◌≤◌, length, map, false, IfOk, OnOk};
-ghost use Rattle.page_parts.specs.Words.{numbered, with_numbered};
-ghost use Rattle.page_parts.specs.Combinators.{with_report, report_answer};
-ghost use Rattle.page_model.specs.PageCombinators.{no_combining};
+ghost use Rattle.std.specs.Prelude.{◌≡◌, ◌<◌, ◌≤◌, length, false, IfOk, OnOk};
+ghost use Rattle.page_parts.specs.Words.{with_numbered};
+ghost use Rattle.page_parts.specs.Combinators.{report_answer};
 ghost use Rattle.promise_combine.specs.Seen.{report_of};
 ghost use Rattle.promise_combine.specs.Answers.{answer_seen};
 ghost use Rattle.promise_combine.specs.Reports.{has_reported};
-ghost use Rattle.page_script.specs.Leading.{combining_seen};
+ghost use Rattle.page_script.specs.Leading.{all_seen, combining_in, reported};
 
 use crate::combiner::Combining;
 use page_notices::Settled;
@@ -29,14 +28,14 @@ pub(crate) fn note_report(
 ) -> Result<Answered, MemoryFault>
     requires counted { 0 < number }
     requires made { number ≤ length combinators.old.items }
-    requires within { place < (numbered (map combining_seen combinators.old.items) number no_combining).combine.count }
-    requires fresh { has_reported place (numbered (map combining_seen combinators.old.items) number no_combining).combine ≡ false }
-    ensures result { IfOk result (λ a. a.result ≡ (numbered (map combining_seen combinators.old.items) number no_combining).result) }
+    requires within { place < (combining_in combinators.old.items number).combine.count }
+    requires fresh { has_reported place (combining_in combinators.old.items number).combine ≡ false }
+    ensures result { IfOk result (λ a. a.result ≡ (combining_in combinators.old.items number).result) }
     ensures answer { IfOk result (λ a. answer_seen a.answer
-        ≡ report_answer (report_of place how) (numbered (map combining_seen combinators.old.items) number no_combining).combine) }
-    ensures noted { OnOk result (let c = numbered (map combining_seen combinators.old.items) number no_combining in
-        map combining_seen combinators.new.items
-        ≡ with_numbered (map combining_seen combinators.old.items) number (record c { combine = with_report (report_of place how) c.combine })) }
+        ≡ report_answer (report_of place how) (combining_in combinators.old.items number).combine) }
+    ensures noted { OnOk result (all_seen combinators.new.items
+        ≡ with_numbered (all_seen combinators.old.items) number
+        (reported (report_of place how) (combining_in combinators.old.items number))) }
 {
     let c = &mut combinators[number as usize - 1];
     let answer = c.combine.report(place, how)?;

@@ -39,7 +39,7 @@ pub fn what_is_done_to_the_script_is_done_to_the_page<L: Lines>()
     ensures tasks { (f : Page → Page) (p : Page) (s : Script) (old new : Seen L.Told) (why : Option NoLine) → OnlyScriptAndTasks f
         → Does L.keeping (on (script_of p) old) (on_script f) why (on s new)
         → Does L.keeping (on_page (bare p) old) (act f) why
-            (on_page (queue_each (f (holding (script_of p))).tasks (with_script s (bare p))) new) }
+        (on_page (queue_each (f (holding (script_of p))).tasks (with_script s (bare p))) new) }
 {}
 
 /// Such functions only add lines, and one after another is such a function again.
@@ -100,10 +100,12 @@ pub fn what_queues_tasks_touches_the_script_alone()
 /// What two calls do one after another, on the script's part and on the whole page.
 pub fn acts_follow_one_another<L: Lines>()
     ensures script { (f g : Page → Page) (s mid new : Script) (old seen after : Seen L.Told) (why : Option NoLine) → OnlyScript g
-        → Does L.keeping (on s old) (on_script f) None (on mid seen) → Does L.keeping (on mid seen) (on_script g) why (on new after)
+        → Does L.keeping (on s old) (on_script f) None (on mid seen)
+        → Does L.keeping (on mid seen) (on_script g) why (on new after)
         → Does L.keeping (on s old) (on_script (λ p. g (f p))) why (on new after) }
     ensures page { (f g : Page → Page) (p mid new : Page) (old seen after : Seen L.Told) (why : Option NoLine) → OnlyAdds g
-        → Does L.keeping (on_page p old) (act f) None (on_page mid seen) → Does L.keeping (on_page mid seen) (act g) why (on_page new after)
+        → Does L.keeping (on_page p old) (act f) None (on_page mid seen)
+        → Does L.keeping (on_page mid seen) (act g) why (on_page new after)
         → Does L.keeping (on_page p old) (act (λ p. g (f p))) why (on_page new after) }
 {}
 

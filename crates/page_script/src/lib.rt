@@ -9,10 +9,13 @@ mod laws;
 mod marked;
 mod parts;
 mod script;
+#[cfg(test)]
+mod tests;
 
 pub use laws::{
-    acts_follow_one_another, calls_touch_the_script_alone, functions_that_touch_the_script_alone_compose,
-    promises_are_counted, promises_touch_the_script_alone, what_is_done_to_the_script_is_done_to_the_page,
+    acts_follow_one_another, calls_touch_the_script_alone,
+    functions_that_touch_the_script_alone_compose, promises_are_counted,
+    promises_touch_the_script_alone, what_is_done_to_the_script_is_done_to_the_page,
     what_queues_tasks_touches_the_script_alone,
 };
 pub use page_notices::{Job, NextJob, Reaction, Settled, Todo};

@@ -93,7 +93,9 @@ impl Marked {
             (result_err result) (noticed self.new.notices (L.seen lines.new)) }
         ensures others { OnOk result (self.new ≡ record self.old { notices = self.new.notices }) }
     {
-        let done = self.notices.settle(p, how, now.level, now.state, now.at, names, lines);
+        let done = self
+            .notices
+            .settle(p, how, now.level, now.state, now.at, names, lines);
         if done.is_err() {
             forget(self.alloc, &mut self.notices, &mut self.marks);
         }
@@ -116,7 +118,9 @@ impl Marked {
             (result_err result) (noticed self.new.notices (L.seen lines.new)) }
         ensures others { OnOk result (self.new ≡ record self.old { notices = self.new.notices }) }
     {
-        let done = self.notices.follow(p, how, now.level, now.state, now.at, names, lines);
+        let done = self
+            .notices
+            .follow(p, how, now.level, now.state, now.at, names, lines);
         if done.is_err() {
             forget(self.alloc, &mut self.notices, &mut self.marks);
         }
@@ -138,7 +142,9 @@ impl Marked {
         ensures was { IfOk result (λ was. was ≡ is_outstanding p self.old.notices) }
         ensures others { OnOk result (self.new ≡ record self.old { notices = self.new.notices }) }
     {
-        let done = self.notices.subscribe(p, r, now.level, now.state, now.at, lines);
+        let done = self
+            .notices
+            .subscribe(p, r, now.level, now.state, now.at, lines);
         if done.is_err() {
             forget(self.alloc, &mut self.notices, &mut self.marks);
         }
@@ -157,7 +163,9 @@ impl Marked {
             (result_err result) (noticed self.new.notices (L.seen lines.new)) }
         ensures others { OnOk result (self.new ≡ record self.old { notices = self.new.notices }) }
     {
-        let done = self.notices.queue_micro(registration, now.level, now.state, now.at, lines);
+        let done = self
+            .notices
+            .queue_micro(registration, now.level, now.state, now.at, lines);
         if done.is_err() {
             forget(self.alloc, &mut self.notices, &mut self.marks);
         }

@@ -26,7 +26,7 @@ use crate::combiner::Combining;
 use crate::marked::Marked;
 use crate::parts::{Moment, Post, Registration, Role, Run, SchedulingState};
 use page_base::Micros;
-use page_values::{Func, FunNames, Items, MemoryFault, Value, print};
+use page_values::{FunNames, Func, Items, MemoryFault, Value, print};
 use std::alloc::Global;
 use std::marker::Model;
 use trace_text::{Event, Lines, NoLine, Printed, RegKind, Stamped};
@@ -86,7 +86,12 @@ impl Model for PageScript {
 impl PageScript {
     /// The script's part of a page before its first turn, in a form of the run and a form of its trace: the script itself is
     /// the one registration. The one error is want of memory.
-    pub fn new(alloc: Global, form: u32, trace: u32, names: FunNames) -> Result<PageScript, MemoryFault>
+    pub fn new(
+        alloc: Global,
+        form: u32,
+        trace: u32,
+        names: FunNames,
+    ) -> Result<PageScript, MemoryFault>
         requires { length names < 2 ^ 32 }
         ensures { IfOk result (IsFirst form trace names) }
     {
@@ -147,8 +152,8 @@ impl PageScript {
         lines: &mut L,
     ) -> Result<u32, NoLine>
         requires { length self.old.registrations + 1 < 2 ^ 32 }
-        ensures does { Does L.keeping (on self.old (L.seen lines.old)) (on_script (register_as kind (registration_seen registration)))
-            (result_err result) (on self.new (L.seen lines.new)) }
+        ensures does { Does L.keeping (on self.old (L.seen lines.old))
+            (on_script (register_as kind (registration_seen registration))) (result_err result) (on self.new (L.seen lines.new)) }
         ensures number { IfOk result (λ r. r ≡ length self.old.registrations + 1) }
     {
         let by = self.caller();
@@ -214,7 +219,8 @@ impl PageScript {
         requires { length self.old.registrations + 1 < 2 ^ 32 }
         ensures number { IfOk result (λ r. r ≡ length self.old.registrations + 1) }
         ensures memory { IfErr result (λ why. why ≡ OutOfMemory) }
-        ensures kept { OnOk result (self.new ≡ record self.old { registrations = and_last self.old.registrations (registration_seen registration) }) }
+        ensures kept { OnOk result (self.new
+            ≡ record self.old { registrations = and_last self.old.registrations (registration_seen registration) }) }
     {
         if self.registrations.push(registration).is_err() {
             return Err(NoLine::OutOfMemory);

@@ -2,14 +2,13 @@
 
 ghost use Rattle.std.specs.Prelude.{◌≡◌, ◌+◌, ◌^◌, ◌<◌, ◌≤◌, false, length, IfOk, IfErr, OnOk};
 ghost use Rattle.std.specs.Result.{result_err};
-ghost use Rattle.page_parts.specs.Combinators.{combine, with_report, answer_of, report_answer};
+ghost use Rattle.page_parts.specs.Combinators.{combine, answer_of, report_answer};
 ghost use Rattle.page_parts.specs.Notices.{is_outstanding};
 ghost use Rattle.page_values.specs.Seen.{seen};
 ghost use Rattle.page_values.specs.Written.{IsNumbered};
 ghost use Rattle.promise_core.specs.Held.{IsMade};
 ghost use Rattle.page_notices.specs.Steps.{held};
 ghost use Rattle.page_model.specs.PagePromises.{new_promise};
-
 ghost use Rattle.promise_core.specs.Seen.{settled_seen};
 ghost use Rattle.promise_combine.specs.Seen.{kind_seen, report_of};
 ghost use Rattle.promise_combine.specs.Answers.{answer_seen};
@@ -19,7 +18,7 @@ ghost use Rattle.trace_text.specs.declared.lines.NoLine.TheVariants.{OutOfMemory
 ghost use Rattle.trace_text.specs.Acts.{Does};
 ghost use Rattle.page_script.specs.Script.{holding};
 ghost use Rattle.page_script.specs.ScriptActs.{on, on_script, changed_by, read_by};
-ghost use Rattle.page_script.specs.Leading.{IsItem, MayLead, MayReport, MaySettle};
+ghost use Rattle.page_script.specs.Leading.{noted_at, IsItem, MayLead, MayReport, MaySettle};
 
 use super::PageScript;
 use crate::combiner::Combining;
@@ -33,7 +32,12 @@ use trace_text::{Lines, NoLine};
 impl PageScript {
     /// Leads an outcome to where an inner subscription leads: an element of a combinator reports it and stays pending, and where
     /// that brings an answer, the result of the combinator is settled; any other promise follows the outcome.
-    pub fn lead_into<L: Lines>(&mut self, into: u32, how: Settled, lines: &mut L) -> Result<(), NoLine>
+    pub fn lead_into<L: Lines>(
+        &mut self,
+        into: u32,
+        how: Settled,
+        lines: &mut L,
+    ) -> Result<(), NoLine>
         requires counted { 0 < into }
         requires leads { MayLead (model.element_at (holding self.old) into) into (settled_seen how) self.old }
         ensures { Does L.keeping (on self.old (L.seen lines.old)) (on_script (model.lead_into into (settled_seen how)))
@@ -49,7 +53,12 @@ impl PageScript {
     /// `Pass` it has one. Both numbers have to be below 2^32.
     ///
     /// It costs `count`, since it makes room for all reports.
-    pub fn combine<L: Lines>(&mut self, kind: Kind, count: u32, lines: &mut L) -> Result<Combined, NoLine>
+    pub fn combine<L: Lines>(
+        &mut self,
+        kind: Kind,
+        count: u32,
+        lines: &mut L,
+    ) -> Result<Combined, NoLine>
         requires count { HasCount (kind_seen kind) count }
         requires promises { length self.old.notices.promises + 1 < 2 ^ 32 }
         requires combinators { length self.old.combinators + 1 < 2 ^ 32 }
@@ -102,8 +111,19 @@ impl PageScript {
         }
     }
 
+    /// How many combinators were ever made. Takes no memory.
+    pub fn combinators_made(&self) -> usize
+        ensures { result ≡ read_by model.last_combinator self.now }
+    {
+        self.combinators.len()
+    }
+
     // A new promise, and a combinator whose answer settles it, its answer not yet.
-    fn add_combinator(&mut self, kind: Kind, count: u32) -> Result<(Combined, Option<Settled>), NoLine>
+    fn add_combinator(
+        &mut self,
+        kind: Kind,
+        count: u32,
+    ) -> Result<(Combined, Option<Settled>), NoLine>
         requires count { HasCount (kind_seen kind) count }
         requires promises { length self.old.notices.promises + 1 < 2 ^ 32 }
         requires combinators { length self.old.combinators + 1 < 2 ^ 32 }
@@ -119,7 +139,11 @@ impl PageScript {
         };
         let answer = combine.begin();
         let result = self.make_marked(Mark::Plain)?;
-        if self.combinators.push(Combining { combine, result }).is_err() {
+        if self
+            .combinators
+            .push(Combining { combine, result })
+            .is_err()
+        {
             return Err(NoLine::OutOfMemory);
         }
         let combinator = self.combinators.len() as u32;
@@ -170,8 +194,7 @@ impl PageScript {
         ensures result { IfOk result (λ a. a.result ≡ (model.combining_at (holding self.old) combinator).result) }
         ensures answer { IfOk result (λ a. answer_seen a.answer
             ≡ report_answer (report_of place how) (model.combining_at (holding self.old) combinator).combine) }
-        ensures noted { OnOk result (let c = model.combining_at (holding self.old) combinator in
-            self.new ≡ changed_by (model.with_combining combinator (record c { combine = with_report (report_of place how) c.combine })) self.old) }
+        ensures noted { OnOk result (self.new ≡ changed_by (noted_at combinator (report_of place how)) self.old) }
         ensures memory { IfErr result (λ why. why ≡ OutOfMemory) }
     {
         match note_report(&mut self.combinators, combinator, place, how) {

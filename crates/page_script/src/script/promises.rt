@@ -82,7 +82,8 @@ impl PageScript {
         ensures { Does L.keeping (on self.old (L.seen lines.old)) (on_script (model.settle p (settled_seen how)))
             (result_err result) (on self.new (L.seen lines.new)) }
     {
-        self.promises.settle(p, how, self.moment, &self.names, lines)
+        self.promises
+            .settle(p, how, self.moment, &self.names, lines)
     }
 
     /// Makes a promise which is settled at once, and answers its number, as [`PageScript::new_promise`] and
@@ -108,7 +109,8 @@ impl PageScript {
         ensures { Does L.keeping (on self.old (L.seen lines.old)) (on_script (model.follow p (settled_seen how)))
             (result_err result) (on self.new (L.seen lines.new)) }
     {
-        self.promises.follow(p, how, self.moment, &self.names, lines)
+        self.promises
+            .follow(p, how, self.moment, &self.names, lines)
     }
 
     /// Gives a promise a reaction, which waits while the promise is pending, and for which else a job is queued, with its `job`

@@ -37,7 +37,11 @@ impl PageScript {
     }
 
     /// One more turn, whose number has to be below 2^64, begins with a task of this source, or with none: its line.
-    pub fn begin_turn<L: Lines>(&mut self, source: Option<Source>, lines: &mut L) -> Result<(), NoLine>
+    pub fn begin_turn<L: Lines>(
+        &mut self,
+        source: Option<Source>,
+        lines: &mut L,
+    ) -> Result<(), NoLine>
         requires { self.old.turns + 1 < 2 ^ 64 }
         ensures { Does L.keeping (on self.old (L.seen lines.old))
             (on_script (λ p. model.emit (Turn (suc p.turns) source) (record p { turns = suc p.turns })))
@@ -48,7 +52,12 @@ impl PageScript {
     }
 
     /// A wait for a moment is over, and this is the time: its line, at that time.
-    pub fn mark_wait<L: Lines>(&mut self, target: Micros, time: Micros, lines: &mut L) -> Result<(), NoLine>
+    pub fn mark_wait<L: Lines>(
+        &mut self,
+        target: Micros,
+        time: Micros,
+        lines: &mut L,
+    ) -> Result<(), NoLine>
         ensures { Does L.keeping (on self.old (L.seen lines.old)) (on_script (λ p. model.emit (Wait target.0) (at_time time.0 p)))
             (result_err result) (on self.new (L.seen lines.new)) }
     {

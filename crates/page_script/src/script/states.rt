@@ -40,6 +40,13 @@ impl PageScript {
         Ok(n)
     }
 
+    /// How many scheduling states were ever made. Takes no memory.
+    pub fn states_made(&self) -> usize
+        ensures { result ≡ length self.now.scheduling_states }
+    {
+        self.states.len()
+    }
+
     /// The current scheduling state; with none, no abort source and fixed user-visible. Takes no memory.
     pub fn current_state(&self) -> SchedulingState
         ensures { state_seen result ≡ read_by model.current_state self.now }
@@ -73,7 +80,8 @@ impl PageScript {
     fn keep_post(&mut self, port: u32, value: Value) -> Result<(), NoLine>
         ensures memory { IfErr result (λ why. why ≡ OutOfMemory) }
         ensures kept { OnOk result (self.new ≡ record self.old {
-            posts = and_last self.old.posts (record { port = port; value = seen value; at = self.old.now }) }) }
+          posts = and_last self.old.posts (record { port = port; value = seen value; at = self.old.now });
+        }) }
     {
         let post = Post {
             port,

@@ -1,5 +1,5 @@
 use Rattle.std.proofs.Common.{◌≡◌, ◌<◌, false, map, ◌∙◌, ap, sym, subst}
-use Rattle.page_parts.specs.Words.{numbered, with_numbered}
+use Rattle.page_parts.specs.Words.{with_numbered}
 use Rattle.page_parts.specs.Combinators.{Combine, with_report, report_answer}
 use Rattle.page_model.specs.State as m
 use Rattle.page_model.specs.PageCombinators.{no_combining}
