@@ -86,7 +86,7 @@ fn a_throw_of_a_microtask_is_reported_behind_the_checkpoint(rt: HostRuntime) -> 
     let sink = lines.into_sink();
     assert_eq!(rt;
         sink.bytes(),
-        b"0 turn 1 dom\n0 call 1\n0 reg 2 micro by 1\n0 job 1 micro 2\n0 ret\n0 run 1\n\
+        b"0 turn 1 dom\n0 call 1\n0 reg 2 micro 1\n0 job 1 micro 2\n0 ret\n0 run 1\n\
         0 call 2\n0 throw 5\n0 report 5\n0 end done\n"
             .as_slice()
     );
