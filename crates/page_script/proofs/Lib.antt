@@ -1,0 +1,12 @@
+pub mod Lifting
+pub mod Calling
+pub mod Marking
+pub mod Reporting
+pub mod Counting
+pub mod Lengths
+pub mod Making
+pub mod PageDoing
+pub mod Tasking
+pub mod Touching
+pub mod Numbering
+pub mod Promising

@@ -1,0 +1,11 @@
+pub mod Script
+pub mod PageActs
+pub mod ScriptActs
+pub mod Seen
+pub mod Codes
+pub mod Marks
+pub mod Reports
+pub mod First
+pub mod Lengths
+pub mod Leading
+pub mod Jobs

@@ -1,0 +1,46 @@
+//! A combinator of a page, and what it is told.
+
+ghost use Rattle.std.specs.Prelude.{◌≡◌, ◌<◌, ◌≤◌, length, false, IfOk, OnOk};
+ghost use Rattle.page_parts.specs.Words.{with_numbered};
+ghost use Rattle.page_parts.specs.Combinators.{report_answer};
+ghost use Rattle.promise_combine.specs.Seen.{report_of};
+ghost use Rattle.promise_combine.specs.Answers.{answer_seen};
+ghost use Rattle.promise_combine.specs.Reports.{has_reported};
+ghost use Rattle.page_script.specs.Leading.{all_seen, combining_in, reported};
+
+use crate::combiner::Combining;
+use page_notices::Settled;
+use page_values::MemoryFault;
+
+// What the answer of a combinator settles, and the answer, where there is one.
+#[derive(Drop)]
+pub(crate) struct Answered {
+    pub(crate) result: u32,
+    pub(crate) answer: Option<Settled>,
+}
+
+// Notes what the element of a combinator at a place was settled with.
+pub(crate) fn note_report(
+    combinators: &mut Vec<Combining>,
+    number: u32,
+    place: u32,
+    how: Settled,
+) -> Result<Answered, MemoryFault>
+    requires counted { 0 < number }
+    requires made { number ≤ length combinators.old.items }
+    requires within { place < (combining_in combinators.old.items number).combine.count }
+    requires fresh { has_reported place (combining_in combinators.old.items number).combine ≡ false }
+    ensures result { IfOk result (λ a. a.result ≡ (combining_in combinators.old.items number).result) }
+    ensures answer { IfOk result (λ a. answer_seen a.answer
+        ≡ report_answer (report_of place how) (combining_in combinators.old.items number).combine) }
+    ensures noted { OnOk result (all_seen combinators.new.items
+        ≡ with_numbered (all_seen combinators.old.items) number
+        (reported (report_of place how) (combining_in combinators.old.items number))) }
+{
+    let c = &mut combinators[number as usize - 1];
+    let answer = c.combine.report(place, how)?;
+    Ok(Answered {
+        result: c.result,
+        answer,
+    })
+}
