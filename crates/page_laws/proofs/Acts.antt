@@ -33,7 +33,7 @@ module _ {C : Type 0} (program : Program) where
     rest-lands : (c : C) (m : State) → Good m → Rests m → Lands program m (rest c m)
     rest-lands c m g x =
         choose-lands program (is_empty (view m.host)) (λ m. GoesOn (on_page idle_step m) c) (λ m. Stuck NoAct m c) m
-        (comes_by m idle_step g x (idle_step-held m.host g.0, idle_step-changes m.host x.0.0 x.1) (idle_step-notices m.host)) here
+        (comes_by m idle_step g x (idle_step-held m.host g.0, idle_step-changes m.host x.0.0 x.1 x.2) (idle_step-notices m.host)) here
 
     serve-lands : (until : ℕ) (c : C) (m : State) → Good m → Rests m → Lands program m (serve rules call until c m)
     serve-lands until c m g x = choose-lands program (is_empty (view m.host)) (λ m. Stuck NoAct m c) (step_three rules call until c) m here (step_three-lands program rules call calls_go until c m g x)
@@ -60,4 +60,4 @@ module _ {C : Type 0} (program : Program) where
 pub gaps_are_moves : {C : Type 0} (rules : Rules C) (program : Program) (setup : Setup) (c : C) (list : List Act) → HoldsNoNumbers setup → Moves (first_page program setup []) (state_of (run_gaps_by rules program setup list c)).host
 unfolding run_gaps_by
 gaps_are_moves rules program setup c list h =
-    acts-stop program rules (call_from_outside program page_operations) (outside-goes program) setup.until list (first_state program setup []) c (first_state-good program setup [] h) ((refl, refl), refl)
+    acts-stop program rules (call_from_outside program page_operations) (outside-goes program) setup.until list (first_state program setup []) c (first_state-good program setup [] h) ((refl, refl, tt), refl, λ c i. elim i [ ])

@@ -23,7 +23,7 @@ use Rattle.page_model.specs.State.{Registration, Page, Task, HostTask, Steps, An
 use Rattle.page_model.specs.Turns.{first_page}
 use Rattle.page_laws.specs.CallLaws.{is_answer_of, keeps_once}
 use Rattle.page_laws.specs.History.{History, count_lines, some_line, is_rest}
-use Rattle.page_laws.specs.Moves.{is_aside, is_end, is_free, fired_at, promise_changes, Places, places, PlaceChange, places_stay, task_queued, task_left, armed_again, signal_armed, timer_due, completed, idle_started, idle_left, answer_due, id_cleared, idle_armed, idle_due, Dropping, timer_dropped, idle_dropped, listener_dropped, task_dropped, FirstPlace, nowhere, at_listener, at_timer, at_delay, at_idle, at_host, AsBefore, PageChange, elsewhere, told, rested, answered, dropped, frame_dropped, registered, frame_asked, frame_gone, promised, settled, followed, adopted, subscribed, then_asked, micro_asked, rejected_taken, noted, Beginning, TheScript, ATimer, AFrame, AnIdle, ALateIdle, AListener, APost, AContinuation, AMicro, AReaction, called_by, taken, Moves, here, changing, calling, ending, flagging, running, enqueued_anew, fell_due, post_fell_due, delay_due, signal_due, DueChange, without_queued, without_answer, prio_told}
+use Rattle.page_laws.specs.Moves.{is_aside, is_end, is_free, fired_at, promise_changes, Places, places, PlaceChange, places_stay, task_queued, task_left, armed_again, signal_armed, timer_due, completed, idle_started, idle_left, answer_due, id_cleared, idle_armed, idle_due, Dropping, timer_dropped, idle_dropped, listener_dropped, task_dropped, FirstPlace, nowhere, at_listener, at_timer, at_delay, at_idle, at_host, AsBefore, PageChange, elsewhere, told, rested, answered, dropped, frame_dropped, registered, frame_asked, promised, settled, followed, adopted, subscribed, then_asked, micro_asked, rejected_taken, noted, Beginning, TheScript, ATimer, AFrame, AnIdle, ALateIdle, AListener, APost, AContinuation, AMicro, AReaction, called_by, taken, Moves, here, changing, calling, ending, flagging, running, framing, enqueued_anew, fell_due, post_fell_due, delay_due, signal_due, DueChange, without_queued, without_answer, prio_told}
 use Rattle.page_laws.proofs.Lines.{added, emit_each-events}
 use Rattle.page_laws.proofs.Once.{keeps_calls, once_calls}
 use Rattle.page_laws.proofs.Scans.{Test, Kept}
@@ -326,7 +326,7 @@ changes-fit n c p f = notices-fit (λ s. changed (context p) p.names n c s) p (c
 change-fits : {p q : Page} → PageChange p q → Fits p → Fits q
 change-fits {p = p} (elsewhere c b) f = before-fits b (place-fits c p.events f)
 change-fits {p = p} (told e h) f = silent-fits e p.now (places p) p.events (aside-silent e h) f
-change-fits {p = p} (rested e h x y z) f = silent-fits e p.now (places p) p.events (rest-silent e h) f
+change-fits {p = p} (rested e h x y z over) f = silent-fits e p.now (places p) p.events (rest-silent e h) f
 change-fits {p = p} {q = q} (answered source task t answer x y live z b) f = before-fits b (answered-fits (places p) (places q) (λ t. same_source t.source source) task t answer p.now p.events x y z f)
 change-fits {p = p} {q = q} (registered k x e u b) f = before-fits b (first-fits u (register_as k x p).events (record { once = f.once; live = f.live; kept = (refl, f.kept) }))
 change-fits {p = p} (dropped r d b) f = before-fits b (drop-fits d (emit (Drop r) p).events (record { once = f.once; live = f.live; kept = (refl, f.kept) }))
@@ -346,7 +346,6 @@ change-fits {p = p} {q = q} (post_fell_due start source t queue e role a s n b) 
 change-fits {p = p} (prio_told s priority ps c) f = silent-fits (Prio s priority) p.now (places p) p.events refl f
 change-fits (frame_dropped handle c e role) f = record { once = f.once; live = f.live; kept = (refl, f.kept) }
 change-fits (frame_asked g) f = record { once = f.once; live = f.live; kept = (refl, f.kept) }
-change-fits (frame_gone handle) f = f
 change-fits promised f = f
 change-fits {p = p} (settled n how x y) f = changes-fit n (Promises.settle n (the_promise p.notices.promises n) how) p f
 change-fits {p = p} (followed n how x y) f = changes-fit n (Promises.settle n (the_promise p.notices.promises n) how) p f
@@ -381,6 +380,7 @@ moves-fit (calling {q = q} a b w i) f = silent-fits (Call (called_by b)) (taken 
 moves-fit (ending {q = q} a e h) f = silent-fits e q.now (places q) q.events (end-silent e h) (moves-fit a f)
 moves-fit (flagging {q = q} {r = r} a x y z w u v t j) f = subst (λ (x : Places). HostsFit x r.events) (sym u) (subst (HostsFit (places q)) (sym y) (moves-fit a f))
 moves-fit (running {q = q} a j others x y) f = let g = moves-fit a f in record { once = g.once; live = g.live; kept = (refl, g.kept) }
+moves-fit (framing a t) f = let g = moves-fit a f in record { once = g.once; live = g.live; kept = (refl, g.kept) }
 
 -- from a first page on, no closure answers twice
 pub answered_once : (program : Program) (setup : Setup) (hosts : List HostClosure) {q : Page} → Moves (first_page program setup hosts) q → Kept once_answers q.events

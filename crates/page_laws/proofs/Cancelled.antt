@@ -6,7 +6,7 @@ use Rattle.std.specs.Prelude.{◌==◌, find}
 use Rattle.page_types.specs.declared.RegKind.{RegKind}
 use Rattle.page_types.specs.declared.RegKind.TheVariants as kind
 use Rattle.page_types.specs.declared.Source.TheVariants.{Sched}
-use Rattle.page_types.specs.Events.{Event, Call, Reg, Run, Turn, IdleLine, Host, Drop, Due, Enq, Prio}
+use Rattle.page_types.specs.Events.{Frame, Event, Call, Reg, Run, Turn, IdleLine, Host, Drop, Due, Enq, Prio}
 use Rattle.page_types.specs.Tree.{Program}
 use Rattle.page_parts.specs.Words.{and_last, without, is_there}
 use Rattle.page_parts.specs.Timers.{Timers, TimerId, with_id, with_armed, clear, has_id, is_live, id_entry}
@@ -27,7 +27,7 @@ use Rattle.page_model.specs.Turns.{first_page}
 use Rattle.page_model.proofs.NumbersGrow.{length-last}
 use Rattle.page_laws.specs.History.{History, has_kind, is_host, is_some_and, kind_of, was_dropped, is_drop_of, is_rest}
 use Rattle.page_laws.specs.CallLaws.{keeps_cancel}
-use Rattle.page_laws.specs.Moves.{is_aside, is_end, role_at, id_at, signal_at, promise_changes, Places, places, with_queued, without_start, without_aborted, PlaceChange, places_stay, task_queued, task_left, armed_again, signal_armed, completed, idle_started, idle_left, id_cleared, idle_armed, DueChange, timer_due, delay_due, signal_due, idle_due, answer_due, Dropping, timer_dropped, idle_dropped, listener_dropped, FirstPlace, nowhere, at_listener, at_timer, at_delay, at_idle, at_host, AsBefore, PageChange, elsewhere, told, rested, answered, dropped, task_dropped, frame_dropped, registered, enqueued_anew, fell_due, post_fell_due, frame_asked, frame_gone, promised, settled, followed, adopted, subscribed, then_asked, micro_asked, rejected_taken, noted, Beginning, TheScript, ATimer, AFrame, AnIdle, ALateIdle, AListener, APost, AContinuation, AMicro, AReaction, called_by, role_of, taken, Waited, Moves, here, changing, calling, ending, flagging, running, prio_told}
+use Rattle.page_laws.specs.Moves.{is_aside, is_end, role_at, id_at, signal_at, promise_changes, Places, places, with_queued, without_start, without_aborted, PlaceChange, places_stay, task_queued, task_left, armed_again, signal_armed, completed, idle_started, idle_left, id_cleared, idle_armed, DueChange, timer_due, delay_due, signal_due, idle_due, answer_due, Dropping, timer_dropped, idle_dropped, listener_dropped, FirstPlace, nowhere, at_listener, at_timer, at_delay, at_idle, at_host, AsBefore, PageChange, elsewhere, told, rested, answered, dropped, task_dropped, frame_dropped, registered, enqueued_anew, fell_due, post_fell_due, frame_asked, promised, settled, followed, adopted, subscribed, then_asked, micro_asked, rejected_taken, noted, Beginning, TheScript, ATimer, AFrame, AnIdle, ALateIdle, AListener, APost, AContinuation, AMicro, AReaction, called_by, role_of, taken, Waited, Moves, here, changing, calling, ending, flagging, running, framing, prio_told}
 use Rattle.page_laws.proofs.Aborted.{moves-aborted}
 use Rattle.page_laws.proofs.Claims.{callback_claims, sched_claims, sched-less}
 use Rattle.page_laws.proofs.Finding.{false_true, none-left, found-counts, found-passes, not-without, not-left, not-last, same_number, off-none, off-keeps, add-keeps}
@@ -495,7 +495,7 @@ change-fits : {p q : Page} → PageChange p q → once.Fits p → Fits p → Fit
 change-fits {p = p} {q = q} (elsewhere c b) o f =
     before-fits b (shrink-fits p.registrations (page_waits p) (waits (places q) p.frames.callbacks (is_aborted p)) p.events (λ r. place-shrinks c p.frames.callbacks (is_aborted p) r (id_at p.registrations r)) f)
 change-fits {p = p} (told e h) o f = silent-fits e p.now p.registrations (page_waits p) p.events (aside-silent e h) f
-change-fits {p = p} (rested e h x y z) o f = silent-fits e p.now p.registrations (page_waits p) p.events (rest-silent e h) f
+change-fits {p = p} (rested e h x y z over) o f = silent-fits e p.now p.registrations (page_waits p) p.events (rest-silent e h) f
 change-fits {p = p} (answered source task t answer x y live z b) o f =
     before-fits b
     (subst (λ (y : Places). Cancels p.registrations (waits y p.frames.callbacks (is_aborted p)) (emit (Host t.closure t.number answer) p).events) (sym z)
@@ -582,9 +582,6 @@ change-fits {p = p} (frame_asked g) o f =
     (let more = total-last (callback_claims r) p.frames.callbacks d in
     let none : one_if (length (and_last p.registrations x) == r) ≡ 0 = ap one_if (same_number (length (and_last p.registrations x)) r (λ same. let l = length-last p.registrations x in absurd (omega (arith, same, le, l)))) in
     omega (arith, more, none))) f
-change-fits {p = p} (frame_gone handle) o f =
-    shrink-fits p.registrations (page_waits p) (waits (places p) (without_handle handle p.frames.callbacks) (is_aborted p)) p.events
-    (λ r. to_frames r (id_at p.registrations r) (page_waits p) _ (total-without (callback_claims r) (λ c. c.handle == handle) p.frames.callbacks)) f
 change-fits promised o f = f
 change-fits {p = p} (settled n how x y) o f = changes-fit n (Promises.settle n (the_promise p.notices.promises n) how) p f
 change-fits {p = p} (followed n how x y) o f = changes-fit n (Promises.settle n (the_promise p.notices.promises n) how) p f
@@ -638,7 +635,7 @@ not-gone (ATimer source task t) p w g = by_repeats t.repeats g
     by_repeats true e = live e
     by_repeats false e = live e
 not-gone (AFrame key c) p w g =
-    let le = found-counts (callback_claims c.registration) (λ (d : Callback). d.handle == key) p.frames.callbacks c w in
+    let le = found-counts (callback_claims c.registration) (λ (d : Callback). d.handle == key) p.frames.callbacks c w.0 in
     let one : one_if (c.registration == c.registration) ≡ 1 = ap one_if (eq-eqb c.registration c.registration refl) in
     absurd (omega (arith, le, one, g))
 not-gone (AnIdle c others) p w g =
@@ -699,6 +696,7 @@ moves-fit (flagging {q = q} {r = r} a x y z w u v t j) o f =
     (subst (λ (xs : List Registration). Cancels xs (page_waits q) r.events) (sym z)
     (subst (Cancels q.registrations (page_waits q)) (sym y) g))))
 moves-fit (running {q = q} a j others x y) o f = silent-fits (Run j.number) q.now q.registrations (page_waits q) q.events refl (moves-fit a o f)
+moves-fit (framing {q = q} a t) o f = silent-fits (Frame t) q.now q.registrations (page_waits q) q.events refl (moves-fit a o f)
 
 -- before a first page's first line nothing was dropped
 pub first_fits : (program : Program) (setup : Setup) (hosts : List HostClosure) → Fits (first_page program setup hosts)

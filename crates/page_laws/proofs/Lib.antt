@@ -1,6 +1,7 @@
 pub mod Going
 pub mod Moving
 pub mod Lines
+pub mod Framed
 pub mod Prioritised
 pub mod Moved
 pub mod Aborted
@@ -13,6 +14,7 @@ pub mod Jobs
 pub mod Settling
 pub mod Runs
 pub mod Operations
+pub mod Drawing
 pub mod Tasks
 pub mod Turns
 pub mod RunLaws

@@ -12,7 +12,7 @@ use Rattle.page_parts.specs.Promises.{the_promise}
 use Rattle.page_model.specs.State.{Page, emit, emit_each, on_notices, context}
 use Rattle.page_model.specs.Numbers.{Each}
 use Rattle.page_laws.specs.History.{History, open_after, open_registrations, is_rest}
-use Rattle.page_laws.specs.Moves.{frame_asked, frame_gone, is_aside, promise_changes, PageChange, elsewhere, told, rested, registered, promised, settled, followed, adopted, subscribed, micro_asked, then_asked, answered, dropped, frame_dropped, AsBefore, rejected_taken, noted, Changes, nothing, with_change, Beginning, TheScript, ATimer, AFrame, AnIdle, ALateIdle, AListener, APost, AContinuation, AMicro, AReaction, taken, task_dropped, enqueued_anew, fell_due, post_fell_due, prio_told}
+use Rattle.page_laws.specs.Moves.{frame_asked, is_aside, promise_changes, PageChange, elsewhere, told, rested, registered, promised, settled, followed, adopted, subscribed, micro_asked, then_asked, answered, dropped, frame_dropped, AsBefore, rejected_taken, noted, Changes, nothing, with_change, Beginning, TheScript, ATimer, AFrame, AnIdle, ALateIdle, AListener, APost, AContinuation, AMicro, AReaction, taken, task_dropped, enqueued_anew, fell_due, post_fell_due, prio_told}
 
 -- ---- lines
 
@@ -103,7 +103,7 @@ before-same b = (ap open_registrations b.events, b.performing)
 pub change-same : {p q : Page} → PageChange p q → Same p q
 change-same (elsewhere c b) = before-same b
 change-same {p = p} (told e h) = (aside-open e h (open_registrations p.events), refl)
-change-same {p = p} (rested e h x y z) = (rest-open e h (open_registrations p.events), refl)
+change-same {p = p} (rested e h x y z over) = (rest-open e h (open_registrations p.events), refl)
 change-same (answered source task t answer x y live z b) = before-same b
 change-same (registered kind x e u b) = before-same b
 change-same (dropped r d b) = before-same b
@@ -114,7 +114,6 @@ change-same (post_fell_due start source t queue e role a s n b) = before-same b
 change-same (prio_told s priority ps c) = (refl, refl)
 change-same (frame_dropped handle c e role) = (refl, refl)
 change-same (frame_asked f) = (refl, refl)
-change-same (frame_gone handle) = (refl, refl)
 change-same promised = (refl, refl)
 change-same {p = p} (settled n how x y) = promise_changes-same n (Promises.settle n (the_promise p.notices.promises n) how) p
 change-same {p = p} (followed n how x y) = promise_changes-same n (Promises.settle n (the_promise p.notices.promises n) how) p
@@ -157,7 +156,7 @@ notices-calls f p = emit_each-calls (f p.notices).lines (record p { notices = (f
 pub change-calls : {p q : Page} → PageChange p q → q.calls ≡ p.calls
 change-calls (elsewhere c b) = b.calls
 change-calls (told e h) = refl
-change-calls (rested e h x y z) = refl
+change-calls (rested e h x y z over) = refl
 change-calls (answered source task t answer x y live z b) = b.calls
 change-calls (registered kind x e u b) = b.calls
 change-calls (dropped r d b) = b.calls
@@ -168,7 +167,6 @@ change-calls (post_fell_due start source t queue e role a s n b) = b.calls
 change-calls (prio_told s priority ps c) = refl
 change-calls (frame_dropped handle c e role) = refl
 change-calls (frame_asked f) = refl
-change-calls (frame_gone handle) = refl
 change-calls promised = refl
 change-calls {p = p} (settled n how x y) = notices-calls (λ s. changed (context p) p.names n (Promises.settle n (the_promise p.notices.promises n) how) s) p
 change-calls {p = p} (followed n how x y) = notices-calls (λ s. changed (context p) p.names n (Promises.settle n (the_promise p.notices.promises n) how) s) p

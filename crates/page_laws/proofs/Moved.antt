@@ -51,7 +51,7 @@ use Rattle.page_model.specs.Tasks.{invoke_idle_again, outstanding_if_unhandled, 
 use Rattle.page_model.specs.Parallel.{ItemKind, ArrivalItem, HostItem, TimerItem, IdleItem, FrameItem, Item, arrival_items, frame_items, items_in_order, first_item_from, first_item_of, complete, complete_at, take_item, due_item, first_item, take_due, item_count, parallel}
 use Rattle.page_model.specs.Numbers.{IsGiven, Each, IfThere, made_by, Made, is_abortable, TimerIdIsGiven, CallbackIsGiven, IdleIsGiven, ListenerIsGiven, CompletionIsGiven, SchedTaskIsGiven, CompletingIsGiven, sched_role}
 use Rattle.page_laws.specs.History.{open_registrations, is_scheduled}
-use Rattle.page_laws.specs.Moves.{is_aside, promise_changes, Places, places, is_free, PlaceChange, places_stay, task_queued, completed, idle_started, idle_left, id_cleared, Dropping, timer_dropped, idle_dropped, listener_dropped, FirstPlace, nowhere, at_listener, at_timer, at_delay, at_idle, at_host, AsBefore, fired_at, PageChange, elsewhere, frame_asked, frame_gone, registered, answered, dropped, frame_dropped, then_asked, micro_asked, told, rested, settled, followed, adopted, subscribed, rejected_taken, noted, Changes, nothing, with_change, armed_again, signal_armed, idle_armed, timer_due, delay_due, signal_due, idle_due, answer_due, DueChange, StaysAborted, fell_due, post_fell_due, enqueued_anew, task_dropped, role_at, id_at, signal_at, Scheduling, scheduling_of, SchedulingAfter, HasPriority, Sourced, known, prio_told}
+use Rattle.page_laws.specs.Moves.{is_aside, FrameIsOver, promise_changes, Places, places, is_free, PlaceChange, places_stay, task_queued, completed, idle_started, idle_left, id_cleared, Dropping, timer_dropped, idle_dropped, listener_dropped, FirstPlace, nowhere, at_listener, at_timer, at_delay, at_idle, at_host, AsBefore, fired_at, PageChange, elsewhere, frame_asked, registered, answered, dropped, frame_dropped, then_asked, micro_asked, told, rested, settled, followed, adopted, subscribed, rejected_taken, noted, Changes, nothing, with_change, armed_again, signal_armed, idle_armed, timer_due, delay_due, signal_due, idle_due, answer_due, DueChange, StaysAborted, fell_due, post_fell_due, enqueued_anew, task_dropped, role_at, id_at, signal_at, Scheduling, scheduling_of, SchedulingAfter, HasPriority, Sourced, known, prio_told}
 use Rattle.page_laws.specs.Moves as moves
 use Rattle.page_laws.proofs.Moving.{changes-then}
 
@@ -233,9 +233,6 @@ found_for : (kind : RegKind) (last : ℕ) (n : Made) (cs : List Callback) (handl
 found_for kind last n cs handle c h e =
     (subst (λ (o : Option Callback). IfThere (CallbackIsGiven kind last n) o) e (Each-find (CallbackIsGiven kind last n) (λ d. d.handle == handle) cs h)).registration.role
 
-pub without_frame-changes : (handle : ℕ) (p : Page) → Changes p (without_frame handle p)
-without_frame-changes handle p = with_change nothing (frame_gone handle)
-
 pub cancel_frame-changes : (handle : ℕ) (p : Page) → Held (made_by p) p → Changes p (cancel_frame handle p)
 cancel_frame-changes handle p h = by_callback (callback_in p.frames.callbacks handle) refl
   where
@@ -243,12 +240,12 @@ cancel_frame-changes handle p h = by_callback (callback_in p.frames.callbacks ha
     by_callback None e = nothing
     by_callback (Some c) e = with_change nothing (frame_dropped handle c e (found_for FrameKind p.frames.made (made_by p) p.frames.callbacks handle c (h InFrames) e))
 
-pub idle_step-changes : (p : Page) → open_registrations p.events ≡ [] → p.notices.jobs ≡ [] → Changes p (idle_step p)
-idle_step-changes p x y =
+pub idle_step-changes : (p : Page) → open_registrations p.events ≡ [] → p.notices.jobs ≡ [] → FrameIsOver p → Changes p (idle_step p)
+idle_step-changes p x y over =
     let here : Page = record p { last_idle_start = p.now } in
     let end = deadline here.last_idle_start here in
     let told_one : Page = emit (Period end) p in
-    let begun : Changes p told_one = with_change nothing (rested (Period end) refl x y refl) in
+    let begun : Changes p told_one = with_change nothing (rested (Period end) refl x y refl over) in
     let started : Page = record told_one { last_idle_start = p.now; idle = IdleCallbacks.started p.idle; idle_period_end = end } in
     cond-changes (waits here.idle && nat_lt here.now (deadline here.last_idle_start here) && nat_le here.idle_period_end here.now) p (period_begun end here) here
     (changes-then (changes-then begun (placed told_one started idle_started refl refl refl refl refl refl refl refl)) (queue_task-changes IdleSource InvokeIdle started refl)) (quietly p here refl refl refl refl refl refl refl refl refl)

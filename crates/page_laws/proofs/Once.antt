@@ -5,7 +5,7 @@ use Rattle.std.specs.Prelude.{◌==◌, filter, find}
 use Rattle.page_types.specs.declared.RegKind.{RegKind}
 use Rattle.page_types.specs.declared.RegKind.TheVariants as kind
 use Rattle.page_types.specs.declared.Source.TheVariants.{Sched}
-use Rattle.page_types.specs.Events.{Event, Call, Reg, Run, Turn, IdleLine, Host, Drop, Due, Enq, Prio}
+use Rattle.page_types.specs.Events.{Frame, Event, Call, Reg, Run, Turn, IdleLine, Host, Drop, Due, Enq, Prio}
 use Rattle.page_parts.specs.Words.{and_last, without}
 use Rattle.page_parts.specs.Frames.{Frames, Callback, without_handle}
 use Rattle.page_parts.specs.Promises.{Settled, Reaction, the_promise, pending_promise}
@@ -19,7 +19,7 @@ use Rattle.page_model.specs.Numbers.{Each, IsFor, made_by, timer_role}
 use Rattle.page_model.proofs.NumbersGrow.{length-last}
 use Rattle.page_laws.specs.History.{History, count_lines, has_kind, is_some_and, is_call_of, kind_of, was_called}
 use Rattle.page_laws.specs.CallLaws.{is_one_shot, has_no_callback, was_made, runs_once, may_be_called, may_be_registered}
-use Rattle.page_laws.specs.Moves.{promise_changes, Places, places, PlaceChange, places_stay, task_queued, task_left, armed_again, signal_armed, timer_due, completed, idle_started, idle_left, answer_due, id_cleared, idle_armed, idle_due, Dropping, timer_dropped, idle_dropped, listener_dropped, task_dropped, AsBefore, PageChange, elsewhere, told, rested, answered, dropped, frame_dropped, registered, frame_asked, frame_gone, promised, settled, followed, adopted, subscribed, then_asked, micro_asked, rejected_taken, noted, Beginning, TheScript, ATimer, AFrame, AnIdle, ALateIdle, AListener, APost, AContinuation, AMicro, AReaction, called_by, role_of, taken, Waited, Moves, here, changing, calling, ending, flagging, running, enqueued_anew, fell_due, post_fell_due, delay_due, signal_due, DueChange, prio_told}
+use Rattle.page_laws.specs.Moves.{promise_changes, Places, places, PlaceChange, places_stay, task_queued, task_left, armed_again, signal_armed, timer_due, completed, idle_started, idle_left, answer_due, id_cleared, idle_armed, idle_due, Dropping, timer_dropped, idle_dropped, listener_dropped, task_dropped, AsBefore, PageChange, elsewhere, told, rested, answered, dropped, frame_dropped, registered, frame_asked, promised, settled, followed, adopted, subscribed, then_asked, micro_asked, rejected_taken, noted, Beginning, TheScript, ATimer, AFrame, AnIdle, ALateIdle, AListener, APost, AContinuation, AMicro, AReaction, called_by, role_of, taken, Waited, Moves, here, changing, calling, ending, flagging, running, framing, enqueued_anew, fell_due, post_fell_due, delay_due, signal_due, DueChange, prio_told}
 use Rattle.page_types.specs.Tree.{Program}
 use Rattle.page_parts.specs.Setup.{Setup}
 use Rattle.page_parts.specs.HostClosures.{HostClosure}
@@ -388,7 +388,7 @@ subscribed-silent n r p =
 change-fits : {p q : Page} → PageChange p q → Fits p → Fits q
 change-fits {p = p} (elsewhere c b) f = before-fits b (place-fits c p.notices p.frames.callbacks p.events f)
 change-fits {p = p} (told e h) f = silent-fits e p.now p.registrations (claims_of (places p) p.notices p.frames.callbacks) p.events (aside-silent e h) f
-change-fits {p = p} (rested e h x y z) f = silent-fits e p.now p.registrations (claims_of (places p) p.notices p.frames.callbacks) p.events (rest-silent e h) f
+change-fits {p = p} (rested e h x y z over) f = silent-fits e p.now p.registrations (claims_of (places p) p.notices p.frames.callbacks) p.events (rest-silent e h) f
 change-fits {p = p} {q = q} (answered source task t answer x y live z b) f =
     before-fits b
     (lessen-fits p.registrations (claims_of (places p) p.notices p.frames.callbacks) (claims_of (places q) p.notices p.frames.callbacks) (emit (Host t.closure t.number answer) p).events
@@ -443,9 +443,6 @@ change-fits {p = p} {q = q} (frame_asked g) f =
     let a = total-last (callback_claims r) p.frames.callbacks d in
     let e = ap {A = ℕ} {B = ℕ} (λ n. one_if (n == r)) (length-last p.registrations x) in
     omega (arith, a, e)) f
-change-fits {p = p} (frame_gone handle) f =
-    lessen-fits p.registrations (claims_of (places p) p.notices p.frames.callbacks) (claims_of (places p) p.notices (without_handle handle p.frames.callbacks)) p.events
-    (λ r. let a = total-without (callback_claims r) (λ c. c.handle == handle) p.frames.callbacks in omega (arith, a)) f
 change-fits {p = p} promised f = notices-less p (record p.notices { promises = and_last p.notices.promises pending_promise }) (λ r. let a = promised-claims r p.notices in omega (arith, a)) f
 change-fits {p = p} (settled n how g y) f = changes-fit n (Promises.settle n (the_promise p.notices.promises n) how) p (λ r. settled-claims r (context p) p.names n how p.notices g) f
 change-fits {p = p} (followed n how g y) f = changes-fit n (Promises.settle n (the_promise p.notices.promises n) how) p (λ r. settled-claims r (context p) p.names n how p.notices g) f
@@ -499,7 +496,7 @@ call-fits (ATimer source task t) p w i f =
     counted_if (is_once (timer_role t.repeats)) (claims_of (places (taken (ATimer source task t) p)) p.notices p.frames.callbacks r) (one_if (t.registration == r)) (claims_of (places p) p.notices p.frames.callbacks r) (omega (arith, a))) f
 call-fits (AFrame key d) p w i f =
     called-fits (AFrame key d) p p.now (claims_of (places p) p.notices p.frames.callbacks) (claims_of (places p) p.notices (without_handle d.handle p.frames.callbacks)) p.events i
-    (λ r. let a = less-found (callback_claims r) (λ c. c.handle == key) (λ c. c.handle == d.handle) p.frames.callbacks d w (eq-eqb d.handle d.handle refl) in omega (arith, a)) f
+    (λ r. let a = less-found (callback_claims r) (λ c. c.handle == key) (λ c. c.handle == d.handle) p.frames.callbacks d w.0 (eq-eqb d.handle d.handle refl) in omega (arith, a)) f
 call-fits (AnIdle d others) p w i f =
     called-fits (AnIdle d others) p p.now (claims_of (places p) p.notices p.frames.callbacks) (claims_of (places (taken (AnIdle d others) p)) p.notices p.frames.callbacks) _ i
     (λ r.
@@ -551,6 +548,7 @@ moves-fit (flagging {q = q} {r = r} a x y z w u v t j) f =
     (subst (λ (past : History). FitsBy q.registrations (places q) q.notices q.frames.callbacks past) (sym y) (moves-fit a f)))))
 moves-fit (running {q = q} a j others x y) f =
     silent-fits (Run j.number) q.now q.registrations (claims_of (places q) (record q.notices { jobs = others }) q.frames.callbacks) q.events refl (job-fits q j others x (moves-fit a f))
+moves-fit (framing {q = q} a t) f = silent-fits (Frame t) q.now q.registrations (claims_of (places q) q.notices q.frames.callbacks) q.events refl (moves-fit a f)
 
 -- before a first page's first line only the script waits
 pub first_fits : (program : Program) (setup : Setup) (hosts : List HostClosure) → Fits (first_page program setup hosts)

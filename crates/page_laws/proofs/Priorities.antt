@@ -8,7 +8,7 @@ use Rattle.page_types.specs.declared.Priority.{Priority}
 use Rattle.page_types.specs.declared.RegKind.{RegKind}
 use Rattle.page_types.specs.declared.RegKind.TheVariants as kind
 use Rattle.page_types.specs.declared.Source.TheVariants.{Sched}
-use Rattle.page_types.specs.Events.{QueueName, Event, Stamped, Call, Reg, Run, Turn, IdleLine, Host, Drop, Due, Enq, Prio}
+use Rattle.page_types.specs.Events.{Frame, QueueName, Event, Stamped, Call, Reg, Run, Turn, IdleLine, Host, Drop, Due, Enq, Prio}
 use Rattle.page_types.specs.Tree.{Program}
 use Rattle.page_parts.specs.Words.{and_last, without, is_there}
 use Rattle.page_parts.specs.TaskSignals.{Prios, priority_of}
@@ -26,7 +26,7 @@ use Rattle.page_model.specs.Turns.{first_page}
 use Rattle.page_model.proofs.NumbersGrow.{length-last, Each-more, Each-last, Each-without, Each-find, Each-numbered, numbered-last}
 use Rattle.page_laws.specs.History.{History, has_kind, is_scheduled, is_some_and, was_called, was_dropped, is_rest, is_sched_turn, last_line}
 use Rattle.page_laws.specs.SchedulerLaws.{Enqueued, enqueued, waiting, priority_now, precedes, first_tasks, has_task, is_later, keeps_priorities}
-use Rattle.page_laws.specs.Moves.{is_aside, is_end, role_at, signal_at, id_at, HasPriority, Sourced, known, inherited, Scheduling, scheduling_of, promise_changes, Places, places, completions_but, PlaceChange, places_stay, task_queued, task_left, armed_again, signal_armed, completed, idle_started, idle_left, id_cleared, idle_armed, DueChange, timer_due, delay_due, signal_due, idle_due, answer_due, Dropping, timer_dropped, idle_dropped, listener_dropped, FirstPlace, nowhere, at_listener, at_timer, at_delay, at_idle, at_host, AsBefore, PageChange, elsewhere, told, rested, answered, dropped, task_dropped, frame_dropped, prio_told, registered, enqueued_anew, fell_due, post_fell_due, frame_asked, frame_gone, promised, settled, followed, adopted, subscribed, then_asked, micro_asked, rejected_taken, noted, Beginning, TheScript, ATimer, AFrame, AnIdle, ALateIdle, AListener, APost, AContinuation, AMicro, AReaction, called_by, role_of, taken, Waited, Moves, here, changing, calling, ending, flagging, running, SchedulingAfter}
+use Rattle.page_laws.specs.Moves.{is_aside, is_end, role_at, signal_at, id_at, HasPriority, Sourced, known, inherited, Scheduling, scheduling_of, promise_changes, Places, places, completions_but, PlaceChange, places_stay, task_queued, task_left, armed_again, signal_armed, completed, idle_started, idle_left, id_cleared, idle_armed, DueChange, timer_due, delay_due, signal_due, idle_due, answer_due, Dropping, timer_dropped, idle_dropped, listener_dropped, FirstPlace, nowhere, at_listener, at_timer, at_delay, at_idle, at_host, AsBefore, PageChange, elsewhere, told, rested, answered, dropped, task_dropped, frame_dropped, prio_told, registered, enqueued_anew, fell_due, post_fell_due, frame_asked, promised, settled, followed, adopted, subscribed, then_asked, micro_asked, rejected_taken, noted, Beginning, TheScript, ATimer, AFrame, AnIdle, ALateIdle, AListener, APost, AContinuation, AMicro, AReaction, called_by, role_of, taken, Waited, Moves, here, changing, calling, ending, flagging, running, framing, SchedulingAfter}
 use Rattle.page_laws.proofs.Cancelled as cancelled
 use Rattle.page_laws.proofs.Cancelled.{unless, made-kind, no_kind, kind-there, GoneBy}
 use Rattle.page_laws.proofs.Claims.{completed-less}
@@ -451,7 +451,7 @@ delay-source ps start cs c h e = by_found (find (λ c. c.start == start) cs) (Ea
 change-fits : {p q : Page} → PageChange p q → once.Fits p → cancelled.Fits p → Fits p → Fits q
 change-fits {p = p} (elsewhere c b) o d f = before-fits b (place-fits c (scheduling_of p) p.events f)
 change-fits {p = p} (told e h) o d f = said e p (aside-silent e h) f
-change-fits {p = p} (rested e h x y z) o d f = said e p (rest-silent e h z) f
+change-fits {p = p} (rested e h x y z over) o d f = said e p (rest-silent e h z) f
 change-fits {p = p} (answered source task t answer x y live z b) o d f =
     before-fits b (subst (λ (y : Places). ScheduledAt p.registrations y (scheduling_of p) (emit (Host t.closure t.number answer) p).events) (sym z) (said (Host t.closure t.number answer) p refl f))
 change-fits {p = p} (registered k x e u b) o d f =
@@ -517,7 +517,6 @@ change-fits {p = p} (prio_told s priority ps c) o d f =
     by_number t q e true k = ap Some (sym (c.own q (ap (priority_of ps) (eqb-true s t k) ∙ e)))
     by_number t q e false k = f.told t q (sym (c.others t k) ∙ e)
 change-fits {p = p} (frame_asked g) o d f = plain-fits kind.Frame (record { role = OfKind kind.Frame; callback = Some g; second_callback = None; timer_id = 0; promise = 0; signal = None; finally = false }) p f
-change-fits (frame_gone handle) o d f = f
 change-fits promised o d f = f
 change-fits {p = p} (settled n how x y) o d f = changes-fit n (Promises.settle n (the_promise p.notices.promises n) how) p f
 change-fits {p = p} (followed n how x y) o d f = changes-fit n (Promises.settle n (the_promise p.notices.promises n) how) p f
@@ -580,6 +579,7 @@ moves-fit (flagging {q = q} {r = r} a x y z w u v t j) o d f =
     (subst (λ (x : Places). ScheduledAt r.registrations x (scheduling_of q) r.events) (sym u)
     (subst (λ (xs : List Registration). ScheduledAt xs (places q) (scheduling_of q) r.events) (sym z) (subst (ScheduledAt q.registrations (places q) (scheduling_of q)) (sym y) (moves-fit a o d f))))
 moves-fit (running {q = q} a j others x y) o d f = said (Run j.number) q refl (moves-fit a o d f)
+moves-fit (framing {q = q} a t) o d f = said (Frame t) q refl (moves-fit a o d f)
 
 -- from a first page on, the scheduler's tasks go in the order of their priorities
 pub priorities_kept : (program : Program) (setup : Setup) (hosts : List HostClosure) {q : Page} → Moves (first_page program setup hosts) q → Kept in_priority q.events

@@ -1,15 +1,17 @@
 -- Tasks are rows of moves.
 use Rattle.page_types.specs.declared.RegKind.TheVariants as kind
 use Rattle.lang_meaning.specs.Machine.{Caller, Done, afterwards, branch, finish}
+use Rattle.page_laws.proofs.Drawing.{run_frame-goes}
+use Rattle.page_laws.proofs.Framed.{Ordered}
 use Rattle.page_laws.proofs.Evaluating.{Le, Onto, Reached, entered, le-same, le-then, on_page-reached, told-onto, call_over}
 use Rattle.page_laws.proofs.Moved.{invoke_idle_again-changes, outstanding-changes, placed, quietly}
 use Rattle.page_laws.proofs.Onto.{clear_id-onto, init_again-onto, resolve-onto, unwatch-onto}
 use Rattle.page_laws.proofs.Runs.{AtTop, CallsGo, Goes, WaysGo, abort-goes, afterwards-goes, at_top-later, branch-goes, branch_when-goes, checkpoint-goes, dispatch-goes, each_in_turn-goes, finish-goes, finish_page, invoke-goes, scheduling-onto, settle_derived-goes, then_page, wide}
-use Rattle.page_laws.specs.Moves.{task_left, AContinuation, AFrame, ALateIdle, APost, ATimer, AnIdle, TheScript, Waited, sched_begun, taken}
+use Rattle.page_laws.specs.Moves.{task_left, AContinuation, ALateIdle, APost, ATimer, AnIdle, TheScript, FrameIsOver, Waited, sched_begun, taken}
 use Rattle.page_model.proofs.NumbersEvaluation as numbers
 use Rattle.page_model.proofs.NumbersEvaluation.{Good, on_page-good}
-use Rattle.page_model.proofs.NumbersGrow.{Each-append, Each-find, Each-last, Each-without, Held, InFrames, InIdle, InNotices, InTasks, Onward, TimerTask-grows, onward-then, promise-grows, stays, IsFor-grows}
-use Rattle.page_model.proofs.NumbersPages.{cond-onward, put_notices, queue_task-held, the_registration-given, with_state-held, without_frame-held, without_idle-held, without_sched-held, call_begun-held, call_ended-held}
+use Rattle.page_model.proofs.NumbersGrow.{Each-append, Each-find, Each-last, Each-without, Held, InIdle, InNotices, InTasks, Onward, TimerTask-grows, onward-then, promise-grows, stays, IsFor-grows}
+use Rattle.page_model.proofs.NumbersPages.{cond-onward, put_notices, queue_task-held, the_registration-given, with_state-held, without_idle-held, without_sched-held, call_begun-held, call_ended-held}
 use Rattle.page_model.proofs.NumbersParts.{the_promise-given}
 use Rattle.page_model.specs.Invoke.{Ways, checkpoint, invoke, settle_derived, call_ended, call_begun}
 use Rattle.page_model.specs.Numbers.{CallbackIsGiven, Each, HasPromise, IdleIsGiven, IfThere, IsFor, IsGiven, IsKnown, Made, NoticesAreGiven, SchedTaskIsGiven, StepsAreGiven, TaskIsGiven, TimerTaskIsGiven, made_by, sched_role, timer_role}
@@ -18,22 +20,22 @@ use Rattle.page_model.specs.PageSignals.{dispatch, unwatch}
 use Rattle.page_model.specs.PageTime.{clear_id, deadline, first_task, idle_callback, init_timer, without_idle}
 use Rattle.page_model.specs.SchedulerTasks.{first_sched, with_state}
 use Rattle.page_model.specs.State.{AnswerHost, FireAtWindow, IdleTimeout, InvokeIdle, NotifyHandled, NotifyRejected, OfKind, Page, RunFrame, RunScript, RunTimer, SchedTask, State, Steps, Task, TimeOutSignal, TimerTask, emit, on_page, queue_task, the_registration}
-use Rattle.page_model.specs.Tasks.{after_task, background, call_idle, continued, frame_callback, idle_called, initialised_again, invoke_idle, invoke_idle_again, notify_one, outstanding_if_unhandled, perform_sched, perform_steps, post_state, promise_reason, run_frame, run_post, run_timer, timed_out, timer_goes_on, where_live}
+use Rattle.page_model.specs.Tasks.{after_task, background, call_idle, continued, idle_called, initialised_again, invoke_idle, invoke_idle_again, notify_one, outstanding_if_unhandled, perform_sched, perform_steps, post_state, promise_reason, run_post, run_timer, timed_out, timer_goes_on, where_live}
 use Rattle.page_model.specs.Turns.{without_task}
-use Rattle.page_parts.specs.Frames.{Callback, callback_in, keys}
+use Rattle.page_parts.specs.Frames.{Callback, callback_in}
 use Rattle.page_parts.specs.Kinds.{a_fault}
 use Rattle.page_parts.specs.Listeners.{Window}
 use Rattle.page_parts.specs.Promises.{Settled, settled_value}
 use Rattle.page_parts.specs.Timers.{Timers, TimerId, id_entry, has_id, is_live}
 use Rattle.page_parts.specs.Words.{and_last, is_empty, is_there, without}
-use Rattle.page_types.specs.Events.{Frame, Handled, IdleLine, Ret, Turn, Unhandled}
+use Rattle.page_types.specs.Events.{Handled, IdleLine, Ret, Turn, Unhandled}
 use Rattle.page_types.specs.Tree.{Program}
-use Rattle.page_types.specs.Values.{DeadlineValue, IntValue, PromiseValue, UnitValue}
+use Rattle.page_types.specs.Values.{DeadlineValue, PromiseValue, UnitValue}
 use Rattle.page_types.specs.declared.FaultName.TheVariants.{TimeoutError}
 use Rattle.page_types.specs.declared.RegKind.{RegKind}
 use Rattle.page_types.specs.declared.Source.{Source}
 use Rattle.page_types.specs.declared.Source.TheVariants.{Idle, Sched}
-use Rattle.std.proofs.Common.{Bool, List, None, Option, Some, [], cond, false, length, nat_lt, pos, refl, subst, sym, true, ℕ, ◌++◌, ◌∷◌, ◌≡◌}
+use Rattle.std.proofs.Common.{Bool, List, None, Option, Some, [], cond, false, length, nat_lt, refl, subst, sym, true, ℕ, ◌++◌, ◌∷◌, ◌≡◌}
 use Rattle.std.specs.Prelude.{codes, ◌==◌}
 use Rattle.page_laws.specs.History.{open_registrations}
 use Rattle.page_model.specs.PagePromises as promises
@@ -156,25 +158,7 @@ module _ (program : Program) where
       branch_when-goes_from true m n then else h k = h refl
       branch_when-goes_from false m n then else h k = k
 
-  -- ---- frames and idle callbacks
-
-  frame_callback-goes : (w : Ways) (a : WaysGo program w) → (t key : ℕ) (c : Option Callback) (m : State) → callback_in m.host.frames.callbacks key ≡ c → Good m → a.Here m → Goes program m (frame_callback w t c m)
-  frame_callback-goes w a t key None m e g z = finish-goes program m g
-  frame_callback-goes w a t key (Some c) m e g z = invoke-goes program w a (AFrame key c) false (IntValue (pos t) ∷ []) m g z e (find_for kind.Frame m.host.frames.made (made_by m.host) m.host.frames.callbacks key c (g.0 InFrames) e) (without_frame-held c.handle m.host g.0) (tt, tt)
-
-  abbrev IsAny : Made → ℕ → Type 0
-  IsAny n k = Unit {0}
-
-  any_numbers : (n : Made) (ks : List ℕ) → Each (IsAny n) ks
-  any_numbers n [] = tt
-  any_numbers n (k ∷ ks) = (tt, any_numbers n ks)
-
-  run_frame-goes : (w : Ways) (a : WaysGo program w) → (t : ℕ) (m : State) → Good m → a.Here m → Goes program m (run_frame w t m)
-  run_frame-goes w a t m g z =
-      let begun = on_page (emit (Frame t)) m in
-      then_page program m (emit (Frame t)) (run_frame w t m) g (told-onto (Frame t) m.host refl g.0)
-      (λ b. each_in_turn-goes program begun IsAny (λ n n' h k x. tt) (λ key m. frame_callback w t (callback_in m.host.frames.callbacks key) m)
-      (λ key r le gr x. frame_callback-goes w a t key (callback_in r.host.frames.callbacks key) r refl gr (a.later m r (le-then m begun r b.0 le) z)) (keys m.host.frames) begun (le-same begun) b.1 (any_numbers (made_by m.host) (keys m.host.frames)))
+  -- ---- idle callbacks
 
   idle_left-held : (c : Callback) (p : Page) → Held (made_by p) p → Onward (made_by p) (with_state background (without_idle c.handle p))
   idle_left-held c p h =
@@ -216,8 +200,8 @@ module _ (program : Program) where
   -- ---- steps of tasks
 
   -- a task, from before it leaves its queue
-  pub task-goes : (w : Ways) (a : WaysGo program w) → (source : Source) (task : Task) (m : State) → Good m → a.Here m → first_task source m.host.tasks ≡ Some task → StepsAreGiven (made_by m.host) task.steps → Goes program m (perform_steps w task.steps (on_page (without_task task.number) m))
-  task-goes w a source task m g z e x = by_steps task.steps refl x
+  pub task-goes : (w : Ways) (a : WaysGo program w) → (source : Source) (task : Task) (m : State) → Good m → a.Here m → Ordered m.host → first_task source m.host.tasks ≡ Some task → StepsAreGiven (made_by m.host) task.steps → Goes program m (perform_steps w task.steps (on_page (without_task task.number) m))
+  task-goes w a source task m g z o e x = by_steps task.steps refl x
     where
       left : Reached m (on_page (without_task task.number) m)
       left = on_page-reached m (without_task task.number) g (without_task-onto task.number m.host g.0)
@@ -234,7 +218,7 @@ module _ (program : Program) where
       by_steps (TimeOutSignal s) e1 x = wide program m (on_page (without_task task.number) m) (perform_steps w (TimeOutSignal s) (on_page (without_task task.number) m)) left.0 (abort-goes program w a s (a_fault TimeoutError) (on_page (without_task task.number) m) left.1 there x tt)
       by_steps (FireAtWindow name v) e1 x = wide program m (on_page (without_task task.number) m) (perform_steps w (FireAtWindow name v) (on_page (without_task task.number) m)) left.0 (dispatch-goes program w a Window name (v ∷ []) (on_page (without_task task.number) m) left.1 there (x, tt))
       by_steps (AnswerHost t) e1 x = wide program m (on_page (without_task task.number) m) (perform_steps w (AnswerHost t) (on_page (without_task task.number) m)) left.0 (finish-goes program (on_page (without_task task.number) m) left.1)
-      by_steps (RunFrame t) e1 x = wide program m (on_page (without_task task.number) m) (perform_steps w (RunFrame t) (on_page (without_task task.number) m)) left.0 (run_frame-goes w a t (on_page (without_task task.number) m) left.1 there)
+      by_steps (RunFrame t) e1 x = wide program m (on_page (without_task task.number) m) (perform_steps w (RunFrame t) (on_page (without_task task.number) m)) left.0 (run_frame-goes program w a t (on_page (without_task task.number) m) o left.1 there)
       by_steps InvokeIdle e1 x = wide program m (on_page (without_task task.number) m) (perform_steps w InvokeIdle (on_page (without_task task.number) m)) left.0 (invoke_idle-goes w a (on_page (without_task task.number) m) left.1 there)
       by_steps (IdleTimeout handle) e1 x = wide program m (on_page (without_task task.number) m) (perform_steps w (IdleTimeout handle) (on_page (without_task task.number) m)) left.0 (timed_out-goes w a handle (idle_callback handle m.host) (on_page (without_task task.number) m) refl left.1 there)
       by_steps (NotifyRejected ks) e1 x =
@@ -249,11 +233,11 @@ module _ (program : Program) where
           (λ b. dispatch-goes program w a Window (codes "rejectionhandled") args told b.1 (a.later n told b.0 there) (x, (promise_reason-known n.host k left.1.0, tt))))
 
   -- the scheduler's first task, from before the line of its turn
-  pub sched_task-goes : (w : Ways) (a : WaysGo program w) → (t : SchedTask) (m : State) → Good m → a.Here m → first_sched m.host ≡ Some t → open_registrations m.host.events ≡ [] → m.host.notices.jobs ≡ [] → SchedTaskIsGiven (made_by m.host) t → Goes program m (perform_sched w t (on_page (sched_begun t) m))
-  sched_task-goes w a t m g z e o j x = by_kind t.continuation refl
+  pub sched_task-goes : (w : Ways) (a : WaysGo program w) → (t : SchedTask) (m : State) → Good m → a.Here m → first_sched m.host ≡ Some t → open_registrations m.host.events ≡ [] → m.host.notices.jobs ≡ [] → FrameIsOver m.host → SchedTaskIsGiven (made_by m.host) t → Goes program m (perform_sched w t (on_page (sched_begun t) m))
+  sched_task-goes w a t m g z e o j over x = by_kind t.continuation refl
     where
       by_kind : (b : Bool) → t.continuation ≡ b → Goes program m (branch b (on_page (sched_begun t) m) (λ m. finish (on_page (continued t.registration) m)) (run_post w t))
-      by_kind true k = let b = continued-reached t m g (e, k, o, j) (subst (λ (b : Bool). IsFor (sched_role b) (made_by m.host) t.registration) k x.kind) x.registration in (b.0, b.1, tt)
+      by_kind true k = let b = continued-reached t m g (e, k, o, j, over) (subst (λ (b : Bool). IsFor (sched_role b) (made_by m.host) t.registration) k x.kind) x.registration in (b.0, b.1, tt)
       by_kind false k =
           let n = on_page (sched_begun t) m in
           let begun = on_page (post_state t) n in
@@ -262,7 +246,7 @@ module _ (program : Program) where
           let all : Onward (made_by m.host) begun.host = onward-then (made_by m.host) n.host begun.host first (post_state-held t n.host first.1 x) in
           let promise : IsGiven (length m.host.notices.promises) into = x.registration.promise in
           afterwards-goes program m (settle_derived into (invoke w t.registration false [] begun)) (λ m. finish (on_page (unwatch t.registration) m))
-          (settle_derived-goes program into m (invoke w t.registration false [] begun) promise (invoke-goes program w a (APost t) false [] m g z (e, k, o, j) (subst (λ (b : Bool). IsFor (sched_role b) (made_by m.host) t.registration) k x.kind) all tt))
+          (settle_derived-goes program into m (invoke w t.registration false [] begun) promise (invoke-goes program w a (APost t) false [] m g z (e, k, o, j, over) (subst (λ (b : Bool). IsFor (sched_role b) (made_by m.host) t.registration) k x.kind) all tt))
           (λ r le gr. finish_page program r (unwatch t.registration) gr (unwatch-onto t.registration r.host gr.0))
 
   pub after_task-goes : (call : Caller Page) → CallsGo program call → (m : State) → Good m → AtTop m → Goes program m (after_task call m)

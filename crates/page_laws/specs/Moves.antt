@@ -1,7 +1,7 @@
 -- What happens to a page, move by move: each move changes it once, with its lines.
-use Rattle.std.specs.Prelude.{◌≡◌, ◌≤◌, ℕ, suc, ℤ, Bool, true, false, List, [], ◌∷◌, length, nat_lt, Option, Some, None, Result, ◌==◌, ◌++◌, ◌||◌, slice_get, slice_set}
+use Rattle.std.specs.Prelude.{◌≡◌, ◌⊎◌, ◌≤◌, ℕ, suc, ℤ, Bool, true, false, not, ◌&&◌, if◌then◌else◌, List, [], ◌∷◌, length, nat_lt, Option, Some, None, Result, ◌==◌, ◌++◌, ◌||◌, slice_get, slice_set}
 use Rattle.page_types.specs.declared.End.TheVariants.{Fuel}
-use Rattle.page_types.specs.Events.{QueueName, Event, Ret, Throw, Report, Log, Turn, Arm, Due, Drop, IdleLine, Frame, Enq, Prio, Abort, Host, Unhandled, Handled, EndLine, Send}
+use Rattle.page_types.specs.Events.{QueueName, Event, Ret, Throw, Report, Log, Turn, Arm, Due, Drop, IdleLine, Frame, Reg, Enq, Prio, Abort, Host, Unhandled, Handled, EndLine, Send}
 use Rattle.page_types.specs.declared.Source.{Source}
 use Rattle.page_types.specs.declared.Source.TheVariants.{Sched}
 use Rattle.page_parts.specs.Promises.{Settled, Reaction, React}
@@ -31,18 +31,17 @@ use Rattle.page_types.specs.declared.RegKind.{RegKind}
 use Rattle.page_types.specs.declared.RegKind.TheVariants as kind
 use Rattle.page_parts.specs.TaskSignals.{Prios, priority_of}
 use Rattle.page_types.specs.declared.Priority.{Priority}
-use Rattle.page_laws.specs.History.{open_registrations, is_rest, is_sched_turn, is_scheduled}
+use Rattle.page_laws.specs.History.{History, open_registrations, is_rest, is_sched_turn, is_scheduled}
 
 -- ---- Ours: kinds of lines
 
--- a line that tells nothing of calls, promises, jobs, cancels, answers of hosts, and of what was due or enqueued, and does not stand
--- between turns
+-- a line that tells nothing of calls, promises, jobs, frames, cancels, answers of hosts, and of what was due or enqueued, and does not
+-- stand between turns
 abbrev pub is_aside : Event → Bool
 is_aside (Report bs) = true
 is_aside (Log bs) = true
 is_aside (Arm r due level) = true
 is_aside (IdleLine d) = true
-is_aside (Frame t) = true
 is_aside (Abort s) = true
 is_aside (Unhandled n) = true
 is_aside (Handled n) = true
@@ -55,6 +54,34 @@ abbrev pub is_end : Event → Bool
 is_end Ret = true
 is_end (Throw bs) = true
 is_end e = false
+
+-- ---- Ours: frames
+
+-- whether a line leaves registration r among those that were made before the last frame line, where none between turns stands behind it
+abbrev pub marked_by : (r : ℕ) → Event → (earlier : Bool) → Bool
+marked_by r (Frame t) earlier = true
+marked_by r (Reg q kind by) earlier = if q == r then false else earlier
+marked_by r e earlier = not (is_rest e) && earlier
+
+-- a frame line stands behind the last line between turns, and no line registers r behind it
+abbrev pub marked : History → ℕ → Bool
+marked [] r = false
+marked (e ∷ past) r = marked_by r e.event (marked past r)
+
+-- a callback is in a list
+abbrev pub IsIn : Callback → List Callback → Type 0
+IsIn c [] = ⊥
+IsIn c (d ∷ ds) = (c ≡ d) ⊎ IsIn c ds
+
+-- no frame callback waits that was requested before a frame line since the last line between turns
+abbrev pub FrameIsOver : Page → Type 0
+FrameIsOver p = (c : Callback) → IsIn c p.frames.callbacks → marked p.events c.registration ≡ false
+
+-- the callback waits, none that waits was registered before it, and it was requested before the frame line of the turn
+abbrev pub IsDrawnNext : (key : ℕ) → Callback → Page → Type 0
+IsDrawnNext key c p =
+    callback_in p.frames.callbacks key ≡ Some c
+    × ((d : Callback) → IsIn d p.frames.callbacks → c.registration ≤ d.registration) × marked p.events c.registration ≡ true
 
 -- ---- Ours: where registrations wait
 
@@ -292,9 +319,9 @@ pub data PageChange : Page → Page → Type 0 where
   elsewhere : {p q : Page} → PlaceChange p.registrations (places p) (places q) → AsBefore p q → PageChange p q
   -- a line that tells nothing of promises and jobs
   told : {p : Page} (e : Event) → is_aside e ≡ true → PageChange p (emit e p)
-  -- a line between turns, where no call is open and no job waits; that of the scheduler's turn comes with its call
+  -- a line between turns, where no call is open, no job waits and no frame is in progress; that of the scheduler's turn comes with its call
   rested : {p : Page} (e : Event) → is_rest e ≡ true → open_registrations p.events ≡ [] → p.notices.jobs ≡ []
-      → is_sched_turn e ≡ false → PageChange p (emit e p)
+      → is_sched_turn e ≡ false → FrameIsOver p → PageChange p (emit e p)
   -- a host's task is taken, and the host answers
   answered : {p q : Page} (source : Source) (task : Task) (t : HostTask) (answer : Result ℤ ℤ) → first_task source p.tasks ≡ Some task
       → task.steps ≡ AnswerHost t
@@ -333,9 +360,8 @@ pub data PageChange : Page → Page → Type 0 where
   -- a signal gets a priority, with its line
   prio_told : {p : Page} (s : ℕ) (priority : Priority) (ps : Prios) → PrioSet s priority p.prios ps
       → PageChange p (record (emit (Prio s priority) p) { prios = ps })
-  -- a frame callback is registered and requested, and one leaves the map
+  -- a frame callback is registered and requested
   frame_asked : {p : Page} (f : Func) → PageChange p (frame_requested f p)
-  frame_gone : {p : Page} (handle : ℕ) → PageChange p (without_frame handle p)
   -- a promise is made
   promised : {p : Page} → PageChange p (new_promise p)
   -- a promise that was never resolved is settled, with its jobs
@@ -435,19 +461,22 @@ Waited (TheScript source task) p = first_task source p.tasks ≡ Some task × ta
 Waited (ATimer source task t) p =
     first_task source p.tasks ≡ Some task × task.steps ≡ RunTimer t × is_live t.id t.handle p.timers ≡ true
     × id_at p.registrations t.registration ≡ t.id
-Waited (AFrame key c) p = callback_in p.frames.callbacks key ≡ Some c
+Waited (AFrame key c) p = IsDrawnNext key c p
 Waited (AnIdle c others) p = p.idle.runnable ≡ c ∷ others × nat_lt p.now (deadline p.last_idle_start p) ≡ true
 Waited (ALateIdle handle c) p = idle_callback handle p ≡ Some c
 Waited (AListener r) p = is_listening r p.listeners ≡ true
-Waited (APost t) p = first_sched p ≡ Some t × t.continuation ≡ false × open_registrations p.events ≡ [] × p.notices.jobs ≡ []
-Waited (AContinuation t) p = first_sched p ≡ Some t × t.continuation ≡ true × open_registrations p.events ≡ [] × p.notices.jobs ≡ []
+Waited (APost t) p =
+    first_sched p ≡ Some t × t.continuation ≡ false × open_registrations p.events ≡ [] × p.notices.jobs ≡ [] × FrameIsOver p
+Waited (AContinuation t) p =
+    first_sched p ≡ Some t × t.continuation ≡ true × open_registrations p.events ≡ [] × p.notices.jobs ≡ [] × FrameIsOver p
 Waited (AMicro job others r) p = p.notices.jobs ≡ job ∷ others × job.what ≡ Micro r × open_registrations p.events ≡ []
 Waited (AReaction job others of x r) p =
     p.notices.jobs ≡ job ∷ others × job.what ≡ OfPromise (React of x) × x.registration ≡ Some r × open_registrations p.events ≡ []
 
 -- ---- Ours: moves
 
--- A row of moves: changes, calls and their ends, the begin and end of a checkpoint, and the jobs that run in it, where no call is open.
+-- A row of moves: changes, calls and their ends, the begin and end of a checkpoint, the jobs that run in it, where no call is open, and the
+-- lines of frames.
 pub data Moves : Page → Page → Type 0 where
   here : {p : Page} → Moves p p
   changing : {p q r : Page} → Moves p q → PageChange q r → Moves p r
@@ -460,3 +489,5 @@ pub data Moves : Page → Page → Type 0 where
       → scheduling_of r ≡ scheduling_of q → Moves p r
   running : {p q : Page} → Moves p q → (job : WaitingJob) (others : List WaitingJob) → q.notices.jobs ≡ job ∷ others
       → open_registrations q.events ≡ [] → Moves p (job_begun job others q)
+  -- the line of a frame
+  framing : {p q : Page} → Moves p q → (t : ℕ) → Moves p (emit (Frame t) q)
