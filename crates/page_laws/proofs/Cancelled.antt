@@ -500,7 +500,7 @@ change-fits {p = p} (answered source task t answer x y live z b) o f =
     before-fits b
     (subst (λ (y : Places). Cancels p.registrations (waits y p.frames.callbacks (is_aborted p)) (emit (Host t.closure t.number answer) p).events) (sym z)
     (silent-fits (Host t.closure t.number answer) p.now p.registrations (page_waits p) p.events refl f))
-change-fits {p = p} {q = q} (registered k x e u b) o f =
+change-fits {p = p} {q = q} (registered k x e unframed u b) o f =
     before-fits b
     (made-fits k (caller p) x p.now p.registrations (page_waits p) (waits (places q) p.frames.callbacks (is_aborted p)) p.events
     (λ r one le. first-shrinks u p.frames.callbacks (is_aborted p) r (λ same. absurd (omega (arith, same, le)))) f)

@@ -166,7 +166,7 @@ change-fits {p = p} (answered source task t answer x y live z b) o d f =
     before-fits b
     (subst (λ (y : Places). AnswersAt p.registrations y (emit (Host t.closure t.number answer) p).events) (sym z)
     (answered-fits task.number p.now p.registrations p.tasks p.host_answers p.hosts p.events (λ u. same_source u.source source) task t (Host t.closure t.number answer) refl x y live f))
-change-fits {p = p} (made_one k x e u b) o d f = before-fits b (first-fits u k (caller p) x p.now p.events refl f)
+change-fits {p = p} (made_one k x e unframed u b) o d f = before-fits b (first-fits u k (caller p) x p.now p.events refl f)
 change-fits {p = p} (enqueued_anew k x t queue e i s n b) o d f =
     before-fits b
     (subst (λ (y : Places). AnswersAt (and_last p.registrations x) y (emit (Enq t.registration queue t.continuation t.order) (register_as k x p)).events) (sym s)

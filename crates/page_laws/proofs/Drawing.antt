@@ -51,7 +51,7 @@ key-above made low k (j ∷ ks) h (inl e) = let a = h.0 in omega (arith, a, e)
 key-above made low k (j ∷ ks) h (inr i) = let a = h.0 in let b = key-above made j k ks h.2 i in omega (arith, a, b)
 
 -- what was found by a key
-found-in : (key : ℕ) (cs : List Callback) (c : Callback) → callback_in cs key ≡ Some c → IsIn c cs × c.handle ≡ key
+pub found-in : (key : ℕ) (cs : List Callback) (c : Callback) → callback_in cs key ≡ Some c → IsIn c cs × c.handle ≡ key
 found-in key [] c e = Prim.cc
 found-in key (d ∷ cs) c e = by_test (d.handle == key) refl e (found-in key cs c)
   where

@@ -337,7 +337,7 @@ change-kept (elsewhere c b) = step-kept (before-step b refl refl (λ r. refl))
 change-kept {p = p} (told e h) = step-kept (quiet refl refl (λ r. aside-unmarking e h r (marked p.events r)))
 change-kept {p = p} (rested e h x y z over) = step-kept (resting refl refl over (λ r. rest-marking e h r (marked p.events r)))
 change-kept (answered source task t answer x y live z b) = step-kept (before-step b refl refl (λ r. refl))
-change-kept {p = p} {q = q} (registered k x e u b) = kept-then p (register_as k x p) q (step-kept (made-step k x p)) (step-kept (before-step b refl refl (λ r. refl)))
+change-kept {p = p} {q = q} (registered k x e unframed u b) = kept-then p (register_as k x p) q (step-kept (made-step k x p)) (step-kept (before-step b refl refl (λ r. refl)))
 change-kept (dropped r d b) = step-kept (before-step b refl refl (λ r. refl))
 change-kept (task_dropped r role a e s b) = step-kept (before-step b refl refl (λ r. refl))
 change-kept {p = p} {q = q} (enqueued_anew k x t queue e i s n b) =

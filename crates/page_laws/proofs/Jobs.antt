@@ -195,7 +195,7 @@ change-fits (elsewhere c b) f = before-fits b f
 change-fits {p = p} (told e h) f = silent-fits e p.now p.notices p.events (aside-silent e h) f
 change-fits {p = p} (rested e h x y z over) f = rest-fits e p.now p.notices p.events h y f
 change-fits {p = p} (answered source task t answer x y live z b) f = before-fits b (silent-fits (Host t.closure t.number answer) p.now p.notices p.events refl f)
-change-fits {p = p} (registered kind x e u b) f = before-fits b (registered-fits kind x p f)
+change-fits {p = p} (registered kind x e unframed u b) f = before-fits b (registered-fits kind x p f)
 change-fits {p = p} (frame_asked g) f = silent-fits (Reg (suc (length p.registrations)) kind.Frame (caller p)) p.now p.notices p.events refl f
 change-fits {p = p} (dropped r d b) f = before-fits b (silent-fits (Drop r) p.now p.notices p.events refl f)
 change-fits {p = p} (task_dropped r role a e s b) f = before-fits b (silent-fits (Drop r) p.now p.notices p.events refl f)

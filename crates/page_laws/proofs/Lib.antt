@@ -29,6 +29,7 @@ pub mod Cancelled
 pub mod HostCounts
 pub mod HostAnswers
 pub mod CancelledHosts
+pub mod FrameOrder
 pub mod First
 pub mod Priorities
 pub mod OpenCalls

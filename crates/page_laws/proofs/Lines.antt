@@ -105,7 +105,7 @@ change-same (elsewhere c b) = before-same b
 change-same {p = p} (told e h) = (aside-open e h (open_registrations p.events), refl)
 change-same {p = p} (rested e h x y z over) = (rest-open e h (open_registrations p.events), refl)
 change-same (answered source task t answer x y live z b) = before-same b
-change-same (registered kind x e u b) = before-same b
+change-same (registered kind x e unframed u b) = before-same b
 change-same (dropped r d b) = before-same b
 change-same (task_dropped r role a e s b) = before-same b
 change-same (enqueued_anew kind x t queue e i s n b) = before-same b
@@ -158,7 +158,7 @@ change-calls (elsewhere c b) = b.calls
 change-calls (told e h) = refl
 change-calls (rested e h x y z over) = refl
 change-calls (answered source task t answer x y live z b) = b.calls
-change-calls (registered kind x e u b) = b.calls
+change-calls (registered kind x e unframed u b) = b.calls
 change-calls (dropped r d b) = b.calls
 change-calls (task_dropped r role a e s b) = b.calls
 change-calls (enqueued_anew kind x t queue e i s n b) = b.calls

@@ -37,7 +37,7 @@ use Rattle.page_parts.specs.AbortGraph.{the_signal, with_algorithms, with_reason
 use Rattle.page_parts.specs.TaskSignals as TaskSignals
 use Rattle.page_parts.specs.Listeners.{Target, is_listening, off, Listener}
 use Rattle.page_parts.specs.HostClosures.{HostClosure}
-use Rattle.page_model.specs.State.{context, OfKind, Registration, no_registration, Task, TimerTask, SchedTask, HostAnswer, IdleTimer, AnswerHost, TimeOutSignal, FireAtWindow, RunFrame, IdleTimeout, NotifyHandled, NotifyRejected, Steps, PrioSource, SchedulingState, HostTask, Completion, QueueTimer, EnqueuePost, QueueSignal, InvokeIdle, Page, emit, emit_each, on_notices, queue_task, the_registration, last_registration, Role, Completing}
+use Rattle.page_model.specs.State.{context, Role, ScriptRole, OfKind, Registration, no_registration, Task, TimerTask, SchedTask, HostAnswer, IdleTimer, AnswerHost, TimeOutSignal, FireAtWindow, RunFrame, IdleTimeout, NotifyHandled, NotifyRejected, Steps, PrioSource, SchedulingState, HostTask, Completion, QueueTimer, EnqueuePost, QueueSignal, InvokeIdle, Page, emit, emit_each, on_notices, queue_task, the_registration, last_registration, Role, Completing}
 use Rattle.page_model.specs.PagePromises as promises
 use Rattle.page_model.specs.PagePromises.{new_promise, last_promise}
 use Rattle.page_model.specs.PageTime.{init_timer, clear_id, clear_timer, registration_with_id, first_task, next_frame, without_frame, cancel_frame, deadline, period_begun, idle_step, idle_timeout, idle_callback, without_idle, cancel_idle, completion_of, without_timer}
@@ -49,8 +49,8 @@ use Rattle.page_model.specs.PageSignals.{waiting_answer, waiting_net_task, has_n
 use Rattle.page_model.specs.Operations.{latency_of, queued_mark, micro_registered, script_promise, then_made, timer_set, frame_requested, idle_requested, with_signals, task_signal_made, any_made, last_signal, timeout_signal_made, listener_added, listener_removed, promised, post_delayed, post_queued, continuation_queued, host_queued, finally_made, posted}
 use Rattle.page_model.specs.Tasks.{invoke_idle_again, outstanding_if_unhandled, fire_closure, settle_answer, answer_host}
 use Rattle.page_model.specs.Parallel.{ItemKind, ArrivalItem, HostItem, TimerItem, IdleItem, FrameItem, Item, arrival_items, frame_items, items_in_order, first_item_from, first_item_of, complete, complete_at, take_item, due_item, first_item, take_due, item_count, parallel}
-use Rattle.page_model.specs.Numbers.{IsGiven, Each, IfThere, made_by, Made, is_abortable, TimerIdIsGiven, CallbackIsGiven, IdleIsGiven, ListenerIsGiven, CompletionIsGiven, SchedTaskIsGiven, CompletingIsGiven, sched_role}
-use Rattle.page_laws.specs.History.{open_registrations, is_scheduled}
+use Rattle.page_model.specs.Numbers.{IsGiven, Each, IfThere, made_by, Made, is_abortable, timer_role, TimerIdIsGiven, CallbackIsGiven, IdleIsGiven, ListenerIsGiven, CompletionIsGiven, SchedTaskIsGiven, CompletingIsGiven, sched_role}
+use Rattle.page_laws.specs.History.{is_frame, open_registrations, is_scheduled}
 use Rattle.page_laws.specs.Moves.{is_aside, FrameIsOver, promise_changes, Places, places, is_free, PlaceChange, places_stay, task_queued, completed, idle_started, idle_left, id_cleared, Dropping, timer_dropped, idle_dropped, listener_dropped, FirstPlace, nowhere, at_listener, at_timer, at_delay, at_idle, at_host, AsBefore, fired_at, PageChange, elsewhere, frame_asked, registered, answered, dropped, frame_dropped, then_asked, micro_asked, told, rested, settled, followed, adopted, subscribed, rejected_taken, noted, Changes, nothing, with_change, armed_again, signal_armed, idle_armed, timer_due, delay_due, signal_due, idle_due, answer_due, DueChange, StaysAborted, fell_due, post_fell_due, enqueued_anew, task_dropped, role_at, id_at, signal_at, Scheduling, scheduling_of, SchedulingAfter, HasPriority, Sourced, known, prio_told}
 use Rattle.page_laws.specs.Moves as moves
 use Rattle.page_laws.proofs.Moving.{changes-then}
@@ -167,12 +167,12 @@ pub made_last : (kind : RegKind) (x : Registration) (p : Page) → last_registra
 made_last kind x p = length-last p.registrations x
 
 -- a registration is made and waits nowhere
-pub register-changes : (kind : RegKind) (x : Registration) (p : Page) → x.role ≡ OfKind kind → Changes p (register_as kind x p)
-register-changes kind x p e = with_change nothing (registered kind x e nowhere (record { notices = refl; performing = refl; events = refl; registrations = refl; frames = refl; calls = refl; aborted = λ s h. h; scheduling = record { priorities = λ s. refl; states = refl; tasks_made = omega arith } }))
+pub register-changes : (kind : RegKind) (x : Registration) (p : Page) → x.role ≡ OfKind kind → is_frame kind ≡ false → Changes p (register_as kind x p)
+register-changes kind x p e unframed = with_change nothing (registered kind x e unframed nowhere (record { notices = refl; performing = refl; events = refl; registrations = refl; frames = refl; calls = refl; aborted = λ s h. h; scheduling = record { priorities = λ s. refl; states = refl; tasks_made = omega arith } }))
 
 -- it is made and waits at its first place, and its line is given
-register_at-changes : (kind : RegKind) (x : Registration) (e : Event) (p q : Page) → x.role ≡ OfKind kind → is_aside e ≡ true → FirstPlace p.registrations p.prios (suc (length p.registrations)) (places p) (places q) → AsBefore (register_as kind x p) q → Changes p (emit e q)
-register_at-changes kind x e p q role h u b = with_change {q = q} (with_change nothing (registered kind x role u b)) (told e h)
+register_at-changes : (kind : RegKind) (x : Registration) (e : Event) (p q : Page) → x.role ≡ OfKind kind → is_frame kind ≡ false → is_aside e ≡ true → FirstPlace p.registrations p.prios (suc (length p.registrations)) (places p) (places q) → AsBefore (register_as kind x p) q → Changes p (emit e q)
+register_at-changes kind x e p q role unframed h u b = with_change {q = q} (with_change nothing (registered kind x role unframed u b)) (told e h)
 
 -- ---- time
 
@@ -439,8 +439,21 @@ finally_made-changes n f p x =
 pub posted-changes : (port : ℕ) (v : Value) (p : Page) → Changes p (posted port v p)
 posted-changes port v p = lined (Send port (spelled p.names v)) p (posted port v p) refl refl refl refl refl refl refl refl refl refl
 
-pub timer_set-changes : (kind : RegKind) (repeats : Bool) (f : Func) (timeout : ℤ) (p : Page) → Held (made_by p) p → Changes p (timer_set kind repeats f timeout p)
-timer_set-changes kind repeats f timeout p h =
+-- a timer is for no frame
+no_frame : (repeats : Bool) (kind : RegKind) → OfKind kind ≡ timer_role repeats → is_frame kind ≡ false
+no_frame true kind e = ap {A = Role} {B = Bool} frames e
+  where
+    frames : Role → Bool
+    frames ScriptRole = false
+    frames (OfKind k) = is_frame k
+no_frame false kind e = ap {A = Role} {B = Bool} frames e
+  where
+    frames : Role → Bool
+    frames ScriptRole = false
+    frames (OfKind k) = is_frame k
+
+pub timer_set-changes : (kind : RegKind) (repeats : Bool) (f : Func) (timeout : ℤ) (p : Page) → OfKind kind ≡ timer_role repeats → Held (made_by p) p → Changes p (timer_set kind repeats f timeout p)
+timer_set-changes kind repeats f timeout p role h =
     let x : Registration = record { role = OfKind kind; callback = Some f; second_callback = None; timer_id = suc p.timers.ids_made; promise = 0; signal = None; finally = false } in
     let made = register_as kind x p in
     let r = last_registration made in
@@ -448,7 +461,7 @@ timer_set-changes kind repeats f timeout p h =
     let t : TimerTask = record { registration = r; id = a.id; handle = a.handle; level = a.level; repeats = repeats; timeout = timeout } in
     let fresh : (q : ℕ) → id_at p.registrations q ≡ a.id → ⊥ = λ q e. let le = (the_registration-given p q h).timer_id in absurd (omega (arith, le, e)) in
     let set : Page = record made { timers = with_armed None a made.timers; completions = and_last made.completions (record { start = a.start; completion = QueueTimer t }) } in
-    register_at-changes kind x (Arm r a.due a.level) p set refl refl (at_timer a t (made_last kind x p) fresh) (record { notices = refl; performing = refl; events = refl; registrations = refl; frames = refl; calls = refl; aborted = λ s h. h; scheduling = record { priorities = λ s. refl; states = refl; tasks_made = omega arith } })
+    register_at-changes kind x (Arm r a.due a.level) p set refl (no_frame repeats kind role) refl (at_timer a t (made_last kind x p) fresh) (record { notices = refl; performing = refl; events = refl; registrations = refl; frames = refl; calls = refl; aborted = λ s h. h; scheduling = record { priorities = λ s. refl; states = refl; tasks_made = omega arith } })
 
 pub frame_requested-changes : (f : Func) (p : Page) → Changes p (frame_requested f p)
 frame_requested-changes f p = with_change nothing (frame_asked f)
@@ -459,7 +472,7 @@ idle_requested-changes f ms p =
     let made = register_as IdleKind x p in
     let r = last_registration made in
     let q : Page = record made { idle = IdleCallbacks.request r made.idle } in
-    let first : Changes p q = with_change nothing (registered IdleKind x refl (at_idle r (made_last IdleKind x p)) (record { notices = refl; performing = refl; events = refl; registrations = refl; frames = refl; calls = refl; aborted = λ s h. h; scheduling = record { priorities = λ s. refl; states = refl; tasks_made = omega arith } })) in
+    let first : Changes p q = with_change nothing (registered IdleKind x refl refl (at_idle r (made_last IdleKind x p)) (record { notices = refl; performing = refl; events = refl; registrations = refl; frames = refl; calls = refl; aborted = λ s h. h; scheduling = record { priorities = λ s. refl; states = refl; tasks_made = omega arith } })) in
     cond_of-changes (ms == 0) (λ q. q) (idle_timeout ms r) q p first (changes-then first (idle_timeout-changes ms r q))
 
 pub make-changes : (p : Page) → Changes p (with_signals AbortGraph.make p)
@@ -488,14 +501,14 @@ timeout_signal_made-changes ms p =
     let new = with_signals AbortGraph.make p in
     let made = register SignalKind None None new in
     let told_one = emit (Arm (last_registration made) (made.now + ms * 1000) 0) made in
-    changes-then (with_change {q = made} (changes-then (make-changes p) (register-changes SignalKind _ new refl)) (told _ refl))
+    changes-then (with_change {q = made} (changes-then (make-changes p) (register-changes SignalKind _ new refl refl)) (told _ refl))
     (placed told_one (timeout_signal_made ms p) (signal_armed ms made.now (last_registration made) (last_signal made)) refl refl refl refl refl refl refl refl)
 
 pub listener_added-changes : (target : Target) (name : List ℕ) (f : Func) (p : Page) → Changes p (listener_added target name f p)
 listener_added-changes target name f p =
     let x : Registration = record { role = OfKind ListenerKind; callback = Some f; second_callback = None; timer_id = 0; promise = 0; signal = None; finally = false } in
     let made = register_as ListenerKind x p in
-    with_change nothing (registered ListenerKind x refl (at_listener target name (last_registration made) (made_last ListenerKind x p)) (record { notices = refl; performing = refl; events = refl; registrations = refl; frames = refl; calls = refl; aborted = λ s h. h; scheduling = record { priorities = λ s. refl; states = refl; tasks_made = omega arith } }))
+    with_change nothing (registered ListenerKind x refl refl (at_listener target name (last_registration made) (made_last ListenerKind x p)) (record { notices = refl; performing = refl; events = refl; registrations = refl; frames = refl; calls = refl; aborted = λ s h. h; scheduling = record { priorities = λ s. refl; states = refl; tasks_made = omega arith } }))
 
 listening_role : (n : Made) (r : ℕ) (ls : List Listener) → Each (ListenerIsGiven n) ls → is_listening r ls ≡ true → role_at n.registrations r ≡ OfKind ListenerKind
 listening_role n r [] h e = Prim.cc
@@ -552,7 +565,7 @@ delayed-changes x source ms p e from =
     let r = last_registration made in
     let timers = Timers.run_after ms made.now made.timers in
     let q : Page = record made { timers = timers; completions = and_last made.completions (record { start = timers.starts_made; completion = EnqueuePost r source }) } in
-    register_at-changes PostKind x (Arm r (made.now + ms * 1000) 0) p q e refl (at_delay ms made.now r source (made_last PostKind x p) from) (record { notices = refl; performing = refl; events = refl; registrations = refl; frames = refl; calls = refl; aborted = λ s h. h; scheduling = record { priorities = λ s. refl; states = refl; tasks_made = omega arith } })
+    register_at-changes PostKind x (Arm r (made.now + ms * 1000) 0) p q e refl refl (at_delay ms made.now r source (made_last PostKind x p) from) (record { notices = refl; performing = refl; events = refl; registrations = refl; frames = refl; calls = refl; aborted = λ s h. h; scheduling = record { priorities = λ s. refl; states = refl; tasks_made = omega arith } })
 
 pub post_queued-changes : (f : Func) (source : PrioSource) (signal : Option ℕ) (ms : ℕ) (p : Page) → HasPriority p.prios source → Changes p (post_queued f source signal ms p)
 post_queued-changes f source signal ms p from =
@@ -588,7 +601,7 @@ asked-changes k c x e p role there live =
     let due = made.now + latency_of made.latencies k in
     let a : HostAnswer = record { due = due; task = record { registration = r; closure = k; number = x } } in
     let q : Page = record made { hosts = slice_set made.hosts k (queued_mark c); host_answers = and_last made.host_answers a } in
-    register_at-changes HostKind e (Arm r due 0) p q role refl (at_host c a (made_last HostKind e p) there live) (record { notices = refl; performing = refl; events = refl; registrations = refl; frames = refl; calls = refl; aborted = λ s h. h; scheduling = record { priorities = λ s. refl; states = refl; tasks_made = omega arith } })
+    register_at-changes HostKind e (Arm r due 0) p q role refl refl (at_host c a (made_last HostKind e p) there live) (record { notices = refl; performing = refl; events = refl; registrations = refl; frames = refl; calls = refl; aborted = λ s h. h; scheduling = record { priorities = λ s. refl; states = refl; tasks_made = omega arith } })
 
 ready-hosts : (kind : RegKind) (f : Option Func) (signal : Option ℕ) (p : Page) → (ready kind f signal p).hosts ≡ p.hosts
 ready-hosts kind f None p = refl

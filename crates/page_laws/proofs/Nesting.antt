@@ -74,7 +74,7 @@ change-kept (elsewhere c b) k = subst (Kept nesting) (sym b.events) k
 change-kept {p = p} (told e h) k = (aside-passes e h p.events, k)
 change-kept {p = p} (rested e h x y z over) k = (rest-passes e h p.events, k)
 change-kept (answered source task t answer x y live z b) k = subst (Kept nesting) (sym b.events) (refl, k)
-change-kept (registered kind x e u b) k = subst (Kept nesting) (sym b.events) (refl, k)
+change-kept (registered kind x e unframed u b) k = subst (Kept nesting) (sym b.events) (refl, k)
 change-kept (dropped r d b) k = subst (Kept nesting) (sym b.events) (refl, k)
 change-kept (task_dropped r role a e s b) k = subst (Kept nesting) (sym b.events) (refl, k)
 change-kept (enqueued_anew kind x t queue e i s n b) k = subst (Kept nesting) (sym b.events) (refl, (refl, k))

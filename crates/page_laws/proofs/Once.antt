@@ -397,7 +397,7 @@ change-fits {p = p} {q = q} (answered source task t answer x y live z b) f =
     let e = ap (place_claims r) z in
     omega (arith, a, e))
     (silent-fits (Host t.closure t.number answer) p.now p.registrations (claims_of (places p) p.notices p.frames.callbacks) p.events refl f))
-change-fits {p = p} {q = q} (registered k x e u b) f =
+change-fits {p = p} {q = q} (registered k x e unframed u b) f =
     before-fits b (registered-fits k x p (places q) p.notices p.frames.callbacks e (λ r. let a = first-claims u r in omega (arith, a)) f)
 change-fits {p = p} {q = q} (dropped r d b) f =
     before-fits b (drop-fits d p.notices p.frames.callbacks (emit (Drop r) p).events (silent-fits (Drop r) p.now p.registrations (claims_of (places p) p.notices p.frames.callbacks) p.events refl f))

@@ -90,7 +90,7 @@ pub script_promise-onto : (p : Page) → Held (made_by p) p → Anew p (script_p
 script_promise-onto p h = (script_promise-held p h, script_promise-changes p)
 
 pub timer_set-onto : (kind : RegKind) (repeats : Bool) (f : Func) (timeout : ℤ) (p : Page) → OfKind kind ≡ timer_role repeats → Held (made_by p) p → AreKnown (made_by p) f.bound → Onto p (timer_set kind repeats f timeout p)
-timer_set-onto kind repeats f timeout p role h x = (timer_set-held kind repeats f timeout p role h x, timer_set-changes kind repeats f timeout p h)
+timer_set-onto kind repeats f timeout p role h x = (timer_set-held kind repeats f timeout p role h x, timer_set-changes kind repeats f timeout p role h)
 
 pub frame_requested-onto : (f : Func) (p : Page) → Held (made_by p) p → AreKnown (made_by p) f.bound → Onto p (frame_requested f p)
 frame_requested-onto f p h x = (frame_requested-held f p h x, frame_requested-changes f p)

@@ -454,7 +454,7 @@ change-fits {p = p} (told e h) o d f = said e p (aside-silent e h) f
 change-fits {p = p} (rested e h x y z over) o d f = said e p (rest-silent e h z) f
 change-fits {p = p} (answered source task t answer x y live z b) o d f =
     before-fits b (subst (λ (y : Places). ScheduledAt p.registrations y (scheduling_of p) (emit (Host t.closure t.number answer) p).events) (sym z) (said (Host t.closure t.number answer) p refl f))
-change-fits {p = p} (registered k x e u b) o d f =
+change-fits {p = p} (registered k x e unframed u b) o d f =
     before-fits b (first-fits (scheduling_of p) u (and_last p.registrations x) (register_as k x p).events (plain-fits k x p f))
 change-fits {p = p} {q = q} (enqueued_anew k x t queue e i s n b) o d f =
     before-by b next (record { priorities = b.scheduling.priorities; states = b.scheduling.states; tasks_made = omega arith })

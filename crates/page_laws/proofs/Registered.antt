@@ -251,7 +251,7 @@ change-fits {p = p} {q = q} (elsewhere c b) f = before-fits b f
 change-fits {p = p} (told e h) f = silent-fits e p.now p.registrations p.events (aside-silent e h) f
 change-fits {p = p} (rested e h x y z over) f = silent-fits e p.now p.registrations p.events (rest-silent e h) f
 change-fits {p = p} (answered source task t answer x y live z b) f = before-fits b (silent-fits (Host t.closure t.number answer) p.now p.registrations p.events refl f)
-change-fits {p = p} (registered k x e u b) f = before-fits b (made-fits k (caller p) x p.now p.registrations p.events e f)
+change-fits {p = p} (registered k x e unframed u b) f = before-fits b (made-fits k (caller p) x p.now p.registrations p.events e f)
 change-fits {p = p} (frame_asked g) f = made-fits kind.Frame (caller p) (record { role = OfKind kind.Frame; callback = Some g; second_callback = None; timer_id = 0; promise = 0; signal = None; finally = false }) p.now p.registrations p.events refl f
 change-fits {p = p} (dropped r d b) f = before-fits b (silent-fits (Drop r) p.now p.registrations p.events refl f)
 change-fits {p = p} (task_dropped r role a e s b) f = before-fits b (silent-fits (Drop r) p.now p.registrations p.events refl f)

@@ -31,7 +31,7 @@ use Rattle.page_types.specs.declared.RegKind.{RegKind}
 use Rattle.page_types.specs.declared.RegKind.TheVariants as kind
 use Rattle.page_parts.specs.TaskSignals.{Prios, priority_of}
 use Rattle.page_types.specs.declared.Priority.{Priority}
-use Rattle.page_laws.specs.History.{History, open_registrations, is_rest, is_sched_turn, is_scheduled}
+use Rattle.page_laws.specs.History.{History, is_frame, open_registrations, is_rest, is_sched_turn, is_scheduled}
 
 -- ---- Ours: kinds of lines
 
@@ -328,8 +328,8 @@ pub data PageChange : Page → Page → Type 0 where
       → is_there (not_dropped (slice_get p.hosts t.closure)) ≡ true
       → places q ≡ host_fired t.closure (without_number task.number (places p))
       → AsBefore (emit (Host t.closure t.number answer) p) q → PageChange p q
-  -- a registration is made, and waits at its first place
-  registered : {p q : Page} (kind : RegKind) (x : Registration) → x.role ≡ OfKind kind
+  -- a registration is made, for no frame, and waits at its first place
+  registered : {p q : Page} (kind : RegKind) (x : Registration) → x.role ≡ OfKind kind → is_frame kind ≡ false
       → FirstPlace p.registrations p.prios (suc (length p.registrations)) (places p) (places q)
       → AsBefore (register_as kind x p) q → PageChange p q
   -- a registration is made, and its scheduler task is enqueued, with its line
