@@ -14,7 +14,7 @@ use Rattle.page_model.specs.Numbers.{Each, IsGiven}
 use Rattle.page_model.specs.State.{Page, emit, emit_each, on_notices, context}
 use Rattle.page_model.proofs.NumbersParts.{length-with}
 use Rattle.page_model.proofs.NumbersSignals.{with_reason-by_number}
-use Rattle.page_laws.specs.Moves.{StaysAborted, PageChange, elsewhere, told, rested, answered, dropped, task_dropped, frame_dropped, registered, enqueued_anew, fell_due, post_fell_due, frame_asked, promised, settled, followed, adopted, subscribed, then_asked, micro_asked, rejected_taken, noted, Changes, nothing, with_change, Beginning, TheScript, ATimer, AFrame, AnIdle, ALateIdle, AListener, APost, AContinuation, AMicro, AReaction, taken, Moves, here, changing, calling, ending, flagging, running, framing, prio_told}
+use Rattle.page_laws.specs.Moves.{StaysAborted, PageChange, elsewhere, told, arm_told, rested, answered, dropped, task_dropped, frame_dropped, registered, enqueued_anew, fell_due, post_fell_due, frame_asked, promised, settled, followed, adopted, subscribed, then_asked, micro_asked, rejected_taken, noted, Changes, nothing, with_change, Beginning, TheScript, ATimer, AFrame, AnIdle, ALateIdle, AListener, APost, AContinuation, AMicro, AReaction, taken, Moves, here, changing, calling, ending, flagging, running, framing, idling, prio_told}
 
 emit_each-aborted : (es : List Event) (p : Page) → StaysAborted p (emit_each es p)
 emit_each-aborted [] p s h = h
@@ -24,9 +24,10 @@ notices-aborted : (f : Notices → Noticed) (p : Page) → StaysAborted p (on_no
 notices-aborted f p = emit_each-aborted (f p.notices).lines (record p { notices = (f p.notices).notices })
 
 pub change-aborted : {p q : Page} → PageChange p q → StaysAborted p q
-change-aborted (elsewhere c b) s h = b.aborted s h
+change-aborted (elsewhere c b k) s h = b.aborted s h
 change-aborted (told e x) s h = h
-change-aborted (rested e x y z w over) s h = h
+change-aborted (arm_told r due level w) s h = h
+change-aborted (rested e x y z w over begun) s h = h
 change-aborted (answered source task t answer x y live z b) s h = b.aborted s h
 change-aborted (registered k x e unframed u b) s h = b.aborted s h
 change-aborted (enqueued_anew k x t queue e i w n b) s h = b.aborted s h
@@ -71,6 +72,7 @@ moves-aborted (ending a e x) s h = moves-aborted a s h
 moves-aborted (flagging a x y z w u v t j) s h = ap {A = Signals Value} {B = Bool} (λ ss. is_aborted ss s) t ∙ moves-aborted a s h
 moves-aborted (running a j others x y) s h = moves-aborted a s h
 moves-aborted (framing a t) s h = moves-aborted a s h
+moves-aborted (idling a none) s h = moves-aborted a s h
 
 -- ---- the signals on which a reason is set are aborted
 

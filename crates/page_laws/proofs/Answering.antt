@@ -5,7 +5,7 @@ use Rattle.std.proofs.lemmas.Bool.{eqb-true, eq-eqb}
 use Rattle.std.specs.Prelude.{◌==◌, filter, find, slice_set}
 use Rattle.page_types.specs.declared.HostMark.{HostMark}
 use Rattle.page_types.specs.declared.HostMark.TheVariants.{Live, Queued as QueuedMark, Fired, Dropped}
-use Rattle.page_types.specs.Events.{Event, Call, Drop, Reg, Host, Due, Enq, Prio}
+use Rattle.page_types.specs.Events.{Arm, Event, Call, Drop, Reg, Host, Due, Enq, Prio}
 use Rattle.page_types.specs.Tree.{Program}
 use Rattle.page_parts.specs.HostClosures.{HostClosure, fired}
 use Rattle.page_parts.specs.Promises.{Settled, Fulfilled, Failed, Reaction, PromiseJob, the_promise}
@@ -19,11 +19,11 @@ use Rattle.page_model.specs.Invoke.{register_as}
 use Rattle.page_model.specs.Numbers.{Each}
 use Rattle.page_model.specs.Operations.{queued_mark}
 use Rattle.page_model.specs.PageSignals.{closure_dropped, drop_at, drop_closure, task_in_answer, task_in_net, waiting_answer, waiting_net_task}
-use Rattle.page_model.specs.State.{Registration, Page, Task, HostTask, Steps, AnswerHost, RunTimer, HostAnswer, emit, emit_each, on_notices, context}
+use Rattle.page_model.specs.State.{IdleTimeout, Registration, Page, Task, HostTask, Steps, AnswerHost, RunTimer, HostAnswer, emit, emit_each, on_notices, context}
 use Rattle.page_model.specs.Turns.{first_page}
 use Rattle.page_laws.specs.CallLaws.{is_answer_of, keeps_once}
 use Rattle.page_laws.specs.History.{History, count_lines, some_line, is_rest}
-use Rattle.page_laws.specs.Moves.{is_aside, is_end, is_free, fired_at, promise_changes, Places, places, PlaceChange, places_stay, task_queued, task_left, armed_again, signal_armed, timer_due, completed, idle_started, idle_left, answer_due, id_cleared, idle_armed, idle_due, Dropping, timer_dropped, idle_dropped, listener_dropped, task_dropped, FirstPlace, nowhere, at_listener, at_timer, at_delay, at_idle, at_host, AsBefore, PageChange, elsewhere, told, rested, answered, dropped, frame_dropped, registered, frame_asked, promised, settled, followed, adopted, subscribed, then_asked, micro_asked, rejected_taken, noted, Beginning, TheScript, ATimer, AFrame, AnIdle, ALateIdle, AListener, APost, AContinuation, AMicro, AReaction, called_by, taken, Moves, here, changing, calling, ending, flagging, running, framing, enqueued_anew, fell_due, post_fell_due, delay_due, signal_due, DueChange, without_queued, without_answer, prio_told}
+use Rattle.page_laws.specs.Moves.{is_aside, is_end, is_free, fired_at, promise_changes, Places, places, PlaceChange, places_stay, task_queued, task_left, armed_again, signal_armed, timer_due, completed, idle_started, idle_queued, idle_left, answer_due, id_cleared, idle_armed, idle_due, Dropping, timer_dropped, idle_dropped, listener_dropped, task_dropped, FirstPlace, nowhere, at_listener, at_timer, at_delay, at_idle, at_host, AsBefore, PageChange, elsewhere, told, arm_told, rested, answered, dropped, frame_dropped, registered, frame_asked, promised, settled, followed, adopted, subscribed, then_asked, micro_asked, rejected_taken, noted, Beginning, TheScript, ATimer, AFrame, AnIdle, ALateIdle, AListener, APost, AContinuation, AMicro, AReaction, called_by, taken, Moves, here, changing, calling, ending, flagging, running, framing, idling, enqueued_anew, fell_due, post_fell_due, delay_due, signal_due, DueChange, without_queued, without_answer, prio_told}
 use Rattle.page_laws.proofs.Lines.{added, emit_each-events}
 use Rattle.page_laws.proofs.Once.{keeps_calls, once_calls}
 use Rattle.page_laws.proofs.Scans.{Test, Kept}
@@ -199,15 +199,17 @@ free-claims k steps h = refl
 
 place-fits : {made : List Registration} {x y : Places} → PlaceChange made x y → (past : History) → HostsFit x past → HostsFit y past
 place-fits places_stay past f = f
-place-fits {x = x} {y = y} (task_queued t h) past f =
+place-fits {x = x} {y = y} (task_queued t h plain) past f =
     lessen-fits x (record x { tasks = and_last x.tasks t }) past (λ k. let a = total-last (net_claims k) x.tasks t in let b = free-claims k t.steps h in omega (arith, a, b)) (same-live x.hosts) f
+place-fits {x = x} {y = y} (idle_queued t e from) past f =
+    lessen-fits x (record x { tasks = and_last x.tasks t }) past (λ k. let a = total-last (net_claims k) x.tasks t in let b = free-claims k t.steps (ap is_free e) in omega (arith, a, b)) (same-live x.hosts) f
 place-fits {x = x} (task_left number) past f =
     lessen-fits x (record x { tasks = without (λ t. t.number == number) x.tasks }) past (λ k. let a = total-without (net_claims k) (λ t. t.number == number) x.tasks in omega (arith, a)) (same-live x.hosts) f
 place-fits (armed_again a t role there own) past f = record { once = f.once; live = f.live; kept = f.kept }
 place-fits (signal_armed ms now q signal) past f = record { once = f.once; live = f.live; kept = f.kept }
 place-fits (id_cleared id) past f = record { once = f.once; live = f.live; kept = f.kept }
-place-fits (idle_armed t) past f = record { once = f.once; live = f.live; kept = f.kept }
-place-fits (completed start) past f = record { once = f.once; live = f.live; kept = f.kept }
+place-fits (idle_armed t most own) past f = record { once = f.once; live = f.live; kept = f.kept }
+place-fits (completed start gone) past f = record { once = f.once; live = f.live; kept = f.kept }
 place-fits idle_started past f = record { once = f.once; live = f.live; kept = f.kept }
 place-fits (idle_left handle) past f = record { once = f.once; live = f.live; kept = f.kept }
 
@@ -218,7 +220,9 @@ due-fits {x = x} {y = y} (timer_due start number source t e i role) past f =
     (λ k. let a = total-last (net_claims k) x.tasks (record { number = number; source = source; steps = RunTimer t }) in omega (arith, a)) (same-live x.hosts) f
 due-fits (delay_due start source e role) past f = record { once = f.once; live = f.live; kept = f.kept }
 due-fits (signal_due start s e role) past f = record { once = f.once; live = f.live; kept = f.kept }
-due-fits (idle_due handle role) past f = record { once = f.once; live = f.live; kept = f.kept }
+due-fits {x = x} {y = y} (idle_due t number source i e role) past f =
+    lessen-fits x y past
+    (λ k. let a = total-last (net_claims k) x.tasks (record { number = number; source = source; steps = IdleTimeout t.handle }) in omega (arith, a)) (same-live x.hosts) f
 due-fits {x = x} (answer_due before a after number source e i role) past f =
     let gone : HostAnswer → Bool = λ b. b.task.registration == a.task.registration in
     lessen-fits x (record x { host_answers = without gone x.host_answers; tasks = and_last x.tasks (record { number = number; source = source; steps = AnswerHost a.task }) }) past
@@ -324,9 +328,10 @@ changes-fit : (n : ℕ) (c : Promises.Change) (p : Page) → Fits p → Fits (pr
 changes-fit n c p f = notices-fit (λ s. changed (context p) p.names n c s) p (changed-silent (context p) p.names n c p.notices) f
 
 change-fits : {p q : Page} → PageChange p q → Fits p → Fits q
-change-fits {p = p} (elsewhere c b) f = before-fits b (place-fits c p.events f)
+change-fits {p = p} (elsewhere c b k) f = before-fits b (place-fits c p.events f)
 change-fits {p = p} (told e h) f = silent-fits e p.now (places p) p.events (aside-silent e h) f
-change-fits {p = p} (rested e h x y z over) f = silent-fits e p.now (places p) p.events (rest-silent e h) f
+change-fits {p = p} (arm_told r due level w) f = silent-fits (Arm r due level) p.now (places p) p.events refl f
+change-fits {p = p} (rested e h x y z over begun) f = silent-fits e p.now (places p) p.events (rest-silent e h) f
 change-fits {p = p} {q = q} (answered source task t answer x y live z b) f = before-fits b (answered-fits (places p) (places q) (λ t. same_source t.source source) task t answer p.now p.events x y z f)
 change-fits {p = p} {q = q} (registered k x e unframed u b) f = before-fits b (first-fits u (register_as k x p).events (record { once = f.once; live = f.live; kept = (refl, f.kept) }))
 change-fits {p = p} (dropped r d b) f = before-fits b (drop-fits d (emit (Drop r) p).events (record { once = f.once; live = f.live; kept = (refl, f.kept) }))
@@ -381,6 +386,7 @@ moves-fit (ending {q = q} a e h) f = silent-fits e q.now (places q) q.events (en
 moves-fit (flagging {q = q} {r = r} a x y z w u v t j) f = subst (λ (x : Places). HostsFit x r.events) (sym u) (subst (HostsFit (places q)) (sym y) (moves-fit a f))
 moves-fit (running {q = q} a j others x y) f = let g = moves-fit a f in record { once = g.once; live = g.live; kept = (refl, g.kept) }
 moves-fit (framing a t) f = let g = moves-fit a f in record { once = g.once; live = g.live; kept = (refl, g.kept) }
+moves-fit (idling a none) f = moves-fit a f
 
 -- from a first page on, no closure answers twice
 pub answered_once : (program : Program) (setup : Setup) (hosts : List HostClosure) {q : Page} → Moves (first_page program setup hosts) q → Kept once_answers q.events

@@ -6,7 +6,7 @@ use Rattle.std.specs.Prelude.{◌==◌, find}
 use Rattle.page_types.specs.declared.RegKind.{RegKind}
 use Rattle.page_types.specs.declared.RegKind.TheVariants as kind
 use Rattle.page_types.specs.declared.Source.TheVariants.{Sched}
-use Rattle.page_types.specs.Events.{Frame, Event, Call, Reg, Run, Turn, IdleLine, Host, Drop, Due, Enq, Prio}
+use Rattle.page_types.specs.Events.{Arm, Frame, Event, Call, Reg, Run, Turn, IdleLine, Host, Drop, Due, Enq, Prio}
 use Rattle.page_types.specs.Tree.{Program}
 use Rattle.page_parts.specs.Words.{and_last, without, is_there}
 use Rattle.page_parts.specs.Timers.{Timers, TimerId, with_id, with_armed, clear, has_id, is_live, id_entry}
@@ -27,7 +27,7 @@ use Rattle.page_model.specs.Turns.{first_page}
 use Rattle.page_model.proofs.NumbersGrow.{length-last}
 use Rattle.page_laws.specs.History.{History, has_kind, is_host, is_some_and, kind_of, was_dropped, is_drop_of, is_rest}
 use Rattle.page_laws.specs.CallLaws.{keeps_cancel}
-use Rattle.page_laws.specs.Moves.{is_aside, is_end, role_at, id_at, signal_at, promise_changes, Places, places, with_queued, without_start, without_aborted, PlaceChange, places_stay, task_queued, task_left, armed_again, signal_armed, completed, idle_started, idle_left, id_cleared, idle_armed, DueChange, timer_due, delay_due, signal_due, idle_due, answer_due, Dropping, timer_dropped, idle_dropped, listener_dropped, FirstPlace, nowhere, at_listener, at_timer, at_delay, at_idle, at_host, AsBefore, PageChange, elsewhere, told, rested, answered, dropped, task_dropped, frame_dropped, registered, enqueued_anew, fell_due, post_fell_due, frame_asked, promised, settled, followed, adopted, subscribed, then_asked, micro_asked, rejected_taken, noted, Beginning, TheScript, ATimer, AFrame, AnIdle, ALateIdle, AListener, APost, AContinuation, AMicro, AReaction, called_by, role_of, taken, Waited, Moves, here, changing, calling, ending, flagging, running, framing, prio_told}
+use Rattle.page_laws.specs.Moves.{is_aside, is_end, role_at, id_at, signal_at, promise_changes, Places, places, with_queued, without_start, without_aborted, PlaceChange, places_stay, task_queued, task_left, armed_again, signal_armed, completed, idle_started, idle_queued, idle_left, id_cleared, idle_armed, DueChange, timer_due, delay_due, signal_due, idle_due, answer_due, Dropping, timer_dropped, idle_dropped, listener_dropped, FirstPlace, nowhere, at_listener, at_timer, at_delay, at_idle, at_host, AsBefore, PageChange, elsewhere, told, arm_told, rested, answered, dropped, task_dropped, frame_dropped, registered, enqueued_anew, fell_due, post_fell_due, frame_asked, promised, settled, followed, adopted, subscribed, then_asked, micro_asked, rejected_taken, noted, Beginning, TheScript, ATimer, AFrame, AnIdle, ALateIdle, AListener, APost, AContinuation, AMicro, AReaction, called_by, role_of, taken, Waited, Moves, here, changing, calling, ending, flagging, running, framing, idling, prio_told}
 use Rattle.page_laws.proofs.Aborted.{moves-aborted}
 use Rattle.page_laws.proofs.Claims.{callback_claims, sched_claims, sched-less}
 use Rattle.page_laws.proofs.Finding.{false_true, none-left, found-counts, found-passes, not-without, not-left, not-last, same_number, off-none, off-keeps, add-keeps}
@@ -272,15 +272,16 @@ cancel-less r handle i =
 
 place-shrinks : {made : List Registration} {x y : Places} → PlaceChange made x y → (cs : List Callback) (a : ℕ → Bool) (r id : ℕ) → Shrinks r id (waits x cs a) (waits y cs a)
 place-shrinks {x = x} places_stay cs a r id = same r id (waits x cs a)
-place-shrinks {x = x} (task_queued t h) cs a r id = same r id (waits x cs a)
+place-shrinks {x = x} (task_queued t h plain) cs a r id = same r id (waits x cs a)
 place-shrinks {x = x} (task_left number) cs a r id = same r id (waits x cs a)
 place-shrinks {x = x} (armed_again armed t role there own) cs a r id =
     to_timers r id (waits x cs a) (with_armed (Some t.id) armed x.timers)
     (λ h. with_id-keeps id armed.id armed.handle x.timers.ids (λ e. false_true (sym (ap {A = ℕ} {B = Bool} (λ n. has_id n x.timers) (sym own ∙ e) ∙ h) ∙ there)) h)
 place-shrinks {x = x} (signal_armed ms now q s) cs a r id = to_timers r id (waits x cs a) _ (λ h. h)
 place-shrinks {x = x} (id_cleared other) cs a r id = to_timers r id (waits x cs a) (clear other x.timers) (λ h. not-without (λ (e : TimerId). e.id == id) (λ e. e.id == other) x.timers.ids h)
-place-shrinks {x = x} (idle_armed t) cs a r id = same r id (waits x cs a)
-place-shrinks {x = x} (completed start) cs a r id = to_timers r id (waits x cs a) _ (λ h. h)
+place-shrinks {x = x} (idle_queued t e from) cs a r id = same r id (waits x cs a)
+place-shrinks {x = x} (idle_armed t most own) cs a r id = same r id (waits x cs a)
+place-shrinks {x = x} (completed start gone) cs a r id = to_timers r id (waits x cs a) _ (λ h. h)
 place-shrinks {x = x} idle_started cs a r id =
     to_idle r id (waits x cs a) (started x.idle) (let e = total-append (callback_claims r) x.idle.runnable x.idle.pending in omega (arith, e))
 place-shrinks {x = x} (idle_left handle) cs a r id = to_idle r id (waits x cs a) (cancel handle x.idle) (cancel-less r handle x.idle)
@@ -289,7 +290,7 @@ due-shrinks : {made : List Registration} {q : ℕ} {x y : Places} → DueChange 
 due-shrinks {x = x} (timer_due start number source t e i role) cs a r id = to_timers r id (waits x cs a) _ (λ h. h)
 due-shrinks {x = x} (delay_due start source e role) cs a r id = to_timers r id (waits x cs a) _ (λ h. h)
 due-shrinks {x = x} (signal_due start s e role) cs a r id = to_timers r id (waits x cs a) _ (λ h. h)
-due-shrinks {x = x} (idle_due handle role) cs a r id = same r id (waits x cs a)
+due-shrinks {x = x} (idle_due t number source i e role) cs a r id = same r id (waits x cs a)
 due-shrinks {x = x} (answer_due before b after number source e i role) cs a r id =
     to_answers r id (waits x cs a) _ (total-without (answer_claims r) (λ c. c.task.registration == b.task.registration) x.host_answers)
 
@@ -460,7 +461,7 @@ due-line {xs = xs} {r = r} (timer_due start number source t e i role) cs a past 
     by_repeats false role = due-passes past r kind.Timeout (kind-there xs past r kind.Timeout k role) refl
 due-line {xs = xs} {r = r} (delay_due start source e role) cs a past k f = due-passes past r kind.Post (kind-there xs past r kind.Post k role) refl
 due-line {xs = xs} {r = r} (signal_due start s e role) cs a past k f = due-passes past r kind.Signal (kind-there xs past r kind.Signal k role) refl
-due-line {xs = xs} {r = r} (idle_due handle role) cs a past k f = due-passes past r kind.Idle (kind-there xs past r kind.Idle k role) refl
+due-line {xs = xs} {r = r} (idle_due t number source i e role) cs a past k f = due-passes past r kind.Idle (kind-there xs past r kind.Idle k role) refl
 due-line {xs = xs} {r = r} {x = x} (answer_due before b after number source e i role) cs a past k f =
     ap {A = Bool} {B = Bool} (λ d. not (has_kind is_host past r && d)) (unless (was_dropped past r) not_gone) ∙ and-false (has_kind is_host past r)
   where
@@ -492,10 +493,11 @@ dropping-gone {xs = xs} {r = r} {x = x} {y = y} (listener_dropped there role) s 
 -- ---- changes
 
 change-fits : {p q : Page} → PageChange p q → once.Fits p → Fits p → Fits q
-change-fits {p = p} {q = q} (elsewhere c b) o f =
+change-fits {p = p} {q = q} (elsewhere c b k) o f =
     before-fits b (shrink-fits p.registrations (page_waits p) (waits (places q) p.frames.callbacks (is_aborted p)) p.events (λ r. place-shrinks c p.frames.callbacks (is_aborted p) r (id_at p.registrations r)) f)
 change-fits {p = p} (told e h) o f = silent-fits e p.now p.registrations (page_waits p) p.events (aside-silent e h) f
-change-fits {p = p} (rested e h x y z over) o f = silent-fits e p.now p.registrations (page_waits p) p.events (rest-silent e h) f
+change-fits {p = p} (arm_told r due level w) o f = silent-fits (Arm r due level) p.now p.registrations (page_waits p) p.events refl f
+change-fits {p = p} (rested e h x y z over begun) o f = silent-fits e p.now p.registrations (page_waits p) p.events (rest-silent e h) f
 change-fits {p = p} (answered source task t answer x y live z b) o f =
     before-fits b
     (subst (λ (y : Places). Cancels p.registrations (waits y p.frames.callbacks (is_aborted p)) (emit (Host t.closure t.number answer) p).events) (sym z)
@@ -643,7 +645,7 @@ not-gone (AnIdle c others) p w g =
     let one : one_if (c.registration == c.registration) ≡ 1 = ap one_if (eq-eqb c.registration c.registration refl) in
     absurd (omega (arith, all, one, g))
 not-gone (ALateIdle handle c) p w g =
-    let le = found-counts (callback_claims c.registration) (λ (d : Callback). d.handle == handle) (p.idle.runnable ++ p.idle.pending) c w in
+    let le = found-counts (callback_claims c.registration) (λ (d : Callback). d.handle == handle) (p.idle.runnable ++ p.idle.pending) c w.0 in
     let split = total-append (callback_claims c.registration) p.idle.runnable p.idle.pending in
     let one : one_if (c.registration == c.registration) ≡ 1 = ap one_if (eq-eqb c.registration c.registration refl) in
     absurd (omega (arith, le, split, one, g))
@@ -697,6 +699,7 @@ moves-fit (flagging {q = q} {r = r} a x y z w u v t j) o f =
     (subst (Cancels q.registrations (page_waits q)) (sym y) g))))
 moves-fit (running {q = q} a j others x y) o f = silent-fits (Run j.number) q.now q.registrations (page_waits q) q.events refl (moves-fit a o f)
 moves-fit (framing {q = q} a t) o f = silent-fits (Frame t) q.now q.registrations (page_waits q) q.events refl (moves-fit a o f)
+moves-fit (idling a none) o f = moves-fit a o f
 
 -- before a first page's first line nothing was dropped
 pub first_fits : (program : Program) (setup : Setup) (hosts : List HostClosure) → Fits (first_page program setup hosts)

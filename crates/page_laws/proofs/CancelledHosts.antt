@@ -8,7 +8,7 @@ use Rattle.page_types.specs.declared.HostMark.TheVariants.{Live, Queued as Queue
 use Rattle.page_types.specs.declared.RegKind.{RegKind}
 use Rattle.page_types.specs.declared.RegKind.TheVariants as kind
 use Rattle.page_types.specs.declared.Source.TheVariants.{Sched}
-use Rattle.page_types.specs.Events.{Frame, Event, Call, Reg, Run, Turn, IdleLine, Host, Drop, Due, Enq, Prio}
+use Rattle.page_types.specs.Events.{Arm, Frame, Event, Call, Reg, Run, Turn, IdleLine, Host, Drop, Due, Enq, Prio}
 use Rattle.page_types.specs.Tree.{Program}
 use Rattle.page_parts.specs.Words.{and_last, without, is_there}
 use Rattle.page_parts.specs.HostClosures.{HostClosure}
@@ -17,7 +17,7 @@ use Rattle.page_parts.specs.Sources.{same_source}
 use Rattle.page_parts.specs.Promises.{Settled, Fulfilled, Failed, Reaction, PromiseJob, the_promise}
 use Rattle.page_parts.specs.Promises as Promises
 use Rattle.page_parts.specs.Notices.{Notices, Noticed, changed, subscribe_promise, queue_micro}
-use Rattle.page_model.specs.State.{Role, ScriptRole, OfKind, Registration, Page, HostTask, AnswerHost, RunTimer, HostAnswer, emit, emit_each, on_notices, context, caller}
+use Rattle.page_model.specs.State.{IdleTimeout, Role, ScriptRole, OfKind, Registration, Page, HostTask, AnswerHost, RunTimer, HostAnswer, emit, emit_each, on_notices, context, caller}
 use Rattle.page_model.specs.Invoke.{register_as}
 use Rattle.page_model.specs.PageTime.{deadline}
 use Rattle.page_model.specs.PageSignals.{drop_closure, task_in_answer, task_in_net, waiting_answer, waiting_net_task}
@@ -26,7 +26,7 @@ use Rattle.page_model.specs.Operations.{queued_mark}
 use Rattle.page_model.specs.Turns.{first_page}
 use Rattle.page_laws.specs.History.{History, is_host, was_dropped}
 use Rattle.page_laws.specs.CallLaws.{answers_fit, keeps_cancel}
-use Rattle.page_laws.specs.Moves.{role_at, promise_changes, Places, places, without_aborted, PlaceChange, places_stay, task_queued, task_left, armed_again, signal_armed, completed, idle_started, idle_left, id_cleared, idle_armed, DueChange, timer_due, delay_due, signal_due, idle_due, answer_due, Dropping, timer_dropped, idle_dropped, listener_dropped, FirstPlace, nowhere, at_listener, at_timer, at_delay, at_idle, at_host, AsBefore, PageChange, elsewhere, told, rested, answered, dropped, task_dropped, frame_dropped, registered as made_one, enqueued_anew, fell_due, post_fell_due, frame_asked, promised, settled, followed, adopted, subscribed, then_asked, micro_asked, rejected_taken, noted, Beginning, TheScript, ATimer, AFrame, AnIdle, ALateIdle, AListener, APost, AContinuation, AMicro, AReaction, called_by, taken, Moves, here, changing, calling, ending, flagging, running, framing, prio_told}
+use Rattle.page_laws.specs.Moves.{is_free, role_at, promise_changes, Places, places, without_aborted, PlaceChange, places_stay, task_queued, task_left, armed_again, signal_armed, completed, idle_started, idle_queued, idle_left, id_cleared, idle_armed, DueChange, timer_due, delay_due, signal_due, idle_due, answer_due, Dropping, timer_dropped, idle_dropped, listener_dropped, FirstPlace, nowhere, at_listener, at_timer, at_delay, at_idle, at_host, AsBefore, PageChange, elsewhere, told, arm_told, rested, answered, dropped, task_dropped, frame_dropped, registered as made_one, enqueued_anew, fell_due, post_fell_due, frame_asked, promised, settled, followed, adopted, subscribed, then_asked, micro_asked, rejected_taken, noted, Beginning, TheScript, ATimer, AFrame, AnIdle, ALateIdle, AListener, APost, AContinuation, AMicro, AReaction, called_by, taken, Moves, here, changing, calling, ending, flagging, running, framing, idling, prio_told}
 use Rattle.page_laws.proofs.Cancelled as cancelled
 use Rattle.page_laws.proofs.Cancelled.{Cancels, GoneBy, waits, unless, made-kind, no_kind, kind-there, answer_claims, keeps_dropped}
 use Rattle.page_laws.proofs.Finding.{false_true}
@@ -78,13 +78,14 @@ plain-fits k x p f = made-fits k (caller p) x p.now p.registrations p.tasks p.ho
 
 place-fits : {xs : List Registration} {x y : Places} → PlaceChange xs x y → (past : History) → AnswersAt xs x past → AnswersAt xs y past
 place-fits places_stay past f = f
-place-fits {xs = xs} {x = x} (task_queued t h) past f = task-more t xs x.tasks x.host_answers x.hosts past (free-net t.steps h) f
+place-fits {xs = xs} {x = x} (task_queued t h plain) past f = task-more t xs x.tasks x.host_answers x.hosts past (free-net t.steps h) f
 place-fits {xs = xs} {x = x} (task_left number) past f = task-gone number xs x.tasks x.host_answers x.hosts past f
 place-fits (armed_again armed t role there own) past f = f
 place-fits (signal_armed ms now q s) past f = f
 place-fits (id_cleared other) past f = f
-place-fits (idle_armed t) past f = f
-place-fits (completed start) past f = f
+place-fits {xs = xs} {x = x} (idle_queued t e from) past f = task-more t xs x.tasks x.host_answers x.hosts past (free-net t.steps (ap is_free e)) f
+place-fits (idle_armed t most own) past f = f
+place-fits (completed start gone) past f = f
 place-fits idle_started past f = f
 place-fits (idle_left handle) past f = f
 
@@ -98,7 +99,9 @@ due-fits {xs = xs} {r = r} {x = x} (timer_due start number source t e i role) no
     by_repeats false role = other-due r now kind.Timeout xs x.tasks x.host_answers x.hosts past role (no_host kind.Timeout refl) f
 due-fits {xs = xs} {r = r} {x = x} (delay_due start source e role) now past k g f = other-due r now kind.Post xs x.tasks x.host_answers x.hosts past role (no_host kind.Post refl) f
 due-fits {xs = xs} {r = r} {x = x} (signal_due start s e role) now past k g f = other-due r now kind.Signal xs x.tasks x.host_answers x.hosts past role (no_host kind.Signal refl) f
-due-fits {xs = xs} {r = r} {x = x} (idle_due handle role) now past k g f = other-due r now kind.Idle xs x.tasks x.host_answers x.hosts past role (no_host kind.Idle refl) f
+due-fits {xs = xs} {r = r} {x = x} (idle_due t number source i e role) now past k g f =
+    task-more (record { number = number; source = source; steps = IdleTimeout t.handle }) xs x.tasks x.host_answers x.hosts (record { time = now; event = Due r } ∷ past) refl
+    (other-due r now kind.Idle xs x.tasks x.host_answers x.hosts past role (no_host kind.Idle refl) f)
 due-fits {xs = xs} {r = r} {x = x} {y = y} (answer_due before a after number source e i role) now past k g f =
     let own : role_at xs a.task.registration ≡ OfKind kind.Host = ap {A = ℕ} {B = Role} (role_at xs) i ∙ role in
     let l : IsLess (answer_claims a.task.registration) (λ b. true) x.host_answers a = subst (λ (ys : List HostAnswer). IsLess (answer_claims a.task.registration) (λ b. true) ys a) (sym e) (less-within (answer_claims a.task.registration) (λ b. true) before a after refl) in
@@ -159,9 +162,10 @@ first-fits {made = made} {x = x} (at_host c a e1 there live) k by e now past i f
 -- ---- changes
 
 change-fits : {p q : Page} → PageChange p q → once.Fits p → cancelled.Fits p → Fits p → Fits q
-change-fits {p = p} (elsewhere c b) o d f = before-fits b (place-fits c p.events f)
+change-fits {p = p} (elsewhere c b k) o d f = before-fits b (place-fits c p.events f)
 change-fits {p = p} (told e h) o d f = silent-fits e p.now p.registrations p.tasks p.host_answers p.hosts p.events (aside-silent e h) f
-change-fits {p = p} (rested e h x y z over) o d f = silent-fits e p.now p.registrations p.tasks p.host_answers p.hosts p.events (rest-silent e h) f
+change-fits {p = p} (arm_told r due level w) o d f = silent-fits (Arm r due level) p.now p.registrations p.tasks p.host_answers p.hosts p.events refl f
+change-fits {p = p} (rested e h x y z over begun) o d f = silent-fits e p.now p.registrations p.tasks p.host_answers p.hosts p.events (rest-silent e h) f
 change-fits {p = p} (answered source task t answer x y live z b) o d f =
     before-fits b
     (subst (λ (y : Places). AnswersAt p.registrations y (emit (Host t.closure t.number answer) p).events) (sym z)
@@ -237,6 +241,7 @@ moves-fit (flagging {q = q} {r = r} a x y z w u v t j) o d f =
     (subst (λ (xs : List Registration). AnswersAt xs (places q) r.events) (sym z) (subst (AnswersAt q.registrations (places q)) (sym y) (moves-fit a o d f)))
 moves-fit (running {q = q} a j others x y) o d f = silent-fits (Run j.number) q.now q.registrations q.tasks q.host_answers q.hosts q.events refl (moves-fit a o d f)
 moves-fit (framing {q = q} a t) o d f = silent-fits (Frame t) q.now q.registrations q.tasks q.host_answers q.hosts q.events refl (moves-fit a o d f)
+moves-fit (idling a none) o d f = moves-fit a o d f
 
 -- from a first page on, each answer of a host stands for a registration that was due and not dropped
 pub answers_stand : (program : Program) (setup : Setup) (hosts : List HostClosure) {q : Page} → Moves (first_page program setup hosts) q → Kept answers_test q.events

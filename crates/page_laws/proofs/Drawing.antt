@@ -3,6 +3,7 @@ use Rattle.page_types.specs.declared.RegKind.TheVariants as kind
 use Rattle.lang_meaning.specs.Machine.{afterwards, Done, Gives, OutOfFuel, Returns, Throws, and_then}
 use Rattle.page_laws.proofs.Evaluating.{Le, call_over, entered, le-then, le-same, on_page-reached}
 use Rattle.page_laws.proofs.Framed.{Ascends, FramesKept, Ordered, Stayed, CameAfter, ascends-both, ascends-in, begins-kept, changes-kept, ended-kept, in-without-stays, false_true}
+use Rattle.page_laws.proofs.Idling.{frame-goes_on}
 use Rattle.page_laws.proofs.Moved.{report_after-changes}
 use Rattle.page_laws.proofs.Moving.{moves-then}
 use Rattle.page_laws.proofs.Runs.{Goes, WaysGo, entered-goes, finish-goes, invoke-goes, report_before-onto}
@@ -206,7 +207,7 @@ module _ (program : Program) where
     -- where every key was visited, nothing that was requested before the frame's line waits
     all-drawn : (r : State) → Left m.host.frames.made [] r.host → Le (Behind t m) r → Moves m.host r.host → Le m r
     all-drawn r left le row =
-        (le.0, row, le.2, record { made = le.3.made; grows = le.3.grows; each = λ o c i. by_place o c i (le.3.each o c i); ordered = le.3.ordered })
+        (le.0, row, le.2, record { made = le.3.made; grows = le.3.grows; each = λ o c i. by_place o c i (le.3.each o c i); ordered = le.3.ordered }, λ x. le.4 (frame-goes_on t m.host x))
       where
         by_left : Ordered m.host → (c : Callback) → IsIn c m.host.frames.callbacks → (m.host.frames.made < c.handle) ⊎ ⊥ → ⊥
         by_left o c i (inl n) = let x = (ascends-in m.host.frames.made (length m.host.registrations) 0 0 c m.host.frames.callbacks o i).2 in absurd (omega (arith, n, x))

@@ -7,7 +7,7 @@ use Rattle.page_types.specs.declared.RegKind.{RegKind}
 use Rattle.page_types.specs.declared.RegKind.TheVariants as kind
 use Rattle.page_types.specs.declared.End.TheVariants as end
 use Rattle.page_types.specs.declared.Source.TheVariants.{Sched}
-use Rattle.page_types.specs.Events.{Event, Call, Ret, Throw, Turn, Wait, Period, EndLine, Frame, Reg, Run, Drop, Due, Enq, Host, Prio, IdleLine, Stamped}
+use Rattle.page_types.specs.Events.{Arm, Event, Call, Ret, Throw, Turn, Wait, Period, EndLine, Frame, Reg, Run, Drop, Due, Enq, Host, Prio, IdleLine, Stamped}
 use Rattle.page_types.specs.Tree.{Program}
 use Rattle.page_parts.specs.Setup.{Setup}
 use Rattle.page_parts.specs.HostClosures.{HostClosure}
@@ -25,7 +25,7 @@ use Rattle.page_model.specs.Turns.{first_page}
 use Rattle.page_model.proofs.NumbersGrow.{length-last, numbered-last}
 use Rattle.page_laws.specs.History.{History, is_call_of, is_scheduled, is_drop_of, is_frame, is_reg_of, is_rest, is_turn, has_kind, is_some_and, kind_in, kind_of, registered, before_last, this_turn, calls_in, called_in, some_line, was_called, was_dropped}
 use Rattle.page_laws.specs.TimerLaws.{all_framed, framed_at, is_frame_line, is_reg_before, keeps_frames, may_be_drawn, was_done}
-use Rattle.page_laws.specs.Moves.{is_aside, is_end, marked, marked_by, role_at, IsIn, IsDrawnNext, FrameIsOver, promise_changes, AsBefore, PageChange, elsewhere, told, rested, registered as made_one, promised, settled, followed, adopted, subscribed, micro_asked, then_asked, answered, dropped, frame_dropped, frame_asked, rejected_taken, noted, Beginning, TheScript, ATimer, AFrame, AnIdle, ALateIdle, AListener, APost, AContinuation, AMicro, AReaction, called_by, role_of, taken, Waited, task_dropped, enqueued_anew, fell_due, post_fell_due, prio_told, Moves, here, changing, calling, ending, flagging, running, framing}
+use Rattle.page_laws.specs.Moves.{is_aside, is_end, marked, marked_by, role_at, IsIn, IsDrawnNext, FrameIsOver, promise_changes, AsBefore, PageChange, elsewhere, told, arm_told, rested, registered as made_one, promised, settled, followed, adopted, subscribed, micro_asked, then_asked, answered, dropped, frame_dropped, frame_asked, rejected_taken, noted, Beginning, TheScript, ATimer, AFrame, AnIdle, ALateIdle, AListener, APost, AContinuation, AMicro, AReaction, called_by, role_of, taken, Waited, task_dropped, enqueued_anew, fell_due, post_fell_due, prio_told, Moves, here, changing, calling, ending, flagging, running, framing, idling}
 use Rattle.page_laws.proofs.Drawing.{found-in}
 use Rattle.page_laws.proofs.Framed.{Ascends, Ordered, ascends-both, ascends-in, moves-ordered, in-without, in-without-stays, false_true}
 use Rattle.page_laws.proofs.Lines.{added, emit_each-events}
@@ -629,9 +629,10 @@ unframed_sched kind.Frame h = absurd (false_true h)
 unframed_sched k h = refl
 
 change-fits : {p q : Page} → PageChange p q → Ordered p → KindsFit p.registrations p.events → Fits p → Fits q
-change-fits (elsewhere c b) o n f = before-fits b f
+change-fits (elsewhere c b k) o n f = before-fits b f
 change-fits {p = p} (told e h) o n f = said e p (aside-silent e h) f
-change-fits {p = p} (rested e h x y z over) o n f = rest-fits e p h over n f
+change-fits {p = p} (arm_told r due level w) o n f = said (Arm r due level) p refl f
+change-fits {p = p} (rested e h x y z over begun) o n f = rest-fits e p h over n f
 change-fits {p = p} (answered source task t answer x y live z b) o n f = before-fits b (said (Host t.closure t.number answer) p refl f)
 change-fits {p = p} (made_one k x e unframed u b) o n f = before-fits b (registered-fits k x p e unframed f)
 change-fits {p = p} (enqueued_anew k x t queue e i s next b) o n f =
@@ -694,6 +695,7 @@ moves-fit (flagging {q = q} {r = r} a x y z w u v t j) o k f =
     (subst (λ (xs : List Registration). FitsBy xs q.frames r.events) (sym z) (subst (FitsBy q.registrations q.frames) (sym y) (moves-fit a o k f)))
 moves-fit (running {q = q} a j others x y) o k f = said (Run j.number) q refl (moves-fit a o k f)
 moves-fit (framing {q = q} a t) o x f = said (Frame t) q refl (moves-fit a o x f)
+moves-fit (idling a none) o x f = moves-fit a o x f
 
 -- from a first page on, frame callbacks go in order
 pub frames_in_order : (program : Program) (setup : Setup) (hosts : List HostClosure) {q : Page} → Moves (first_page program setup hosts) q → Kept framing_test q.events

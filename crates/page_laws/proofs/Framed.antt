@@ -17,7 +17,7 @@ use Rattle.page_model.specs.Invoke.{register_as, call_begun, call_ended}
 use Rattle.page_model.specs.Numbers.{Each}
 use Rattle.page_model.proofs.NumbersGrow.{length-last}
 use Rattle.page_laws.specs.History.{History, is_rest}
-use Rattle.page_laws.specs.Moves.{is_aside, is_end, marked, marked_by, IsIn, FrameIsOver, promise_changes, AsBefore, PageChange, elsewhere, told, rested, registered, promised, settled, followed, adopted, subscribed, micro_asked, then_asked, answered, dropped, frame_dropped, frame_asked, rejected_taken, noted, Changes, nothing, with_change, Beginning, TheScript, ATimer, AFrame, AnIdle, ALateIdle, AListener, APost, AContinuation, AMicro, AReaction, called_by, taken, Waited, task_dropped, enqueued_anew, fell_due, post_fell_due, prio_told, Moves, here, changing, calling, ending, flagging, running, framing}
+use Rattle.page_laws.specs.Moves.{is_aside, is_end, marked, marked_by, IsIn, FrameIsOver, promise_changes, AsBefore, PageChange, elsewhere, told, arm_told, rested, registered, promised, settled, followed, adopted, subscribed, micro_asked, then_asked, answered, dropped, frame_dropped, frame_asked, rejected_taken, noted, Changes, nothing, with_change, Beginning, TheScript, ATimer, AFrame, AnIdle, ALateIdle, AListener, APost, AContinuation, AMicro, AReaction, called_by, taken, Waited, task_dropped, enqueued_anew, fell_due, post_fell_due, prio_told, Moves, here, changing, calling, ending, flagging, running, framing, idling}
 use Rattle.page_laws.proofs.Lines.{added, emit_each-events}
 
 -- ---- lists of callbacks
@@ -333,9 +333,10 @@ made-step : (k : RegKind) (x : Registration) (p : Page) → FrameStep p (registe
 made-step k x p = making refl (length-last p.registrations x) (λ r. refl)
 
 pub change-kept : {p q : Page} → PageChange p q → FramesKept p q
-change-kept (elsewhere c b) = step-kept (before-step b refl refl (λ r. refl))
+change-kept (elsewhere c b k) = step-kept (before-step b refl refl (λ r. refl))
 change-kept {p = p} (told e h) = step-kept (quiet refl refl (λ r. aside-unmarking e h r (marked p.events r)))
-change-kept {p = p} (rested e h x y z over) = step-kept (resting refl refl over (λ r. rest-marking e h r (marked p.events r)))
+change-kept (arm_told r due level w) = step-kept (quiet refl refl (λ r. refl))
+change-kept {p = p} (rested e h x y z over begun) = step-kept (resting refl refl over (λ r. rest-marking e h r (marked p.events r)))
 change-kept (answered source task t answer x y live z b) = step-kept (before-step b refl refl (λ r. refl))
 change-kept {p = p} {q = q} (registered k x e unframed u b) = kept-then p (register_as k x p) q (step-kept (made-step k x p)) (step-kept (before-step b refl refl (λ r. refl)))
 change-kept (dropped r d b) = step-kept (before-step b refl refl (λ r. refl))
@@ -394,3 +395,4 @@ moves-ordered (ending a e h) o = moves-ordered a o
 moves-ordered (flagging {q = q} {r = r} a x y z w u v t j) o = (kept-same q r w z y).ordered (moves-ordered a o)
 moves-ordered (running a j others x y) o = moves-ordered a o
 moves-ordered (framing a t) o = moves-ordered a o
+moves-ordered (idling a none) o = moves-ordered a o

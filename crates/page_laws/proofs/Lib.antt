@@ -4,6 +4,8 @@ pub mod Lines
 pub mod Framed
 pub mod Prioritised
 pub mod Moved
+pub mod Idling
+pub mod Ready
 pub mod Aborted
 pub mod Evaluating
 pub mod Onto

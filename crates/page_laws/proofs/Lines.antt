@@ -12,7 +12,7 @@ use Rattle.page_parts.specs.Promises.{the_promise}
 use Rattle.page_model.specs.State.{Page, emit, emit_each, on_notices, context}
 use Rattle.page_model.specs.Numbers.{Each}
 use Rattle.page_laws.specs.History.{History, open_after, open_registrations, is_rest}
-use Rattle.page_laws.specs.Moves.{frame_asked, is_aside, promise_changes, PageChange, elsewhere, told, rested, registered, promised, settled, followed, adopted, subscribed, micro_asked, then_asked, answered, dropped, frame_dropped, AsBefore, rejected_taken, noted, Changes, nothing, with_change, Beginning, TheScript, ATimer, AFrame, AnIdle, ALateIdle, AListener, APost, AContinuation, AMicro, AReaction, taken, task_dropped, enqueued_anew, fell_due, post_fell_due, prio_told}
+use Rattle.page_laws.specs.Moves.{frame_asked, is_aside, promise_changes, PageChange, elsewhere, told, arm_told, rested, registered, promised, settled, followed, adopted, subscribed, micro_asked, then_asked, answered, dropped, frame_dropped, AsBefore, rejected_taken, noted, Changes, nothing, with_change, Beginning, TheScript, ATimer, AFrame, AnIdle, ALateIdle, AListener, APost, AContinuation, AMicro, AReaction, taken, task_dropped, enqueued_anew, fell_due, post_fell_due, prio_told}
 
 -- ---- lines
 
@@ -101,9 +101,10 @@ before-same : {p q : Page} → AsBefore p q → Same p q
 before-same b = (ap open_registrations b.events, b.performing)
 
 pub change-same : {p q : Page} → PageChange p q → Same p q
-change-same (elsewhere c b) = before-same b
+change-same (elsewhere c b k) = before-same b
 change-same {p = p} (told e h) = (aside-open e h (open_registrations p.events), refl)
-change-same {p = p} (rested e h x y z over) = (rest-open e h (open_registrations p.events), refl)
+change-same (arm_told r due level w) = (refl, refl)
+change-same {p = p} (rested e h x y z over begun) = (rest-open e h (open_registrations p.events), refl)
 change-same (answered source task t answer x y live z b) = before-same b
 change-same (registered kind x e unframed u b) = before-same b
 change-same (dropped r d b) = before-same b
@@ -154,9 +155,10 @@ notices-calls : (f : Notices → Noticed) (p : Page) → (on_notices f p).calls 
 notices-calls f p = emit_each-calls (f p.notices).lines (record p { notices = (f p.notices).notices })
 
 pub change-calls : {p q : Page} → PageChange p q → q.calls ≡ p.calls
-change-calls (elsewhere c b) = b.calls
+change-calls (elsewhere c b k) = b.calls
 change-calls (told e h) = refl
-change-calls (rested e h x y z over) = refl
+change-calls (arm_told r due level w) = refl
+change-calls (rested e h x y z over begun) = refl
 change-calls (answered source task t answer x y live z b) = b.calls
 change-calls (registered kind x e unframed u b) = b.calls
 change-calls (dropped r d b) = b.calls

@@ -6,9 +6,9 @@ use Rattle.page_laws.proofs.Finding.{found-passes}
 use Rattle.page_model.proofs.NumbersSignals.{with-by_number, last-by_number, with_reason-by_number, any-by_number}
 use Rattle.page_model.proofs.NumbersTasks.{ItemIsGiven, IfItemIsGiven, items-given, first_of-given, due_item-given, take_item-held, completion_of-given}
 use Rattle.page_model.proofs.NumbersPages.{the_registration-given}
-use Rattle.std.proofs.lemmas.Bool.{eqb-true}
-use Rattle.std.proofs.Common.{◌≡◌, ℕ, zero, suc, ◌+◌, ◌*◌, Bool, true, false, List, [], ◌∷◌, Option, Some, None, refl, ap, sym, subst, ◌∙◌, ◌++◌, cond, ℤ, Result, Ok, Err, length, slice_get, ◌&&◌, nat_lt, nat_le, map, ◌≤◌, unwrap_or, arith, ◌||◌}
-use Rattle.std.specs.Prelude.{◌==◌, slice_set, find}
+use Rattle.std.proofs.lemmas.Bool.{eqb-true, eq-eqb}
+use Rattle.std.proofs.Common.{◌≡◌, ℕ, zero, suc, ◌+◌, ◌*◌, ◌⊎◌, inl, inr, Bool, true, false, List, [], ◌∷◌, Option, Some, None, refl, ap, sym, subst, ◌∙◌, ◌++◌, cond, ℤ, Result, Ok, Err, length, slice_get, ◌&&◌, nat_lt, nat_le, map, ◌≤◌, unwrap_or, arith, ◌||◌}
+use Rattle.std.specs.Prelude.{◌==◌, slice_set, find, option_map}
 use Rattle.page_types.specs.Values.{Value, IntValue}
 use Rattle.page_types.specs.declared.FaultName.TheVariants.{TypeError}
 use Rattle.page_types.specs.declared.Priority.{Priority}
@@ -37,12 +37,12 @@ use Rattle.page_parts.specs.AbortGraph.{the_signal, with_algorithms, with_reason
 use Rattle.page_parts.specs.TaskSignals as TaskSignals
 use Rattle.page_parts.specs.Listeners.{Target, is_listening, off, Listener}
 use Rattle.page_parts.specs.HostClosures.{HostClosure}
-use Rattle.page_model.specs.State.{context, Role, ScriptRole, OfKind, Registration, no_registration, Task, TimerTask, SchedTask, HostAnswer, IdleTimer, AnswerHost, TimeOutSignal, FireAtWindow, RunFrame, IdleTimeout, NotifyHandled, NotifyRejected, Steps, PrioSource, SchedulingState, HostTask, Completion, QueueTimer, EnqueuePost, QueueSignal, InvokeIdle, Page, emit, emit_each, on_notices, queue_task, the_registration, last_registration, Role, Completing}
+use Rattle.page_model.specs.State.{Completing, context, Role, ScriptRole, OfKind, Registration, no_registration, Task, TimerTask, SchedTask, HostAnswer, IdleTimer, AnswerHost, TimeOutSignal, FireAtWindow, RunFrame, NotifyHandled, NotifyRejected, Steps, PrioSource, SchedulingState, HostTask, Completion, QueueTimer, EnqueuePost, QueueSignal, InvokeIdle, Page, emit, emit_each, on_notices, queue_task, the_registration, last_registration, Role, Completing}
 use Rattle.page_model.specs.PagePromises as promises
 use Rattle.page_model.specs.PagePromises.{new_promise, last_promise}
-use Rattle.page_model.specs.PageTime.{init_timer, clear_id, clear_timer, registration_with_id, first_task, next_frame, without_frame, cancel_frame, deadline, period_begun, idle_step, idle_timeout, idle_callback, without_idle, cancel_idle, completion_of, without_timer}
+use Rattle.page_model.specs.PageTime.{start_period, init_timer, clear_id, clear_timer, registration_with_id, first_task, next_frame, without_frame, cancel_frame, deadline, period_begun, idle_timeout, idle_callback, without_idle, cancel_idle, completion_of, without_timer}
 use Rattle.page_model.specs.Turns.{without_task, not_dropped}
-use Rattle.page_model.proofs.NumbersGrow.{length-last, Each-append, Held, Each-find, InFrames, InIdle, InTimers, InListeners, InCompletions, InSchedTasks, InPrios}
+use Rattle.page_model.proofs.NumbersGrow.{length-last, numbered-last, Each-more, Each-append, Held, Each-find, InFrames, InIdle, InTimers, InListeners, InCompletions, InSchedTasks, InPrios}
 use Rattle.page_model.specs.SchedulerTasks.{enqueue, queue_name}
 use Rattle.page_model.specs.Invoke.{WhenReported, BeforeCheckpoint, AfterCheckpoint, Never, report_before, report_after, notify_rejected, register, register_as}
 use Rattle.page_model.specs.PageSignals.{waiting_answer, waiting_net_task, has_not_begun, drop_registration, abort_registration, reason_set, watch, unwatch, give_priority, change_begun, change_ended, is_aborted_source, is_delay_of, is_for, host_task_of, is_aborted}
@@ -51,7 +51,7 @@ use Rattle.page_model.specs.Tasks.{invoke_idle_again, outstanding_if_unhandled, 
 use Rattle.page_model.specs.Parallel.{ItemKind, ArrivalItem, HostItem, TimerItem, IdleItem, FrameItem, Item, arrival_items, frame_items, items_in_order, first_item_from, first_item_of, complete, complete_at, take_item, due_item, first_item, take_due, item_count, parallel}
 use Rattle.page_model.specs.Numbers.{IsGiven, Each, IfThere, made_by, Made, is_abortable, timer_role, TimerIdIsGiven, CallbackIsGiven, IdleIsGiven, ListenerIsGiven, CompletionIsGiven, SchedTaskIsGiven, CompletingIsGiven, sched_role}
 use Rattle.page_laws.specs.History.{is_frame, open_registrations, is_scheduled}
-use Rattle.page_laws.specs.Moves.{is_aside, FrameIsOver, promise_changes, Places, places, is_free, PlaceChange, places_stay, task_queued, completed, idle_started, idle_left, id_cleared, Dropping, timer_dropped, idle_dropped, listener_dropped, FirstPlace, nowhere, at_listener, at_timer, at_delay, at_idle, at_host, AsBefore, fired_at, PageChange, elsewhere, frame_asked, registered, answered, dropped, frame_dropped, then_asked, micro_asked, told, rested, settled, followed, adopted, subscribed, rejected_taken, noted, Changes, nothing, with_change, armed_again, signal_armed, idle_armed, timer_due, delay_due, signal_due, idle_due, answer_due, DueChange, StaysAborted, fell_due, post_fell_due, enqueued_anew, task_dropped, role_at, id_at, signal_at, Scheduling, scheduling_of, SchedulingAfter, HasPriority, Sourced, known, prio_told}
+use Rattle.page_laws.specs.Moves.{is_aside, is_idle_task, role_at, IsIn, PeriodGoesOn, InPeriod, ArmedAt, by_timer, by_idle, by_host, completes_for, with_timer, idle_queued, FrameIsOver, promise_changes, Places, places, is_free, PlaceChange, places_stay, task_queued, completed, idle_started, idle_left, id_cleared, Dropping, timer_dropped, idle_dropped, listener_dropped, FirstPlace, nowhere, at_listener, at_timer, at_delay, at_idle, at_host, AsBefore, fired_at, PageChange, elsewhere, frame_asked, registered, answered, dropped, frame_dropped, then_asked, micro_asked, told, rested, settled, followed, adopted, subscribed, rejected_taken, noted, Changes, nothing, with_change, armed_again, signal_armed, idle_armed, timer_due, delay_due, signal_due, idle_due, answer_due, DueChange, StaysAborted, fell_due, post_fell_due, enqueued_anew, task_dropped, role_at, id_at, signal_at, Scheduling, scheduling_of, SchedulingAfter, HasPriority, Sourced, known, prio_told}
 use Rattle.page_laws.specs.Moves as moves
 use Rattle.page_laws.proofs.Moving.{changes-then}
 
@@ -63,25 +63,58 @@ same_signals p q e s h = ap {A = AbortGraph.Signals Value} {B = Bool} (λ ss. Ab
 
 -- the same for the scheduler
 same_scheduling : (a b : Scheduling) → b ≡ a → SchedulingAfter a b
-same_scheduling a b e = subst (SchedulingAfter a) (sym e) (record { priorities = λ s. refl; states = refl; tasks_made = omega arith })
+same_scheduling a b e = subst (SchedulingAfter a) (sym e) (record { priorities = λ s. refl; states = refl; tasks_made = omega arith; idle_start = refl })
 
 -- a change of the places, and of what is not named otherwise
-pub placed : (p q : Page) → PlaceChange p.registrations (places p) (places q) → q.notices ≡ p.notices → q.performing ≡ p.performing → q.events ≡ p.events → q.registrations ≡ p.registrations → q.frames ≡ p.frames → q.calls ≡ p.calls → q.signals ≡ p.signals → scheduling_of q ≡ scheduling_of p → Changes p q
-placed p q c x y z w v u t j = with_change nothing (elsewhere c (record { notices = x; performing = y; events = z; registrations = w; frames = v; calls = u; aborted = same_signals p q t; scheduling = same_scheduling (scheduling_of p) (scheduling_of q) j }))
+pub placed : (p q : Page) (c : PlaceChange p.registrations (places p) (places q)) → InPeriod c p → q.notices ≡ p.notices → q.performing ≡ p.performing → q.events ≡ p.events → q.registrations ≡ p.registrations → q.frames ≡ p.frames → q.calls ≡ p.calls → q.signals ≡ p.signals → scheduling_of q ≡ scheduling_of p → Changes p q
+placed p q c k x y z w v u t j = with_change nothing (elsewhere c (record { notices = x; performing = y; events = z; registrations = w; frames = v; calls = u; aborted = same_signals p q t; scheduling = same_scheduling (scheduling_of p) (scheduling_of q) j }) k)
+
+-- a change of the places, with what holds then
+record StaysAt (made : List Registration) (x y : Places) (p : Page) : Type 0 where
+  change : PlaceChange made x y
+  period : InPeriod change p
 
 pub quietly : (p q : Page) → places q ≡ places p → q.notices ≡ p.notices → q.performing ≡ p.performing → q.events ≡ p.events → q.registrations ≡ p.registrations → q.frames ≡ p.frames → q.calls ≡ p.calls → q.signals ≡ p.signals → scheduling_of q ≡ scheduling_of p → Changes p q
-quietly p q s x y z w v u t j = placed p q (subst (PlaceChange p.registrations (places p)) (sym s) places_stay) x y z w v u t j
+quietly p q s x y z w v u t j = placed p q (same_places s).change (same_places s).period x y z w v u t j
+  where
+    same_places : {a : Places} → a ≡ places p → StaysAt p.registrations (places p) a p
+    same_places e = subst (λ (a : Places). StaysAt p.registrations (places p) a p) (sym e) (record { change = places_stay; period = tt })
 
 -- the signals are changed, and what was aborted stays so
 pub signals-changes : (ss : AbortGraph.Signals Value) (p : Page) → StaysAborted p (record p { signals = ss }) → Changes p (record p { signals = ss })
-signals-changes ss p h = with_change nothing (elsewhere places_stay (record { notices = refl; performing = refl; events = refl; registrations = refl; frames = refl; calls = refl; aborted = h; scheduling = record { priorities = λ s. refl; states = refl; tasks_made = omega arith } }))
+signals-changes ss p h = with_change nothing (elsewhere places_stay (record { notices = refl; performing = refl; events = refl; registrations = refl; frames = refl; calls = refl; aborted = h; scheduling = record { priorities = λ s. refl; states = refl; tasks_made = omega arith; idle_start = refl } }) tt)
 
--- the same with a line
-pub lined_placed : (e : Event) (p q : Page) → is_aside e ≡ true → PlaceChange p.registrations (places p) (places q) → q.notices ≡ p.notices → q.performing ≡ p.performing → q.events ≡ (emit e p).events → q.registrations ≡ p.registrations → q.frames ≡ p.frames → q.calls ≡ p.calls → q.signals ≡ p.signals → scheduling_of q ≡ scheduling_of p → Changes p q
-lined_placed e p q h c x y z w v u t j = with_change {q = emit e p} (with_change nothing (told e h)) (elsewhere c (record { notices = x; performing = y; events = z; registrations = w; frames = v; calls = u; aborted = same_signals p q t; scheduling = same_scheduling (scheduling_of p) (scheduling_of q) j }))
-
+-- a line, and then nothing that is told of here
 pub lined : (e : Event) (p q : Page) → is_aside e ≡ true → places q ≡ places p → q.notices ≡ p.notices → q.performing ≡ p.performing → q.events ≡ (emit e p).events → q.registrations ≡ p.registrations → q.frames ≡ p.frames → q.calls ≡ p.calls → q.signals ≡ p.signals → scheduling_of q ≡ scheduling_of p → Changes p q
-lined e p q h s x y z w v u t j = lined_placed e p q h (subst (PlaceChange p.registrations (places p)) (sym s) places_stay) x y z w v u t j
+lined e p q h s x y z w v u t j = changes-then (with_change nothing (told e h)) (quietly (emit e p) q s x y z w v u t j)
+
+-- starts of completion steps were given
+abbrev Started : Page → Type 0
+Started p = Each (λ (c : Completing). c.start ≤ p.timers.starts_made) p.completions
+
+started : (p : Page) → Held (made_by p) p → Started p
+started p h = Each-more (CompletingIsGiven (made_by p)) (λ c. c.start ≤ p.timers.starts_made) (λ c k. k.start.to_last) p.completions (h InCompletions)
+
+-- the completion steps of a new start are found by it
+found_last : (starts : ℕ) (cs : List Completing) (k : Completion) → Each (λ (c : Completing). c.start ≤ starts) cs → completion_of (and_last cs (record { start = suc starts; completion = k })) (suc starts) ≡ Some k
+found_last starts [] k h = ap {A = Bool} {B = Option Completion} (λ b. option_map (λ (c : Completing). c.completion) (cond b (Some (record { start = suc starts; completion = k })) None)) (eq-eqb (suc starts) (suc starts) refl)
+found_last starts (c ∷ cs) k h = by_test (c.start == suc starts) refl (found_last starts cs k h.1)
+  where
+    by_test : (b : Bool) → (c.start == suc starts) ≡ b → completion_of (and_last cs (record { start = suc starts; completion = k })) (suc starts) ≡ Some k
+        → option_map (λ (c : Completing). c.completion) (cond b (Some c) (find (λ c. c.start == suc starts) (and_last cs (record { start = suc starts; completion = k })))) ≡ Some k
+    by_test true e rest = let same = eqb-true c.start (suc starts) e in let le = h.0 in absurd (omega (arith, same, le))
+    by_test false e rest = rest
+
+is-last : {X : Type 0} (x : X) (xs : List X) → IsIn x (and_last xs x)
+is-last x [] = inl refl
+is-last x (y ∷ xs) = inr (is-last x xs)
+
+-- a timer that was just set is armed
+timer_armed : (made : List Registration) (x : Places) (r due : ℕ) (timers : Timers.Timers) (k : Completion) → timers.active ≡ and_last x.timers.active (record { start = suc x.timers.starts_made; due = due }) → Each (λ (c : Completing). c.start ≤ x.timers.starts_made) x.completions → completes_for k ≡ r
+    → ArmedAt made (with_timer timers (suc x.timers.starts_made) k x) r due
+timer_armed made x r due timers k e h own =
+    by_timer (record { start = suc x.timers.starts_made; due = due }) k (subst (λ (as' : List ActiveTimer). IsIn (record { start = suc x.timers.starts_made; due = due }) as') (sym e) (is-last (record { start = suc x.timers.starts_made; due = due }) x.timers.active)) refl
+    (found_last x.timers.starts_made x.completions k h) own
 
 -- a registration is due, with its line
 due-changes : (r : ℕ) (p q : Page) → DueChange p.registrations r (places p) (places q) → AsBefore (emit (Due r) p) q → Changes p q
@@ -132,12 +165,16 @@ follow-changes n how p x = by_outcome (the_promise p.notices.promises n).outcome
     by_outcome None e = with_change nothing (followed n how x e)
     by_outcome (Some before) e = unchanged n p
 
-pub queue_task-changes : (source : Source) (steps : Steps) (p : Page) → is_free steps ≡ true → Changes p (queue_task source steps p)
-queue_task-changes source steps p h = with_change nothing (elsewhere (task_queued (record { number = suc p.tasks_made; source = source; steps = steps }) h) (record { notices = refl; performing = refl; events = refl; registrations = refl; frames = refl; calls = refl; aborted = λ s h. h; scheduling = record { priorities = λ s. refl; states = refl; tasks_made = omega arith } }))
+pub queue_task-changes : (source : Source) (steps : Steps) (p : Page) → is_free steps ≡ true → is_idle_task steps ≡ false → Changes p (queue_task source steps p)
+queue_task-changes source steps p h plain = with_change nothing (elsewhere (task_queued (record { number = suc p.tasks_made; source = source; steps = steps }) h plain) (record { notices = refl; performing = refl; events = refl; registrations = refl; frames = refl; calls = refl; aborted = λ s h. h; scheduling = record { priorities = λ s. refl; states = refl; tasks_made = omega arith; idle_start = refl } }) tt)
+
+-- the task that invokes idle callbacks, in the period that goes on
+queue_idle-changes : (p : Page) → PeriodGoesOn p → Changes p (queue_task IdleSource InvokeIdle p)
+queue_idle-changes p k = with_change nothing (elsewhere (idle_queued (record { number = suc p.tasks_made; source = IdleSource; steps = InvokeIdle }) refl refl) (record { notices = refl; performing = refl; events = refl; registrations = refl; frames = refl; calls = refl; aborted = λ s h. h; scheduling = record { priorities = λ s. refl; states = refl; tasks_made = omega arith; idle_start = refl } }) k)
 
 -- a reaction was added, and where the promise was outstanding a task is queued
 handled-changes : (n : ℕ) (b : Bool) (p q : Page) → Changes p q → Changes p (cond b (queue_task Dom (NotifyHandled n)) (λ q. q) q)
-handled-changes n b p q first = cond_of-changes b (queue_task Dom (NotifyHandled n)) (λ q. q) q p (changes-then first (queue_task-changes Dom (NotifyHandled n) q refl)) first
+handled-changes n b p q first = cond_of-changes b (queue_task Dom (NotifyHandled n)) (λ q. q) q p (changes-then first (queue_task-changes Dom (NotifyHandled n) q refl refl)) first
 
 pub subscribe-changes : (n : ℕ) (r : Reaction) (p : Page) → IsGiven (length p.notices.promises) n → r.registration ≡ None → Changes p (promises.subscribe n r p)
 subscribe-changes n r p x e = handled-changes n (is_outstanding n p.notices) p (on_notices (subscribe_promise (context p) n r) p) (with_change nothing (subscribed n r x e))
@@ -160,31 +197,56 @@ report_after-changes Never v p = nothing
 pub notify_rejected-changes : (p : Page) → Changes p (notify_rejected p)
 notify_rejected-changes p =
     cond-changes (is_empty p.notices.rejected) p p _ nothing
-    (changes-then (with_change nothing rejected_taken) (queue_task-changes Dom (NotifyRejected p.notices.rejected) (record p { notices = record p.notices { rejected = [] } }) refl))
+    (changes-then (with_change nothing rejected_taken) (queue_task-changes Dom (NotifyRejected p.notices.rejected) (record p { notices = record p.notices { rejected = [] } }) refl refl))
 
 -- the number of a registration that was just made
 pub made_last : (kind : RegKind) (x : Registration) (p : Page) → last_registration (register_as kind x p) ≡ suc (length p.registrations)
 made_last kind x p = length-last p.registrations x
 
+-- what the registration that was just made is for
+new_role : (kind : RegKind) (x : Registration) (p : Page) → x.role ≡ OfKind kind → role_at (and_last p.registrations x) (length (and_last p.registrations x)) ≡ OfKind kind
+new_role kind x p e = ap {A = Registration} {B = Role} (λ y. y.role) (numbered-last p.registrations x no_registration) ∙ e
+
+in-last : {X : Type 0} (x y : X) (xs : List X) → IsIn x (and_last xs y) → IsIn x xs ⊎ (x ≡ y)
+in-last x y [] (inl e) = inr e
+in-last x y [] (inr i) = elim i [ ]
+in-last x y (z ∷ xs) (inl e) = inl (inl e)
+in-last {X = X} x y (z ∷ xs) (inr i) = by_rest (in-last x y xs i)
+  where
+    by_rest : IsIn x xs ⊎ (x ≡ y) → IsIn x (z ∷ xs) ⊎ (x ≡ y)
+    by_rest (inl j) = inl (inr j)
+    by_rest (inr e) = inr e
+
+pub in-either : {X : Type 0} (x : X) (xs ys : List X) → IsIn x (xs ++ ys) → IsIn x xs ⊎ IsIn x ys
+in-either x [] ys i = inr i
+in-either x (z ∷ xs) ys (inl e) = inl (inl e)
+in-either {X = X} x (z ∷ xs) ys (inr i) = by_rest (in-either x xs ys i)
+  where
+    by_rest : IsIn x xs ⊎ IsIn x ys → IsIn x (z ∷ xs) ⊎ IsIn x ys
+    by_rest (inl j) = inl (inr j)
+    by_rest (inr j) = inr j
+
 -- a registration is made and waits nowhere
 pub register-changes : (kind : RegKind) (x : Registration) (p : Page) → x.role ≡ OfKind kind → is_frame kind ≡ false → Changes p (register_as kind x p)
-register-changes kind x p e unframed = with_change nothing (registered kind x e unframed nowhere (record { notices = refl; performing = refl; events = refl; registrations = refl; frames = refl; calls = refl; aborted = λ s h. h; scheduling = record { priorities = λ s. refl; states = refl; tasks_made = omega arith } }))
+register-changes kind x p e unframed = with_change nothing (registered kind x e unframed nowhere (record { notices = refl; performing = refl; events = refl; registrations = refl; frames = refl; calls = refl; aborted = λ s h. h; scheduling = record { priorities = λ s. refl; states = refl; tasks_made = omega arith; idle_start = refl } }))
 
--- it is made and waits at its first place, and its line is given
-register_at-changes : (kind : RegKind) (x : Registration) (e : Event) (p q : Page) → x.role ≡ OfKind kind → is_frame kind ≡ false → is_aside e ≡ true → FirstPlace p.registrations p.prios (suc (length p.registrations)) (places p) (places q) → AsBefore (register_as kind x p) q → Changes p (emit e q)
-register_at-changes kind x e p q role unframed h u b = with_change {q = q} (with_change nothing (registered kind x role unframed u b)) (told e h)
+-- it is made, waits at its first place, and is armed
+register_at-changes : (kind : RegKind) (x : Registration) (r due level : ℕ) (p q : Page) → x.role ≡ OfKind kind → is_frame kind ≡ false → ArmedAt q.registrations (places q) r due → FirstPlace p.registrations p.prios (suc (length p.registrations)) (places p) (places q) → AsBefore (register_as kind x p) q → Changes p (emit (Arm r due level) q)
+register_at-changes kind x r due level p q role unframed w u b = with_change {q = q} (with_change nothing (registered kind x role unframed u b)) (moves.arm_told r due level w)
 
 -- ---- time
 
 -- an interval whose id is in the map is armed again
-pub init_again-changes : (id r : ℕ) (timeout : ℤ) (p : Page) → (numbered p.registrations r no_registration).role ≡ OfKind IntervalKind → Timers.has_id id p.timers ≡ true → Changes p (init_timer (Some id) r true timeout p)
-init_again-changes id r timeout p e there =
+pub init_again-changes : (id r : ℕ) (timeout : ℤ) (p : Page) → Held (made_by p) p → (numbered p.registrations r no_registration).role ≡ OfKind IntervalKind → Timers.has_id id p.timers ≡ true → Changes p (init_timer (Some id) r true timeout p)
+init_again-changes id r timeout p h e there =
     let a = armed (Some id) timeout p.level p.now p.timers in
     let t : TimerTask = record { registration = r; id = a.id; handle = a.handle; level = a.level; repeats = true; timeout = timeout } in
-    lined_placed (Arm r a.due a.level) p (init_timer (Some id) r true timeout p) refl (armed_again a t e there refl) refl refl refl refl refl refl refl refl
+    let set : Page = record p { timers = with_armed (Some id) a p.timers; completions = and_last p.completions (record { start = a.start; completion = QueueTimer t }) } in
+    with_change {q = set} (placed p set (armed_again a t e there refl) tt refl refl refl refl refl refl refl refl)
+    (moves.arm_told r a.due a.level (timer_armed p.registrations (places p) r a.due (with_armed (Some id) a p.timers) (QueueTimer t) refl (started p h) refl))
 
 pub clear_id-changes : (id : ℕ) (p : Page) → Changes p (clear_id id p)
-clear_id-changes id p = placed p (clear_id id p) (id_cleared id) refl refl refl refl refl refl refl refl
+clear_id-changes id p = placed p (clear_id id p) (id_cleared id) tt refl refl refl refl refl refl refl refl
 
 -- the registration that is found by a timer id has it
 found_id : (id k : ℕ) (before xs : List Registration) → k ≡ suc (length before) → 1 ≤ registration_with_id id k xs → id_at (before ++ xs) (registration_with_id id k xs) ≡ id
@@ -225,7 +287,7 @@ clear_timer-changes id p h = by_id (Timers.has_id id p.timers) refl
     own le = found_id id 1 [] p.registrations refl le
 
     by_id : (b : Bool) → Timers.has_id id p.timers ≡ b → Changes p (cond b (emit (Drop r) (clear_id id p)) p)
-    by_id true e = with_change nothing (dropped r (timer_dropped id e refl (λ le. (own le, (the_registration-given p r h).timer (let one = has_id-given (made_by p) id p.timers.ids (h InTimers).ids e in let same = own le in omega (arith, one, same))))) (record { notices = refl; performing = refl; events = refl; registrations = refl; frames = refl; calls = refl; aborted = λ s h. h; scheduling = record { priorities = λ s. refl; states = refl; tasks_made = omega arith } }))
+    by_id true e = with_change nothing (dropped r (timer_dropped id e refl (λ le. (own le, (the_registration-given p r h).timer (let one = has_id-given (made_by p) id p.timers.ids (h InTimers).ids e in let same = own le in omega (arith, one, same))))) (record { notices = refl; performing = refl; events = refl; registrations = refl; frames = refl; calls = refl; aborted = λ s h. h; scheduling = record { priorities = λ s. refl; states = refl; tasks_made = omega arith; idle_start = refl } }))
     by_id false e = nothing
 
 -- a callback that was found is for what its place holds
@@ -240,31 +302,56 @@ cancel_frame-changes handle p h = by_callback (callback_in p.frames.callbacks ha
     by_callback None e = nothing
     by_callback (Some c) e = with_change nothing (frame_dropped handle c e (found_for FrameKind p.frames.made (made_by p) p.frames.callbacks handle c (h InFrames) e))
 
-pub idle_step-changes : (p : Page) → open_registrations p.events ≡ [] → p.notices.jobs ≡ [] → FrameIsOver p → Changes p (idle_step p)
-idle_step-changes p x y over =
-    let here : Page = record p { last_idle_start = p.now } in
-    let end = deadline here.last_idle_start here in
-    let told_one : Page = emit (Period end) p in
-    let begun : Changes p told_one = with_change nothing (rested (Period end) refl x y refl over) in
-    let started : Page = record told_one { last_idle_start = p.now; idle = IdleCallbacks.started p.idle; idle_period_end = end } in
-    cond-changes (waits here.idle && nat_lt here.now (deadline here.last_idle_start here) && nat_le here.idle_period_end here.now) p (period_begun end here) here
-    (changes-then (changes-then begun (placed told_one started idle_started refl refl refl refl refl refl refl refl)) (queue_task-changes IdleSource InvokeIdle started refl)) (quietly p here refl refl refl refl refl refl refl refl refl)
-
-pub idle_timeout-changes : (ms r : ℕ) (p : Page) → Changes p (idle_timeout ms r p)
-idle_timeout-changes ms r p = lined_placed (Arm r (p.now + ms * 1000) 0) p (idle_timeout ms r p) refl (idle_armed (record { due = p.now + ms * 1000; handle = p.idle.made; registration = r })) refl refl refl refl refl refl refl refl
-
-pub without_idle-changes : (handle : ℕ) (p : Page) → Changes p (without_idle handle p)
-without_idle-changes handle p = placed p (without_idle handle p) (idle_left handle) refl refl refl refl refl refl refl refl
-
 idle_lists : {n : Made} {i : IdleCallbacks.Idle} → IdleIsGiven n i → Each (CallbackIsGiven IdleKind n.idle n) i.runnable × Each (CallbackIsGiven IdleKind n.idle n) i.pending
 idle_lists h = (h.runnable, h.pending)
+
+-- an idle callback that waits was given its handle and its registration
+pub callback-given : (kind : RegKind) (last : ℕ) (n : Made) (c : Callback) (cs : List Callback) → Each (CallbackIsGiven kind last n) cs → IsIn c cs → CallbackIsGiven kind last n c
+callback-given kind last n c [] h i = elim i [ ]
+callback-given kind last n c (d ∷ cs) h (inl e) = subst (CallbackIsGiven kind last n) (sym e) h.0
+callback-given kind last n c (d ∷ cs) h (inr i) = callback-given kind last n c cs h.1 i
+
+-- an idle period starts, unless its start is delayed, where the idle period start is now
+pub start_period-changes : (p : Page) → p.last_idle_start ≡ p.now → open_registrations p.events ≡ [] → p.notices.jobs ≡ [] → FrameIsOver p → Held (made_by p) p → Changes p (start_period p)
+start_period-changes p now x y over h =
+    cond-changes (waits p.idle && nat_lt p.now (deadline p.last_idle_start p) && nat_le p.idle_period_end p.now) p (period_begun end p) p
+    (changes-then (changes-then (with_change nothing (rested (Period end) refl x y refl over (λ e. now))) (placed told_one started_one idle_started (λ c i. (refl, (of_pending c i).registration.registration.to_last)) refl refl refl refl refl refl refl refl))
+    (queue_idle-changes started_one (record { start = ap Some (sym now); runnable = λ c i. refl; given = λ c i. (of_all c i).registration.registration.to_last }))) nothing
+  where
+    end : ℕ
+    end = deadline p.last_idle_start p
+
+    told_one : Page
+    told_one = emit (Period (deadline p.last_idle_start p)) p
+
+    started_one : Page
+    started_one = record (emit (Period (deadline p.last_idle_start p)) p) { idle = IdleCallbacks.started p.idle; idle_period_end = deadline p.last_idle_start p }
+
+    of_pending : (c : Callback) → IsIn c p.idle.pending → CallbackIsGiven IdleKind p.idle.made (made_by p) c
+    of_pending c i = callback-given IdleKind p.idle.made (made_by p) c p.idle.pending (idle_lists (h InIdle)).1 i
+
+    of_all : (c : Callback) → IsIn c (p.idle.runnable ++ p.idle.pending) → CallbackIsGiven IdleKind p.idle.made (made_by p) c
+    of_all c i =
+        callback-given IdleKind p.idle.made (made_by p) c (p.idle.runnable ++ p.idle.pending)
+        (Each-append (CallbackIsGiven IdleKind p.idle.made (made_by p)) p.idle.runnable p.idle.pending (idle_lists (h InIdle)).0 (idle_lists (h InIdle)).1) i
+
+-- an idle timeout is started for a callback, whose handle is the last one
+pub idle_timeout-changes : (ms r : ℕ) (p : Page) → role_at p.registrations r ≡ OfKind IdleKind → ((c : Callback) → IsIn c (p.idle.runnable ++ p.idle.pending) → c.handle ≡ p.idle.made → c.registration ≡ r) → Changes p (idle_timeout ms r p)
+idle_timeout-changes ms r p role own =
+    let t : IdleTimer = record { due = p.now + ms * 1000; handle = p.idle.made; registration = r } in
+    let set : Page = record p { idle_timers = and_last p.idle_timers t } in
+    with_change {q = set} (placed p set (idle_armed t (omega arith) own) tt refl refl refl refl refl refl refl refl)
+    (moves.arm_told r (p.now + ms * 1000) 0 (by_idle t (is-last t p.idle_timers) refl refl role))
+
+pub without_idle-changes : (handle : ℕ) (p : Page) → Changes p (without_idle handle p)
+without_idle-changes handle p = placed p (without_idle handle p) (idle_left handle) tt refl refl refl refl refl refl refl refl
 
 pub cancel_idle-changes : (handle : ℕ) (p : Page) → Held (made_by p) p → Changes p (cancel_idle handle p)
 cancel_idle-changes handle p h = by_callback (idle_callback handle p) refl
   where
     by_callback : (o : Option Callback) → idle_callback handle p ≡ o → Changes p (elim o [ None ↦ p | Some c ↦ emit (Drop c.registration) (without_idle handle p) ])
     by_callback None e = nothing
-    by_callback (Some c) e = with_change nothing (dropped c.registration (idle_dropped handle c e refl (found_for IdleKind p.idle.made (made_by p) (p.idle.runnable ++ p.idle.pending) handle c (Each-append (CallbackIsGiven IdleKind p.idle.made (made_by p)) p.idle.runnable p.idle.pending (idle_lists (h InIdle)).0 (idle_lists (h InIdle)).1) e)) (record { notices = refl; performing = refl; events = refl; registrations = refl; frames = refl; calls = refl; aborted = λ s h. h; scheduling = record { priorities = λ s. refl; states = refl; tasks_made = omega arith } }))
+    by_callback (Some c) e = with_change nothing (dropped c.registration (idle_dropped handle c e refl (found_for IdleKind p.idle.made (made_by p) (p.idle.runnable ++ p.idle.pending) handle c (Each-append (CallbackIsGiven IdleKind p.idle.made (made_by p)) p.idle.runnable p.idle.pending (idle_lists (h InIdle)).0 (idle_lists (h InIdle)).1) e)) (record { notices = refl; performing = refl; events = refl; registrations = refl; frames = refl; calls = refl; aborted = λ s h. h; scheduling = record { priorities = λ s. refl; states = refl; tasks_made = omega arith; idle_start = refl } }))
 
 -- ---- scheduler tasks, signals, hosts
 
@@ -315,7 +402,7 @@ pub record Aborts (p : Page) (r : ℕ) : Type 0 where
   pub aborted : is_aborted_source p (signal_at p.registrations r) ≡ true
 
 drop-changes : (r : ℕ) (p : Page) → is_abortable (role_at p.registrations r) ≡ true → is_aborted_source p (signal_at p.registrations r) ≡ true → (role_at p.registrations r ≡ OfKind HostKind → is_there (waiting_answer r p) || is_there (waiting_net_task r p) ≡ true) → Changes p (drop_registration r p)
-drop-changes r p role aborted e = with_change nothing (task_dropped r role aborted e refl (record { notices = refl; performing = refl; events = refl; registrations = refl; frames = refl; calls = refl; aborted = λ s h. h; scheduling = record { priorities = λ s. refl; states = refl; tasks_made = omega arith } }))
+drop-changes r p role aborted e = with_change nothing (task_dropped r role aborted e refl (record { notices = refl; performing = refl; events = refl; registrations = refl; frames = refl; calls = refl; aborted = λ s h. h; scheduling = record { priorities = λ s. refl; states = refl; tasks_made = omega arith; idle_start = refl } }))
 
 -- rejecting a promise leaves what the abort steps test
 record Rejected (p q : Page) : Type 0 where
@@ -401,7 +488,7 @@ change_begun-changes s priority p = with_change nothing (prio_told s priority (T
 
 -- a change of the priorities that leaves each signal's own
 prios-changes : (ps : Prios) (p : Page) → ((s : ℕ) → priority_of ps s ≡ priority_of p.prios s) → Changes p (record p { prios = ps })
-prios-changes ps p h = with_change nothing (elsewhere places_stay (record { notices = refl; performing = refl; events = refl; registrations = refl; frames = refl; calls = refl; aborted = λ s k. k; scheduling = record { priorities = h; states = refl; tasks_made = omega arith } }))
+prios-changes ps p h = with_change nothing (elsewhere places_stay (record { notices = refl; performing = refl; events = refl; registrations = refl; frames = refl; calls = refl; aborted = λ s k. k; scheduling = record { priorities = h; states = refl; tasks_made = omega arith; idle_start = refl } }) tt)
 
 pub change_ended-changes : (s : ℕ) (p : Page) → Changes p (change_ended s p)
 change_ended-changes s p = prios-changes (TaskSignals.ended s p.prios) p (ended-same s p.prios)
@@ -461,19 +548,33 @@ timer_set-changes kind repeats f timeout p role h =
     let t : TimerTask = record { registration = r; id = a.id; handle = a.handle; level = a.level; repeats = repeats; timeout = timeout } in
     let fresh : (q : ℕ) → id_at p.registrations q ≡ a.id → ⊥ = λ q e. let le = (the_registration-given p q h).timer_id in absurd (omega (arith, le, e)) in
     let set : Page = record made { timers = with_armed None a made.timers; completions = and_last made.completions (record { start = a.start; completion = QueueTimer t }) } in
-    register_at-changes kind x (Arm r a.due a.level) p set refl (no_frame repeats kind role) refl (at_timer a t (made_last kind x p) fresh) (record { notices = refl; performing = refl; events = refl; registrations = refl; frames = refl; calls = refl; aborted = λ s h. h; scheduling = record { priorities = λ s. refl; states = refl; tasks_made = omega arith } })
+    register_at-changes kind x r a.due a.level p set refl (no_frame repeats kind role) (timer_armed made.registrations (places made) r a.due (with_armed None a made.timers) (QueueTimer t) refl (started p h) refl) (at_timer a t (made_last kind x p) fresh) (record { notices = refl; performing = refl; events = refl; registrations = refl; frames = refl; calls = refl; aborted = λ s h. h; scheduling = record { priorities = λ s. refl; states = refl; tasks_made = omega arith; idle_start = refl } })
 
 pub frame_requested-changes : (f : Func) (p : Page) → Changes p (frame_requested f p)
 frame_requested-changes f p = with_change nothing (frame_asked f)
 
-pub idle_requested-changes : (f : Func) (ms : ℕ) (p : Page) → Changes p (idle_requested f ms p)
-idle_requested-changes f ms p =
+pub idle_requested-changes : (f : Func) (ms : ℕ) (p : Page) → Held (made_by p) p → Changes p (idle_requested f ms p)
+idle_requested-changes f ms p h =
     let x : Registration = record { role = OfKind IdleKind; callback = Some f; second_callback = None; timer_id = 0; promise = 0; signal = None; finally = false } in
     let made = register_as IdleKind x p in
     let r = last_registration made in
     let q : Page = record made { idle = IdleCallbacks.request r made.idle } in
-    let first : Changes p q = with_change nothing (registered IdleKind x refl refl (at_idle r (made_last IdleKind x p)) (record { notices = refl; performing = refl; events = refl; registrations = refl; frames = refl; calls = refl; aborted = λ s h. h; scheduling = record { priorities = λ s. refl; states = refl; tasks_made = omega arith } })) in
-    cond_of-changes (ms == 0) (λ q. q) (idle_timeout ms r) q p first (changes-then first (idle_timeout-changes ms r q))
+    let first : Changes p q = with_change nothing (registered IdleKind x refl refl (at_idle r (made_last IdleKind x p)) (record { notices = refl; performing = refl; events = refl; registrations = refl; frames = refl; calls = refl; aborted = λ s h. h; scheduling = record { priorities = λ s. refl; states = refl; tasks_made = omega arith; idle_start = refl } })) in
+    cond_of-changes (ms == 0) (λ q. q) (idle_timeout ms r) q p first (changes-then first (idle_timeout-changes ms r q (new_role IdleKind x p refl) (λ c i e. own c (in-either c p.idle.runnable (and_last p.idle.pending (record { handle = suc p.idle.made; registration = r })) i) e)))
+  where
+    last : ℕ
+    last = length (and_last p.registrations (record { role = OfKind IdleKind; callback = Some f; second_callback = None; timer_id = 0; promise = 0; signal = None; finally = false }))
+
+    old : (c : Callback) → CallbackIsGiven IdleKind p.idle.made (made_by p) c → c.handle ≡ suc p.idle.made → c.registration ≡ last
+    old c k e = let le = k.handle.to_last in absurd (omega (arith, le, e))
+
+    by_pending : (c : Callback) → IsIn c p.idle.pending ⊎ (c ≡ record { handle = suc p.idle.made; registration = last }) → c.handle ≡ suc p.idle.made → c.registration ≡ last
+    by_pending c (inl i) e = old c (callback-given IdleKind p.idle.made (made_by p) c p.idle.pending (idle_lists (h InIdle)).1 i) e
+    by_pending c (inr same) e = ap {A = Callback} {B = ℕ} (λ y. y.registration) same
+
+    own : (c : Callback) → IsIn c p.idle.runnable ⊎ IsIn c (and_last p.idle.pending (record { handle = suc p.idle.made; registration = last })) → c.handle ≡ suc p.idle.made → c.registration ≡ last
+    own c (inl i) e = old c (callback-given IdleKind p.idle.made (made_by p) c p.idle.runnable (idle_lists (h InIdle)).0 i) e
+    own c (inr i) e = by_pending c (in-last c (record { handle = suc p.idle.made; registration = last }) p.idle.pending i) e
 
 pub make-changes : (p : Page) → Changes p (with_signals AbortGraph.make p)
 make-changes p = signals-changes (AbortGraph.make p.signals) p (make-aborted p)
@@ -496,19 +597,22 @@ any_made-changes ss priority follows p h =
     let first : Changes p given_one = changes-then (any-changes ss p) (give_priority-changes (last_signal made) priority made (fresh-prio (made_by p) p.prios (last_signal made) (h InPrios) (let l = any-count ss p.signals in omega (arith, l)))) in
     elim-changes follows p given_one _ first (λ on. changes-then first (prios-changes (TaskSignals.depend (last_signal made) on given_one.prios) given_one (depend-same (last_signal made) on given_one.prios)))
 
-pub timeout_signal_made-changes : (ms : ℕ) (p : Page) → Changes p (timeout_signal_made ms p)
-timeout_signal_made-changes ms p =
+pub timeout_signal_made-changes : (ms : ℕ) (p : Page) → Held (made_by p) p → Changes p (timeout_signal_made ms p)
+timeout_signal_made-changes ms p h =
     let new = with_signals AbortGraph.make p in
     let made = register SignalKind None None new in
-    let told_one = emit (Arm (last_registration made) (made.now + ms * 1000) 0) made in
-    changes-then (with_change {q = made} (changes-then (make-changes p) (register-changes SignalKind _ new refl refl)) (told _ refl))
-    (placed told_one (timeout_signal_made ms p) (signal_armed ms made.now (last_registration made) (last_signal made)) refl refl refl refl refl refl refl refl)
+    let r = last_registration made in
+    let timers = Timers.run_after ms made.now made.timers in
+    let k = QueueSignal r (last_signal made) in
+    let set : Page = record made { timers = timers; completions = and_last made.completions (record { start = suc made.timers.starts_made; completion = k }) } in
+    with_change {q = set} (changes-then (changes-then (make-changes p) (register-changes SignalKind _ new refl refl)) (placed made set (signal_armed ms made.now r (last_signal made)) tt refl refl refl refl refl refl refl refl))
+    (moves.arm_told r (made.now + ms * 1000) 0 (timer_armed made.registrations (places made) r (made.now + ms * 1000) timers k refl (started p h) refl))
 
 pub listener_added-changes : (target : Target) (name : List ℕ) (f : Func) (p : Page) → Changes p (listener_added target name f p)
 listener_added-changes target name f p =
     let x : Registration = record { role = OfKind ListenerKind; callback = Some f; second_callback = None; timer_id = 0; promise = 0; signal = None; finally = false } in
     let made = register_as ListenerKind x p in
-    with_change nothing (registered ListenerKind x refl refl (at_listener target name (last_registration made) (made_last ListenerKind x p)) (record { notices = refl; performing = refl; events = refl; registrations = refl; frames = refl; calls = refl; aborted = λ s h. h; scheduling = record { priorities = λ s. refl; states = refl; tasks_made = omega arith } }))
+    with_change nothing (registered ListenerKind x refl refl (at_listener target name (last_registration made) (made_last ListenerKind x p)) (record { notices = refl; performing = refl; events = refl; registrations = refl; frames = refl; calls = refl; aborted = λ s h. h; scheduling = record { priorities = λ s. refl; states = refl; tasks_made = omega arith; idle_start = refl } }))
 
 listening_role : (n : Made) (r : ℕ) (ls : List Listener) → Each (ListenerIsGiven n) ls → is_listening r ls ≡ true → role_at n.registrations r ≡ OfKind ListenerKind
 listening_role n r [] h e = Prim.cc
@@ -522,7 +626,7 @@ pub listener_removed-changes : (r : ℕ) (p : Page) → Held (made_by p) p → C
 listener_removed-changes r p h = by_there (is_listening r p.listeners) refl
   where
     by_there : (b : Bool) → is_listening r p.listeners ≡ b → Changes p (cond b (emit (Drop r) (record p { listeners = off r p.listeners })) p)
-    by_there true e = with_change nothing (dropped r (listener_dropped e (listening_role (made_by p) r p.listeners (h InListeners) e)) (record { notices = refl; performing = refl; events = refl; registrations = refl; frames = refl; calls = refl; aborted = λ s h. h; scheduling = record { priorities = λ s. refl; states = refl; tasks_made = omega arith } }))
+    by_there true e = with_change nothing (dropped r (listener_dropped e (listening_role (made_by p) r p.listeners (h InListeners) e)) (record { notices = refl; performing = refl; events = refl; registrations = refl; frames = refl; calls = refl; aborted = λ s h. h; scheduling = record { priorities = λ s. refl; states = refl; tasks_made = omega arith; idle_start = refl } }))
     by_there false e = nothing
 
 -- the registration of a task, a delay or a host answer
@@ -545,6 +649,10 @@ ready-prios : (kind : RegKind) (f : Option Func) (signal : Option ℕ) (p : Page
 ready-prios kind f None p = refl
 ready-prios kind f (Some s) p = refl
 
+ready-started : (kind : RegKind) (f : Option Func) (signal : Option ℕ) (p : Page) → Started p → Started (ready kind f signal p)
+ready-started kind f None p h = h
+ready-started kind f (Some s) p h = h
+
 ready-states : (kind : RegKind) (f : Option Func) (signal : Option ℕ) (p : Page) → (ready kind f signal p).scheduling_states ≡ p.scheduling_states
 ready-states kind f None p = refl
 ready-states kind f (Some s) p = refl
@@ -556,25 +664,25 @@ enqueued-changes kind x source continuation p e of_sched from =
     let r = last_registration made in
     let t : SchedTask = record { registration = r; source = source; continuation = continuation; order = suc p.tasks_made } in
     let q : Page = record made { tasks_made = suc p.tasks_made; sched_tasks = and_last made.sched_tasks t } in
-    with_change nothing (enqueued_anew {q = emit (Enq r (queue_name source) continuation (suc p.tasks_made)) q} kind x t (queue_name source) e (made_last kind x p) refl (record { order = refl; made = omega arith; named = refl }, from, of_sched) (record { notices = refl; performing = refl; events = refl; registrations = refl; frames = refl; calls = refl; aborted = λ s h. h; scheduling = record { priorities = λ s. refl; states = refl; tasks_made = omega arith } }))
+    with_change nothing (enqueued_anew {q = emit (Enq r (queue_name source) continuation (suc p.tasks_made)) q} kind x t (queue_name source) e (made_last kind x p) refl (record { order = refl; made = omega arith; named = refl }, from, of_sched) (record { notices = refl; performing = refl; events = refl; registrations = refl; frames = refl; calls = refl; aborted = λ s h. h; scheduling = record { priorities = λ s. refl; states = refl; tasks_made = omega arith; idle_start = refl } }))
 
 -- a delayed post of a new registration
-delayed-changes : (x : Registration) (source : PrioSource) (ms : ℕ) (p : Page) → x.role ≡ OfKind PostKind → HasPriority p.prios source → Changes p (post_delayed ms (last_registration (register_as PostKind x p)) source (register_as PostKind x p))
-delayed-changes x source ms p e from =
+delayed-changes : (x : Registration) (source : PrioSource) (ms : ℕ) (p : Page) → Started p → x.role ≡ OfKind PostKind → HasPriority p.prios source → Changes p (post_delayed ms (last_registration (register_as PostKind x p)) source (register_as PostKind x p))
+delayed-changes x source ms p h e from =
     let made = register_as PostKind x p in
     let r = last_registration made in
     let timers = Timers.run_after ms made.now made.timers in
     let q : Page = record made { timers = timers; completions = and_last made.completions (record { start = timers.starts_made; completion = EnqueuePost r source }) } in
-    register_at-changes PostKind x (Arm r (made.now + ms * 1000) 0) p q e refl refl (at_delay ms made.now r source (made_last PostKind x p) from) (record { notices = refl; performing = refl; events = refl; registrations = refl; frames = refl; calls = refl; aborted = λ s h. h; scheduling = record { priorities = λ s. refl; states = refl; tasks_made = omega arith } })
+    register_at-changes PostKind x r (made.now + ms * 1000) 0 p q e refl (timer_armed made.registrations (places made) r (made.now + ms * 1000) timers (EnqueuePost r source) refl h refl) (at_delay ms made.now r source (made_last PostKind x p) from) (record { notices = refl; performing = refl; events = refl; registrations = refl; frames = refl; calls = refl; aborted = λ s h. h; scheduling = record { priorities = λ s. refl; states = refl; tasks_made = omega arith; idle_start = refl } })
 
-pub post_queued-changes : (f : Func) (source : PrioSource) (signal : Option ℕ) (ms : ℕ) (p : Page) → HasPriority p.prios source → Changes p (post_queued f source signal ms p)
-post_queued-changes f source signal ms p from =
+pub post_queued-changes : (f : Func) (source : PrioSource) (signal : Option ℕ) (ms : ℕ) (p : Page) → Held (made_by p) p → HasPriority p.prios source → Changes p (post_queued f source signal ms p)
+post_queued-changes f source signal ms p h from =
     let x = entry PostKind (Some f) signal p in
     let before = ready PostKind (Some f) signal p in
     subst (λ (made : Page). Changes p (cond (ms == 0) (enqueue (last_registration made) source false) (post_delayed ms (last_registration made) source) made)) (sym (promised-ready PostKind (Some f) signal p))
     (changes-then (ready-changes PostKind (Some f) signal p)
     (cond_of-changes (ms == 0) (enqueue (last_registration (register_as PostKind x before)) source false) (post_delayed ms (last_registration (register_as PostKind x before)) source) (register_as PostKind x before) before
-    (enqueued-changes PostKind x source false before refl refl (known there)) (delayed-changes x source ms before refl there)))
+    (enqueued-changes PostKind x source false before refl refl (known there)) (delayed-changes x source ms before (ready-started PostKind (Some f) signal p (started p h)) refl there)))
   where
     there : HasPriority (ready PostKind (Some f) signal p).prios source
     there = subst (λ (ps : Prios). HasPriority ps source) (sym (ready-prios PostKind (Some f) signal p)) from
@@ -601,7 +709,7 @@ asked-changes k c x e p role there live =
     let due = made.now + latency_of made.latencies k in
     let a : HostAnswer = record { due = due; task = record { registration = r; closure = k; number = x } } in
     let q : Page = record made { hosts = slice_set made.hosts k (queued_mark c); host_answers = and_last made.host_answers a } in
-    register_at-changes HostKind e (Arm r due 0) p q role refl refl (at_host c a (made_last HostKind e p) there live) (record { notices = refl; performing = refl; events = refl; registrations = refl; frames = refl; calls = refl; aborted = λ s h. h; scheduling = record { priorities = λ s. refl; states = refl; tasks_made = omega arith } })
+    register_at-changes HostKind e r due 0 p q role refl (by_host a (is-last a made.host_answers) refl refl (new_role HostKind e p role)) (at_host c a (made_last HostKind e p) there live) (record { notices = refl; performing = refl; events = refl; registrations = refl; frames = refl; calls = refl; aborted = λ s h. h; scheduling = record { priorities = λ s. refl; states = refl; tasks_made = omega arith; idle_start = refl } })
 
 ready-hosts : (kind : RegKind) (f : Option Func) (signal : Option ℕ) (p : Page) → (ready kind f signal p).hosts ≡ p.hosts
 ready-hosts kind f None p = refl
@@ -615,8 +723,8 @@ host_queued-changes k c x signal p there live =
 
 -- ---- tasks
 
-pub invoke_idle_again-changes : (p : Page) → Changes p (invoke_idle_again p)
-invoke_idle_again-changes p = cond-changes (is_empty p.idle.runnable) p p _ nothing (queue_task-changes IdleSource InvokeIdle p refl)
+pub invoke_idle_again-changes : (p : Page) → PeriodGoesOn p → Changes p (invoke_idle_again p)
+invoke_idle_again-changes p k = cond-changes (is_empty p.idle.runnable) p p _ nothing (queue_idle-changes p k)
 
 pub outstanding-changes : (n : ℕ) (p : Page) → Changes p (outstanding_if_unhandled n p)
 outstanding-changes n p = with_change nothing (noted n)
@@ -640,31 +748,31 @@ answer_task-changes source task t answer p e e1 live x = by_closure (slice_get p
     rest q x h = changes-then (changes-then h (settle_answer-changes into answer q x)) (unwatch-changes t.registration (settle_answer into answer q))
 
     by_closure : (c : Option HostClosure) → slice_get p.hosts t.closure ≡ c → Changes p (unwatch t.registration (settle_answer into answer (fire_closure t.closure c told_one)))
-    by_closure None k = rest told_one x (with_change nothing (answered source task t answer e e1 live (ap {A = Option HostClosure} {B = Places} (λ o. record (places told_one) { hosts = fired_at t.closure o p.hosts }) (sym k)) (record { notices = refl; performing = refl; events = refl; registrations = refl; frames = refl; calls = refl; aborted = λ s h. h; scheduling = record { priorities = λ s. refl; states = refl; tasks_made = omega arith } })))
+    by_closure None k = rest told_one x (with_change nothing (answered source task t answer e e1 live (ap {A = Option HostClosure} {B = Places} (λ o. record (places told_one) { hosts = fired_at t.closure o p.hosts }) (sym k)) (record { notices = refl; performing = refl; events = refl; registrations = refl; frames = refl; calls = refl; aborted = λ s h. h; scheduling = record { priorities = λ s. refl; states = refl; tasks_made = omega arith; idle_start = refl } })))
     by_closure (Some c) k =
         let fired = fire_closure t.closure (Some c) told_one in
-        rest fired x (with_change nothing (answered source task t answer e e1 live (ap {A = Option HostClosure} {B = Places} (λ o. record (places told_one) { hosts = fired_at t.closure o p.hosts }) (sym k)) (record { notices = refl; performing = refl; events = refl; registrations = refl; frames = refl; calls = refl; aborted = λ s h. h; scheduling = record { priorities = λ s. refl; states = refl; tasks_made = omega arith } })))
+        rest fired x (with_change nothing (answered source task t answer e e1 live (ap {A = Option HostClosure} {B = Places} (λ o. record (places told_one) { hosts = fired_at t.closure o p.hosts }) (sym k)) (record { notices = refl; performing = refl; events = refl; registrations = refl; frames = refl; calls = refl; aborted = λ s h. h; scheduling = record { priorities = λ s. refl; states = refl; tasks_made = omega arith; idle_start = refl } })))
 
 -- ---- parallel items
 
 -- the steps of an active timer complete, which were found by its start
 complete-changes : (start : ℕ) (c : Completion) (p : Page) → completion_of p.completions start ≡ Some c → CompletionIsGiven (made_by p) c → Changes p (complete c (without_timer start p))
 complete-changes start (QueueTimer t) p e x =
-    due-changes t.registration p (complete (QueueTimer t) (without_timer start p)) (timer_due start (suc p.tasks_made) Timer t e refl x.registration.role) (record { notices = refl; performing = refl; events = refl; registrations = refl; frames = refl; calls = refl; aborted = λ s h. h; scheduling = record { priorities = λ s. refl; states = refl; tasks_made = omega arith } })
+    due-changes t.registration p (complete (QueueTimer t) (without_timer start p)) (timer_due start (suc p.tasks_made) Timer t e refl x.registration.role) (record { notices = refl; performing = refl; events = refl; registrations = refl; frames = refl; calls = refl; aborted = λ s h. h; scheduling = record { priorities = λ s. refl; states = refl; tasks_made = omega arith; idle_start = refl } })
 complete-changes start (EnqueuePost r source) p e x = by_abort (is_aborted_source p (the_registration p r).signal) refl
   where
     t : SchedTask
     t = record { registration = r; source = source; continuation = false; order = suc p.tasks_made }
 
     by_abort : (b : Bool) → is_aborted_source p (the_registration p r).signal ≡ b → Changes p (cond b (λ q. q) (enqueue r source false) (emit (Due r) (without_timer start p)))
-    by_abort true k = due-changes r p (emit (Due r) (without_timer start p)) (delay_due start source e x.2.role) (record { notices = refl; performing = refl; events = refl; registrations = refl; frames = refl; calls = refl; aborted = λ s h. h; scheduling = record { priorities = λ s. refl; states = refl; tasks_made = omega arith } })
-    by_abort false k = with_change nothing (post_fell_due start source t (queue_name source) e x.2.role k refl (record { order = refl; made = omega arith; named = refl }, refl, refl) (record { notices = refl; performing = refl; events = refl; registrations = refl; frames = refl; calls = refl; aborted = λ s h. h; scheduling = record { priorities = λ s. refl; states = refl; tasks_made = omega arith } }))
+    by_abort true k = due-changes r p (emit (Due r) (without_timer start p)) (delay_due start source e x.2.role) (record { notices = refl; performing = refl; events = refl; registrations = refl; frames = refl; calls = refl; aborted = λ s h. h; scheduling = record { priorities = λ s. refl; states = refl; tasks_made = omega arith; idle_start = refl } })
+    by_abort false k = with_change nothing (post_fell_due start source t (queue_name source) e x.2.role k refl (record { order = refl; made = omega arith; named = refl }, refl, refl) (record { notices = refl; performing = refl; events = refl; registrations = refl; frames = refl; calls = refl; aborted = λ s h. h; scheduling = record { priorities = λ s. refl; states = refl; tasks_made = omega arith; idle_start = refl } }))
 complete-changes start (QueueSignal r s) p e x =
     let gone = emit (Due r) (without_timer start p) in
-    changes-then (due-changes r p gone (signal_due start s e x.0.role) (record { notices = refl; performing = refl; events = refl; registrations = refl; frames = refl; calls = refl; aborted = λ s h. h; scheduling = record { priorities = λ s. refl; states = refl; tasks_made = omega arith } })) (queue_task-changes Timer (TimeOutSignal s) gone refl)
+    changes-then (due-changes r p gone (signal_due start s e x.0.role) (record { notices = refl; performing = refl; events = refl; registrations = refl; frames = refl; calls = refl; aborted = λ s h. h; scheduling = record { priorities = λ s. refl; states = refl; tasks_made = omega arith; idle_start = refl } })) (queue_task-changes Timer (TimeOutSignal s) gone refl refl)
 
 complete_at-changes : (start : ℕ) (c : Option Completion) (p : Page) → completion_of p.completions start ≡ c → IfThere (CompletionIsGiven (made_by p)) c → Changes p (complete_at c (without_timer start p))
-complete_at-changes start None p e x = placed p (without_timer start p) (completed start) refl refl refl refl refl refl refl refl
+complete_at-changes start None p e x = placed p (without_timer start p) (completed start e) tt refl refl refl refl refl refl refl refl
 complete_at-changes start (Some c) p e x = complete-changes start c p e x
 
 -- an answer that is pending: the ones before it and behind it
@@ -673,24 +781,23 @@ record Pending (xs : List HostAnswer) (a : HostAnswer) : Type 0 where
   after : List HostAnswer
   whole : xs ≡ before ++ a ∷ after
 
--- a host's item is an answer that is pending
+-- a host's item is an answer that is pending, an idle item an idle timeout
 abbrev Stands : Page → ItemKind → Type 0
 Stands p (HostItem a) = Pending p.host_answers a
+Stands p (IdleItem t) = IsIn t p.idle_timers
 Stands p what = Unit {0}
 
 take_item-changes : (what : ItemKind) (p : Page) → Stands p what → Held (made_by p) p → ItemIsGiven (made_by p) what → Changes p (take_item what p)
 take_item-changes (ArrivalItem n a) p h k x =
     let q : Page = record p { arrivals = without_numbered n p.arrivals } in
-    changes-then (quietly p q refl refl refl refl refl refl refl refl refl) (queue_task-changes a.source (FireAtWindow a.name a.value) q refl)
+    changes-then (quietly p q refl refl refl refl refl refl refl refl refl) (queue_task-changes a.source (FireAtWindow a.name a.value) q refl refl)
 take_item-changes (HostItem a) p h k x =
-    due-changes a.task.registration p (take_item (HostItem a) p) (answer_due h.before a h.after (suc p.tasks_made) Net h.whole refl x.kind.role) (record { notices = refl; performing = refl; events = refl; registrations = refl; frames = refl; calls = refl; aborted = λ s h. h; scheduling = record { priorities = λ s. refl; states = refl; tasks_made = omega arith } })
+    due-changes a.task.registration p (take_item (HostItem a) p) (answer_due h.before a h.after (suc p.tasks_made) Net h.whole refl x.kind.role) (record { notices = refl; performing = refl; events = refl; registrations = refl; frames = refl; calls = refl; aborted = λ s h. h; scheduling = record { priorities = λ s. refl; states = refl; tasks_made = omega arith; idle_start = refl } })
 take_item-changes (TimerItem t) p h k x = complete_at-changes t.start (completion_of p.completions t.start) p refl (completion_of-given (made_by p) p.completions t.start (k InCompletions))
-take_item-changes (IdleItem t) p h k x =
-    let q : Page = emit (Due t.registration) (record p { idle_timers = without (λ u. u.handle == t.handle) p.idle_timers }) in
-    changes-then (due-changes t.registration p q (idle_due t.handle x.registration.role) (record { notices = refl; performing = refl; events = refl; registrations = refl; frames = refl; calls = refl; aborted = λ s h. h; scheduling = record { priorities = λ s. refl; states = refl; tasks_made = omega arith } })) (queue_task-changes IdleSource (IdleTimeout t.handle) q refl)
+take_item-changes (IdleItem t) p h k x = due-changes t.registration p (take_item (IdleItem t) p) (idle_due t (suc p.tasks_made) IdleSource h refl x.registration.role) (record { notices = refl; performing = refl; events = refl; registrations = refl; frames = refl; calls = refl; aborted = λ s h. h; scheduling = record { priorities = λ s. refl; states = refl; tasks_made = omega arith; idle_start = refl } })
 take_item-changes FrameItem p h k x =
     let q : Page = record p { last_opportunity = p.now } in
-    changes-then (quietly p q refl refl refl refl refl refl refl refl refl) (queue_task-changes Render (RunFrame p.now) q refl)
+    changes-then (quietly p q refl refl refl refl refl refl refl refl refl) (queue_task-changes Render (RunFrame p.now) q refl refl)
 
 -- ---- the items that stand in a page
 
@@ -710,9 +817,9 @@ timers_stand : (p : Page) (xs : List ActiveTimer) → Each (λ (i : Item). Stand
 timers_stand p [] = tt
 timers_stand p (x ∷ xs) = (tt, timers_stand p xs)
 
-idles_stand : (p : Page) (xs : List IdleTimer) → Each (λ (i : Item). Stands p i.what) (map (λ t. record { due = t.due; what = IdleItem t }) xs)
-idles_stand p [] = tt
-idles_stand p (x ∷ xs) = (tt, idles_stand p xs)
+idles_stand : (p : Page) (xs : List IdleTimer) → ((t : IdleTimer) → IsIn t xs → IsIn t p.idle_timers) → Each (λ (i : Item). Stands p i.what) (map (λ t. record { due = t.due; what = IdleItem t }) xs)
+idles_stand p [] h = tt
+idles_stand p (x ∷ xs) h = (h x (inl refl), idles_stand p xs (λ t i. h t (inr i)))
 
 frames_stand : (p : Page) (o : Option ℕ) → Each (λ (i : Item). Stands p i.what) (frame_items o)
 frames_stand p None = tt
@@ -728,7 +835,7 @@ items_stand p =
     Each-append P (arrivals ++ hosts ++ timers ++ idles) (frame_items (next_frame p))
     (Each-append P (arrivals ++ hosts ++ timers) idles
     (Each-append P (arrivals ++ hosts) timers
-    (Each-append P arrivals hosts (arrivals_stand p 1 p.arrivals) (hosts_stand p [] p.host_answers refl)) (timers_stand p p.timers.active)) (idles_stand p p.idle_timers)) (frames_stand p (next_frame p))
+    (Each-append P arrivals hosts (arrivals_stand p 1 p.arrivals) (hosts_stand p [] p.host_answers refl)) (timers_stand p p.timers.active)) (idles_stand p p.idle_timers (λ t i. i))) (frames_stand p (next_frame p))
 
 first_from_stands : (p : Page) (a : Item) (others : List Item) → Stands p a.what → Each (λ (i : Item). Stands p i.what) others → Stands p (first_item_from a others).what
 first_from_stands p a [] h k = h

@@ -13,7 +13,7 @@ use Rattle.page_model.specs.State.{Page, on_notices, context}
 use Rattle.page_model.specs.Numbers.{Each}
 use Rattle.page_laws.specs.History.{History, is_rest}
 use Rattle.page_laws.specs.CallLaws.{keeps_nesting, is_nil}
-use Rattle.page_laws.specs.Moves.{frame_asked, is_aside, is_end, promise_changes, PageChange, elsewhere, told, rested, registered, promised, settled, followed, adopted, subscribed, micro_asked, then_asked, answered, dropped, frame_dropped, rejected_taken, noted, Beginning, TheScript, ATimer, AFrame, AnIdle, ALateIdle, AListener, APost, AContinuation, AMicro, AReaction, taken, Waited, Moves, here, changing, calling, ending, flagging, running, framing, task_dropped, enqueued_anew, fell_due, post_fell_due, prio_told}
+use Rattle.page_laws.specs.Moves.{frame_asked, is_aside, is_end, promise_changes, PageChange, elsewhere, told, arm_told, rested, registered, promised, settled, followed, adopted, subscribed, micro_asked, then_asked, answered, dropped, frame_dropped, rejected_taken, noted, Beginning, TheScript, ATimer, AFrame, AnIdle, ALateIdle, AListener, APost, AContinuation, AMicro, AReaction, taken, Waited, Moves, here, changing, calling, ending, flagging, running, framing, idling, task_dropped, enqueued_anew, fell_due, post_fell_due, prio_told}
 use Rattle.page_laws.proofs.Lines.{emit_each-events}
 use Rattle.page_laws.proofs.Scans.{Test, Kept, kept-added}
 
@@ -70,9 +70,10 @@ subscribed-kept n r p k =
     (changed-passes (context p) [] n (Promises.subscribe n (the_promise p.notices.promises n) r) (record p.notices { rejected = without (λ m. m == n) p.notices.rejected; outstanding = without (λ m. m == n) p.notices.outstanding })) k
 
 change-kept : {p q : Page} → PageChange p q → Kept nesting p.events → Kept nesting q.events
-change-kept (elsewhere c b) k = subst (Kept nesting) (sym b.events) k
+change-kept (elsewhere c b within) k = subst (Kept nesting) (sym b.events) k
 change-kept {p = p} (told e h) k = (aside-passes e h p.events, k)
-change-kept {p = p} (rested e h x y z over) k = (rest-passes e h p.events, k)
+change-kept (arm_told r due level w) k = (refl, k)
+change-kept {p = p} (rested e h x y z over begun) k = (rest-passes e h p.events, k)
 change-kept (answered source task t answer x y live z b) k = subst (Kept nesting) (sym b.events) (refl, k)
 change-kept (registered kind x e unframed u b) k = subst (Kept nesting) (sym b.events) (refl, k)
 change-kept (dropped r d b) k = subst (Kept nesting) (sym b.events) (refl, k)
@@ -113,3 +114,4 @@ moves-kept (ending {q = q} a e h) k = (end-passes e h q.events, moves-kept a k)
 moves-kept (flagging a x y z w u v t j) k = subst (Kept nesting) (sym y) (moves-kept a k)
 moves-kept (running {q = q} a j others x y) k = (ap is_nil y, moves-kept a k)
 moves-kept (framing a t) k = (refl, moves-kept a k)
+moves-kept (idling a none) k = moves-kept a k

@@ -54,7 +54,7 @@ pub subscribe-onto : (k : ℕ) (r : Reaction) (p : Page) → Held (made_by p) p 
 subscribe-onto k r p h x y e = (subscribe-held k r p h x y, subscribe-changes k r p x e)
 
 pub init_again-onto : (id r : ℕ) (timeout : ℤ) (p : Page) → Held (made_by p) p → IsGiven p.timers.ids_made id → IsFor (timer_role true) (made_by p) r → id_at p.registrations r ≡ id → has_id id p.timers ≡ true → Onto p (init_timer (Some id) r true timeout p)
-init_again-onto id r timeout p h i x own there = (init_again-held id r true timeout p h i x own, init_again-changes id r timeout p x.role there)
+init_again-onto id r timeout p h i x own there = (init_again-held id r true timeout p h i x own, init_again-changes id r timeout p h x.role there)
 
 pub clear_id-onto : (id : ℕ) (p : Page) → Held (made_by p) p → Onto p (clear_id id p)
 clear_id-onto id p h = (clear_id-held id p h, clear_id-changes id p)
@@ -96,7 +96,7 @@ pub frame_requested-onto : (f : Func) (p : Page) → Held (made_by p) p → AreK
 frame_requested-onto f p h x = (frame_requested-held f p h x, frame_requested-changes f p)
 
 pub idle_requested-onto : (f : Func) (ms : ℕ) (p : Page) → Held (made_by p) p → AreKnown (made_by p) f.bound → Onto p (idle_requested f ms p)
-idle_requested-onto f ms p h x = (idle_requested-held f ms p h x, idle_requested-changes f ms p)
+idle_requested-onto f ms p h x = (idle_requested-held f ms p h x, idle_requested-changes f ms p h)
 
 pub make-onto : (p : Page) → Held (made_by p) p → Onto p (with_signals AbortGraph.make p)
 make-onto p h = (make-held p h, make-changes p)
@@ -114,7 +114,7 @@ pub any_made-onto : (ss : List ℕ) (priority : Priority) (follows : Option ℕ)
 any_made-onto ss priority follows p h k on = (any_made-held ss priority follows p h k on, any_made-changes ss priority follows p h)
 
 pub timeout_signal_made-onto : (ms : ℕ) (p : Page) → Held (made_by p) p → Onto p (timeout_signal_made ms p)
-timeout_signal_made-onto ms p h = (timeout_signal_made-held ms p h, timeout_signal_made-changes ms p)
+timeout_signal_made-onto ms p h = (timeout_signal_made-held ms p h, timeout_signal_made-changes ms p h)
 
 pub listener_added-onto : (target : Target) (name : List ℕ) (f : Func) (p : Page) → Held (made_by p) p → TargetIsGiven (made_by p) target → AreKnown (made_by p) f.bound → Onto p (listener_added target name f p)
 listener_added-onto target name f p h t x = (listener_added-held target name f p h t x, listener_added-changes target name f p)
@@ -123,7 +123,7 @@ pub listener_removed-onto : (r : ℕ) (p : Page) → Held (made_by p) p → Onto
 listener_removed-onto r p h = (listener_removed-held r p h, listener_removed-changes r p h)
 
 pub post_queued-onto : (f : Func) (source : PrioSource) (signal : Option ℕ) (ms : ℕ) (p : Page) → Held (made_by p) p → AreKnown (made_by p) f.bound → PrioSourceIsGiven (made_by p) source → IfThere (IsGiven (length p.signals)) signal → HasPriority p.prios source → Anew p (post_queued f source signal ms p)
-post_queued-onto f source signal ms p h x y s from = (post_queued-held f source signal ms p h x y s, post_queued-changes f source signal ms p from)
+post_queued-onto f source signal ms p h x y s from = (post_queued-held f source signal ms p h x y s, post_queued-changes f source signal ms p h from)
 
 pub continuation_queued-onto : (s : SchedulingState) (p : Page) → Held (made_by p) p → StateIsGiven (made_by p) s → Sourced p.prios p.scheduling_states s.prio_source → Anew p (continuation_queued s p)
 continuation_queued-onto s p h x from = (continuation_queued-held s p h x, continuation_queued-changes s p from)

@@ -4,7 +4,7 @@ use Rattle.lang_meaning.specs.Evaluation as Evaluation
 use Rattle.page_types.specs.Events.{Event, Ret, Throw}
 use Rattle.page_model.specs.State.{Page}
 use Rattle.page_laws.specs.History.{without_first, open_after, open_registrations}
-use Rattle.page_laws.specs.Moves.{is_end, called_by, Moves, here, changing, calling, ending, flagging, running, framing}
+use Rattle.page_laws.specs.Moves.{is_end, called_by, Moves, here, changing, calling, ending, flagging, running, framing, idling}
 use Rattle.page_laws.proofs.Lines.{change-same, change-calls, begins-same, begins-calls}
 
 abbrev Fits : Page → Type 0
@@ -28,6 +28,7 @@ moves-fit (ending {q = q} a e h) f = ap Evaluation.without_first (moves-fit a f)
 moves-fit (flagging a x y z w u v t j) f = v ∙ (moves-fit a f ∙ sym (ap open_registrations y))
 moves-fit (running a j others x y) f = moves-fit a f
 moves-fit (framing a t) f = moves-fit a f
+moves-fit (idling a none) f = moves-fit a f
 
 -- from a page with no open call and no lines on
 pub calls_told : {p q : Page} → Moves p q → p.calls ≡ [] → p.events ≡ [] → q.calls ≡ open_registrations q.events

@@ -8,7 +8,7 @@ use Rattle.page_types.specs.declared.Priority.{Priority}
 use Rattle.page_types.specs.declared.RegKind.{RegKind}
 use Rattle.page_types.specs.declared.RegKind.TheVariants as kind
 use Rattle.page_types.specs.declared.Source.TheVariants.{Sched}
-use Rattle.page_types.specs.Events.{Frame, QueueName, Event, Stamped, Call, Reg, Run, Turn, IdleLine, Host, Drop, Due, Enq, Prio}
+use Rattle.page_types.specs.Events.{Arm, Frame, QueueName, Event, Stamped, Call, Reg, Run, Turn, IdleLine, Host, Drop, Due, Enq, Prio}
 use Rattle.page_types.specs.Tree.{Program}
 use Rattle.page_parts.specs.Words.{and_last, without, is_there}
 use Rattle.page_parts.specs.TaskSignals.{Prios, priority_of}
@@ -26,7 +26,7 @@ use Rattle.page_model.specs.Turns.{first_page}
 use Rattle.page_model.proofs.NumbersGrow.{length-last, Each-more, Each-last, Each-without, Each-find, Each-numbered, numbered-last}
 use Rattle.page_laws.specs.History.{History, has_kind, is_scheduled, is_some_and, was_called, was_dropped, is_rest, is_sched_turn, last_line}
 use Rattle.page_laws.specs.SchedulerLaws.{Enqueued, enqueued, waiting, priority_now, precedes, first_tasks, has_task, is_later, keeps_priorities}
-use Rattle.page_laws.specs.Moves.{is_aside, is_end, role_at, signal_at, id_at, HasPriority, Sourced, known, inherited, Scheduling, scheduling_of, promise_changes, Places, places, completions_but, PlaceChange, places_stay, task_queued, task_left, armed_again, signal_armed, completed, idle_started, idle_left, id_cleared, idle_armed, DueChange, timer_due, delay_due, signal_due, idle_due, answer_due, Dropping, timer_dropped, idle_dropped, listener_dropped, FirstPlace, nowhere, at_listener, at_timer, at_delay, at_idle, at_host, AsBefore, PageChange, elsewhere, told, rested, answered, dropped, task_dropped, frame_dropped, prio_told, registered, enqueued_anew, fell_due, post_fell_due, frame_asked, promised, settled, followed, adopted, subscribed, then_asked, micro_asked, rejected_taken, noted, Beginning, TheScript, ATimer, AFrame, AnIdle, ALateIdle, AListener, APost, AContinuation, AMicro, AReaction, called_by, role_of, taken, Waited, Moves, here, changing, calling, ending, flagging, running, framing, SchedulingAfter}
+use Rattle.page_laws.specs.Moves.{is_aside, is_end, role_at, signal_at, id_at, HasPriority, Sourced, known, inherited, Scheduling, scheduling_of, promise_changes, Places, places, completions_but, PlaceChange, places_stay, task_queued, task_left, armed_again, signal_armed, completed, idle_started, idle_queued, idle_left, id_cleared, idle_armed, DueChange, timer_due, delay_due, signal_due, idle_due, answer_due, Dropping, timer_dropped, idle_dropped, listener_dropped, FirstPlace, nowhere, at_listener, at_timer, at_delay, at_idle, at_host, AsBefore, PageChange, elsewhere, told, arm_told, rested, answered, dropped, task_dropped, frame_dropped, prio_told, registered, enqueued_anew, fell_due, post_fell_due, frame_asked, promised, settled, followed, adopted, subscribed, then_asked, micro_asked, rejected_taken, noted, Beginning, TheScript, ATimer, AFrame, AnIdle, ALateIdle, AListener, APost, AContinuation, AMicro, AReaction, called_by, role_of, taken, Waited, Moves, here, changing, calling, ending, flagging, running, framing, idling, SchedulingAfter}
 use Rattle.page_laws.proofs.Cancelled as cancelled
 use Rattle.page_laws.proofs.Cancelled.{unless, made-kind, no_kind, kind-there, GoneBy}
 use Rattle.page_laws.proofs.Claims.{completed-less}
@@ -242,8 +242,8 @@ enqueue-fits : (t : SchedTask) (queue : QueueName) (now made : ℕ) (xs : List R
     → was_called past t.registration ≡ false → was_dropped past t.registration ≡ false → TaskFits xs g.prios t → Scheduled xs ts cs g past
     → Scheduled xs (and_last ts t) cs h (record { time = now; event = Enq t.registration queue t.continuation t.order } ∷ past)
 enqueue-fits t queue now made xs ts cs g h past order more named same states uncalled undropped fits f =
-    subst (λ (ps : Prios). Scheduled xs (and_last ts t) cs (record { prios = ps; states = h.states; tasks_made = h.tasks_made }) (line ∷ past)) (sym same)
-    (subst (λ (ss : List SchedulingState). Scheduled xs (and_last ts t) cs (record { prios = g.prios; states = ss; tasks_made = h.tasks_made }) (line ∷ past)) (sym states)
+    subst (λ (ps : Prios). Scheduled xs (and_last ts t) cs (record { prios = ps; states = h.states; tasks_made = h.tasks_made; idle_start = h.idle_start }) (line ∷ past)) (sym same)
+    (subst (λ (ss : List SchedulingState). Scheduled xs (and_last ts t) cs (record { prios = g.prios; states = ss; tasks_made = h.tasks_made; idle_start = h.idle_start }) (line ∷ past)) (sym states)
     (record {
       kept = (both, f.kept);
       last = refl;
@@ -285,10 +285,10 @@ completion-kept a b k (EnqueuePost r source) h = has-kept a b k source h
 completion-kept a b k c h = tt
 
 -- sources that have a priority keep one
-kept-fits : (xs : List Registration) (ts : List SchedTask) (cs : List Completing) (g : Scheduling) (ps : Prios) (ss : List SchedulingState) (made : ℕ) (past : History) → ss ≡ g.states → ((s : ℕ) → is_there (priority_of g.prios s) ≡ true → is_there (priority_of ps s) ≡ true) → g.tasks_made ≤ made
+kept-fits : (xs : List Registration) (ts : List SchedTask) (cs : List Completing) (g : Scheduling) (ps : Prios) (ss : List SchedulingState) (made from : ℕ) (past : History) → ss ≡ g.states → ((s : ℕ) → is_there (priority_of g.prios s) ≡ true → is_there (priority_of ps s) ≡ true) → g.tasks_made ≤ made
     → Kept in_priority past → last_line is_sched_turn past ≡ false → waiting past ≡ turned ts [] → Each (λ (u : Enqueued). u.order ≤ g.tasks_made) (enqueued past) → ((s : ℕ) (q : Priority) → priority_of ps s ≡ Some q → priority_now past s ≡ Some q)
-    → Each (TaskFits xs g.prios) ts → DelaysFit g.prios cs → StatesFit g.prios g.states → Scheduled xs ts cs (record { prios = ps; states = ss; tasks_made = made }) past
-kept-fits xs ts cs g ps ss made past same k le kept last row orders tells_now tasks delays states =
+    → Each (TaskFits xs g.prios) ts → DelaysFit g.prios cs → StatesFit g.prios g.states → Scheduled xs ts cs (record { prios = ps; states = ss; tasks_made = made; idle_start = from }) past
+kept-fits xs ts cs g ps ss made from past same k le kept last row orders tells_now tasks delays states =
     record {
       kept = kept;
       last = last;
@@ -302,7 +302,7 @@ kept-fits xs ts cs g ps ss made past same k le kept last row orders tells_now ta
 
 after-fits : (xs : List Registration) (ts : List SchedTask) (cs : List Completing) (g h : Scheduling) (past : History) → SchedulingAfter g h → Scheduled xs ts cs g past → Scheduled xs ts cs h past
 after-fits xs ts cs g h past a f =
-    kept-fits xs ts cs g h.prios h.states h.tasks_made past a.states (λ s x. ap is_there (a.priorities s) ∙ x) a.tasks_made f.kept f.last f.row f.orders (λ s q e. f.told s q (sym (a.priorities s) ∙ e)) f.tasks f.delays f.states
+    kept-fits xs ts cs g h.prios h.states h.tasks_made h.idle_start past a.states (λ s x. ap is_there (a.priorities s) ∙ x) a.tasks_made f.kept f.last f.row f.orders (λ s q e. f.told s q (sym (a.priorities s) ∙ e)) f.tasks f.delays f.states
 
 -- a scheduler task's registration was made
 made-role : (xs : List Registration) (r : ℕ) → is_scheduled_role (role_at xs r) ≡ true → 1 ≤ r × r ≤ length xs
@@ -391,13 +391,14 @@ plain-fits k x p f =
 
 place-fits : {xs : List Registration} {x y : Places} → PlaceChange xs x y → (g : Scheduling) (past : History) → ScheduledAt xs x g past → ScheduledAt xs y g past
 place-fits places_stay g past f = f
-place-fits (task_queued t h) g past f = f
+place-fits (task_queued t h plain) g past f = f
 place-fits (task_left number) g past f = f
 place-fits {xs = xs} {x = x} {y = y} (armed_again a t role there own) g past f = delays-fit xs x.sched_tasks x.completions y.completions g past (Each-last (λ (c : Completing). CompletionFits g.prios c.completion) x.completions _ f.delays tt) f
 place-fits {xs = xs} {x = x} {y = y} (signal_armed ms now r s) g past f = delays-fit xs x.sched_tasks x.completions y.completions g past (Each-last (λ (c : Completing). CompletionFits g.prios c.completion) x.completions _ f.delays tt) f
 place-fits (id_cleared id) g past f = f
-place-fits (idle_armed t) g past f = f
-place-fits {xs = xs} {x = x} {y = y} (completed start) g past f = delays-fit xs x.sched_tasks x.completions y.completions g past (Each-without (λ (c : Completing). CompletionFits g.prios c.completion) (λ c. c.start == start) x.completions f.delays) f
+place-fits (idle_queued t e from) g past f = f
+place-fits (idle_armed t most own) g past f = f
+place-fits {xs = xs} {x = x} {y = y} (completed start gone) g past f = delays-fit xs x.sched_tasks x.completions y.completions g past (Each-without (λ (c : Completing). CompletionFits g.prios c.completion) (λ c. c.start == start) x.completions f.delays) f
 place-fits idle_started g past f = f
 place-fits (idle_left handle) g past f = f
 
@@ -405,7 +406,7 @@ due-fits : {xs : List Registration} {r : ℕ} {x y : Places} → DueChange xs r 
 due-fits {xs = xs} {x = x} {y = y} (timer_due start number source t e i role) g past f = delays-fit xs x.sched_tasks x.completions y.completions g past (Each-without (λ (c : Completing). CompletionFits g.prios c.completion) (λ c. c.start == start) x.completions f.delays) f
 due-fits {xs = xs} {x = x} {y = y} (delay_due start source e role) g past f = delays-fit xs x.sched_tasks x.completions y.completions g past (Each-without (λ (c : Completing). CompletionFits g.prios c.completion) (λ c. c.start == start) x.completions f.delays) f
 due-fits {xs = xs} {x = x} {y = y} (signal_due start s e role) g past f = delays-fit xs x.sched_tasks x.completions y.completions g past (Each-without (λ (c : Completing). CompletionFits g.prios c.completion) (λ c. c.start == start) x.completions f.delays) f
-due-fits (idle_due handle role) g past f = f
+due-fits (idle_due t number source i e role) g past f = f
 due-fits (answer_due before a after number source e i role) g past f = f
 
 first-fits : {made : List Registration} {n : ℕ} {x y : Places} (g : Scheduling) → FirstPlace made g.prios n x y → (xs : List Registration) (past : History) → ScheduledAt xs x g past → ScheduledAt xs y g past
@@ -449,15 +450,16 @@ delay-source ps start cs c h e = by_found (find (λ c. c.start == start) cs) (Ea
     by_found (Some d) x e = subst (CompletionFits ps) (ap {A = Option Completion} {B = Completion} (λ o. unwrap_or o c) e) x
 
 change-fits : {p q : Page} → PageChange p q → once.Fits p → cancelled.Fits p → Fits p → Fits q
-change-fits {p = p} (elsewhere c b) o d f = before-fits b (place-fits c (scheduling_of p) p.events f)
+change-fits {p = p} (elsewhere c b k) o d f = before-fits b (place-fits c (scheduling_of p) p.events f)
 change-fits {p = p} (told e h) o d f = said e p (aside-silent e h) f
-change-fits {p = p} (rested e h x y z over) o d f = said e p (rest-silent e h z) f
+change-fits {p = p} (arm_told r due level w) o d f = said (Arm r due level) p refl f
+change-fits {p = p} (rested e h x y z over begun) o d f = said e p (rest-silent e h z) f
 change-fits {p = p} (answered source task t answer x y live z b) o d f =
     before-fits b (subst (λ (y : Places). ScheduledAt p.registrations y (scheduling_of p) (emit (Host t.closure t.number answer) p).events) (sym z) (said (Host t.closure t.number answer) p refl f))
 change-fits {p = p} (registered k x e unframed u b) o d f =
     before-fits b (first-fits (scheduling_of p) u (and_last p.registrations x) (register_as k x p).events (plain-fits k x p f))
 change-fits {p = p} {q = q} (enqueued_anew k x t queue e i s n b) o d f =
-    before-by b next (record { priorities = b.scheduling.priorities; states = b.scheduling.states; tasks_made = omega arith })
+    before-by b next (record { priorities = b.scheduling.priorities; states = b.scheduling.states; tasks_made = omega arith; idle_start = b.scheduling.idle_start })
     (subst (λ (y : Places). ScheduledAt (and_last p.registrations x) y next (emit (Enq t.registration queue t.continuation t.order) (register_as k x p)).events) (sym s)
     (enqueue-fits t queue p.now q.tasks_made (and_last p.registrations x) p.sched_tasks p.completions (scheduling_of p) next (register_as k x p).events n.0.order n.0.made n.0.named refl refl
     (once.calls-none p.events t.registration (let none = o.fresh t.registration (omega (arith, i)) in omega (arith, none)))
@@ -465,7 +467,7 @@ change-fits {p = p} {q = q} (enqueued_anew k x t queue e i s n b) o d f =
     (record { role = role; source = by_source n.1 }) (plain-fits k x p f)))
   where
     next : Scheduling
-    next = record { prios = p.prios; states = p.scheduling_states; tasks_made = q.tasks_made }
+    next = record { prios = p.prios; states = p.scheduling_states; tasks_made = q.tasks_made; idle_start = p.last_idle_start }
 
     role : is_scheduled_role (role_at (and_last p.registrations x) t.registration) ≡ true
     role =
@@ -477,7 +479,7 @@ change-fits {p = p} {q = q} (enqueued_anew k x t queue e i s n b) o d f =
     by_source (inherited m) = Each-numbered (λ (s : SchedulingState). HasPriority p.prios s.prio_source) p.scheduling_states m no_state f.states tt
 change-fits {p = p} (fell_due r c b) o d f = before-fits b (due-fits c (scheduling_of p) (emit (Due r) p).events (said (Due r) p refl f))
 change-fits {p = p} {q = q} (post_fell_due start source t queue e role a s n b) o d f =
-    before-by b next (record { priorities = b.scheduling.priorities; states = b.scheduling.states; tasks_made = omega arith })
+    before-by b next (record { priorities = b.scheduling.priorities; states = b.scheduling.states; tasks_made = omega arith; idle_start = b.scheduling.idle_start })
     (subst (λ (y : Places). ScheduledAt p.registrations y next (emit (Enq t.registration queue t.continuation t.order) (emit (Due t.registration) p)).events) (sym s)
     (enqueue-fits t queue p.now q.tasks_made p.registrations p.sched_tasks (completions_but start p.completions) (scheduling_of p) next (emit (Due t.registration) p).events n.0.order n.0.made n.0.named refl refl
     (once.calls-none p.events t.registration uncalled) undropped
@@ -485,7 +487,7 @@ change-fits {p = p} {q = q} (post_fell_due start source t queue e role a s n b) 
     (delays-fit p.registrations p.sched_tasks p.completions (completions_but start p.completions) (scheduling_of p) (emit (Due t.registration) p).events (Each-without (λ (c : Completing). CompletionFits p.prios c.completion) (λ c. c.start == start) p.completions f.delays) (said (Due t.registration) p refl f))))
   where
     next : Scheduling
-    next = record { prios = p.prios; states = p.scheduling_states; tasks_made = q.tasks_made }
+    next = record { prios = p.prios; states = p.scheduling_states; tasks_made = q.tasks_made; idle_start = p.last_idle_start }
 
     uncalled : once.calls t.registration p.events ≤ 0
     uncalled =
@@ -510,7 +512,7 @@ change-fits {p = p} (task_dropped r role a e s b) o d f =
 change-fits {p = p} (frame_dropped handle c e role) o d f =
     other-drop c.registration p.now p.registrations p.sched_tasks p.completions (scheduling_of p) p.events (ap is_scheduled_role role) f
 change-fits {p = p} (prio_told s priority ps c) o d f =
-    kept-fits p.registrations p.sched_tasks p.completions (scheduling_of p) ps p.scheduling_states p.tasks_made (emit (Prio s priority) p).events refl c.kept (omega arith) (ap not f.last, f.kept) refl f.row f.orders
+    kept-fits p.registrations p.sched_tasks p.completions (scheduling_of p) ps p.scheduling_states p.tasks_made p.last_idle_start (emit (Prio s priority) p).events refl c.kept (omega arith) (ap not f.last, f.kept) refl f.row f.orders
     (λ t q e. by_number t q e (s == t) refl) f.tasks f.delays f.states
   where
     by_number : (t : ℕ) (q : Priority) → priority_of ps t ≡ Some q → (b : Bool) → (s == t) ≡ b → cond b (Some priority) (priority_now p.events t) ≡ Some q
@@ -580,6 +582,9 @@ moves-fit (flagging {q = q} {r = r} a x y z w u v t j) o d f =
     (subst (λ (xs : List Registration). ScheduledAt xs (places q) (scheduling_of q) r.events) (sym z) (subst (ScheduledAt q.registrations (places q) (scheduling_of q)) (sym y) (moves-fit a o d f))))
 moves-fit (running {q = q} a j others x y) o d f = said (Run j.number) q refl (moves-fit a o d f)
 moves-fit (framing {q = q} a t) o d f = said (Frame t) q refl (moves-fit a o d f)
+moves-fit (idling {q = q} a none) o d f =
+    let g = moves-fit a o d f in
+    kept-fits q.registrations q.sched_tasks q.completions (scheduling_of q) q.prios q.scheduling_states q.tasks_made q.now q.events refl (λ s h. h) (omega arith) g.kept g.last g.row g.orders g.told g.tasks g.delays g.states
 
 -- from a first page on, the scheduler's tasks go in the order of their priorities
 pub priorities_kept : (program : Program) (setup : Setup) (hosts : List HostClosure) {q : Page} → Moves (first_page program setup hosts) q → Kept in_priority q.events

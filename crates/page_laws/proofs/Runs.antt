@@ -7,8 +7,9 @@ use Rattle.page_types.specs.declared.RegKind.TheVariants.{Then as ThenKind, List
 use Rattle.lang_meaning.specs.Machine.{Caller, Done, Gives, OutOfFuel, Returns, Throws, afterwards, and_then, branch, finish, take_unit, with_fuel}
 use Rattle.page_laws.proofs.Evaluating.{Le, Onto, Reached, entered, keeping, le-same, le-then, on_page-reached, call_over}
 use Rattle.page_laws.proofs.Going.{CallsHold, Holds, afterwards-holds, and_then-holds, branch-holds, finish-holds, wider}
-use Rattle.page_laws.proofs.Lines.{changes-same}
-use Rattle.page_laws.proofs.Framed.{Ordered, changes-kept, kept-same, kept-then, quiet, step-kept}
+use Rattle.page_laws.proofs.Lines.{Same, changes-same}
+use Rattle.page_laws.proofs.Idling.{all-go, goes-same, job-goes_on}
+use Rattle.page_laws.proofs.Framed.{FramesKept, Ordered, changes-kept, kept-same, kept-then, quiet, step-kept}
 use Rattle.page_laws.proofs.Moved.{notify_rejected-changes, quietly, report_after-changes, report_before-changes}
 use Rattle.page_laws.proofs.Moving.{moves-then, moves_of}
 use Rattle.page_laws.proofs.Onto.{change_begun-onto, change_ended-onto, reason_set-onto, reject-onto, resolve-onto, run_algorithms-onto, settle-onto, subscribe-onto}
@@ -93,8 +94,8 @@ AtTop m = NoneOpen m × m.host.performing ≡ false × Ordered m.host
 pub none_open-later : (m r : State) → Le m r → NoneOpen m → NoneOpen r
 none_open-later m r le x = le.2.0 ∙ x
 
-pub at_top-later : (m r : State) → Le m r → AtTop m → AtTop r
-at_top-later m r le x = (le.2.0 ∙ x.0, le.2.1 ∙ x.1, le.3.ordered x.2)
+pub at_top-later : (m r : State) → Same m.host r.host → FramesKept m.host r.host → AtTop m → AtTop r
+at_top-later m r s k x = (s.0 ∙ x.0, s.1 ∙ x.1, k.ordered x.2)
 
 -- ---- what a checkpoint leaves: no job
 
@@ -274,7 +275,7 @@ module _ (program : Program) where
   job_begins : (waiting : WaitingJob) (others : List WaitingJob) (m : State) → Good m → NoneOpen m → m.host.notices.jobs ≡ waiting ∷ others → JobIsGiven (made_by m.host) waiting → JobsGiven (made_by m.host) others → Reached m (begin_job waiting others m)
   job_begins waiting others m g z e y x =
       let a = numbers.on_page-good m (job_begun waiting others) g (job_begun-held program waiting others m.host g.0 y x) in
-      ((a.0, running here waiting others e z, (refl, refl), step-kept (quiet refl refl (λ r. refl))), a.1)
+      ((a.0, running here waiting others e z, (refl, refl), step-kept (quiet refl refl (λ r. refl)), job-goes_on m.host waiting others), a.1)
 
   -- a job runs: where it calls, its callback is taken with the job
   job-goes : (call : Caller Page) → CallsGo call → (job : WaitingJob) (others : List WaitingJob) (m : State) → Good m → NoneOpen m → m.host.notices.jobs ≡ job ∷ others → JobIsGiven (made_by m.host) job → JobsGiven (made_by m.host) others → Goes m (run_job call job.what (begin_job job others m))
@@ -351,7 +352,7 @@ module _ (program : Program) where
           let a = numbers.on_page-good r (checkpoint_ended m.host) h.1 (checkpoint_ended-held m.host r.host h.1.0 (if_state-grows (made_by m.host) (made_by r.host) h.0.0 m.host.scheduling (g.0 InScheduling))) in
           let row : Moves m.host (checkpoint_ended m.host r.host) =
           flagging (moves-then (moves-then (flagging here refl refl refl refl refl refl refl refl) h.0.1) (moves_of (notify_rejected-changes r.host))) refl refl refl refl refl refl refl refl in (
-            (Grows-then (made_by m.host) (made_by r.host) (made_by (checkpoint_ended m.host r.host)) h.0.0 a.0, row, ((changes-same (notify_rejected-changes r.host)).0 ∙ h.0.2.0, sym z.1), kept-then m.host begun.host (checkpoint_ended m.host r.host) (kept-same m.host begun.host refl refl refl) (kept-then begun.host r.host (checkpoint_ended m.host r.host) h.0.3 (kept-then r.host notified (checkpoint_ended m.host r.host) (changes-kept (notify_rejected-changes r.host)) (kept-same notified (checkpoint_ended m.host r.host) refl refl refl)))),
+            (Grows-then (made_by m.host) (made_by r.host) (made_by (checkpoint_ended m.host r.host)) h.0.0 a.0, row, ((changes-same (notify_rejected-changes r.host)).0 ∙ h.0.2.0, sym z.1), kept-then m.host begun.host (checkpoint_ended m.host r.host) (kept-same m.host begun.host refl refl refl) (kept-then begun.host r.host (checkpoint_ended m.host r.host) h.0.3 (kept-then r.host notified (checkpoint_ended m.host r.host) (changes-kept (notify_rejected-changes r.host)) (kept-same notified (checkpoint_ended m.host r.host) refl refl refl))), λ x. goes-same notified (checkpoint_ended m.host r.host) refl refl refl refl (all-go (notify_rejected-changes r.host) (h.0.4 (goes-same m.host begun.host refl refl refl refl x)))),
             a.1,
             tt,
           )
@@ -363,7 +364,7 @@ module _ (program : Program) where
   checkpoint-goes call c m g z = branch-goes m.host.performing m finish (perform_checkpoint call) (finish-goes m g) (perform_checkpoint-goes call c m g z)
 
   abbrev pub in_task-goes : (call : Caller Page) → CallsGo call → WaysGo (in_task call)
-  in_task-goes call c = record { Here = AtTop; later = at_top-later; framed = λ t m x. x; call = c; after = checkpoint-goes call c }
+  in_task-goes call c = record { Here = AtTop; later = λ m r le x. at_top-later m r le.2 le.3 x; framed = λ t m x. x; call = c; after = checkpoint-goes call c }
 
   abbrev pub in_script-goes : (call : Caller Page) → CallsGo call → WaysGo (in_script call)
   in_script-goes call c = record { Here = λ m. Unit {0}; later = λ m r le x. tt; framed = λ t m x. tt; call = c; after = λ m g x. finish-goes m g }

@@ -1,13 +1,14 @@
 -- Tasks are rows of moves.
 use Rattle.page_types.specs.declared.RegKind.TheVariants as kind
 use Rattle.lang_meaning.specs.Machine.{Caller, Done, afterwards, branch, finish}
-use Rattle.page_laws.proofs.Drawing.{run_frame-goes}
+use Rattle.page_laws.proofs.Drawing.{found-in, run_frame-goes}
 use Rattle.page_laws.proofs.Framed.{Ordered}
+use Rattle.page_laws.proofs.Ready.{Ready, due-there, task-there}
 use Rattle.page_laws.proofs.Evaluating.{Le, Onto, Reached, entered, le-same, le-then, on_page-reached, told-onto, call_over}
 use Rattle.page_laws.proofs.Moved.{invoke_idle_again-changes, outstanding-changes, placed, quietly}
 use Rattle.page_laws.proofs.Onto.{clear_id-onto, init_again-onto, resolve-onto, unwatch-onto}
 use Rattle.page_laws.proofs.Runs.{AtTop, CallsGo, Goes, WaysGo, abort-goes, afterwards-goes, at_top-later, branch-goes, branch_when-goes, checkpoint-goes, dispatch-goes, each_in_turn-goes, finish-goes, finish_page, invoke-goes, scheduling-onto, settle_derived-goes, then_page, wide}
-use Rattle.page_laws.specs.Moves.{task_left, AContinuation, ALateIdle, APost, ATimer, AnIdle, TheScript, FrameIsOver, Waited, sched_begun, taken}
+use Rattle.page_laws.specs.Moves.{IsIn, PeriodGoesOn, task_left, AContinuation, ALateIdle, APost, ATimer, AnIdle, TheScript, FrameIsOver, Waited, sched_begun, taken}
 use Rattle.page_model.proofs.NumbersEvaluation as numbers
 use Rattle.page_model.proofs.NumbersEvaluation.{Good, on_page-good}
 use Rattle.page_model.proofs.NumbersGrow.{Each-append, Each-find, Each-last, Each-without, Held, InIdle, InNotices, InTasks, Onward, TimerTask-grows, onward-then, promise-grows, stays, IsFor-grows}
@@ -37,7 +38,7 @@ use Rattle.page_types.specs.declared.Source.{Source}
 use Rattle.page_types.specs.declared.Source.TheVariants.{Idle, Sched}
 use Rattle.std.proofs.Common.{Bool, List, None, Option, Some, [], cond, false, length, nat_lt, refl, subst, sym, true, ℕ, ◌++◌, ◌∷◌, ◌≡◌}
 use Rattle.std.specs.Prelude.{codes, ◌==◌}
-use Rattle.page_laws.specs.History.{open_registrations}
+use Rattle.page_laws.specs.History.{open_registrations, was_due}
 use Rattle.page_model.specs.PagePromises as promises
 
 -- ---- the page in tasks
@@ -75,13 +76,13 @@ without_task-held k p h =
     stays (without_task k p) (put_tasks (made_by p) p (without (λ t. t.number == k) p.tasks) (Each-without (TaskIsGiven (made_by p)) (λ t. t.number == k) p.tasks (h InTasks)) h)
 
 pub without_task-onto : (k : ℕ) (p : Page) → Held (made_by p) p → Onto p (without_task k p)
-without_task-onto k p h = (without_task-held k p h, placed p (without_task k p) (task_left k) refl refl refl refl refl refl refl refl)
+without_task-onto k p h = (without_task-held k p h, placed p (without_task k p) (task_left k) tt refl refl refl refl refl refl refl refl)
 
 outstanding-onto : (k : ℕ) (p : Page) → Held (made_by p) p → IsGiven (length p.notices.promises) k → Onto p (outstanding_if_unhandled k p)
 outstanding-onto k p h x = (outstanding-held k p h x, outstanding-changes k p)
 
-invoke_idle_again-onto : (p : Page) → Held (made_by p) p → Onto p (invoke_idle_again p)
-invoke_idle_again-onto p h = (invoke_idle_again-held p h, invoke_idle_again-changes p)
+invoke_idle_again-onto : (p : Page) → Held (made_by p) p → PeriodGoesOn p → Onto p (invoke_idle_again p)
+invoke_idle_again-onto p h k = (invoke_idle_again-held p h, invoke_idle_again-changes p k)
 
 -- a callback that was found is for its kind
 find_for : (k : RegKind) (last : ℕ) (n : Made) (cs : List Callback) (key : ℕ) (c : Callback) → Each (CallbackIsGiven k last n) cs → callback_in cs key ≡ Some c → IsFor (OfKind k) n c.registration
@@ -152,7 +153,7 @@ module _ (program : Program) where
       (λ live. afterwards-goes program m (invoke w t.registration false [] begun) (where_live t (timer_goes_on t))
       (invoke-goes program w a (ATimer source task t) false [] m g z (e, e1, live, x.own) x.registration o tt)
       (λ r le gr. where_live-goes t (timer_goes_on t) r gr (λ live. timer_goes_on-goes t r gr live (TimerTask-grows (made_by m.host) (made_by r.host) le.0 t x))))
-      (let b = on_page-reached m (taken (ATimer source task t)) g (o, placed m.host begun.host (task_left task.number) refl refl refl refl refl refl refl refl) in (b.0, b.1, tt))
+      (let b = on_page-reached m (taken (ATimer source task t)) g (o, placed m.host begun.host (task_left task.number) tt refl refl refl refl refl refl refl refl) in (b.0, b.1, tt))
     where
       branch_when-goes_from : (b : Bool) (m n : State) (then else : State → Done Page) → (b ≡ true → Goes program m (then n)) → Goes program m (else n) → Goes program m (branch b n then else)
       branch_when-goes_from true m n then else h k = h refl
@@ -166,21 +167,23 @@ module _ (program : Program) where
       let first : Onward (made_by p) gone = without_idle-held c.handle p h in
       onward-then (made_by p) gone (with_state background gone) first (with_state-held background gone first.1 (record { abort_source = tt; prio_source = tt }))
 
-  idle_called-goes : (w : Ways) (a : WaysGo program w) → (cs : List Callback) (m : State) → m.host.idle.runnable ≡ cs → nat_lt m.host.now (deadline m.host.last_idle_start m.host) ≡ true → Good m → a.Here m → Goes program m (idle_called w cs m)
-  idle_called-goes w a [] m e before g z = finish-goes program m g
-  idle_called-goes w a (c ∷ others) m e before g z =
+  idle_called-goes : (w : Ways) (a : WaysGo program w) → (cs : List Callback) (m : State) → m.host.idle.runnable ≡ cs → nat_lt m.host.now (deadline m.host.last_idle_start m.host) ≡ true → PeriodGoesOn m.host → Good m → a.Here m → Goes program m (idle_called w cs m)
+  idle_called-goes w a [] m e before k g z = finish-goes program m g
+  idle_called-goes w a (c ∷ others) m e before k g z =
       let told = on_page (λ p. emit (IdleLine (deadline p.last_idle_start p)) p) m in
       afterwards-goes program m (call_idle w c None told) (λ m. finish (on_page invoke_idle_again m))
-      (invoke-goes program w a (AnIdle c others) false (DeadlineValue None ∷ []) m g z (e, before) (first_for m.host.idle.made (made_by m.host) m.host.idle.runnable c others (idle_given m g).runnable e) (idle_left-held c told.host g.0) (tt, tt))
-      (λ r le gr. finish_page program r invoke_idle_again gr (invoke_idle_again-onto r.host gr.0))
+      (invoke-goes program w a (AnIdle c others) false (DeadlineValue None ∷ []) m g z (e, before, k) (first_for m.host.idle.made (made_by m.host) m.host.idle.runnable c others (idle_given m g).runnable e) (idle_left-held c told.host g.0) (tt, tt))
+      (λ r le gr. finish_page program r invoke_idle_again gr (invoke_idle_again-onto r.host gr.0 (le.4 k)))
 
-  invoke_idle-goes : (w : Ways) (a : WaysGo program w) → (m : State) → Good m → a.Here m → Goes program m (invoke_idle w m)
-  invoke_idle-goes w a m g z =
-      branch_when-goes program (nat_lt m.host.now (deadline m.host.last_idle_start m.host)) m (λ m. idle_called w m.host.idle.runnable m) finish (λ before. idle_called-goes w a m.host.idle.runnable m refl before g z) (λ e. finish-goes program m g)
+  invoke_idle-goes : (w : Ways) (a : WaysGo program w) → (m : State) → PeriodGoesOn m.host → Good m → a.Here m → Goes program m (invoke_idle w m)
+  invoke_idle-goes w a m k g z =
+      branch_when-goes program (nat_lt m.host.now (deadline m.host.last_idle_start m.host)) m (λ m. idle_called w m.host.idle.runnable m) finish (λ before. idle_called-goes w a m.host.idle.runnable m refl before k g z) (λ e. finish-goes program m g)
 
-  timed_out-goes : (w : Ways) (a : WaysGo program w) → (handle : ℕ) (c : Option Callback) (m : State) → idle_callback handle m.host ≡ c → Good m → a.Here m → Goes program m (timed_out w c m)
-  timed_out-goes w a handle None m e g z = finish-goes program m g
-  timed_out-goes w a handle (Some c) m e g z = invoke-goes program w a (ALateIdle handle c) false (DeadlineValue (Some m.host.now) ∷ []) m g z e (find_for kind.Idle m.host.idle.made (made_by m.host) (m.host.idle.runnable ++ m.host.idle.pending) handle c (Each-append (CallbackIsGiven kind.Idle m.host.idle.made (made_by m.host)) m.host.idle.runnable m.host.idle.pending (idle_given m g).runnable (idle_given m g).pending) e) (idle_left-held c m.host g.0) (tt, tt)
+  timed_out-goes : (w : Ways) (a : WaysGo program w) → (handle : ℕ) (c : Option Callback) (m : State) → idle_callback handle m.host ≡ c → ((c : Callback) → IsIn c (m.host.idle.runnable ++ m.host.idle.pending) → c.handle ≡ handle → was_due m.host.events c.registration ≡ true) → Good m → a.Here m → Goes program m (timed_out w c m)
+  timed_out-goes w a handle None m e due g z = finish-goes program m g
+  timed_out-goes w a handle (Some c) m e due g z =
+      let there = found-in handle (m.host.idle.runnable ++ m.host.idle.pending) c e in
+      invoke-goes program w a (ALateIdle handle c) false (DeadlineValue (Some m.host.now) ∷ []) m g z (e, due c there.0 there.1) (find_for kind.Idle m.host.idle.made (made_by m.host) (m.host.idle.runnable ++ m.host.idle.pending) handle c (Each-append (CallbackIsGiven kind.Idle m.host.idle.made (made_by m.host)) m.host.idle.runnable m.host.idle.pending (idle_given m g).runnable (idle_given m g).pending) e) (idle_left-held c m.host g.0) (tt, tt)
 
   -- ---- rejected promises
 
@@ -200,8 +203,8 @@ module _ (program : Program) where
   -- ---- steps of tasks
 
   -- a task, from before it leaves its queue
-  pub task-goes : (w : Ways) (a : WaysGo program w) → (source : Source) (task : Task) (m : State) → Good m → a.Here m → Ordered m.host → first_task source m.host.tasks ≡ Some task → StepsAreGiven (made_by m.host) task.steps → Goes program m (perform_steps w task.steps (on_page (without_task task.number) m))
-  task-goes w a source task m g z o e x = by_steps task.steps refl x
+  pub task-goes : (w : Ways) (a : WaysGo program w) → (source : Source) (task : Task) (m : State) → Good m → a.Here m → Ordered m.host → Ready m.host → first_task source m.host.tasks ≡ Some task → StepsAreGiven (made_by m.host) task.steps → Goes program m (perform_steps w task.steps (on_page (without_task task.number) m))
+  task-goes w a source task m g z o ready e x = by_steps task.steps refl x
     where
       left : Reached m (on_page (without_task task.number) m)
       left = on_page-reached m (without_task task.number) g (without_task-onto task.number m.host g.0)
@@ -219,8 +222,8 @@ module _ (program : Program) where
       by_steps (FireAtWindow name v) e1 x = wide program m (on_page (without_task task.number) m) (perform_steps w (FireAtWindow name v) (on_page (without_task task.number) m)) left.0 (dispatch-goes program w a Window name (v ∷ []) (on_page (without_task task.number) m) left.1 there (x, tt))
       by_steps (AnswerHost t) e1 x = wide program m (on_page (without_task task.number) m) (perform_steps w (AnswerHost t) (on_page (without_task task.number) m)) left.0 (finish-goes program (on_page (without_task task.number) m) left.1)
       by_steps (RunFrame t) e1 x = wide program m (on_page (without_task task.number) m) (perform_steps w (RunFrame t) (on_page (without_task task.number) m)) left.0 (run_frame-goes program w a t (on_page (without_task task.number) m) o left.1 there)
-      by_steps InvokeIdle e1 x = wide program m (on_page (without_task task.number) m) (perform_steps w InvokeIdle (on_page (without_task task.number) m)) left.0 (invoke_idle-goes w a (on_page (without_task task.number) m) left.1 there)
-      by_steps (IdleTimeout handle) e1 x = wide program m (on_page (without_task task.number) m) (perform_steps w (IdleTimeout handle) (on_page (without_task task.number) m)) left.0 (timed_out-goes w a handle (idle_callback handle m.host) (on_page (without_task task.number) m) refl left.1 there)
+      by_steps InvokeIdle e1 x = wide program m (on_page (without_task task.number) m) (perform_steps w InvokeIdle (on_page (without_task task.number) m)) left.0 (invoke_idle-goes w a (on_page (without_task task.number) m) (left.0.4 (ready.invoking (task-there source InvokeIdle m.host.tasks task e e1))) left.1 there)
+      by_steps (IdleTimeout handle) e1 x = wide program m (on_page (without_task task.number) m) (perform_steps w (IdleTimeout handle) (on_page (without_task task.number) m)) left.0 (timed_out-goes w a handle (idle_callback handle m.host) (on_page (without_task task.number) m) refl (λ c i same. due-there m.host handle c ready (task-there source (IdleTimeout handle) m.host.tasks task e e1) i same) left.1 there)
       by_steps (NotifyRejected ks) e1 x =
           wide program m (on_page (without_task task.number) m) (perform_steps w (NotifyRejected ks) (on_page (without_task task.number) m)) left.0
           (each_in_turn-goes program (on_page (without_task task.number) m) IsPromise promise-grows (notify_one w) (λ k r le gr y. notify_one-goes w a k r gr (a.later (on_page (without_task task.number) m) r le there) y) ks (on_page (without_task task.number) m) (le-same (on_page (without_task task.number) m)) left.1 x)
@@ -252,4 +255,4 @@ module _ (program : Program) where
   pub after_task-goes : (call : Caller Page) → CallsGo program call → (m : State) → Good m → AtTop m → Goes program m (after_task call m)
   after_task-goes call c m g z =
       let idle_one = on_page (λ p. record p { level = 0; scheduling = None }) m in
-      then_page program m (λ p. record p { level = 0; scheduling = None }) (checkpoint call idle_one) g ((scheduling-onto program None m.host g.0 tt).0, quietly m.host idle_one.host refl refl refl refl refl refl refl refl refl) (λ b. checkpoint-goes program call c idle_one b.1 (at_top-later m idle_one b.0 z))
+      then_page program m (λ p. record p { level = 0; scheduling = None }) (checkpoint call idle_one) g ((scheduling-onto program None m.host g.0 tt).0, quietly m.host idle_one.host refl refl refl refl refl refl refl refl refl) (λ b. checkpoint-goes program call c idle_one b.1 (at_top-later m idle_one b.0.2 b.0.3 z))
