@@ -32,6 +32,7 @@ pub mod HostCounts
 pub mod HostAnswers
 pub mod CancelledHosts
 pub mod FrameOrder
+pub mod ArmedTimes
 pub mod First
 pub mod Priorities
 pub mod OpenCalls

@@ -51,7 +51,7 @@ use Rattle.page_model.specs.Tasks.{invoke_idle_again, outstanding_if_unhandled, 
 use Rattle.page_model.specs.Parallel.{ItemKind, ArrivalItem, HostItem, TimerItem, IdleItem, FrameItem, Item, arrival_items, frame_items, items_in_order, first_item_from, first_item_of, complete, complete_at, take_item, due_item, first_item, take_due, item_count, parallel}
 use Rattle.page_model.specs.Numbers.{IsGiven, Each, IfThere, made_by, Made, is_abortable, timer_role, TimerIdIsGiven, CallbackIsGiven, IdleIsGiven, ListenerIsGiven, CompletionIsGiven, SchedTaskIsGiven, CompletingIsGiven, sched_role}
 use Rattle.page_laws.specs.History.{is_frame, open_registrations, is_scheduled}
-use Rattle.page_laws.specs.Moves.{is_aside, is_idle_task, role_at, IsIn, PeriodGoesOn, InPeriod, ArmedAt, by_timer, by_idle, by_host, completes_for, with_timer, idle_queued, FrameIsOver, promise_changes, Places, places, is_free, PlaceChange, places_stay, task_queued, completed, idle_started, idle_left, id_cleared, Dropping, timer_dropped, idle_dropped, listener_dropped, FirstPlace, nowhere, at_listener, at_timer, at_delay, at_idle, at_host, AsBefore, fired_at, PageChange, elsewhere, frame_asked, registered, answered, dropped, frame_dropped, then_asked, micro_asked, told, rested, settled, followed, adopted, subscribed, rejected_taken, noted, Changes, nothing, with_change, armed_again, signal_armed, idle_armed, timer_due, delay_due, signal_due, idle_due, answer_due, DueChange, StaysAborted, fell_due, post_fell_due, enqueued_anew, task_dropped, role_at, id_at, signal_at, Scheduling, scheduling_of, SchedulingAfter, HasPriority, Sourced, known, prio_told}
+use Rattle.page_laws.specs.Moves.{is_delayed_role, is_aside, is_idle_task, role_at, IsIn, PeriodGoesOn, InPeriod, ArmedAt, by_timer, by_idle, by_host, completes_for, with_timer, idle_queued, FrameIsOver, promise_changes, Places, places, is_free, PlaceChange, places_stay, task_queued, completed, idle_started, idle_left, id_cleared, Dropping, timer_dropped, idle_dropped, listener_dropped, FirstPlace, nowhere, at_listener, at_timer, at_delay, at_idle, at_host, AsBefore, fired_at, PageChange, elsewhere, frame_asked, registered, answered, dropped, frame_dropped, then_asked, micro_asked, told, rested, settled, followed, adopted, subscribed, rejected_taken, noted, Changes, nothing, with_change, armed_again, signal_armed, idle_armed, timer_due, delay_due, signal_due, idle_due, answer_due, DueChange, StaysAborted, fell_due, post_fell_due, enqueued_anew, task_dropped, role_at, id_at, signal_at, Scheduling, scheduling_of, SchedulingAfter, HasPriority, Sourced, known, prio_told}
 use Rattle.page_laws.specs.Moves as moves
 use Rattle.page_laws.proofs.Moving.{changes-then}
 
@@ -110,11 +110,11 @@ is-last x [] = inl refl
 is-last x (y ∷ xs) = inr (is-last x xs)
 
 -- a timer that was just set is armed
-timer_armed : (made : List Registration) (x : Places) (r due : ℕ) (timers : Timers.Timers) (k : Completion) → timers.active ≡ and_last x.timers.active (record { start = suc x.timers.starts_made; due = due }) → Each (λ (c : Completing). c.start ≤ x.timers.starts_made) x.completions → completes_for k ≡ r
+timer_armed : (made : List Registration) (x : Places) (r due : ℕ) (timers : Timers.Timers) (k : Completion) → timers.active ≡ and_last x.timers.active (record { start = suc x.timers.starts_made; due = due }) → Each (λ (c : Completing). c.start ≤ x.timers.starts_made) x.completions → completes_for k ≡ r → is_delayed_role (role_at made r) ≡ true
     → ArmedAt made (with_timer timers (suc x.timers.starts_made) k x) r due
-timer_armed made x r due timers k e h own =
+timer_armed made x r due timers k e h own role =
     by_timer (record { start = suc x.timers.starts_made; due = due }) k (subst (λ (as' : List ActiveTimer). IsIn (record { start = suc x.timers.starts_made; due = due }) as') (sym e) (is-last (record { start = suc x.timers.starts_made; due = due }) x.timers.active)) refl
-    (found_last x.timers.starts_made x.completions k h) own
+    (found_last x.timers.starts_made x.completions k h) own role
 
 -- a registration is due, with its line
 due-changes : (r : ℕ) (p q : Page) → DueChange p.registrations r (places p) (places q) → AsBefore (emit (Due r) p) q → Changes p q
@@ -243,7 +243,7 @@ init_again-changes id r timeout p h e there =
     let t : TimerTask = record { registration = r; id = a.id; handle = a.handle; level = a.level; repeats = true; timeout = timeout } in
     let set : Page = record p { timers = with_armed (Some id) a p.timers; completions = and_last p.completions (record { start = a.start; completion = QueueTimer t }) } in
     with_change {q = set} (placed p set (armed_again a t e there refl) tt refl refl refl refl refl refl refl refl)
-    (moves.arm_told r a.due a.level (timer_armed p.registrations (places p) r a.due (with_armed (Some id) a p.timers) (QueueTimer t) refl (started p h) refl))
+    (moves.arm_told r a.due a.level (timer_armed p.registrations (places p) r a.due (with_armed (Some id) a p.timers) (QueueTimer t) refl (started p h) refl (ap is_delayed_role e)))
 
 pub clear_id-changes : (id : ℕ) (p : Page) → Changes p (clear_id id p)
 clear_id-changes id p = placed p (clear_id id p) (id_cleared id) tt refl refl refl refl refl refl refl refl
@@ -526,6 +526,11 @@ finally_made-changes n f p x =
 pub posted-changes : (port : ℕ) (v : Value) (p : Page) → Changes p (posted port v p)
 posted-changes port v p = lined (Send port (spelled p.names v)) p (posted port v p) refl refl refl refl refl refl refl refl refl refl
 
+-- a timer waits in an active timer
+delayed_timer : (repeats : Bool) → is_delayed_role (timer_role repeats) ≡ true
+delayed_timer true = refl
+delayed_timer false = refl
+
 -- a timer is for no frame
 no_frame : (repeats : Bool) (kind : RegKind) → OfKind kind ≡ timer_role repeats → is_frame kind ≡ false
 no_frame true kind e = ap {A = Role} {B = Bool} frames e
@@ -548,7 +553,7 @@ timer_set-changes kind repeats f timeout p role h =
     let t : TimerTask = record { registration = r; id = a.id; handle = a.handle; level = a.level; repeats = repeats; timeout = timeout } in
     let fresh : (q : ℕ) → id_at p.registrations q ≡ a.id → ⊥ = λ q e. let le = (the_registration-given p q h).timer_id in absurd (omega (arith, le, e)) in
     let set : Page = record made { timers = with_armed None a made.timers; completions = and_last made.completions (record { start = a.start; completion = QueueTimer t }) } in
-    register_at-changes kind x r a.due a.level p set refl (no_frame repeats kind role) (timer_armed made.registrations (places made) r a.due (with_armed None a made.timers) (QueueTimer t) refl (started p h) refl) (at_timer a t (made_last kind x p) fresh) (record { notices = refl; performing = refl; events = refl; registrations = refl; frames = refl; calls = refl; aborted = λ s h. h; scheduling = record { priorities = λ s. refl; states = refl; tasks_made = omega arith; idle_start = refl } })
+    register_at-changes kind x r a.due a.level p set refl (no_frame repeats kind role) (timer_armed made.registrations (places made) r a.due (with_armed None a made.timers) (QueueTimer t) refl (started p h) refl (ap is_delayed_role (new_role kind x p refl ∙ role) ∙ delayed_timer repeats)) (at_timer a t (made_last kind x p) fresh) (record { notices = refl; performing = refl; events = refl; registrations = refl; frames = refl; calls = refl; aborted = λ s h. h; scheduling = record { priorities = λ s. refl; states = refl; tasks_made = omega arith; idle_start = refl } })
 
 pub frame_requested-changes : (f : Func) (p : Page) → Changes p (frame_requested f p)
 frame_requested-changes f p = with_change nothing (frame_asked f)
@@ -606,7 +611,7 @@ timeout_signal_made-changes ms p h =
     let k = QueueSignal r (last_signal made) in
     let set : Page = record made { timers = timers; completions = and_last made.completions (record { start = suc made.timers.starts_made; completion = k }) } in
     with_change {q = set} (changes-then (changes-then (make-changes p) (register-changes SignalKind _ new refl refl)) (placed made set (signal_armed ms made.now r (last_signal made)) tt refl refl refl refl refl refl refl refl))
-    (moves.arm_told r (made.now + ms * 1000) 0 (timer_armed made.registrations (places made) r (made.now + ms * 1000) timers k refl (started p h) refl))
+    (moves.arm_told r (made.now + ms * 1000) 0 (timer_armed made.registrations (places made) r (made.now + ms * 1000) timers k refl (started p h) refl (ap is_delayed_role (new_role SignalKind _ new refl))))
 
 pub listener_added-changes : (target : Target) (name : List ℕ) (f : Func) (p : Page) → Changes p (listener_added target name f p)
 listener_added-changes target name f p =
@@ -673,7 +678,7 @@ delayed-changes x source ms p h e from =
     let r = last_registration made in
     let timers = Timers.run_after ms made.now made.timers in
     let q : Page = record made { timers = timers; completions = and_last made.completions (record { start = timers.starts_made; completion = EnqueuePost r source }) } in
-    register_at-changes PostKind x r (made.now + ms * 1000) 0 p q e refl (timer_armed made.registrations (places made) r (made.now + ms * 1000) timers (EnqueuePost r source) refl h refl) (at_delay ms made.now r source (made_last PostKind x p) from) (record { notices = refl; performing = refl; events = refl; registrations = refl; frames = refl; calls = refl; aborted = λ s h. h; scheduling = record { priorities = λ s. refl; states = refl; tasks_made = omega arith; idle_start = refl } })
+    register_at-changes PostKind x r (made.now + ms * 1000) 0 p q e refl (timer_armed made.registrations (places made) r (made.now + ms * 1000) timers (EnqueuePost r source) refl h refl (ap is_delayed_role (new_role PostKind x p e))) (at_delay ms made.now r source (made_last PostKind x p) from) (record { notices = refl; performing = refl; events = refl; registrations = refl; frames = refl; calls = refl; aborted = λ s h. h; scheduling = record { priorities = λ s. refl; states = refl; tasks_made = omega arith; idle_start = refl } })
 
 pub post_queued-changes : (f : Func) (source : PrioSource) (signal : Option ℕ) (ms : ℕ) (p : Page) → Held (made_by p) p → HasPriority p.prios source → Changes p (post_queued f source signal ms p)
 post_queued-changes f source signal ms p h from =

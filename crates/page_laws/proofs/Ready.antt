@@ -33,12 +33,12 @@ use Rattle.page_laws.proofs.Moved.{in-either}
 
 -- ---- members
 
-in-left : {X : Type 0} (x : X) (xs ys : List X) → IsIn x xs → IsIn x (xs ++ ys)
+pub in-left : {X : Type 0} (x : X) (xs ys : List X) → IsIn x xs → IsIn x (xs ++ ys)
 in-left x [] ys i = elim i [ ]
 in-left x (z ∷ xs) ys (inl e) = inl e
 in-left x (z ∷ xs) ys (inr i) = inr (in-left x xs ys i)
 
-in-right : {X : Type 0} (x : X) (xs ys : List X) → IsIn x ys → IsIn x (xs ++ ys)
+pub in-right : {X : Type 0} (x : X) (xs ys : List X) → IsIn x ys → IsIn x (xs ++ ys)
 in-right x [] ys i = i
 in-right x (z ∷ xs) ys i = inr (in-right x xs ys i)
 
@@ -388,7 +388,7 @@ pub record Ready (p : Page) : Type 0 where
   pub invoking : HasSteps InvokeIdle p.tasks → PeriodGoesOn p
   late : Late (places p) p.events
 
-emit_each-places : (es : List Event) (p : Page) → places (emit_each es p) ≡ places p
+pub emit_each-places : (es : List Event) (p : Page) → places (emit_each es p) ≡ places p
 emit_each-places [] p = refl
 emit_each-places (e ∷ es) p = emit_each-places es (emit e p)
 

@@ -32,7 +32,7 @@ use Rattle.page_types.specs.declared.RegKind.TheVariants as kind
 use Rattle.page_parts.specs.TaskSignals.{Prios, priority_of}
 use Rattle.page_types.specs.declared.Priority.{Priority}
 use Rattle.page_laws.specs.TimerLaws.{period_start}
-use Rattle.page_laws.specs.History.{History, is_frame, is_period, is_reg_of, since_last, some_line, was_due, open_registrations, is_rest, is_sched_turn, is_scheduled}
+use Rattle.page_laws.specs.History.{is_delayed, History, is_frame, is_period, is_reg_of, since_last, some_line, was_due, open_registrations, is_rest, is_sched_turn, is_scheduled}
 
 -- ---- Ours: kinds of lines
 
@@ -288,10 +288,15 @@ completes_for (QueueTimer t) = t.registration
 completes_for (EnqueuePost r source) = r
 completes_for (QueueSignal r s) = r
 
+-- what waits for its due time in an active timer
+abbrev pub is_delayed_role : Role → Bool
+is_delayed_role ScriptRole = false
+is_delayed_role (OfKind k) = is_delayed k
+
 -- registration r waits for this due time: in an active timer, in an idle timeout, or in a pending answer of a host
 pub data ArmedAt (made : List Registration) (x : Places) (r due : ℕ) : Type 0 where
   by_timer : (a : ActiveTimer) (c : Completion) → IsIn a x.timers.active → a.due ≡ due → completion_of x.completions a.start ≡ Some c
-      → completes_for c ≡ r → ArmedAt made x r due
+      → completes_for c ≡ r → is_delayed_role (role_at made r) ≡ true → ArmedAt made x r due
   by_idle : (t : IdleTimer) → IsIn t x.idle_timers → t.due ≡ due → t.registration ≡ r → role_at made r ≡ OfKind kind.Idle
       → ArmedAt made x r due
   by_host : (a : HostAnswer) → IsIn a x.host_answers → a.due ≡ due → a.task.registration ≡ r → role_at made r ≡ OfKind kind.Host
