@@ -33,6 +33,7 @@ pub mod HostAnswers
 pub mod CancelledHosts
 pub mod FrameOrder
 pub mod ArmedTimes
+pub mod Deadlines
 pub mod First
 pub mod Priorities
 pub mod OpenCalls

@@ -13,7 +13,7 @@ ghost use Rattle.page_model.specs.Numbers.{HoldsNoNumbers};
 ghost use Rattle.page_laws.specs.CallLaws.{Once, Cancel, SettleOnce, JobsInOrder, NoNesting};
 ghost use Rattle.page_laws.specs.History.{open_registrations};
 ghost use Rattle.page_laws.specs.SchedulerLaws.{PriorityOrder};
-ghost use Rattle.page_laws.specs.TimerLaws.{FramesInOrder};
+ghost use Rattle.page_laws.specs.TimerLaws.{FramesInOrder, IdleDeadlines};
 ghost use Rattle.page_laws.specs.Moves.{Moves};
 ghost use Rattle.page_model.specs.Gaps.{Act, run_gaps_by};
 
@@ -74,6 +74,14 @@ pub fn frames_go_in_order<R: Choosing>()
         → FramesInOrder (events_of_run (run_by R.rules program setup hosts c)) }
 {}
 
+/// An idle callback is called in an idle period, before whose start it was requested, or after its timeout. The deadline that a period's
+/// calls are given is after now, no later than 50 milliseconds behind the period's start, and no later than what any active registration is
+/// armed for; these calls go in the order of the requests.
+pub fn idle_deadlines_are_kept<R: Choosing>()
+    ensures { (program : Program) (setup : Setup) (hosts : List HostClosure) (c : R.Held) → HoldsNoNumbers setup
+        → IdleDeadlines (events_of_run (run_by R.rules program setup hosts c)) }
+{}
+
 /// The open calls that a page keeps are those that its lines tell, the innermost first, wherever a run stops.
 pub fn open_calls_are_told<R: Choosing>()
     ensures in_runs { (program : Program) (setup : Setup) (hosts : List HostClosure) (c : R.Held) → HoldsNoNumbers setup
@@ -100,4 +108,6 @@ pub fn acts_keep_the_laws<R: Choosing>()
         → Cancel (events_of_run (run_gaps_by R.rules program setup list c)) }
     ensures frames { (program : Program) (setup : Setup) (c : R.Held) (list : List Act) → HoldsNoNumbers setup
         → FramesInOrder (events_of_run (run_gaps_by R.rules program setup list c)) }
+    ensures deadlines { (program : Program) (setup : Setup) (c : R.Held) (list : List Act) → HoldsNoNumbers setup
+        → IdleDeadlines (events_of_run (run_gaps_by R.rules program setup list c)) }
 {}

@@ -25,3 +25,6 @@ returns-clause-priorities g c = λ program setup choices list h. (laws_of_gaps g
 
 pub returns-clause-frames : goal.returns-clause-frames
 returns-clause-frames g c = λ program setup choices list h. (laws_of_gaps g.R.Choosing.rules program setup choices list h).7
+
+pub returns-clause-deadlines : goal.returns-clause-deadlines
+returns-clause-deadlines g c = λ program setup choices list h. (laws_of_gaps g.R.Choosing.rules program setup choices list h).8
