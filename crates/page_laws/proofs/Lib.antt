@@ -4,6 +4,7 @@ pub mod Lines
 pub mod Framed
 pub mod Prioritised
 pub mod Moved
+pub mod Items
 pub mod Idling
 pub mod Ready
 pub mod Aborted

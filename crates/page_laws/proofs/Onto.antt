@@ -1,7 +1,8 @@
 -- What a page does, with its numbers given, is rows of changes.
 use Rattle.page_laws.proofs.Aborted.{changes-aborted}
 use Rattle.page_laws.proofs.Evaluating.{Onto}
-use Rattle.page_laws.proofs.Moved.{abort_registration-changes, any_made-changes, cancel_frame-changes, cancel_idle-changes, change_begun-changes, change_ended-changes, clear_id-changes, clear_timer-changes, continuation_queued-changes, follow-changes, frame_requested-changes, host_queued-changes, idle_requested-changes, init_again-changes, listener_added-changes, listener_removed-changes, micro_registered-changes, new_promise-changes, parallel-changes, post_queued-changes, reason_set-changes, script_promise-changes, settle-changes, subscribe-changes, task_signal_made-changes, then_made-changes, timeout_signal_made-changes, timer_set-changes, unwatch-changes, without_idle-changes, finally_made-changes, posted-changes, make-changes, make_aborted-changes, any-changes, Aborts, signals-changes, with_algorithms-aborted}
+use Rattle.page_laws.proofs.Items.{parallel-changes}
+use Rattle.page_laws.proofs.Moved.{abort_registration-changes, any_made-changes, cancel_frame-changes, cancel_idle-changes, change_begun-changes, change_ended-changes, clear_id-changes, clear_timer-changes, continuation_queued-changes, follow-changes, frame_requested-changes, host_queued-changes, idle_requested-changes, init_again-changes, listener_added-changes, listener_removed-changes, micro_registered-changes, new_promise-changes, post_queued-changes, reason_set-changes, script_promise-changes, settle-changes, subscribe-changes, task_signal_made-changes, then_made-changes, timeout_signal_made-changes, timer_set-changes, unwatch-changes, without_idle-changes, finally_made-changes, posted-changes, make-changes, make_aborted-changes, any-changes, Aborts, signals-changes, with_algorithms-aborted}
 use Rattle.page_laws.proofs.Moving.{changes-then}
 use Rattle.page_laws.specs.Moves.{Changes, nothing, id_at, HasPriority, Sourced}
 use Rattle.page_model.proofs.NumbersGrow.{Each-more, HasPromise-grows, Held, InSignals, IsKnown-grows, Onward, last-given, promise-grows, IsAbortedBy-grows, InAlgorithms}
