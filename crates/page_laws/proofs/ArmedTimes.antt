@@ -172,7 +172,7 @@ grown-fits x xs y past f =
     old (suc i) le role = sym (ap {A = Registration} {B = Bool} (λ y. is_delayed_role y.role) (at_number xs x (suc i) (omega arith) (λ e. absurd (omega (arith, e, le))))) ∙ role
 
 -- what has a kind was registered
-kind-given : (xs : List Registration) (r : ℕ) (test : Role → Bool) → test ScriptRole ≡ false → test (role_at xs r) ≡ true → r ≤ length xs
+pub kind-given : (xs : List Registration) (r : ℕ) (test : Role → Bool) → test ScriptRole ≡ false → test (role_at xs r) ≡ true → r ≤ length xs
 kind-given xs zero test e h = omega arith
 kind-given xs (suc i) test e h = by_age (leb_or (suc i) (length xs))
   where

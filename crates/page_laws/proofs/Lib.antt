@@ -35,6 +35,7 @@ pub mod CancelledHosts
 pub mod FrameOrder
 pub mod ArmedTimes
 pub mod Deadlines
+pub mod Firing
 pub mod First
 pub mod Priorities
 pub mod OpenCalls

@@ -13,7 +13,7 @@ ghost use Rattle.page_model.specs.Numbers.{HoldsNoNumbers};
 ghost use Rattle.page_laws.specs.CallLaws.{Once, Cancel, SettleOnce, JobsInOrder, NoNesting};
 ghost use Rattle.page_laws.specs.History.{open_registrations};
 ghost use Rattle.page_laws.specs.SchedulerLaws.{PriorityOrder};
-ghost use Rattle.page_laws.specs.TimerLaws.{FramesInOrder, IdleDeadlines};
+ghost use Rattle.page_laws.specs.TimerLaws.{FramesInOrder, IdleDeadlines, TimersFireWhenDue};
 ghost use Rattle.page_laws.specs.Moves.{Moves};
 ghost use Rattle.page_model.specs.Gaps.{Act, run_gaps_by};
 
@@ -82,6 +82,12 @@ pub fn idle_deadlines_are_kept<R: Choosing>()
         → IdleDeadlines (events_of_run (run_by R.rules program setup hosts c)) }
 {}
 
+/// A timer is called no more often than it is due: a part of the law of timers.
+pub fn timers_fire_when_due<R: Choosing>()
+    ensures { (program : Program) (setup : Setup) (hosts : List HostClosure) (c : R.Held) → HoldsNoNumbers setup
+        → TimersFireWhenDue (events_of_run (run_by R.rules program setup hosts c)) }
+{}
+
 /// The open calls that a page keeps are those that its lines tell, the innermost first, wherever a run stops.
 pub fn open_calls_are_told<R: Choosing>()
     ensures in_runs { (program : Program) (setup : Setup) (hosts : List HostClosure) (c : R.Held) → HoldsNoNumbers setup
@@ -110,4 +116,6 @@ pub fn acts_keep_the_laws<R: Choosing>()
         → FramesInOrder (events_of_run (run_gaps_by R.rules program setup list c)) }
     ensures deadlines { (program : Program) (setup : Setup) (c : R.Held) (list : List Act) → HoldsNoNumbers setup
         → IdleDeadlines (events_of_run (run_gaps_by R.rules program setup list c)) }
+    ensures firing { (program : Program) (setup : Setup) (c : R.Held) (list : List Act) → HoldsNoNumbers setup
+        → TimersFireWhenDue (events_of_run (run_gaps_by R.rules program setup list c)) }
 {}

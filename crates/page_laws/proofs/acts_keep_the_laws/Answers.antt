@@ -28,3 +28,6 @@ returns-clause-frames g c = λ program setup choices list h. (laws_of_gaps g.R.C
 
 pub returns-clause-deadlines : goal.returns-clause-deadlines
 returns-clause-deadlines g c = λ program setup choices list h. (laws_of_gaps g.R.Choosing.rules program setup choices list h).8
+
+pub returns-clause-firing : goal.returns-clause-firing
+returns-clause-firing g c = λ program setup choices list h. (laws_of_gaps g.R.Choosing.rules program setup choices list h).9
