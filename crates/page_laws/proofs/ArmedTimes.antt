@@ -22,7 +22,7 @@ use Rattle.page_model.specs.Turns.{first_page}
 use Rattle.page_model.specs.Numbers.{Each}
 use Rattle.page_model.proofs.NumbersGrow.{length-last}
 use Rattle.page_laws.specs.History.{History, armed_for, armed_in, is_rest}
-use Rattle.page_laws.specs.Moves.{is_aside, is_end, role_at, is_delayed_role, IsIn, completes_for, completions_but, ArmedAt, by_timer, by_idle, by_host, Places, places, PlaceChange, places_stay, task_queued, task_left, armed_again, signal_armed, id_cleared, idle_armed, completed, idle_started, idle_queued, idle_left, DueChange, timer_due, delay_due, signal_due, idle_due, answer_due, Dropping, timer_dropped, idle_dropped, listener_dropped, FirstPlace, nowhere, at_listener, at_timer, at_delay, at_idle, at_host, promise_changes, AsBefore, PageChange, elsewhere, told, arm_told, rested, registered, promised, settled, followed, adopted, subscribed, micro_asked, then_asked, answered, dropped, frame_dropped, frame_asked, rejected_taken, noted, Beginning, TheScript, ATimer, AFrame, AnIdle, ALateIdle, AListener, APost, AContinuation, AMicro, AReaction, called_by, taken, task_dropped, enqueued_anew, fell_due, post_fell_due, prio_told, Moves, here, changing, calling, ending, flagging, running, framing, idling}
+use Rattle.page_laws.specs.Moves.{is_aside, is_end, role_at, is_delayed_role, IsIn, completes_for, completions_but, ArmedAt, by_timer, by_idle, by_host, Places, places, PlaceChange, places_stay, task_queued, task_left, armed_again, signal_armed, id_cleared, idle_armed, completed, idle_started, idle_queued, idle_left, DueChange, timer_due, delay_due, signal_due, idle_due, answer_due, Dropping, timer_dropped, idle_dropped, listener_dropped, FirstPlace, nowhere, at_listener, at_timer, at_delay, at_idle, at_host, promise_changes, AsBefore, PageChange, elsewhere, told, arm_told, rested, registered, promised, settled, followed, adopted, subscribed, micro_asked, then_asked, answered, dropped, frame_dropped, frame_asked, rejected_taken, noted, Beginning, TheScript, ATimer, AFrame, AnIdle, ALateIdle, AListener, APost, AContinuation, AMicro, AReaction, called_by, taken, task_dropped, enqueued_anew, fell_due, post_fell_due, prio_told, Moves, here, changing, arming, calling, ending, flagging, running, framing, idling}
 use Rattle.page_laws.proofs.Framed.{false_true}
 use Rattle.page_laws.proofs.Lines.{added, emit_each-events}
 use Rattle.page_laws.proofs.Ready.{emit_each-places, in-left}
@@ -413,7 +413,8 @@ begins-fit (AReaction job others of x r) p f = called-fits p _ _ _ refl refl (sa
 
 pub moves-armed : {p q : Page} → Moves p q → Fits p → Fits q
 moves-armed here f = f
-moves-armed (changing a c) f = change-fits c (moves-armed a f)
+moves-armed (changing a c plain) f = change-fits c (moves-armed a f)
+moves-armed (arming a c e w) f = change-fits e (change-fits c (moves-armed a f))
 moves-armed (calling {q = q} a b w i) f = begins-fit b q (moves-armed a f)
 moves-armed (ending {q = q} a e h) f = said e q (end-quiet e h) (moves-armed a f)
 moves-armed (flagging {q = q} {r = r} a x y z w u v t j) f =

@@ -27,7 +27,7 @@ use Rattle.page_model.specs.Turns.{first_page}
 use Rattle.page_model.proofs.NumbersGrow.{length-last}
 use Rattle.page_laws.specs.History.{History, has_kind, is_host, is_some_and, kind_of, was_dropped, is_drop_of, is_rest}
 use Rattle.page_laws.specs.CallLaws.{keeps_cancel}
-use Rattle.page_laws.specs.Moves.{is_aside, is_end, role_at, id_at, signal_at, promise_changes, Places, places, with_queued, without_start, without_aborted, PlaceChange, places_stay, task_queued, task_left, armed_again, signal_armed, completed, idle_started, idle_queued, idle_left, id_cleared, idle_armed, DueChange, timer_due, delay_due, signal_due, idle_due, answer_due, Dropping, timer_dropped, idle_dropped, listener_dropped, FirstPlace, nowhere, at_listener, at_timer, at_delay, at_idle, at_host, AsBefore, PageChange, elsewhere, told, arm_told, rested, answered, dropped, task_dropped, frame_dropped, registered, enqueued_anew, fell_due, post_fell_due, frame_asked, promised, settled, followed, adopted, subscribed, then_asked, micro_asked, rejected_taken, noted, Beginning, TheScript, ATimer, AFrame, AnIdle, ALateIdle, AListener, APost, AContinuation, AMicro, AReaction, called_by, role_of, taken, Waited, Moves, here, changing, calling, ending, flagging, running, framing, idling, prio_told}
+use Rattle.page_laws.specs.Moves.{is_aside, is_end, role_at, id_at, signal_at, promise_changes, Places, places, with_queued, without_start, without_aborted, PlaceChange, places_stay, task_queued, task_left, armed_again, signal_armed, completed, idle_started, idle_queued, idle_left, id_cleared, idle_armed, DueChange, timer_due, delay_due, signal_due, idle_due, answer_due, Dropping, timer_dropped, idle_dropped, listener_dropped, FirstPlace, nowhere, at_listener, at_timer, at_delay, at_idle, at_host, AsBefore, PageChange, elsewhere, told, arm_told, rested, answered, dropped, task_dropped, frame_dropped, registered, enqueued_anew, fell_due, post_fell_due, frame_asked, promised, settled, followed, adopted, subscribed, then_asked, micro_asked, rejected_taken, noted, Beginning, TheScript, ATimer, AFrame, AnIdle, ALateIdle, AListener, APost, AContinuation, AMicro, AReaction, called_by, role_of, taken, Waited, Moves, here, changing, arming, calling, ending, flagging, running, framing, idling, prio_told}
 use Rattle.page_laws.proofs.Aborted.{moves-aborted}
 use Rattle.page_laws.proofs.Claims.{callback_claims, sched_claims, sched-less}
 use Rattle.page_laws.proofs.Finding.{false_true, none-left, found-counts, found-passes, not-without, not-left, not-last, same_number, off-none, off-keeps, add-keeps}
@@ -492,7 +492,7 @@ dropping-gone {xs = xs} {r = r} {x = x} {y = y} (listener_dropped there role) s 
 
 -- ---- changes
 
-change-fits : {p q : Page} → PageChange p q → once.Fits p → Fits p → Fits q
+pub change-fits : {p q : Page} → PageChange p q → once.Fits p → Fits p → Fits q
 change-fits {p = p} {q = q} (elsewhere c b k) o f =
     before-fits b (shrink-fits p.registrations (page_waits p) (waits (places q) p.frames.callbacks (is_aborted p)) p.events (λ r. place-shrinks c p.frames.callbacks (is_aborted p) r (id_at p.registrations r)) f)
 change-fits {p = p} (told e h) o f = silent-fits e p.now p.registrations (page_waits p) p.events (aside-silent e h) f
@@ -683,7 +683,8 @@ same-drops (AReaction job others of x q) p r = refl
 
 pub moves-fit : {p q : Page} → Moves p q → once.Fits p → Fits p → Fits q
 moves-fit here o f = f
-moves-fit (changing a c) o f = change-fits c (once.moves-fit a o) (moves-fit a o f)
+moves-fit (changing a c plain) o f = change-fits c (once.moves-fit a o) (moves-fit a o f)
+moves-fit (arming a c e w) o f = let once_there = once.moves-fit a o in change-fits e (once.change-fits c once_there) (change-fits c once_there (moves-fit a o f))
 moves-fit (calling {q = q} a b w i) o f =
     let g = moves-fit a o f in
     line-fits (Call (called_by b)) (taken b q).now (taken b q).registrations (page_waits (taken b q)) (taken b q).events

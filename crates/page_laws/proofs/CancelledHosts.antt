@@ -26,7 +26,7 @@ use Rattle.page_model.specs.Operations.{queued_mark}
 use Rattle.page_model.specs.Turns.{first_page}
 use Rattle.page_laws.specs.History.{History, is_host, was_dropped}
 use Rattle.page_laws.specs.CallLaws.{answers_fit, keeps_cancel}
-use Rattle.page_laws.specs.Moves.{is_free, role_at, promise_changes, Places, places, without_aborted, PlaceChange, places_stay, task_queued, task_left, armed_again, signal_armed, completed, idle_started, idle_queued, idle_left, id_cleared, idle_armed, DueChange, timer_due, delay_due, signal_due, idle_due, answer_due, Dropping, timer_dropped, idle_dropped, listener_dropped, FirstPlace, nowhere, at_listener, at_timer, at_delay, at_idle, at_host, AsBefore, PageChange, elsewhere, told, arm_told, rested, answered, dropped, task_dropped, frame_dropped, registered as made_one, enqueued_anew, fell_due, post_fell_due, frame_asked, promised, settled, followed, adopted, subscribed, then_asked, micro_asked, rejected_taken, noted, Beginning, TheScript, ATimer, AFrame, AnIdle, ALateIdle, AListener, APost, AContinuation, AMicro, AReaction, called_by, taken, Moves, here, changing, calling, ending, flagging, running, framing, idling, prio_told}
+use Rattle.page_laws.specs.Moves.{is_free, role_at, promise_changes, Places, places, without_aborted, PlaceChange, places_stay, task_queued, task_left, armed_again, signal_armed, completed, idle_started, idle_queued, idle_left, id_cleared, idle_armed, DueChange, timer_due, delay_due, signal_due, idle_due, answer_due, Dropping, timer_dropped, idle_dropped, listener_dropped, FirstPlace, nowhere, at_listener, at_timer, at_delay, at_idle, at_host, AsBefore, PageChange, elsewhere, told, arm_told, rested, answered, dropped, task_dropped, frame_dropped, registered as made_one, enqueued_anew, fell_due, post_fell_due, frame_asked, promised, settled, followed, adopted, subscribed, then_asked, micro_asked, rejected_taken, noted, Beginning, TheScript, ATimer, AFrame, AnIdle, ALateIdle, AListener, APost, AContinuation, AMicro, AReaction, called_by, taken, Moves, here, changing, arming, calling, ending, flagging, running, framing, idling, prio_told}
 use Rattle.page_laws.proofs.Cancelled as cancelled
 use Rattle.page_laws.proofs.Cancelled.{Cancels, GoneBy, waits, unless, made-kind, no_kind, kind-there, answer_claims, keeps_dropped}
 use Rattle.page_laws.proofs.Finding.{false_true}
@@ -231,7 +231,11 @@ begins-fit (AReaction job others of x r) p f = silent-fits (Run job.number) p.no
 
 moves-fit : {p q : Page} → Moves p q → once.Fits p → cancelled.Fits p → Fits p → Fits q
 moves-fit here o d f = f
-moves-fit (changing a c) o d f = change-fits c (once.moves-fit a o) (cancelled.moves-fit a o d) (moves-fit a o d f)
+moves-fit (changing a c plain) o d f = change-fits c (once.moves-fit a o) (cancelled.moves-fit a o d) (moves-fit a o d f)
+moves-fit (arming a c e w) o d f =
+    let once_there = once.moves-fit a o in
+    let gone_there = cancelled.moves-fit a o d in
+    change-fits e (once.change-fits c once_there) (cancelled.change-fits c once_there gone_there) (change-fits c once_there gone_there (moves-fit a o d f))
 moves-fit (calling {q = q} a b w i) o d f =
     let r = taken b q in
     silent-fits (Call (called_by b)) r.now r.registrations r.tasks r.host_answers r.hosts r.events refl (begins-fit b q (moves-fit a o d f))

@@ -28,7 +28,7 @@ use Rattle.page_model.specs.Turns.{first_page}
 use Rattle.page_model.proofs.NumbersGrow.{length-last}
 use Rattle.page_laws.specs.History.{History, armed_for, before_last, has_kind, is_delayed, is_idle, is_period, is_reg_of, is_rest, is_some_and, kind_of, last_line, registered, since_last, some_line, was_due}
 use Rattle.page_laws.specs.TimerLaws.{idle_calls, idle_well, is_deadline, is_idle_line, is_reg_before, keeps_idle, may_be_idle, none_earlier, period_start}
-use Rattle.page_laws.specs.Moves.{is_aside, is_end, role_at, is_delayed_role, IsIn, PeriodGoesOn, Places, places, PlaceChange, places_stay, task_queued, task_left, armed_again, signal_armed, id_cleared, idle_armed, completed, idle_started, idle_queued, idle_left, Dropping, timer_dropped, idle_dropped, listener_dropped, FirstPlace, nowhere, at_listener, at_timer, at_delay, at_idle, at_host, DueChange, timer_due, delay_due, signal_due, idle_due, answer_due, promise_changes, AsBefore, PageChange, elsewhere, told, arm_told, rested, registered as made_one, promised, settled, followed, adopted, subscribed, micro_asked, then_asked, answered, dropped, frame_dropped, frame_asked, rejected_taken, noted, Beginning, TheScript, ATimer, AFrame, AnIdle, ALateIdle, AListener, APost, AContinuation, AMicro, AReaction, called_by, role_of, taken, Waited, task_dropped, enqueued_anew, fell_due, post_fell_due, prio_told, Moves, here, changing, calling, ending, flagging, running, framing, idling}
+use Rattle.page_laws.specs.Moves.{is_aside, is_end, role_at, is_delayed_role, IsIn, PeriodGoesOn, Places, places, PlaceChange, places_stay, task_queued, task_left, armed_again, signal_armed, id_cleared, idle_armed, completed, idle_started, idle_queued, idle_left, Dropping, timer_dropped, idle_dropped, listener_dropped, FirstPlace, nowhere, at_listener, at_timer, at_delay, at_idle, at_host, DueChange, timer_due, delay_due, signal_due, idle_due, answer_due, promise_changes, AsBefore, PageChange, elsewhere, told, arm_told, rested, registered as made_one, promised, settled, followed, adopted, subscribed, micro_asked, then_asked, answered, dropped, frame_dropped, frame_asked, rejected_taken, noted, Beginning, TheScript, ATimer, AFrame, AnIdle, ALateIdle, AListener, APost, AContinuation, AMicro, AReaction, called_by, role_of, taken, Waited, task_dropped, enqueued_anew, fell_due, post_fell_due, prio_told, Moves, here, changing, arming, calling, ending, flagging, running, framing, idling}
 use Rattle.page_laws.proofs.ArmedTimes as armed
 use Rattle.page_laws.proofs.ArmedTimes.{ArmedFit, AtTimer, first-armed, moves-armed}
 use Rattle.page_laws.proofs.Framed.{false_true}
@@ -589,7 +589,8 @@ begins-fit (AReaction job others of x r) p w i n a f = other-fits r (OfKind kind
 
 moves-fit : {p q : Page} → Moves p q → once.Fits p → armed.Fits p → Fits p → Fits q
 moves-fit here o t f = f
-moves-fit (changing a c) o t f = change-fits c (moves-fit a o t f)
+moves-fit (changing a c plain) o t f = change-fits c (moves-fit a o t f)
+moves-fit (arming a c e w) o t f = change-fits e (change-fits c (moves-fit a o t f))
 moves-fit (calling {q = q} a b w i) o t f = begins-fit b q w i (once.moves-fit a o).kinds (moves-armed a t) (moves-fit a o t f)
 moves-fit (ending {q = q} a e h) o t f = said e q (end-plain e h) (moves-fit a o t f)
 moves-fit (flagging {q = q} {r = r} a x y z w u v t j) o k f =

@@ -104,7 +104,7 @@ on_page-reached m f g o = let a = on_page-good m f g o.0 in ((a.0, moves_of o.1,
 
 -- a line that opens and ends no call
 pub told-onto : (e : Event) (p : Page) → is_aside e ≡ true → Held (made_by p) p → Onto p (emit e p)
-told-onto e p x h = (stays p h, with_change nothing (told e x))
+told-onto e p x h = (stays p h, with_change nothing (told e x) tt)
 
 -- the state in which the callback that waited there is called
 abbrev pub entered : Beginning → State → State

@@ -24,7 +24,7 @@ use Rattle.page_model.specs.Turns.{first_page}
 use Rattle.page_model.proofs.NumbersGrow.{length-last}
 use Rattle.page_laws.specs.History.{History, count_lines, has_kind, is_call_of, is_due_of, is_rest, is_some_and, is_timer, kind_of}
 use Rattle.page_laws.specs.TimerLaws.{keeps_firing}
-use Rattle.page_laws.specs.Moves.{is_aside, is_end, is_free, role_at, Places, places, PlaceChange, places_stay, task_queued, task_left, armed_again, signal_armed, id_cleared, idle_armed, completed, idle_started, idle_queued, idle_left, Dropping, timer_dropped, idle_dropped, listener_dropped, FirstPlace, nowhere, at_listener, at_timer, at_delay, at_idle, at_host, DueChange, timer_due, delay_due, signal_due, idle_due, answer_due, promise_changes, AsBefore, PageChange, elsewhere, told, arm_told, rested, registered as made_one, promised, settled, followed, adopted, subscribed, micro_asked, then_asked, answered, dropped, frame_dropped, frame_asked, rejected_taken, noted, Beginning, TheScript, ATimer, AFrame, AnIdle, ALateIdle, AListener, APost, AContinuation, AMicro, AReaction, called_by, role_of, taken, Waited, task_dropped, enqueued_anew, fell_due, post_fell_due, prio_told, Moves, here, changing, calling, ending, flagging, running, framing, idling}
+use Rattle.page_laws.specs.Moves.{is_aside, is_end, is_free, role_at, Places, places, PlaceChange, places_stay, task_queued, task_left, armed_again, signal_armed, id_cleared, idle_armed, completed, idle_started, idle_queued, idle_left, Dropping, timer_dropped, idle_dropped, listener_dropped, FirstPlace, nowhere, at_listener, at_timer, at_delay, at_idle, at_host, DueChange, timer_due, delay_due, signal_due, idle_due, answer_due, promise_changes, AsBefore, PageChange, elsewhere, told, arm_told, rested, registered as made_one, promised, settled, followed, adopted, subscribed, micro_asked, then_asked, answered, dropped, frame_dropped, frame_asked, rejected_taken, noted, Beginning, TheScript, ATimer, AFrame, AnIdle, ALateIdle, AListener, APost, AContinuation, AMicro, AReaction, called_by, role_of, taken, Waited, task_dropped, enqueued_anew, fell_due, post_fell_due, prio_told, Moves, here, changing, arming, calling, ending, flagging, running, framing, idling}
 use Rattle.page_laws.proofs.ArmedTimes.{kind-given}
 use Rattle.page_laws.proofs.Framed.{false_true}
 use Rattle.page_laws.proofs.Lines.{added, emit_each-events}
@@ -411,7 +411,8 @@ begins-fit (AReaction job others of x r) p w i n f = calls_other r (OfKind kind.
 
 moves-fit : {p q : Page} → Moves p q → once.Fits p → Fits p → Fits q
 moves-fit here o f = f
-moves-fit (changing a c) o f = change-fits c (moves-fit a o f)
+moves-fit (changing a c plain) o f = change-fits c (moves-fit a o f)
+moves-fit (arming a c e w) o f = change-fits e (change-fits c (moves-fit a o f))
 moves-fit (calling {q = q} a b w i) o f = begins-fit b q w i (once.moves-fit a o).kinds (moves-fit a o f)
 moves-fit (ending {q = q} a e h) o f = said e q (end-still e h) (moves-fit a o f)
 moves-fit (flagging {q = q} {r = r} a x y z w u v t j) o f =

@@ -25,9 +25,9 @@ use Rattle.page_model.specs.Turns.{first_page}
 use Rattle.page_model.proofs.NumbersGrow.{length-last, numbered-last}
 use Rattle.page_laws.specs.History.{History, is_call_of, is_scheduled, is_drop_of, is_frame, is_reg_of, is_rest, is_turn, has_kind, is_some_and, kind_in, kind_of, registered, before_last, this_turn, calls_in, called_in, some_line, was_called, was_dropped}
 use Rattle.page_laws.specs.TimerLaws.{all_framed, framed_at, is_frame_line, is_reg_before, keeps_frames, may_be_drawn, was_done}
-use Rattle.page_laws.specs.Moves.{is_aside, is_end, marked, marked_by, role_at, IsIn, IsDrawnNext, FrameIsOver, promise_changes, AsBefore, PageChange, elsewhere, told, arm_told, rested, registered as made_one, promised, settled, followed, adopted, subscribed, micro_asked, then_asked, answered, dropped, frame_dropped, frame_asked, rejected_taken, noted, Beginning, TheScript, ATimer, AFrame, AnIdle, ALateIdle, AListener, APost, AContinuation, AMicro, AReaction, called_by, role_of, taken, Waited, task_dropped, enqueued_anew, fell_due, post_fell_due, prio_told, Moves, here, changing, calling, ending, flagging, running, framing, idling}
+use Rattle.page_laws.specs.Moves.{is_aside, is_end, marked, marked_by, role_at, IsIn, IsDrawnNext, FrameIsOver, promise_changes, AsBefore, PageChange, elsewhere, told, arm_told, rested, registered as made_one, promised, settled, followed, adopted, subscribed, micro_asked, then_asked, answered, dropped, frame_dropped, frame_asked, rejected_taken, noted, Beginning, TheScript, ATimer, AFrame, AnIdle, ALateIdle, AListener, APost, AContinuation, AMicro, AReaction, called_by, role_of, taken, Waited, task_dropped, enqueued_anew, fell_due, post_fell_due, prio_told, Moves, here, changing, arming, calling, ending, flagging, running, framing, idling}
 use Rattle.page_laws.proofs.Drawing.{found-in}
-use Rattle.page_laws.proofs.Framed.{Ascends, Ordered, ascends-both, ascends-in, moves-ordered, in-without, in-without-stays, false_true}
+use Rattle.page_laws.proofs.Framed.{change-kept, Ascends, Ordered, ascends-both, ascends-in, moves-ordered, in-without, in-without-stays, false_true}
 use Rattle.page_laws.proofs.Lines.{added, emit_each-events}
 use Rattle.page_laws.proofs.Once as once
 use Rattle.page_laws.proofs.Registered.{KindsFit, kind_in_role, kinds, some-line, at_number}
@@ -687,7 +687,11 @@ begins-fit (AReaction job others of x r) p w i o n f =
 
 moves-fit : {p q : Page} → Moves p q → Ordered p → once.Fits p → Fits p → Fits q
 moves-fit here o x f = f
-moves-fit (changing a c) o x f = change-fits c (moves-ordered a o) (once.moves-fit a x).kinds (moves-fit a o x f)
+moves-fit (changing a c plain) o x f = change-fits c (moves-ordered a o) (once.moves-fit a x).kinds (moves-fit a o x f)
+moves-fit (arming a c e w) o x f =
+    let order = moves-ordered a o in
+    let there = once.moves-fit a x in
+    change-fits e ((change-kept c).ordered order) (once.change-fits c there).kinds (change-fits c order there.kinds (moves-fit a o x f))
 moves-fit (calling {q = q} a b w i) o x f = begins-fit b q w i (moves-ordered a o) (once.moves-fit a x).kinds (moves-fit a o x f)
 moves-fit (ending {q = q} a e h) o x f = said e q (end-silent e h) (moves-fit a o x f)
 moves-fit (flagging {q = q} {r = r} a x y z w u v t j) o k f =

@@ -17,7 +17,7 @@ use Rattle.page_model.specs.Invoke.{register_as, call_begun, call_ended}
 use Rattle.page_model.specs.Numbers.{Each}
 use Rattle.page_model.proofs.NumbersGrow.{length-last}
 use Rattle.page_laws.specs.History.{History, is_rest}
-use Rattle.page_laws.specs.Moves.{is_aside, is_end, marked, marked_by, IsIn, FrameIsOver, promise_changes, AsBefore, PageChange, elsewhere, told, arm_told, rested, registered, promised, settled, followed, adopted, subscribed, micro_asked, then_asked, answered, dropped, frame_dropped, frame_asked, rejected_taken, noted, Changes, nothing, with_change, Beginning, TheScript, ATimer, AFrame, AnIdle, ALateIdle, AListener, APost, AContinuation, AMicro, AReaction, called_by, taken, Waited, task_dropped, enqueued_anew, fell_due, post_fell_due, prio_told, Moves, here, changing, calling, ending, flagging, running, framing, idling}
+use Rattle.page_laws.specs.Moves.{is_aside, is_end, marked, marked_by, IsIn, FrameIsOver, promise_changes, AsBefore, PageChange, elsewhere, told, arm_told, rested, registered, promised, settled, followed, adopted, subscribed, micro_asked, then_asked, answered, dropped, frame_dropped, frame_asked, rejected_taken, noted, Changes, nothing, with_change, with_arm, Beginning, TheScript, ATimer, AFrame, AnIdle, ALateIdle, AListener, APost, AContinuation, AMicro, AReaction, called_by, taken, Waited, task_dropped, enqueued_anew, fell_due, post_fell_due, prio_told, Moves, here, changing, arming, calling, ending, flagging, running, framing, idling}
 use Rattle.page_laws.proofs.Lines.{added, emit_each-events}
 
 -- ---- lists of callbacks
@@ -364,7 +364,8 @@ change-kept (noted n) = step-kept (quiet refl refl (λ r. refl))
 
 pub changes-kept : {p q : Page} → Changes p q → FramesKept p q
 changes-kept {p = p} nothing = kept-same p p refl refl refl
-changes-kept {p = p} {q = r} (with_change {q = q} a b) = kept-then p q r (changes-kept a) (change-kept b)
+changes-kept {p = p} {q = r} (with_change {q = q} a b plain) = kept-then p q r (changes-kept a) (change-kept b)
+changes-kept {p = p} {q = s} (with_arm {q = q} {r = r} a b c w) = kept-then p q s (changes-kept a) (kept-then q r s (change-kept b) (change-kept c))
 
 -- ---- calls
 
@@ -389,7 +390,8 @@ ended-kept e p h = step-kept (quiet refl refl (λ r. end-unmarking e h r (marked
 
 pub moves-ordered : {p q : Page} → Moves p q → Ordered p → Ordered q
 moves-ordered here o = o
-moves-ordered (changing a c) o = (change-kept c).ordered (moves-ordered a o)
+moves-ordered (changing a c plain) o = (change-kept c).ordered (moves-ordered a o)
+moves-ordered (arming a c d w) o = (change-kept d).ordered ((change-kept c).ordered (moves-ordered a o))
 moves-ordered (calling {q = q} a b w i) o = (begins-kept b q w).ordered (moves-ordered a o)
 moves-ordered (ending a e h) o = moves-ordered a o
 moves-ordered (flagging {q = q} {r = r} a x y z w u v t j) o = (kept-same q r w z y).ordered (moves-ordered a o)

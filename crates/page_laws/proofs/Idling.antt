@@ -18,7 +18,7 @@ use Rattle.page_model.specs.Numbers.{Each}
 use Rattle.page_model.proofs.NumbersGrow.{length-last}
 use Rattle.page_laws.specs.History.{History, is_period, is_reg_of, is_rest, since_last, some_line}
 use Rattle.page_laws.specs.TimerLaws.{period_in, period_start}
-use Rattle.page_laws.specs.Moves.{is_aside, is_end, IsIn, PeriodGoesOn, InPeriod, Places, places, PlaceChange, places_stay, task_queued, task_left, armed_again, signal_armed, id_cleared, idle_armed, completed, idle_started, idle_queued, idle_left, DueChange, timer_due, delay_due, signal_due, idle_due, answer_due, Dropping, timer_dropped, idle_dropped, listener_dropped, FirstPlace, nowhere, at_listener, at_timer, at_delay, at_idle, at_host, scheduling_of, Scheduling, promise_changes, AsBefore, PageChange, elsewhere, told, arm_told, rested, registered, promised, settled, followed, adopted, subscribed, micro_asked, then_asked, answered, dropped, frame_dropped, frame_asked, rejected_taken, noted, Changes, nothing, with_change, Beginning, TheScript, ATimer, AFrame, AnIdle, ALateIdle, AListener, APost, AContinuation, AMicro, AReaction, called_by, taken, task_dropped, enqueued_anew, fell_due, post_fell_due, prio_told}
+use Rattle.page_laws.specs.Moves.{is_aside, is_end, IsIn, PeriodGoesOn, InPeriod, Places, places, PlaceChange, places_stay, task_queued, task_left, armed_again, signal_armed, id_cleared, idle_armed, completed, idle_started, idle_queued, idle_left, DueChange, timer_due, delay_due, signal_due, idle_due, answer_due, Dropping, timer_dropped, idle_dropped, listener_dropped, FirstPlace, nowhere, at_listener, at_timer, at_delay, at_idle, at_host, scheduling_of, Scheduling, promise_changes, AsBefore, PageChange, elsewhere, told, arm_told, rested, registered, promised, settled, followed, adopted, subscribed, micro_asked, then_asked, answered, dropped, frame_dropped, frame_asked, rejected_taken, noted, Changes, nothing, with_change, with_arm, Beginning, TheScript, ATimer, AFrame, AnIdle, ALateIdle, AListener, APost, AContinuation, AMicro, AReaction, called_by, taken, task_dropped, enqueued_anew, fell_due, post_fell_due, prio_told}
 use Rattle.page_laws.proofs.Framed.{in-without, false_true}
 use Rattle.page_laws.proofs.Lines.{added, emit_each-events}
 use Rattle.page_laws.proofs.Moved.{in-either}
@@ -275,7 +275,8 @@ change-goes {p = p} (noted n) = goes-by p _ refl (omega arith) (same-period (len
 
 pub all-go : {p q : Page} → Changes p q → GoesOn p q
 all-go nothing g = g
-all-go (with_change a b) g = change-goes b (all-go a g)
+all-go (with_change a b plain) g = change-goes b (all-go a g)
+all-go (with_arm a b c w) g = change-goes c (change-goes b (all-go a g))
 
 -- ---- calls
 

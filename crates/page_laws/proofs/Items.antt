@@ -30,13 +30,13 @@ complete-changes start (EnqueuePost r source) p e x = by_abort (is_aborted_sourc
 
     by_abort : (b : Bool) → is_aborted_source p (the_registration p r).signal ≡ b → Changes p (cond b (λ q. q) (enqueue r source false) (emit (Due r) (without_timer start p)))
     by_abort true k = due-changes r p (emit (Due r) (without_timer start p)) (delay_due start source e x.2.role) (record { notices = refl; performing = refl; events = refl; registrations = refl; frames = refl; calls = refl; aborted = λ s h. h; scheduling = record { priorities = λ s. refl; states = refl; tasks_made = omega arith; idle_start = refl } })
-    by_abort false k = with_change nothing (post_fell_due start source t (queue_name source) e x.2.role k refl (record { order = refl; made = omega arith; named = refl }, refl, refl) (record { notices = refl; performing = refl; events = refl; registrations = refl; frames = refl; calls = refl; aborted = λ s h. h; scheduling = record { priorities = λ s. refl; states = refl; tasks_made = omega arith; idle_start = refl } }))
+    by_abort false k = with_change nothing (post_fell_due start source t (queue_name source) e x.2.role k refl (record { order = refl; made = omega arith; named = refl }, refl, refl) (record { notices = refl; performing = refl; events = refl; registrations = refl; frames = refl; calls = refl; aborted = λ s h. h; scheduling = record { priorities = λ s. refl; states = refl; tasks_made = omega arith; idle_start = refl } })) tt
 complete-changes start (QueueSignal r s) p e x =
     let gone = emit (Due r) (without_timer start p) in
     changes-then (due-changes r p gone (signal_due start s e x.0.role) (record { notices = refl; performing = refl; events = refl; registrations = refl; frames = refl; calls = refl; aborted = λ s h. h; scheduling = record { priorities = λ s. refl; states = refl; tasks_made = omega arith; idle_start = refl } })) (queue_task-changes Timer (TimeOutSignal s) gone refl refl)
 
 complete_at-changes : (start : ℕ) (c : Option Completion) (p : Page) → completion_of p.completions start ≡ c → IfThere (CompletionIsGiven (made_by p)) c → Changes p (complete_at c (without_timer start p))
-complete_at-changes start None p e x = placed p (without_timer start p) (completed start e) tt refl refl refl refl refl refl refl refl
+complete_at-changes start None p e x = placed p (without_timer start p) (completed start e) tt tt refl refl refl refl refl refl refl refl
 complete_at-changes start (Some c) p e x = complete-changes start c p e x
 
 -- an answer that is pending: the ones before it and behind it

@@ -12,7 +12,7 @@ use Rattle.page_parts.specs.Promises.{the_promise}
 use Rattle.page_model.specs.State.{Page, emit, emit_each, on_notices, context}
 use Rattle.page_model.specs.Numbers.{Each}
 use Rattle.page_laws.specs.History.{History, open_after, open_registrations, is_rest}
-use Rattle.page_laws.specs.Moves.{frame_asked, is_aside, promise_changes, PageChange, elsewhere, told, arm_told, rested, registered, promised, settled, followed, adopted, subscribed, micro_asked, then_asked, answered, dropped, frame_dropped, AsBefore, rejected_taken, noted, Changes, nothing, with_change, Beginning, TheScript, ATimer, AFrame, AnIdle, ALateIdle, AListener, APost, AContinuation, AMicro, AReaction, taken, task_dropped, enqueued_anew, fell_due, post_fell_due, prio_told}
+use Rattle.page_laws.specs.Moves.{frame_asked, is_aside, promise_changes, PageChange, elsewhere, told, arm_told, rested, registered, promised, settled, followed, adopted, subscribed, micro_asked, then_asked, answered, dropped, frame_dropped, AsBefore, rejected_taken, noted, Changes, nothing, with_change, with_arm, Beginning, TheScript, ATimer, AFrame, AnIdle, ALateIdle, AListener, APost, AContinuation, AMicro, AReaction, taken, task_dropped, enqueued_anew, fell_due, post_fell_due, prio_told}
 
 -- ---- lines
 
@@ -130,7 +130,8 @@ same-then p q r a b = (b.0 ∙ a.0, b.1 ∙ a.1)
 
 pub changes-same : {p q : Page} → Changes p q → Same p q
 changes-same nothing = (refl, refl)
-changes-same {p = p} {q = r} (with_change {q = q} a b) = same-then p q r (changes-same a) (change-same b)
+changes-same {p = p} {q = r} (with_change {q = q} a b plain) = same-then p q r (changes-same a) (change-same b)
+changes-same {p = p} {q = s} (with_arm {q = q} {r = r} a b c w) = same-then p q s (changes-same a) (same-then q r s (change-same b) (change-same c))
 
 -- where a callback is taken, the same calls are open still, and the flag is as it was
 pub begins-same : (b : Beginning) (p : Page) → Same p (taken b p)

@@ -48,7 +48,7 @@ use Rattle.page_model.specs.Operations.{latency_of, queued_mark, micro_registere
 use Rattle.page_model.specs.Tasks.{invoke_idle_again, outstanding_if_unhandled, fire_closure, settle_answer, answer_host}
 use Rattle.page_model.specs.Numbers.{IsGiven, Each, IfThere, made_by, Made, is_abortable, timer_role, TimerIdIsGiven, CallbackIsGiven, IdleIsGiven, ListenerIsGiven, CompletionIsGiven, SchedTaskIsGiven, CompletingIsGiven, sched_role}
 use Rattle.page_laws.specs.History.{is_frame, open_registrations, is_scheduled}
-use Rattle.page_laws.specs.Moves.{is_delayed_role, is_aside, is_idle_task, role_at, IsIn, PeriodGoesOn, InPeriod, ArmedAt, by_timer, by_idle, by_host, completes_for, with_timer, idle_queued, FrameIsOver, promise_changes, Places, places, is_free, PlaceChange, places_stay, task_queued, completed, idle_started, idle_left, id_cleared, Dropping, timer_dropped, idle_dropped, listener_dropped, FirstPlace, nowhere, at_listener, at_timer, at_delay, at_idle, at_host, AsBefore, fired_at, PageChange, elsewhere, frame_asked, registered, answered, dropped, frame_dropped, then_asked, micro_asked, told, rested, settled, followed, adopted, subscribed, rejected_taken, noted, Changes, nothing, with_change, armed_again, signal_armed, idle_armed, timer_due, delay_due, signal_due, idle_due, answer_due, DueChange, StaysAborted, fell_due, post_fell_due, enqueued_anew, task_dropped, role_at, id_at, signal_at, Scheduling, scheduling_of, SchedulingAfter, HasPriority, Sourced, known, prio_told}
+use Rattle.page_laws.specs.Moves.{PlaceIsPlain, FirstArms, with_arm, is_delayed_role, is_aside, is_idle_task, role_at, IsIn, PeriodGoesOn, InPeriod, ArmedAt, by_timer, by_idle, by_host, completes_for, with_timer, idle_queued, FrameIsOver, promise_changes, Places, places, is_free, PlaceChange, places_stay, task_queued, completed, idle_started, idle_left, id_cleared, Dropping, timer_dropped, idle_dropped, listener_dropped, FirstPlace, nowhere, at_listener, at_timer, at_delay, at_idle, at_host, AsBefore, fired_at, PageChange, elsewhere, frame_asked, registered, answered, dropped, frame_dropped, then_asked, micro_asked, told, rested, settled, followed, adopted, subscribed, rejected_taken, noted, Changes, nothing, with_change, with_arm, armed_again, signal_armed, idle_armed, timer_due, delay_due, signal_due, idle_due, answer_due, DueChange, StaysAborted, fell_due, post_fell_due, enqueued_anew, task_dropped, role_at, id_at, signal_at, Scheduling, scheduling_of, SchedulingAfter, HasPriority, Sourced, known, prio_told}
 use Rattle.page_laws.specs.Moves as moves
 use Rattle.page_laws.proofs.Moving.{changes-then}
 
@@ -63,27 +63,28 @@ same_scheduling : (a b : Scheduling) → b ≡ a → SchedulingAfter a b
 same_scheduling a b e = subst (SchedulingAfter a) (sym e) (record { priorities = λ s. refl; states = refl; tasks_made = omega arith; idle_start = refl })
 
 -- a change of the places, and of what is not named otherwise
-pub placed : (p q : Page) (c : PlaceChange p.registrations (places p) (places q)) → InPeriod c p → q.notices ≡ p.notices → q.performing ≡ p.performing → q.events ≡ p.events → q.registrations ≡ p.registrations → q.frames ≡ p.frames → q.calls ≡ p.calls → q.signals ≡ p.signals → scheduling_of q ≡ scheduling_of p → Changes p q
-placed p q c k x y z w v u t j = with_change nothing (elsewhere c (record { notices = x; performing = y; events = z; registrations = w; frames = v; calls = u; aborted = same_signals p q t; scheduling = same_scheduling (scheduling_of p) (scheduling_of q) j }) k)
+pub placed : (p q : Page) (c : PlaceChange p.registrations (places p) (places q)) → PlaceIsPlain c → InPeriod c p → q.notices ≡ p.notices → q.performing ≡ p.performing → q.events ≡ p.events → q.registrations ≡ p.registrations → q.frames ≡ p.frames → q.calls ≡ p.calls → q.signals ≡ p.signals → scheduling_of q ≡ scheduling_of p → Changes p q
+placed p q c plain k x y z w v u t j = with_change nothing (elsewhere c (record { notices = x; performing = y; events = z; registrations = w; frames = v; calls = u; aborted = same_signals p q t; scheduling = same_scheduling (scheduling_of p) (scheduling_of q) j }) k) plain
 
 -- a change of the places, with what holds then
 record StaysAt (made : List Registration) (x y : Places) (p : Page) : Type 0 where
   change : PlaceChange made x y
+  plain : PlaceIsPlain change
   period : InPeriod change p
 
 pub quietly : (p q : Page) → places q ≡ places p → q.notices ≡ p.notices → q.performing ≡ p.performing → q.events ≡ p.events → q.registrations ≡ p.registrations → q.frames ≡ p.frames → q.calls ≡ p.calls → q.signals ≡ p.signals → scheduling_of q ≡ scheduling_of p → Changes p q
-quietly p q s x y z w v u t j = placed p q (same_places s).change (same_places s).period x y z w v u t j
+quietly p q s x y z w v u t j = placed p q (same_places s).change (same_places s).plain (same_places s).period x y z w v u t j
   where
     same_places : {a : Places} → a ≡ places p → StaysAt p.registrations (places p) a p
-    same_places e = subst (λ (a : Places). StaysAt p.registrations (places p) a p) (sym e) (record { change = places_stay; period = tt })
+    same_places e = subst (λ (a : Places). StaysAt p.registrations (places p) a p) (sym e) (record { change = places_stay; plain = tt; period = tt })
 
 -- the signals are changed, and what was aborted stays so
 pub signals-changes : (ss : AbortGraph.Signals Value) (p : Page) → StaysAborted p (record p { signals = ss }) → Changes p (record p { signals = ss })
-signals-changes ss p h = with_change nothing (elsewhere places_stay (record { notices = refl; performing = refl; events = refl; registrations = refl; frames = refl; calls = refl; aborted = h; scheduling = record { priorities = λ s. refl; states = refl; tasks_made = omega arith; idle_start = refl } }) tt)
+signals-changes ss p h = with_change nothing (elsewhere places_stay (record { notices = refl; performing = refl; events = refl; registrations = refl; frames = refl; calls = refl; aborted = h; scheduling = record { priorities = λ s. refl; states = refl; tasks_made = omega arith; idle_start = refl } }) tt) tt
 
 -- a line, and then nothing that is told of here
 pub lined : (e : Event) (p q : Page) → is_aside e ≡ true → places q ≡ places p → q.notices ≡ p.notices → q.performing ≡ p.performing → q.events ≡ (emit e p).events → q.registrations ≡ p.registrations → q.frames ≡ p.frames → q.calls ≡ p.calls → q.signals ≡ p.signals → scheduling_of q ≡ scheduling_of p → Changes p q
-lined e p q h s x y z w v u t j = changes-then (with_change nothing (told e h)) (quietly (emit e p) q s x y z w v u t j)
+lined e p q h s x y z w v u t j = changes-then (with_change nothing (told e h) tt) (quietly (emit e p) q s x y z w v u t j)
 
 -- starts of completion steps were given
 abbrev Started : Page → Type 0
@@ -115,7 +116,7 @@ timer_armed made x r due timers k e h own role =
 
 -- a registration is due, with its line
 pub due-changes : (r : ℕ) (p q : Page) → DueChange p.registrations r (places p) (places q) → AsBefore (emit (Due r) p) q → Changes p q
-due-changes r p q c b = with_change nothing (fell_due r c b)
+due-changes r p q c b = with_change nothing (fell_due r c b) tt
 
 pub cond_of-changes : (b : Bool) (f g : Page → Page) (p q : Page) → Changes q (f p) → Changes q (g p) → Changes q (cond b f g p)
 cond_of-changes true f g p q h k = h
@@ -140,7 +141,7 @@ by_lock n p c true e k = unchanged n p
 by_lock n p c false e k = k e
 
 first_settled : (n : ℕ) (how : Settled) (p : Page) → IsGiven (length p.notices.promises) n → (the_promise p.notices.promises n).locked ≡ false → Changes p (promise_changes n (Promises.settle n (the_promise p.notices.promises n) how) p)
-first_settled n how p x e = with_change nothing (settled n how x e)
+first_settled n how p x e = with_change nothing (settled n how x e) tt
 
 unlocked-changes : (n : ℕ) (v : Value) (p : Page) (o : Option ℕ) → IsGiven (length p.notices.promises) n → (the_promise p.notices.promises n).locked ≡ false → Changes p (promise_changes n (Promises.resolve_unlocked n (the_promise p.notices.promises n) v o) p)
 unlocked-changes n v p None x e = first_settled n (Fulfilled v) p x e
@@ -148,7 +149,7 @@ unlocked-changes n v p (Some other) x e = by_itself (other == n)
   where
     by_itself : (b : Bool) → Changes p (promise_changes n (cond b (Promises.settle n (the_promise p.notices.promises n) (Failed (a_fault TypeError))) (Promises.adopt n (the_promise p.notices.promises n) other)) p)
     by_itself true = first_settled n (Failed (a_fault TypeError)) p x e
-    by_itself false = with_change nothing (adopted n other x e)
+    by_itself false = with_change nothing (adopted n other x e) tt
 
 pub settle-changes : (n : ℕ) (how : Settled) (p : Page) → IsGiven (length p.notices.promises) n → Changes p (promises.settle n how p)
 settle-changes n (Fulfilled v) p x =
@@ -159,42 +160,42 @@ pub follow-changes : (n : ℕ) (how : Settled) (p : Page) → IsGiven (length p.
 follow-changes n how p x = by_outcome (the_promise p.notices.promises n).outcome refl
   where
     by_outcome : (o : Option Settled) → (the_promise p.notices.promises n).outcome ≡ o → Changes p (promise_changes n (elim o [ None ↦ Promises.settle n (the_promise p.notices.promises n) how | Some before ↦ no_change (the_promise p.notices.promises n) ]) p)
-    by_outcome None e = with_change nothing (followed n how x e)
+    by_outcome None e = with_change nothing (followed n how x e) tt
     by_outcome (Some before) e = unchanged n p
 
 pub queue_task-changes : (source : Source) (steps : Steps) (p : Page) → is_free steps ≡ true → is_idle_task steps ≡ false → Changes p (queue_task source steps p)
-queue_task-changes source steps p h plain = with_change nothing (elsewhere (task_queued (record { number = suc p.tasks_made; source = source; steps = steps }) h plain) (record { notices = refl; performing = refl; events = refl; registrations = refl; frames = refl; calls = refl; aborted = λ s h. h; scheduling = record { priorities = λ s. refl; states = refl; tasks_made = omega arith; idle_start = refl } }) tt)
+queue_task-changes source steps p h plain = with_change nothing (elsewhere (task_queued (record { number = suc p.tasks_made; source = source; steps = steps }) h plain) (record { notices = refl; performing = refl; events = refl; registrations = refl; frames = refl; calls = refl; aborted = λ s h. h; scheduling = record { priorities = λ s. refl; states = refl; tasks_made = omega arith; idle_start = refl } }) tt) tt
 
 -- the task that invokes idle callbacks, in the period that goes on
 queue_idle-changes : (p : Page) → PeriodGoesOn p → Changes p (queue_task IdleSource InvokeIdle p)
-queue_idle-changes p k = with_change nothing (elsewhere (idle_queued (record { number = suc p.tasks_made; source = IdleSource; steps = InvokeIdle }) refl refl) (record { notices = refl; performing = refl; events = refl; registrations = refl; frames = refl; calls = refl; aborted = λ s h. h; scheduling = record { priorities = λ s. refl; states = refl; tasks_made = omega arith; idle_start = refl } }) k)
+queue_idle-changes p k = with_change nothing (elsewhere (idle_queued (record { number = suc p.tasks_made; source = IdleSource; steps = InvokeIdle }) refl refl) (record { notices = refl; performing = refl; events = refl; registrations = refl; frames = refl; calls = refl; aborted = λ s h. h; scheduling = record { priorities = λ s. refl; states = refl; tasks_made = omega arith; idle_start = refl } }) k) tt
 
 -- a reaction was added, and where the promise was outstanding a task is queued
 handled-changes : (n : ℕ) (b : Bool) (p q : Page) → Changes p q → Changes p (cond b (queue_task Dom (NotifyHandled n)) (λ q. q) q)
 handled-changes n b p q first = cond_of-changes b (queue_task Dom (NotifyHandled n)) (λ q. q) q p (changes-then first (queue_task-changes Dom (NotifyHandled n) q refl refl)) first
 
 pub subscribe-changes : (n : ℕ) (r : Reaction) (p : Page) → IsGiven (length p.notices.promises) n → r.registration ≡ None → Changes p (promises.subscribe n r p)
-subscribe-changes n r p x e = handled-changes n (is_outstanding n p.notices) p (on_notices (subscribe_promise (context p) n r) p) (with_change nothing (subscribed n r x e))
+subscribe-changes n r p x e = handled-changes n (is_outstanding n p.notices) p (on_notices (subscribe_promise (context p) n r) p) (with_change nothing (subscribed n r x e) tt)
 
 pub new_promise-changes : (p : Page) → Changes p (new_promise p)
-new_promise-changes p = with_change nothing moves.promised
+new_promise-changes p = with_change nothing moves.promised tt
 
 -- ---- callbacks
 
 pub report_before-changes : (when : WhenReported) (v : Value) (p : Page) → Changes p (report_before when v p)
-report_before-changes BeforeCheckpoint v p = with_change nothing (told (Report (spelled p.names v)) refl)
+report_before-changes BeforeCheckpoint v p = with_change nothing (told (Report (spelled p.names v)) refl) tt
 report_before-changes AfterCheckpoint v p = nothing
 report_before-changes Never v p = nothing
 
 pub report_after-changes : (when : WhenReported) (v : Value) (p : Page) → Changes p (report_after when v p)
 report_after-changes BeforeCheckpoint v p = nothing
-report_after-changes AfterCheckpoint v p = with_change nothing (told (Report (spelled p.names v)) refl)
+report_after-changes AfterCheckpoint v p = with_change nothing (told (Report (spelled p.names v)) refl) tt
 report_after-changes Never v p = nothing
 
 pub notify_rejected-changes : (p : Page) → Changes p (notify_rejected p)
 notify_rejected-changes p =
     cond-changes (is_empty p.notices.rejected) p p _ nothing
-    (changes-then (with_change nothing rejected_taken) (queue_task-changes Dom (NotifyRejected p.notices.rejected) (record p { notices = record p.notices { rejected = [] } }) refl refl))
+    (changes-then (with_change nothing rejected_taken tt) (queue_task-changes Dom (NotifyRejected p.notices.rejected) (record p { notices = record p.notices { rejected = [] } }) refl refl))
 
 -- the number of a registration that was just made
 pub made_last : (kind : RegKind) (x : Registration) (p : Page) → last_registration (register_as kind x p) ≡ suc (length p.registrations)
@@ -225,11 +226,11 @@ in-either {X = X} x (z ∷ xs) ys (inr i) = by_rest (in-either x xs ys i)
 
 -- a registration is made and waits nowhere
 pub register-changes : (kind : RegKind) (x : Registration) (p : Page) → x.role ≡ OfKind kind → is_frame kind ≡ false → Changes p (register_as kind x p)
-register-changes kind x p e unframed = with_change nothing (registered kind x e unframed nowhere (record { notices = refl; performing = refl; events = refl; registrations = refl; frames = refl; calls = refl; aborted = λ s h. h; scheduling = record { priorities = λ s. refl; states = refl; tasks_made = omega arith; idle_start = refl } }))
+register-changes kind x p e unframed = with_change nothing (registered kind x e unframed nowhere (record { notices = refl; performing = refl; events = refl; registrations = refl; frames = refl; calls = refl; aborted = λ s h. h; scheduling = record { priorities = λ s. refl; states = refl; tasks_made = omega arith; idle_start = refl } })) tt
 
 -- it is made, waits at its first place, and is armed
-register_at-changes : (kind : RegKind) (x : Registration) (r due level : ℕ) (p q : Page) → x.role ≡ OfKind kind → is_frame kind ≡ false → ArmedAt q.registrations (places q) r due → FirstPlace p.registrations p.prios (suc (length p.registrations)) (places p) (places q) → AsBefore (register_as kind x p) q → Changes p (emit (Arm r due level) q)
-register_at-changes kind x r due level p q role unframed w u b = with_change {q = q} (with_change nothing (registered kind x role unframed u b)) (moves.arm_told r due level w)
+register_at-changes : (kind : RegKind) (x : Registration) (r due level : ℕ) (p q : Page) → x.role ≡ OfKind kind → is_frame kind ≡ false → ArmedAt q.registrations (places q) r due → r ≡ suc (length p.registrations) → (u : FirstPlace p.registrations p.prios (suc (length p.registrations)) (places p) (places q)) → FirstArms u due → AsBefore (register_as kind x p) q → Changes p (emit (Arm r due level) q)
+register_at-changes kind x r due level p q role unframed w e u arms b = with_arm {r = q} nothing (registered kind x role unframed u b) (moves.arm_told r due level w) (e, arms)
 
 -- ---- time
 
@@ -239,11 +240,11 @@ init_again-changes id r timeout p h e there =
     let a = armed (Some id) timeout p.level p.now p.timers in
     let t : TimerTask = record { registration = r; id = a.id; handle = a.handle; level = a.level; repeats = true; timeout = timeout } in
     let set : Page = record p { timers = with_armed (Some id) a p.timers; completions = and_last p.completions (record { start = a.start; completion = QueueTimer t }) } in
-    with_change {q = set} (placed p set (armed_again a t e there refl) tt refl refl refl refl refl refl refl refl)
-    (moves.arm_told r a.due a.level (timer_armed p.registrations (places p) r a.due (with_armed (Some id) a p.timers) (QueueTimer t) refl (started p h) refl (ap is_delayed_role e)))
+    with_arm {r = set} nothing (elsewhere (armed_again a t e there refl) (record { notices = refl; performing = refl; events = refl; registrations = refl; frames = refl; calls = refl; aborted = λ s h. h; scheduling = record { priorities = λ s. refl; states = refl; tasks_made = omega arith; idle_start = refl } }) tt)
+    (moves.arm_told r a.due a.level (timer_armed p.registrations (places p) r a.due (with_armed (Some id) a p.timers) (QueueTimer t) refl (started p h) refl (ap is_delayed_role e))) (refl, refl)
 
 pub clear_id-changes : (id : ℕ) (p : Page) → Changes p (clear_id id p)
-clear_id-changes id p = placed p (clear_id id p) (id_cleared id) tt refl refl refl refl refl refl refl refl
+clear_id-changes id p = placed p (clear_id id p) (id_cleared id) tt tt refl refl refl refl refl refl refl refl
 
 -- the registration that is found by a timer id has it
 found_id : (id k : ℕ) (before xs : List Registration) → k ≡ suc (length before) → 1 ≤ registration_with_id id k xs → id_at (before ++ xs) (registration_with_id id k xs) ≡ id
@@ -284,7 +285,7 @@ clear_timer-changes id p h = by_id (Timers.has_id id p.timers) refl
     own le = found_id id 1 [] p.registrations refl le
 
     by_id : (b : Bool) → Timers.has_id id p.timers ≡ b → Changes p (cond b (emit (Drop r) (clear_id id p)) p)
-    by_id true e = with_change nothing (dropped r (timer_dropped id e refl (λ le. (own le, (the_registration-given p r h).timer (let one = has_id-given (made_by p) id p.timers.ids (h InTimers).ids e in let same = own le in omega (arith, one, same))))) (record { notices = refl; performing = refl; events = refl; registrations = refl; frames = refl; calls = refl; aborted = λ s h. h; scheduling = record { priorities = λ s. refl; states = refl; tasks_made = omega arith; idle_start = refl } }))
+    by_id true e = with_change nothing (dropped r (timer_dropped id e refl (λ le. (own le, (the_registration-given p r h).timer (let one = has_id-given (made_by p) id p.timers.ids (h InTimers).ids e in let same = own le in omega (arith, one, same))))) (record { notices = refl; performing = refl; events = refl; registrations = refl; frames = refl; calls = refl; aborted = λ s h. h; scheduling = record { priorities = λ s. refl; states = refl; tasks_made = omega arith; idle_start = refl } })) tt
     by_id false e = nothing
 
 -- a callback that was found is for what its place holds
@@ -297,7 +298,7 @@ cancel_frame-changes handle p h = by_callback (callback_in p.frames.callbacks ha
   where
     by_callback : (o : Option Callback) → callback_in p.frames.callbacks handle ≡ o → Changes p (elim o [ None ↦ p | Some c ↦ emit (Drop c.registration) (without_frame handle p) ])
     by_callback None e = nothing
-    by_callback (Some c) e = with_change nothing (frame_dropped handle c e (found_for FrameKind p.frames.made (made_by p) p.frames.callbacks handle c (h InFrames) e))
+    by_callback (Some c) e = with_change nothing (frame_dropped handle c e (found_for FrameKind p.frames.made (made_by p) p.frames.callbacks handle c (h InFrames) e)) tt
 
 idle_lists : {n : Made} {i : IdleCallbacks.Idle} → IdleIsGiven n i → Each (CallbackIsGiven IdleKind n.idle n) i.runnable × Each (CallbackIsGiven IdleKind n.idle n) i.pending
 idle_lists h = (h.runnable, h.pending)
@@ -312,7 +313,7 @@ callback-given kind last n c (d ∷ cs) h (inr i) = callback-given kind last n c
 pub start_period-changes : (p : Page) → p.last_idle_start ≡ p.now → open_registrations p.events ≡ [] → p.notices.jobs ≡ [] → FrameIsOver p → Held (made_by p) p → Changes p (start_period p)
 start_period-changes p now x y over h =
     cond-changes (waits p.idle && nat_lt p.now (deadline p.last_idle_start p) && nat_le p.idle_period_end p.now) p (period_begun end p) p
-    (changes-then (changes-then (with_change nothing (rested (Period end) refl x y refl over (λ e. now))) (placed told_one started_one idle_started (λ c i. (refl, (of_pending c i).registration.registration.to_last)) refl refl refl refl refl refl refl refl))
+    (changes-then (changes-then (with_change nothing (rested (Period end) refl x y refl over (λ e. now)) tt) (placed told_one started_one idle_started tt (λ c i. (refl, (of_pending c i).registration.registration.to_last)) refl refl refl refl refl refl refl refl))
     (queue_idle-changes started_one (record { start = ap Some (sym now); runnable = λ c i. refl; given = λ c i. (of_all c i).registration.registration.to_last }))) nothing
   where
     end : ℕ
@@ -337,18 +338,18 @@ pub idle_timeout-changes : (ms r : ℕ) (p : Page) → role_at p.registrations r
 idle_timeout-changes ms r p role own =
     let t : IdleTimer = record { due = p.now + ms * 1000; handle = p.idle.made; registration = r } in
     let set : Page = record p { idle_timers = and_last p.idle_timers t } in
-    with_change {q = set} (placed p set (idle_armed t (omega arith) own) tt refl refl refl refl refl refl refl refl)
-    (moves.arm_told r (p.now + ms * 1000) 0 (by_idle t (is-last t p.idle_timers) refl refl role))
+    with_arm {r = set} nothing (elsewhere (idle_armed t (omega arith) own) (record { notices = refl; performing = refl; events = refl; registrations = refl; frames = refl; calls = refl; aborted = λ s h. h; scheduling = record { priorities = λ s. refl; states = refl; tasks_made = omega arith; idle_start = refl } }) tt)
+    (moves.arm_told r (p.now + ms * 1000) 0 (by_idle t (is-last t p.idle_timers) refl refl role)) (refl, refl)
 
 pub without_idle-changes : (handle : ℕ) (p : Page) → Changes p (without_idle handle p)
-without_idle-changes handle p = placed p (without_idle handle p) (idle_left handle) tt refl refl refl refl refl refl refl refl
+without_idle-changes handle p = placed p (without_idle handle p) (idle_left handle) tt tt refl refl refl refl refl refl refl refl
 
 pub cancel_idle-changes : (handle : ℕ) (p : Page) → Held (made_by p) p → Changes p (cancel_idle handle p)
 cancel_idle-changes handle p h = by_callback (idle_callback handle p) refl
   where
     by_callback : (o : Option Callback) → idle_callback handle p ≡ o → Changes p (elim o [ None ↦ p | Some c ↦ emit (Drop c.registration) (without_idle handle p) ])
     by_callback None e = nothing
-    by_callback (Some c) e = with_change nothing (dropped c.registration (idle_dropped handle c e refl (found_for IdleKind p.idle.made (made_by p) (p.idle.runnable ++ p.idle.pending) handle c (Each-append (CallbackIsGiven IdleKind p.idle.made (made_by p)) p.idle.runnable p.idle.pending (idle_lists (h InIdle)).0 (idle_lists (h InIdle)).1) e)) (record { notices = refl; performing = refl; events = refl; registrations = refl; frames = refl; calls = refl; aborted = λ s h. h; scheduling = record { priorities = λ s. refl; states = refl; tasks_made = omega arith; idle_start = refl } }))
+    by_callback (Some c) e = with_change nothing (dropped c.registration (idle_dropped handle c e refl (found_for IdleKind p.idle.made (made_by p) (p.idle.runnable ++ p.idle.pending) handle c (Each-append (CallbackIsGiven IdleKind p.idle.made (made_by p)) p.idle.runnable p.idle.pending (idle_lists (h InIdle)).0 (idle_lists (h InIdle)).1) e)) (record { notices = refl; performing = refl; events = refl; registrations = refl; frames = refl; calls = refl; aborted = λ s h. h; scheduling = record { priorities = λ s. refl; states = refl; tasks_made = omega arith; idle_start = refl } })) tt
 
 -- ---- scheduler tasks, signals, hosts
 
@@ -399,7 +400,7 @@ pub record Aborts (p : Page) (r : ℕ) : Type 0 where
   pub aborted : is_aborted_source p (signal_at p.registrations r) ≡ true
 
 drop-changes : (r : ℕ) (p : Page) → is_abortable (role_at p.registrations r) ≡ true → is_aborted_source p (signal_at p.registrations r) ≡ true → (role_at p.registrations r ≡ OfKind HostKind → is_there (waiting_answer r p) || is_there (waiting_net_task r p) ≡ true) → Changes p (drop_registration r p)
-drop-changes r p role aborted e = with_change nothing (task_dropped r role aborted e refl (record { notices = refl; performing = refl; events = refl; registrations = refl; frames = refl; calls = refl; aborted = λ s h. h; scheduling = record { priorities = λ s. refl; states = refl; tasks_made = omega arith; idle_start = refl } }))
+drop-changes r p role aborted e = with_change nothing (task_dropped r role aborted e refl (record { notices = refl; performing = refl; events = refl; registrations = refl; frames = refl; calls = refl; aborted = λ s h. h; scheduling = record { priorities = λ s. refl; states = refl; tasks_made = omega arith; idle_start = refl } })) tt
 
 -- rejecting a promise leaves what the abort steps test
 record Rejected (p q : Page) : Type 0 where
@@ -469,7 +470,7 @@ abort_registration-changes reason r p h x =
 
 emit_aborts : (ss : List ℕ) (p : Page) → Changes p (emit_each (map Abort ss) p)
 emit_aborts [] p = nothing
-emit_aborts (s ∷ ss) p = changes-then (with_change nothing (told (Abort s) refl)) (emit_aborts ss (emit (Abort s) p))
+emit_aborts (s ∷ ss) p = changes-then (with_change nothing (told (Abort s) refl) tt) (emit_aborts ss (emit (Abort s) p))
 
 pub reason_set-changes : (reason : Value) (ss : List ℕ) (p : Page) → Changes p (reason_set reason ss p)
 reason_set-changes reason ss p =
@@ -478,14 +479,14 @@ reason_set-changes reason ss p =
 
 -- a signal without a priority is given one
 pub give_priority-changes : (s : ℕ) (priority : Priority) (p : Page) → priority_of p.prios s ≡ None → Changes p (give_priority s priority p)
-give_priority-changes s priority p h = with_change nothing (prio_told s priority (TaskSignals.give s priority p.prios) (give-set s priority p.prios h))
+give_priority-changes s priority p h = with_change nothing (prio_told s priority (TaskSignals.give s priority p.prios) (give-set s priority p.prios h)) tt
 
 pub change_begun-changes : (s : ℕ) (priority : Priority) (p : Page) → Changes p (change_begun s priority p)
-change_begun-changes s priority p = with_change nothing (prio_told s priority (TaskSignals.begun s priority p.prios) (begun-set s priority p.prios))
+change_begun-changes s priority p = with_change nothing (prio_told s priority (TaskSignals.begun s priority p.prios) (begun-set s priority p.prios)) tt
 
 -- a change of the priorities that leaves each signal's own
 prios-changes : (ps : Prios) (p : Page) → ((s : ℕ) → priority_of ps s ≡ priority_of p.prios s) → Changes p (record p { prios = ps })
-prios-changes ps p h = with_change nothing (elsewhere places_stay (record { notices = refl; performing = refl; events = refl; registrations = refl; frames = refl; calls = refl; aborted = λ s k. k; scheduling = record { priorities = h; states = refl; tasks_made = omega arith; idle_start = refl } }) tt)
+prios-changes ps p h = with_change nothing (elsewhere places_stay (record { notices = refl; performing = refl; events = refl; registrations = refl; frames = refl; calls = refl; aborted = λ s k. k; scheduling = record { priorities = h; states = refl; tasks_made = omega arith; idle_start = refl } }) tt) tt
 
 pub change_ended-changes : (s : ℕ) (p : Page) → Changes p (change_ended s p)
 change_ended-changes s p = prios-changes (TaskSignals.ended s p.prios) p (ended-same s p.prios)
@@ -495,7 +496,7 @@ change_ended-changes s p = prios-changes (TaskSignals.ended s p.prios) p (ended-
 pub micro_registered-changes : (f : Func) (p : Page) → Changes p (micro_registered f p)
 micro_registered-changes f p =
     let x : Registration = record { role = OfKind MicroKind; callback = Some f; second_callback = None; timer_id = 0; promise = 0; signal = None; finally = false } in
-    with_change nothing (micro_asked x (last_registration (register_as MicroKind x p)) refl (made_last MicroKind x p))
+    with_change nothing (micro_asked x (last_registration (register_as MicroKind x p)) refl (made_last MicroKind x p)) tt
 
 pub script_promise-changes : (p : Page) → Changes p (script_promise p)
 script_promise-changes p = changes-then (new_promise-changes p) (quietly (new_promise p) (script_promise p) refl refl refl refl refl refl refl refl refl)
@@ -506,7 +507,7 @@ then_asked-changes : (n : ℕ) (x : Registration) (p : Page) → x.role ≡ OfKi
 then_asked-changes n x p e g =
     let r : Reaction = record { registration = Some (last_registration (register_as ThenKind x p)); into = last_promise p; state = p.scheduling } in
     handled-changes n (is_outstanding n p.notices) p (on_notices (subscribe_promise (context p) n r) (register_as ThenKind x p))
-    (with_change nothing (then_asked n x r e g (ap Some (made_last ThenKind x p))))
+    (with_change nothing (then_asked n x r e g (ap Some (made_last ThenKind x p))) tt)
 
 pub then_made-changes : (n : ℕ) (f g : Value) (p : Page) → IsGiven (length (new_promise p).notices.promises) n → Changes p (then_made n f g p)
 then_made-changes n f g p x =
@@ -550,10 +551,10 @@ timer_set-changes kind repeats f timeout p role h =
     let t : TimerTask = record { registration = r; id = a.id; handle = a.handle; level = a.level; repeats = repeats; timeout = timeout } in
     let fresh : (q : ℕ) → id_at p.registrations q ≡ a.id → ⊥ = λ q e. let le = (the_registration-given p q h).timer_id in absurd (omega (arith, le, e)) in
     let set : Page = record made { timers = with_armed None a made.timers; completions = and_last made.completions (record { start = a.start; completion = QueueTimer t }) } in
-    register_at-changes kind x r a.due a.level p set refl (no_frame repeats kind role) (timer_armed made.registrations (places made) r a.due (with_armed None a made.timers) (QueueTimer t) refl (started p h) refl (ap is_delayed_role (new_role kind x p refl ∙ role) ∙ delayed_timer repeats)) (at_timer a t (made_last kind x p) fresh) (record { notices = refl; performing = refl; events = refl; registrations = refl; frames = refl; calls = refl; aborted = λ s h. h; scheduling = record { priorities = λ s. refl; states = refl; tasks_made = omega arith; idle_start = refl } })
+    register_at-changes kind x r a.due a.level p set refl (no_frame repeats kind role) (timer_armed made.registrations (places made) r a.due (with_armed None a made.timers) (QueueTimer t) refl (started p h) refl (ap is_delayed_role (new_role kind x p refl ∙ role) ∙ delayed_timer repeats)) (made_last kind x p) (at_timer a t (made_last kind x p) fresh) refl (record { notices = refl; performing = refl; events = refl; registrations = refl; frames = refl; calls = refl; aborted = λ s h. h; scheduling = record { priorities = λ s. refl; states = refl; tasks_made = omega arith; idle_start = refl } })
 
 pub frame_requested-changes : (f : Func) (p : Page) → Changes p (frame_requested f p)
-frame_requested-changes f p = with_change nothing (frame_asked f)
+frame_requested-changes f p = with_change nothing (frame_asked f) tt
 
 pub idle_requested-changes : (f : Func) (ms : ℕ) (p : Page) → Held (made_by p) p → Changes p (idle_requested f ms p)
 idle_requested-changes f ms p h =
@@ -561,7 +562,7 @@ idle_requested-changes f ms p h =
     let made = register_as IdleKind x p in
     let r = last_registration made in
     let q : Page = record made { idle = IdleCallbacks.request r made.idle } in
-    let first : Changes p q = with_change nothing (registered IdleKind x refl refl (at_idle r (made_last IdleKind x p)) (record { notices = refl; performing = refl; events = refl; registrations = refl; frames = refl; calls = refl; aborted = λ s h. h; scheduling = record { priorities = λ s. refl; states = refl; tasks_made = omega arith; idle_start = refl } })) in
+    let first : Changes p q = with_change nothing (registered IdleKind x refl refl (at_idle r (made_last IdleKind x p)) (record { notices = refl; performing = refl; events = refl; registrations = refl; frames = refl; calls = refl; aborted = λ s h. h; scheduling = record { priorities = λ s. refl; states = refl; tasks_made = omega arith; idle_start = refl } })) tt in
     cond_of-changes (ms == 0) (λ q. q) (idle_timeout ms r) q p first (changes-then first (idle_timeout-changes ms r q (new_role IdleKind x p refl) (λ c i e. own c (in-either c p.idle.runnable (and_last p.idle.pending (record { handle = suc p.idle.made; registration = r })) i) e)))
   where
     last : ℕ
@@ -607,14 +608,14 @@ timeout_signal_made-changes ms p h =
     let timers = Timers.run_after ms made.now made.timers in
     let k = QueueSignal r (last_signal made) in
     let set : Page = record made { timers = timers; completions = and_last made.completions (record { start = suc made.timers.starts_made; completion = k }) } in
-    with_change {q = set} (changes-then (changes-then (make-changes p) (register-changes SignalKind _ new refl refl)) (placed made set (signal_armed ms made.now r (last_signal made)) tt refl refl refl refl refl refl refl refl))
-    (moves.arm_told r (made.now + ms * 1000) 0 (timer_armed made.registrations (places made) r (made.now + ms * 1000) timers k refl (started p h) refl (ap is_delayed_role (new_role SignalKind _ new refl))))
+    with_arm {r = set} (changes-then (make-changes p) (register-changes SignalKind _ new refl refl)) (elsewhere (signal_armed ms made.now r (last_signal made)) (record { notices = refl; performing = refl; events = refl; registrations = refl; frames = refl; calls = refl; aborted = λ s h. h; scheduling = record { priorities = λ s. refl; states = refl; tasks_made = omega arith; idle_start = refl } }) tt)
+    (moves.arm_told r (made.now + ms * 1000) 0 (timer_armed made.registrations (places made) r (made.now + ms * 1000) timers k refl (started p h) refl (ap is_delayed_role (new_role SignalKind _ new refl)))) (refl, refl)
 
 pub listener_added-changes : (target : Target) (name : List ℕ) (f : Func) (p : Page) → Changes p (listener_added target name f p)
 listener_added-changes target name f p =
     let x : Registration = record { role = OfKind ListenerKind; callback = Some f; second_callback = None; timer_id = 0; promise = 0; signal = None; finally = false } in
     let made = register_as ListenerKind x p in
-    with_change nothing (registered ListenerKind x refl refl (at_listener target name (last_registration made) (made_last ListenerKind x p)) (record { notices = refl; performing = refl; events = refl; registrations = refl; frames = refl; calls = refl; aborted = λ s h. h; scheduling = record { priorities = λ s. refl; states = refl; tasks_made = omega arith; idle_start = refl } }))
+    with_change nothing (registered ListenerKind x refl refl (at_listener target name (last_registration made) (made_last ListenerKind x p)) (record { notices = refl; performing = refl; events = refl; registrations = refl; frames = refl; calls = refl; aborted = λ s h. h; scheduling = record { priorities = λ s. refl; states = refl; tasks_made = omega arith; idle_start = refl } })) tt
 
 listening_role : (n : Made) (r : ℕ) (ls : List Listener) → Each (ListenerIsGiven n) ls → is_listening r ls ≡ true → role_at n.registrations r ≡ OfKind ListenerKind
 listening_role n r [] h e = Prim.cc
@@ -628,7 +629,7 @@ pub listener_removed-changes : (r : ℕ) (p : Page) → Held (made_by p) p → C
 listener_removed-changes r p h = by_there (is_listening r p.listeners) refl
   where
     by_there : (b : Bool) → is_listening r p.listeners ≡ b → Changes p (cond b (emit (Drop r) (record p { listeners = off r p.listeners })) p)
-    by_there true e = with_change nothing (dropped r (listener_dropped e (listening_role (made_by p) r p.listeners (h InListeners) e)) (record { notices = refl; performing = refl; events = refl; registrations = refl; frames = refl; calls = refl; aborted = λ s h. h; scheduling = record { priorities = λ s. refl; states = refl; tasks_made = omega arith; idle_start = refl } }))
+    by_there true e = with_change nothing (dropped r (listener_dropped e (listening_role (made_by p) r p.listeners (h InListeners) e)) (record { notices = refl; performing = refl; events = refl; registrations = refl; frames = refl; calls = refl; aborted = λ s h. h; scheduling = record { priorities = λ s. refl; states = refl; tasks_made = omega arith; idle_start = refl } })) tt
     by_there false e = nothing
 
 -- the registration of a task, a delay or a host answer
@@ -666,7 +667,7 @@ enqueued-changes kind x source continuation p e of_sched from =
     let r = last_registration made in
     let t : SchedTask = record { registration = r; source = source; continuation = continuation; order = suc p.tasks_made } in
     let q : Page = record made { tasks_made = suc p.tasks_made; sched_tasks = and_last made.sched_tasks t } in
-    with_change nothing (enqueued_anew {q = emit (Enq r (queue_name source) continuation (suc p.tasks_made)) q} kind x t (queue_name source) e (made_last kind x p) refl (record { order = refl; made = omega arith; named = refl }, from, of_sched) (record { notices = refl; performing = refl; events = refl; registrations = refl; frames = refl; calls = refl; aborted = λ s h. h; scheduling = record { priorities = λ s. refl; states = refl; tasks_made = omega arith; idle_start = refl } }))
+    with_change nothing (enqueued_anew {q = emit (Enq r (queue_name source) continuation (suc p.tasks_made)) q} kind x t (queue_name source) e (made_last kind x p) refl (record { order = refl; made = omega arith; named = refl }, from, of_sched) (record { notices = refl; performing = refl; events = refl; registrations = refl; frames = refl; calls = refl; aborted = λ s h. h; scheduling = record { priorities = λ s. refl; states = refl; tasks_made = omega arith; idle_start = refl } })) tt
 
 -- a delayed post of a new registration
 delayed-changes : (x : Registration) (source : PrioSource) (ms : ℕ) (p : Page) → Started p → x.role ≡ OfKind PostKind → HasPriority p.prios source → Changes p (post_delayed ms (last_registration (register_as PostKind x p)) source (register_as PostKind x p))
@@ -675,7 +676,7 @@ delayed-changes x source ms p h e from =
     let r = last_registration made in
     let timers = Timers.run_after ms made.now made.timers in
     let q : Page = record made { timers = timers; completions = and_last made.completions (record { start = timers.starts_made; completion = EnqueuePost r source }) } in
-    register_at-changes PostKind x r (made.now + ms * 1000) 0 p q e refl (timer_armed made.registrations (places made) r (made.now + ms * 1000) timers (EnqueuePost r source) refl h refl (ap is_delayed_role (new_role PostKind x p e))) (at_delay ms made.now r source (made_last PostKind x p) from) (record { notices = refl; performing = refl; events = refl; registrations = refl; frames = refl; calls = refl; aborted = λ s h. h; scheduling = record { priorities = λ s. refl; states = refl; tasks_made = omega arith; idle_start = refl } })
+    register_at-changes PostKind x r (made.now + ms * 1000) 0 p q e refl (timer_armed made.registrations (places made) r (made.now + ms * 1000) timers (EnqueuePost r source) refl h refl (ap is_delayed_role (new_role PostKind x p e))) (made_last PostKind x p) (at_delay ms made.now r source (made_last PostKind x p) from) refl (record { notices = refl; performing = refl; events = refl; registrations = refl; frames = refl; calls = refl; aborted = λ s h. h; scheduling = record { priorities = λ s. refl; states = refl; tasks_made = omega arith; idle_start = refl } })
 
 pub post_queued-changes : (f : Func) (source : PrioSource) (signal : Option ℕ) (ms : ℕ) (p : Page) → Held (made_by p) p → HasPriority p.prios source → Changes p (post_queued f source signal ms p)
 post_queued-changes f source signal ms p h from =
@@ -711,7 +712,7 @@ asked-changes k c x e p role there live =
     let due = made.now + latency_of made.latencies k in
     let a : HostAnswer = record { due = due; task = record { registration = r; closure = k; number = x } } in
     let q : Page = record made { hosts = slice_set made.hosts k (queued_mark c); host_answers = and_last made.host_answers a } in
-    register_at-changes HostKind e r due 0 p q role refl (by_host a (is-last a made.host_answers) refl refl (new_role HostKind e p role)) (at_host c a (made_last HostKind e p) there live) (record { notices = refl; performing = refl; events = refl; registrations = refl; frames = refl; calls = refl; aborted = λ s h. h; scheduling = record { priorities = λ s. refl; states = refl; tasks_made = omega arith; idle_start = refl } })
+    register_at-changes HostKind e r due 0 p q role refl (by_host a (is-last a made.host_answers) refl refl (new_role HostKind e p role)) (made_last HostKind e p) (at_host c a (made_last HostKind e p) there live) refl (record { notices = refl; performing = refl; events = refl; registrations = refl; frames = refl; calls = refl; aborted = λ s h. h; scheduling = record { priorities = λ s. refl; states = refl; tasks_made = omega arith; idle_start = refl } })
 
 ready-hosts : (kind : RegKind) (f : Option Func) (signal : Option ℕ) (p : Page) → (ready kind f signal p).hosts ≡ p.hosts
 ready-hosts kind f None p = refl
@@ -729,7 +730,7 @@ pub invoke_idle_again-changes : (p : Page) → PeriodGoesOn p → Changes p (inv
 invoke_idle_again-changes p k = cond-changes (is_empty p.idle.runnable) p p _ nothing (queue_idle-changes p k)
 
 pub outstanding-changes : (n : ℕ) (p : Page) → Changes p (outstanding_if_unhandled n p)
-outstanding-changes n p = with_change nothing (noted n)
+outstanding-changes n p = with_change nothing (noted n) tt
 
 settle_answer-changes : (n : ℕ) (answer : Result ℤ ℤ) (p : Page) → IsGiven (length p.notices.promises) n → Changes p (settle_answer n answer p)
 settle_answer-changes n (Ok v) p x = settle-changes n (Fulfilled (IntValue v)) p x
@@ -750,7 +751,7 @@ answer_task-changes source task t answer p e e1 live x = by_closure (slice_get p
     rest q x h = changes-then (changes-then h (settle_answer-changes into answer q x)) (unwatch-changes t.registration (settle_answer into answer q))
 
     by_closure : (c : Option HostClosure) → slice_get p.hosts t.closure ≡ c → Changes p (unwatch t.registration (settle_answer into answer (fire_closure t.closure c told_one)))
-    by_closure None k = rest told_one x (with_change nothing (answered source task t answer e e1 live (ap {A = Option HostClosure} {B = Places} (λ o. record (places told_one) { hosts = fired_at t.closure o p.hosts }) (sym k)) (record { notices = refl; performing = refl; events = refl; registrations = refl; frames = refl; calls = refl; aborted = λ s h. h; scheduling = record { priorities = λ s. refl; states = refl; tasks_made = omega arith; idle_start = refl } })))
+    by_closure None k = rest told_one x (with_change nothing (answered source task t answer e e1 live (ap {A = Option HostClosure} {B = Places} (λ o. record (places told_one) { hosts = fired_at t.closure o p.hosts }) (sym k)) (record { notices = refl; performing = refl; events = refl; registrations = refl; frames = refl; calls = refl; aborted = λ s h. h; scheduling = record { priorities = λ s. refl; states = refl; tasks_made = omega arith; idle_start = refl } })) tt)
     by_closure (Some c) k =
         let fired = fire_closure t.closure (Some c) told_one in
-        rest fired x (with_change nothing (answered source task t answer e e1 live (ap {A = Option HostClosure} {B = Places} (λ o. record (places told_one) { hosts = fired_at t.closure o p.hosts }) (sym k)) (record { notices = refl; performing = refl; events = refl; registrations = refl; frames = refl; calls = refl; aborted = λ s h. h; scheduling = record { priorities = λ s. refl; states = refl; tasks_made = omega arith; idle_start = refl } })))
+        rest fired x (with_change nothing (answered source task t answer e e1 live (ap {A = Option HostClosure} {B = Places} (λ o. record (places told_one) { hosts = fired_at t.closure o p.hosts }) (sym k)) (record { notices = refl; performing = refl; events = refl; registrations = refl; frames = refl; calls = refl; aborted = λ s h. h; scheduling = record { priorities = λ s. refl; states = refl; tasks_made = omega arith; idle_start = refl } })) tt)

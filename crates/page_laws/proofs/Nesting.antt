@@ -13,7 +13,7 @@ use Rattle.page_model.specs.State.{Page, on_notices, context}
 use Rattle.page_model.specs.Numbers.{Each}
 use Rattle.page_laws.specs.History.{History, is_rest}
 use Rattle.page_laws.specs.CallLaws.{keeps_nesting, is_nil}
-use Rattle.page_laws.specs.Moves.{frame_asked, is_aside, is_end, promise_changes, PageChange, elsewhere, told, arm_told, rested, registered, promised, settled, followed, adopted, subscribed, micro_asked, then_asked, answered, dropped, frame_dropped, rejected_taken, noted, Beginning, TheScript, ATimer, AFrame, AnIdle, ALateIdle, AListener, APost, AContinuation, AMicro, AReaction, taken, Waited, Moves, here, changing, calling, ending, flagging, running, framing, idling, task_dropped, enqueued_anew, fell_due, post_fell_due, prio_told}
+use Rattle.page_laws.specs.Moves.{frame_asked, is_aside, is_end, promise_changes, PageChange, elsewhere, told, arm_told, rested, registered, promised, settled, followed, adopted, subscribed, micro_asked, then_asked, answered, dropped, frame_dropped, rejected_taken, noted, Beginning, TheScript, ATimer, AFrame, AnIdle, ALateIdle, AListener, APost, AContinuation, AMicro, AReaction, taken, Waited, Moves, here, changing, arming, calling, ending, flagging, running, framing, idling, task_dropped, enqueued_anew, fell_due, post_fell_due, prio_told}
 use Rattle.page_laws.proofs.Lines.{emit_each-events}
 use Rattle.page_laws.proofs.Scans.{Test, Kept, kept-added}
 
@@ -108,7 +108,8 @@ begins-kept (AReaction job others of x r) p w k = (ap is_nil w.3, k)
 
 pub moves-kept : {p q : Page} → Moves p q → Kept nesting p.events → Kept nesting q.events
 moves-kept here k = k
-moves-kept (changing a c) k = change-kept c (moves-kept a k)
+moves-kept (changing a c plain) k = change-kept c (moves-kept a k)
+moves-kept (arming a c d w) k = change-kept d (change-kept c (moves-kept a k))
 moves-kept (calling {q = q} a b w i) k = (refl, begins-kept b q w (moves-kept a k))
 moves-kept (ending {q = q} a e h) k = (end-passes e h q.events, moves-kept a k)
 moves-kept (flagging a x y z w u v t j) k = subst (Kept nesting) (sym y) (moves-kept a k)

@@ -19,7 +19,7 @@ use Rattle.page_model.specs.Numbers.{Each, IsFor, made_by, timer_role}
 use Rattle.page_model.proofs.NumbersGrow.{length-last}
 use Rattle.page_laws.specs.History.{History, count_lines, has_kind, is_some_and, is_call_of, kind_of, was_called}
 use Rattle.page_laws.specs.CallLaws.{is_one_shot, has_no_callback, was_made, runs_once, may_be_called, may_be_registered}
-use Rattle.page_laws.specs.Moves.{is_free, promise_changes, Places, places, PlaceChange, places_stay, task_queued, task_left, armed_again, signal_armed, timer_due, completed, idle_started, idle_queued, idle_left, answer_due, id_cleared, idle_armed, idle_due, Dropping, timer_dropped, idle_dropped, listener_dropped, task_dropped, AsBefore, PageChange, elsewhere, told, arm_told, rested, answered, dropped, frame_dropped, registered, frame_asked, promised, settled, followed, adopted, subscribed, then_asked, micro_asked, rejected_taken, noted, Beginning, TheScript, ATimer, AFrame, AnIdle, ALateIdle, AListener, APost, AContinuation, AMicro, AReaction, called_by, role_of, taken, Waited, Moves, here, changing, calling, ending, flagging, running, framing, idling, enqueued_anew, fell_due, post_fell_due, delay_due, signal_due, DueChange, prio_told}
+use Rattle.page_laws.specs.Moves.{is_free, promise_changes, Places, places, PlaceChange, places_stay, task_queued, task_left, armed_again, signal_armed, timer_due, completed, idle_started, idle_queued, idle_left, answer_due, id_cleared, idle_armed, idle_due, Dropping, timer_dropped, idle_dropped, listener_dropped, task_dropped, AsBefore, PageChange, elsewhere, told, arm_told, rested, answered, dropped, frame_dropped, registered, frame_asked, promised, settled, followed, adopted, subscribed, then_asked, micro_asked, rejected_taken, noted, Beginning, TheScript, ATimer, AFrame, AnIdle, ALateIdle, AListener, APost, AContinuation, AMicro, AReaction, called_by, role_of, taken, Waited, Moves, here, changing, arming, calling, ending, flagging, running, framing, idling, enqueued_anew, fell_due, post_fell_due, delay_due, signal_due, DueChange, prio_told}
 use Rattle.page_types.specs.Tree.{Program}
 use Rattle.page_parts.specs.Setup.{Setup}
 use Rattle.page_parts.specs.HostClosures.{HostClosure}
@@ -391,7 +391,7 @@ subscribed-silent : (n : ℕ) (r : Reaction) (p : Page) → Each Silent (subscri
 subscribed-silent n r p =
     changed-silent (context p) [] n (Promises.subscribe n (the_promise p.notices.promises n) r) (record p.notices { rejected = without (λ m. m == n) p.notices.rejected; outstanding = without (λ m. m == n) p.notices.outstanding })
 
-change-fits : {p q : Page} → PageChange p q → Fits p → Fits q
+pub change-fits : {p q : Page} → PageChange p q → Fits p → Fits q
 change-fits {p = p} (elsewhere c b k) f = before-fits b (place-fits c p.notices p.frames.callbacks p.events f)
 change-fits {p = p} (told e h) f = silent-fits e p.now p.registrations (claims_of (places p) p.notices p.frames.callbacks) p.events (aside-silent e h) f
 change-fits {p = p} (arm_told r due level w) f = silent-fits (Arm r due level) p.now p.registrations (claims_of (places p) p.notices p.frames.callbacks) p.events refl f
@@ -544,7 +544,8 @@ job-fits p job others e f =
 
 pub moves-fit : {p q : Page} → Moves p q → Fits p → Fits q
 moves-fit here f = f
-moves-fit (changing a c) f = change-fits c (moves-fit a f)
+moves-fit (changing a c plain) f = change-fits c (moves-fit a f)
+moves-fit (arming a c e w) f = change-fits e (change-fits c (moves-fit a f))
 moves-fit (calling {q = q} a b w i) f = call-fits b q w i (moves-fit a f)
 moves-fit (ending {q = q} a e h) f = silent-fits e q.now q.registrations (claims_of (places q) q.notices q.frames.callbacks) q.events (end-silent e h) (moves-fit a f)
 moves-fit (flagging {q = q} {r = r} a x y z w u v t j) f =

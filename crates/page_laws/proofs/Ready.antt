@@ -25,7 +25,7 @@ use Rattle.page_parts.specs.Setup.{Setup}
 use Rattle.page_types.specs.Tree.{Program}
 use Rattle.page_model.specs.View.{runnable_at, view}
 use Rattle.page_laws.specs.History.{History, is_due_of, was_due}
-use Rattle.page_laws.specs.Moves.{IsIn, HasSteps, PeriodGoesOn, InPeriod, is_idle_task, Places, places, PlaceChange, places_stay, task_queued, task_left, armed_again, signal_armed, id_cleared, idle_armed, completed, idle_started, idle_queued, idle_left, DueChange, timer_due, delay_due, signal_due, idle_due, answer_due, Dropping, timer_dropped, idle_dropped, listener_dropped, FirstPlace, nowhere, at_listener, at_timer, at_delay, at_idle, at_host, AsBefore, PageChange, elsewhere, told, arm_told, rested, registered, promised, settled, followed, adopted, subscribed, micro_asked, then_asked, answered, dropped, frame_dropped, frame_asked, rejected_taken, noted, Beginning, TheScript, ATimer, AFrame, AnIdle, ALateIdle, AListener, APost, AContinuation, AMicro, AReaction, called_by, taken, task_dropped, enqueued_anew, fell_due, post_fell_due, prio_told, Moves, here, changing, calling, ending, flagging, running, framing, idling}
+use Rattle.page_laws.specs.Moves.{IsIn, HasSteps, PeriodGoesOn, InPeriod, is_idle_task, Places, places, PlaceChange, places_stay, task_queued, task_left, armed_again, signal_armed, id_cleared, idle_armed, completed, idle_started, idle_queued, idle_left, DueChange, timer_due, delay_due, signal_due, idle_due, answer_due, Dropping, timer_dropped, idle_dropped, listener_dropped, FirstPlace, nowhere, at_listener, at_timer, at_delay, at_idle, at_host, AsBefore, PageChange, elsewhere, told, arm_told, rested, registered, promised, settled, followed, adopted, subscribed, micro_asked, then_asked, answered, dropped, frame_dropped, frame_asked, rejected_taken, noted, Beginning, TheScript, ATimer, AFrame, AnIdle, ALateIdle, AListener, APost, AContinuation, AMicro, AReaction, called_by, taken, task_dropped, enqueued_anew, fell_due, post_fell_due, prio_told, Moves, here, changing, arming, calling, ending, flagging, running, framing, idling}
 use Rattle.page_laws.proofs.Framed.{false_true}
 use Rattle.page_laws.proofs.Idling.{made-goes, notices-goes, subscribed-goes, begins-go, change-goes, ended-goes, frame-goes_on, goes-same, job-goes_on}
 use Rattle.page_laws.proofs.Lines.{added, emit_each-events}
@@ -495,7 +495,8 @@ begins-ready (AReaction job others of x q) p r = same-ready p _ refl (two-due _ 
 
 pub moves-ready : {p q : Page} → Moves p q → Ready p → Ready q
 moves-ready here r = r
-moves-ready (changing a c) r = change-ready c (moves-ready a r)
+moves-ready (changing a c plain) r = change-ready c (moves-ready a r)
+moves-ready (arming a c d w) r = change-ready d (change-ready c (moves-ready a r))
 moves-ready (calling {q = q} a b w i) r = begins-ready b q (moves-ready a r)
 moves-ready (ending {q = q} a e h) r = same-ready q _ refl (more-due e q.now q.events) (ended-goes e q h) (moves-ready a r)
 moves-ready (flagging {q = q} {r = s} a x y z w u v t j) r = same-ready q s u (subst (Dues q.events) (sym y) (same-due q.events)) (goes-same q s j z y u) (moves-ready a r)

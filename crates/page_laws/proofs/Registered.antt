@@ -19,7 +19,7 @@ use Rattle.page_model.specs.Numbers.{Each, IsFor, made_by, timer_role}
 use Rattle.page_model.proofs.NumbersGrow.{numbered-last, length-last}
 use Rattle.page_laws.specs.History.{History, some_line, is_reg_of, kind_of, kind_in, has_kind, is_some_and, is_rest}
 use Rattle.page_laws.specs.CallLaws.{has_no_callback}
-use Rattle.page_laws.specs.Moves.{frame_asked, is_aside, is_end, promise_changes, PageChange, elsewhere, told, arm_told, rested, registered, promised, settled, followed, adopted, subscribed, micro_asked, then_asked, answered, dropped, frame_dropped, AsBefore, rejected_taken, noted, Beginning, TheScript, ATimer, AFrame, AnIdle, ALateIdle, AListener, APost, AContinuation, AMicro, AReaction, called_by, role_of, taken, Moves, here, changing, calling, ending, flagging, running, framing, idling, task_dropped, enqueued_anew, fell_due, post_fell_due, prio_told}
+use Rattle.page_laws.specs.Moves.{frame_asked, is_aside, is_end, promise_changes, PageChange, elsewhere, told, arm_told, rested, registered, promised, settled, followed, adopted, subscribed, micro_asked, then_asked, answered, dropped, frame_dropped, AsBefore, rejected_taken, noted, Beginning, TheScript, ATimer, AFrame, AnIdle, ALateIdle, AListener, APost, AContinuation, AMicro, AReaction, called_by, role_of, taken, Moves, here, changing, arming, calling, ending, flagging, running, framing, idling, task_dropped, enqueued_anew, fell_due, post_fell_due, prio_told}
 use Rattle.page_laws.proofs.Lines.{added, emit_each-events}
 use Rattle.page_laws.proofs.Scans.{Test, Kept}
 
@@ -300,7 +300,8 @@ same-registrations (AReaction job others of x r) p = refl
 
 moves-fit : {p q : Page} → Moves p q → Fits p → Fits q
 moves-fit here f = f
-moves-fit (changing a c) f = change-fits c (moves-fit a f)
+moves-fit (changing a c plain) f = change-fits c (moves-fit a f)
+moves-fit (arming a c e w) f = change-fits e (change-fits c (moves-fit a f))
 moves-fit (calling {q = q} a b w i) f =
     let same = same-registrations b q in
     subst (λ (xs : List Registration). KindsFit xs (record { time = (taken b q).now; event = Call (called_by b) } ∷ (taken b q).events)) (sym same)

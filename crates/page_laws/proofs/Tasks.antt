@@ -76,7 +76,7 @@ without_task-held k p h =
     stays (without_task k p) (put_tasks (made_by p) p (without (λ t. t.number == k) p.tasks) (Each-without (TaskIsGiven (made_by p)) (λ t. t.number == k) p.tasks (h InTasks)) h)
 
 pub without_task-onto : (k : ℕ) (p : Page) → Held (made_by p) p → Onto p (without_task k p)
-without_task-onto k p h = (without_task-held k p h, placed p (without_task k p) (task_left k) tt refl refl refl refl refl refl refl refl)
+without_task-onto k p h = (without_task-held k p h, placed p (without_task k p) (task_left k) tt tt refl refl refl refl refl refl refl refl)
 
 outstanding-onto : (k : ℕ) (p : Page) → Held (made_by p) p → IsGiven (length p.notices.promises) k → Onto p (outstanding_if_unhandled k p)
 outstanding-onto k p h x = (outstanding-held k p h x, outstanding-changes k p)
@@ -153,7 +153,7 @@ module _ (program : Program) where
       (λ live. afterwards-goes program m (invoke w t.registration false [] begun) (where_live t (timer_goes_on t))
       (invoke-goes program w a (ATimer source task t) false [] m g z (e, e1, live, x.own) x.registration o tt)
       (λ r le gr. where_live-goes t (timer_goes_on t) r gr (λ live. timer_goes_on-goes t r gr live (TimerTask-grows (made_by m.host) (made_by r.host) le.0 t x))))
-      (let b = on_page-reached m (taken (ATimer source task t)) g (o, placed m.host begun.host (task_left task.number) tt refl refl refl refl refl refl refl refl) in (b.0, b.1, tt))
+      (let b = on_page-reached m (taken (ATimer source task t)) g (o, placed m.host begun.host (task_left task.number) tt tt refl refl refl refl refl refl refl refl) in (b.0, b.1, tt))
     where
       branch_when-goes_from : (b : Bool) (m n : State) (then else : State → Done Page) → (b ≡ true → Goes program m (then n)) → Goes program m (else n) → Goes program m (branch b n then else)
       branch_when-goes_from true m n then else h k = h refl

@@ -178,7 +178,7 @@ comes_here m g x = (lasting m m (le-same m), g, x)
 
 -- a line between turns
 rested-onto : (e : Event) (m : State) → is_rest e ≡ true → is_sched_turn e ≡ false → is_period e ≡ false → Good m → Rests m → Onto m.host (emit e m.host)
-rested-onto e m h k none g x = (stays m.host g.0, with_change nothing (rested e h x.0.0 x.1 k x.2.0 (λ e. absurd (no_period (sym none ∙ e)))))
+rested-onto e m h k none g x = (stays m.host g.0, with_change nothing (rested e h x.0.0 x.1 k x.2.0 (λ e. absurd (no_period (sym none ∙ e)))) tt)
   where
     no_period : false ≡ true → ⊥
     no_period e = Prim.cc
@@ -234,7 +234,7 @@ module _ {C : Type 0} (program : Program) where
   pub ends-lands : (end : End) (c : C) (m : State) → Good m → Rests m → Lands m (ends end c m)
   ends-lands DoneEnd c m g x = (on_page-reached m (emit (EndLine DoneEnd)) g (rested-onto (EndLine DoneEnd) m refl refl refl g x)).0.1
   ends-lands ClockEnd c m g x = (on_page-reached m (emit (EndLine ClockEnd)) g (rested-onto (EndLine ClockEnd) m refl refl refl g x)).0.1
-  ends-lands FuelEnd c m g x = changing here (told (EndLine FuelEnd) refl)
+  ends-lands FuelEnd c m g x = changing here (told (EndLine FuelEnd) refl) tt
 
   pub choose-lands : (b : Bool) (then else : State → Turned C) (m : State) → Lands m (then m) → Lands m (else m) → Lands m (choose_turned b then else m)
   choose-lands true then else m h k = h
@@ -253,13 +253,13 @@ module _ {C : Type 0} (program : Program) where
         by_end (Gives v r) h k = (lasting m r h.0, h.1, (at_top-later m r h.0.2 h.0.3 z, k, calm-later m r h.0.1 h.0.3 z.2 y))
         by_end (Throws v r) h k = elim k [ ]
         by_end (Returns v r) h k = elim k [ ]
-        by_end (OutOfFuel r) h k = changing h (told (EndLine FuelEnd) refl)
+        by_end (OutOfFuel r) h k = changing h (told (EndLine FuelEnd) refl) tt
 
     task_done-lands : (c : C) (m : State) (d : Done Page) → AtTop m → Calm m → Goes program m d → Lands m (task_done call c d)
     task_done-lands c m (Gives v r) z y h = lands-then m r (goes_on c (after_task call r)) (lasting m r h.0) (after_task-lands c r h.1 (at_top-later m r h.0.2 h.0.3 z) (calm-later m r h.0.1 h.0.3 z.2 y))
     task_done-lands c m (Throws v r) z y h = lands-then m r (goes_on c (after_task call r)) (lasting m r h.0) (after_task-lands c r h.1 (at_top-later m r h.0.2 h.0.3 z) (calm-later m r h.0.1 h.0.3 z.2 y))
     task_done-lands c m (Returns v r) z y h = lands-then m r (goes_on c (after_task call r)) (lasting m r h.0) (after_task-lands c r h.1 (at_top-later m r h.0.2 h.0.3 z) (calm-later m r h.0.1 h.0.3 z.2 y))
-    task_done-lands c m (OutOfFuel r) z y h = changing h (told (EndLine FuelEnd) refl)
+    task_done-lands c m (OutOfFuel r) z y h = changing h (told (EndLine FuelEnd) refl) tt
 
     pub turn_line-comes : (source : Option Source) (m : State) → is_sched source ≡ false → Good m → Rests m → Comes m (turn_line source m)
     turn_line-comes source m k g x = comes_by m (λ p. emit (Turn p.turns source) p) g x (rested-onto (Turn m.host.turns source) m refl k refl g x) refl
@@ -343,7 +343,7 @@ module _ {C : Type 0} (program : Program) where
     with_turn_fuel-lands zero m c g x = ends-lands FuelEnd c m g x
     with_turn_fuel-lands (suc left) m c g x =
         let counted = counted_turn left m in
-        let row : Moves m.host counted.host = changing here (elsewhere places_stay (record { notices = refl; performing = refl; events = refl; registrations = refl; frames = refl; calls = refl; aborted = λ s h. h; scheduling = record { priorities = λ s. refl; states = refl; tasks_made = omega arith; idle_start = refl } }) tt) in
+        let row : Moves m.host counted.host = changing here (elsewhere places_stay (record { notices = refl; performing = refl; events = refl; registrations = refl; frames = refl; calls = refl; aborted = λ s h. h; scheduling = record { priorities = λ s. refl; states = refl; tasks_made = omega arith; idle_start = refl } }) tt) tt in
         lands-then m counted (step_four rules call (view m.host) counted c) (Grows-same (made_by m.host), row, (refl, refl), kept-same m.host counted.host refl refl refl) (step_four-lands (view m.host) counted c refl g (x.0, x.1, (x.2.0, moves-ready row x.2.1)))
 
     pub step_three-lands : (until : ℕ) (c : C) (m : State) → Good m → Rests m → Lands m (step_three rules call until c m)

@@ -1,5 +1,5 @@
 -- What happens to a page, move by move: each move changes it once, with its lines.
-use Rattle.std.specs.Prelude.{◌≡◌, ◌⊎◌, ◌≤◌, ℕ, suc, ℤ, Bool, true, false, not, ◌&&◌, if◌then◌else◌, List, [], ◌∷◌, length, nat_lt, Option, Some, None, Result, ◌==◌, ◌++◌, ◌||◌, slice_get, slice_set}
+use Rattle.std.specs.Prelude.{◌≡◌, ◌⊎◌, ◌≤◌, ◌+◌, ◌*◌, ℕ, suc, ℤ, Bool, true, false, not, ◌&&◌, if◌then◌else◌, List, [], ◌∷◌, length, nat_lt, Option, Some, None, Result, ◌==◌, ◌++◌, ◌||◌, slice_get, slice_set}
 use Rattle.page_types.specs.declared.End.TheVariants.{Fuel}
 use Rattle.page_types.specs.Events.{QueueName, Event, Ret, Throw, Report, Log, Turn, Arm, Due, Drop, IdleLine, Frame, Reg, Enq, Prio, Abort, Host, Unhandled, Handled, EndLine, Send}
 use Rattle.page_types.specs.declared.Source.{Source}
@@ -448,10 +448,51 @@ pub data PageChange : Page → Page → Type 0 where
   -- a promise joins the outstanding ones
   noted : {p : Page} (n : ℕ) → PageChange p (record p { notices = note_outstanding n p.notices })
 
--- changes one after another
+-- whether a first place is one at which a registration is armed, for this due time
+abbrev pub FirstArms : {made : List Registration} {prios : Prios} {r : ℕ} {x y : Places} → FirstPlace made prios r x y → (due : ℕ) → Type 0
+FirstArms (at_timer a t e fresh) due = due ≡ a.due
+FirstArms (at_delay ms now q source e h) due = due ≡ now + ms * 1000
+FirstArms (at_host c a e there live) due = due ≡ a.due
+FirstArms u due = ⊥
+
+-- whether a change of the places arms this registration for this due time
+abbrev pub PlaceArms : {made : List Registration} {x y : Places} → PlaceChange made x y → (r due : ℕ) → Type 0
+PlaceArms (armed_again a t role there own) r due = r ≡ t.registration × due ≡ a.due
+PlaceArms (signal_armed ms now q s) r due = r ≡ q × due ≡ now + ms * 1000
+PlaceArms (idle_armed t most own) r due = r ≡ t.registration × due ≡ t.due
+PlaceArms c r due = ⊥
+
+-- a change and the line that tells what it arms
+abbrev pub Tells : {p q r : Page} → PageChange p q → PageChange q r → Type 0
+Tells {p = p} (registered kind x e unframed u b) (arm_told r due level w) = r ≡ suc (length p.registrations) × FirstArms u due
+Tells (elsewhere c b k) (arm_told r due level w) = PlaceArms c r due
+Tells a b = ⊥
+
+-- whether a first place, and a change of the places, arm nothing
+abbrev pub FirstIsPlain : {made : List Registration} {prios : Prios} {r : ℕ} {x y : Places} → FirstPlace made prios r x y → Type 0
+FirstIsPlain (at_timer a t e fresh) = ⊥
+FirstIsPlain (at_delay ms now q source e h) = ⊥
+FirstIsPlain (at_host c a e there live) = ⊥
+FirstIsPlain u = Unit {0}
+
+abbrev pub PlaceIsPlain : {made : List Registration} {x y : Places} → PlaceChange made x y → Type 0
+PlaceIsPlain (armed_again a t role there own) = ⊥
+PlaceIsPlain (signal_armed ms now q s) = ⊥
+PlaceIsPlain (idle_armed t most own) = ⊥
+PlaceIsPlain c = Unit {0}
+
+-- a change that arms nothing
+abbrev pub IsPlain : {p q : Page} → PageChange p q → Type 0
+IsPlain (registered kind x e unframed u b) = FirstIsPlain u
+IsPlain (elsewhere c b k) = PlaceIsPlain c
+IsPlain (arm_told r due level w) = ⊥
+IsPlain c = Unit {0}
+
+-- changes one after another, where each that arms is told of at once
 pub data Changes : Page → Page → Type 0 where
   nothing : {p : Page} → Changes p p
-  with_change : {p q r : Page} → Changes p q → PageChange q r → Changes p r
+  with_change : {p q r : Page} → Changes p q → (c : PageChange q r) → IsPlain c → Changes p r
+  with_arm : {p q r s : Page} → Changes p q → (c : PageChange q r) (d : PageChange r s) → Tells c d → Changes p s
 
 -- ---- Ours: how a call begins
 
@@ -538,7 +579,8 @@ Waited (AReaction job others of x r) p =
 -- period starts, and the lines of frames.
 pub data Moves : Page → Page → Type 0 where
   here : {p : Page} → Moves p p
-  changing : {p q r : Page} → Moves p q → PageChange q r → Moves p r
+  changing : {p q r : Page} → Moves p q → (c : PageChange q r) → IsPlain c → Moves p r
+  arming : {p q r s : Page} → Moves p q → (c : PageChange q r) (d : PageChange r s) → Tells c d → Moves p s
   calling : {p q : Page} → Moves p q → (b : Beginning) → Waited b q → IsFor (role_of b) (made_by q) (called_by b)
       → Moves p (call_begun (called_by b) (taken b q))
   ending : {p q : Page} → Moves p q → (e : Event) → is_end e ≡ true → Moves p (call_ended e q)
