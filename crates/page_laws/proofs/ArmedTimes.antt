@@ -1,5 +1,5 @@
 -- What the lines tell to be armed waits in an active timer with this due time.
-use Rattle.std.proofs.Common.{◌≡◌, ◌⊎◌, inl, inr, ℕ, zero, suc, pred, ◌≤◌, Bool, true, false, List, [], ◌∷◌, ◌++◌, Option, Some, None, refl, sym, subst, ap, ◌∙◌, cond, length, arith, eqb-true, unwrap_or}
+use Rattle.std.proofs.Common.{◌≡◌, ◌⊎◌, inl, inr, ℕ, zero, suc, pred, ◌≤◌, Bool, true, false, List, [], ◌∷◌, Option, Some, None, refl, sym, subst, ap, ◌∙◌, cond, length, arith, eqb-true, unwrap_or}
 use Rattle.std.specs.Prelude.{◌==◌, find, option_map}
 use Rattle.std.proofs.lemmas.Bool.{eq-eqb}
 use Rattle.page_types.specs.declared.RegKind.{RegKind}
@@ -14,7 +14,7 @@ use Rattle.page_parts.specs.TaskSignals.{Prios}
 use Rattle.page_parts.specs.Words.{and_last, without}
 use Rattle.page_parts.specs.Promises.{Settled, Fulfilled, Failed, PromiseJob, Reaction, the_promise}
 use Rattle.page_parts.specs.Promises as Promises
-use Rattle.page_parts.specs.Notices.{Notices, Noticed, changed, queue_jobs, settle_line, subscribe_promise, queue_micro, Context}
+use Rattle.page_parts.specs.Notices.{Notices, Noticed, changed, subscribe_promise, queue_micro, Context}
 use Rattle.page_model.specs.State.{Page, Role, ScriptRole, OfKind, Registration, Completion, Completing, emit, emit_each, on_notices, context, caller}
 use Rattle.page_model.specs.Invoke.{register_as, call_begun}
 use Rattle.page_model.specs.PageTime.{completion_of, deadline}
@@ -24,7 +24,7 @@ use Rattle.page_model.proofs.NumbersGrow.{length-last}
 use Rattle.page_laws.specs.History.{History, armed_for, armed_in, is_rest}
 use Rattle.page_laws.specs.Moves.{is_aside, is_end, role_at, is_delayed_role, IsIn, completes_for, completions_but, ArmedAt, by_timer, by_idle, by_host, Places, places, PlaceChange, places_stay, task_queued, task_left, armed_again, signal_armed, id_cleared, idle_armed, completed, idle_started, idle_queued, idle_left, DueChange, timer_due, delay_due, signal_due, idle_due, answer_due, Dropping, timer_dropped, idle_dropped, listener_dropped, FirstPlace, nowhere, at_listener, at_timer, at_delay, at_idle, at_host, promise_changes, AsBefore, PageChange, elsewhere, told, arm_told, rested, registered, promised, settled, followed, adopted, subscribed, micro_asked, then_asked, answered, dropped, frame_dropped, frame_asked, rejected_taken, noted, Beginning, TheScript, ATimer, AFrame, AnIdle, ALateIdle, AListener, APost, AContinuation, AMicro, AReaction, called_by, taken, task_dropped, enqueued_anew, fell_due, post_fell_due, prio_told, Moves, here, changing, arming, calling, ending, flagging, running, framing, idling}
 use Rattle.page_laws.proofs.Framed.{false_true}
-use Rattle.page_laws.proofs.Lines.{added, emit_each-events}
+use Rattle.page_laws.proofs.Lines.{changed-each, added, emit_each-events}
 use Rattle.page_laws.proofs.Ready.{emit_each-places, in-left}
 use Rattle.page_laws.proofs.Registered as names
 use Rattle.page_laws.proofs.Registered.{at_number}
@@ -318,25 +318,8 @@ added-fits : (now : ℕ) (es : List Event) (xs : List Registration) (x : Places)
 added-fits now [] xs x past h f = f
 added-fits now (e ∷ es) xs x past h f = added-fits now es xs x (record { time = now; event = e } ∷ past) h.1 (quiet-fits e now xs x past h.0 f)
 
-Each-append : (xs ys : List Event) → Each Quiet xs → Each Quiet ys → Each Quiet (xs ++ ys)
-Each-append [] ys h k = k
-Each-append (x ∷ xs) ys h k = (h.0, Each-append xs ys h.1 k)
-
-settle_line-quiet : (names : List (List ℕ)) (n : ℕ) (o : Option Settled) → Each Quiet (settle_line names n o)
-settle_line-quiet names n None = tt
-settle_line-quiet names n (Some (Fulfilled v)) = (refl, tt)
-settle_line-quiet names n (Some (Failed v)) = (refl, tt)
-
-if_settled-quiet : (b : Bool) (lines : List Event) → Each Quiet lines → Each Quiet (cond b lines [])
-if_settled-quiet true lines h = h
-if_settled-quiet false lines h = tt
-
-queue_jobs-quiet : (current : Context) (jobs : List PromiseJob) (s : Notices) → Each Quiet (queue_jobs current jobs s).lines
-queue_jobs-quiet current [] s = tt
-queue_jobs-quiet current (j ∷ jobs) s = (refl, queue_jobs-quiet current jobs _)
-
 changed-quiet : (current : Context) (names : List (List ℕ)) (n : ℕ) (c : Promises.Change) (s : Notices) → Each Quiet (changed current names n c s).lines
-changed-quiet current names n c s = Each-append (cond c.settled (settle_line names n c.promise.outcome) []) _ (if_settled-quiet c.settled _ (settle_line-quiet names n c.promise.outcome)) (queue_jobs-quiet current c.jobs _)
+changed-quiet = changed-each Quiet (λ n ok bs. refl) (λ j what. refl)
 
 notices-fit : (f : Notices → Noticed) (p : Page) → Each Quiet (f p.notices).lines → Fits p → Fits (on_notices f p)
 notices-fit f p h k =

@@ -19,7 +19,7 @@ use Rattle.page_parts.specs.TaskSignals.{Prios}
 use Rattle.page_parts.specs.Words.{and_last, without, is_empty}
 use Rattle.page_parts.specs.Promises.{Settled, Fulfilled, Failed, PromiseJob, Reaction, the_promise}
 use Rattle.page_parts.specs.Promises as Promises
-use Rattle.page_parts.specs.Notices.{Notices, Noticed, changed, queue_jobs, settle_line, subscribe_promise, queue_micro, Context}
+use Rattle.page_parts.specs.Notices.{Notices, Noticed, changed, subscribe_promise, queue_micro, Context}
 use Rattle.page_model.specs.State.{Page, Role, ScriptRole, OfKind, Registration, emit, emit_each, on_notices, context, caller}
 use Rattle.page_model.specs.Invoke.{register_as, call_begun}
 use Rattle.page_model.specs.PageTime.{deadline}
@@ -32,7 +32,7 @@ use Rattle.page_laws.specs.Moves.{is_aside, is_end, role_at, is_delayed_role, Is
 use Rattle.page_laws.proofs.ArmedTimes as armed
 use Rattle.page_laws.proofs.ArmedTimes.{ArmedFit, AtTimer, first-armed, moves-armed}
 use Rattle.page_laws.proofs.Framed.{false_true}
-use Rattle.page_laws.proofs.Lines.{added, emit_each-events}
+use Rattle.page_laws.proofs.Lines.{changed-each, added, emit_each-events}
 use Rattle.page_laws.proofs.Once as once
 use Rattle.page_laws.proofs.Ready.{in-left}
 use Rattle.page_laws.proofs.Moved.{in-either}
@@ -493,25 +493,8 @@ added-fits : (now : ℕ) (es : List Event) (xs : List Registration) (i : Idle) (
 added-fits now [] xs i past h f = f
 added-fits now (e ∷ es) xs i past h f = added-fits now es xs i (record { time = now; event = e } ∷ past) h.1 (plain-fits e now xs i past h.0 f)
 
-Each-append : (xs ys : List Event) → Each Plain xs → Each Plain ys → Each Plain (xs ++ ys)
-Each-append [] ys h k = k
-Each-append (x ∷ xs) ys h k = (h.0, Each-append xs ys h.1 k)
-
-settle_line-plain : (names : List (List ℕ)) (n : ℕ) (o : Option Settled) → Each Plain (settle_line names n o)
-settle_line-plain names n None = tt
-settle_line-plain names n (Some (Fulfilled v)) = (refl, tt)
-settle_line-plain names n (Some (Failed v)) = (refl, tt)
-
-if_settled-plain : (b : Bool) (lines : List Event) → Each Plain lines → Each Plain (cond b lines [])
-if_settled-plain true lines h = h
-if_settled-plain false lines h = tt
-
-queue_jobs-plain : (current : Context) (jobs : List PromiseJob) (s : Notices) → Each Plain (queue_jobs current jobs s).lines
-queue_jobs-plain current [] s = tt
-queue_jobs-plain current (j ∷ jobs) s = (refl, queue_jobs-plain current jobs _)
-
 changed-plain : (current : Context) (names : List (List ℕ)) (n : ℕ) (c : Promises.Change) (s : Notices) → Each Plain (changed current names n c s).lines
-changed-plain current names n c s = Each-append (cond c.settled (settle_line names n c.promise.outcome) []) _ (if_settled-plain c.settled _ (settle_line-plain names n c.promise.outcome)) (queue_jobs-plain current c.jobs _)
+changed-plain = changed-each Plain (λ n ok bs. refl) (λ j what. refl)
 
 notices-fit : (f : Notices → Noticed) (p : Page) → Each Plain (f p.notices).lines → Fits p → Fits (on_notices f p)
 notices-fit f p h k =

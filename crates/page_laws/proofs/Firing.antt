@@ -1,5 +1,5 @@
 -- A timer is called no more often than it is due: each task of it and each call of it has a due line of its own.
-use Rattle.std.proofs.Common.{◌≡◌, ℕ, zero, suc, ◌≤◌, ◌<◌, ◌+◌, Bool, true, false, not, ◌||◌, List, [], ◌∷◌, ◌++◌, Option, Some, None, refl, sym, subst, ap, ◌∙◌, cond, length, arith, eqb-true, filter, nat_lt, lt-ltb}
+use Rattle.std.proofs.Common.{◌≡◌, ℕ, zero, suc, ◌≤◌, ◌<◌, ◌+◌, Bool, true, false, not, ◌||◌, List, [], ◌∷◌, Option, Some, None, refl, sym, subst, ap, ◌∙◌, cond, length, arith, eqb-true, filter, nat_lt, lt-ltb}
 use Rattle.std.specs.Prelude.{◌==◌}
 use Rattle.std.proofs.lemmas.Bool.{eq-eqb}
 use Rattle.page_types.specs.declared.RegKind.{RegKind}
@@ -15,7 +15,7 @@ use Rattle.page_parts.specs.TaskSignals.{Prios}
 use Rattle.page_parts.specs.Words.{and_last, without}
 use Rattle.page_parts.specs.Promises.{Settled, Fulfilled, Failed, PromiseJob, Reaction, the_promise}
 use Rattle.page_parts.specs.Promises as Promises
-use Rattle.page_parts.specs.Notices.{Notices, Noticed, changed, queue_jobs, settle_line, subscribe_promise, queue_micro, Context}
+use Rattle.page_parts.specs.Notices.{Notices, Noticed, changed, subscribe_promise, queue_micro, Context}
 use Rattle.page_model.specs.State.{Page, Role, ScriptRole, OfKind, Registration, Task, TimerTask, Steps, RunTimer, IdleTimeout, AnswerHost, emit, emit_each, on_notices, context, caller}
 use Rattle.page_model.specs.Invoke.{register_as, call_begun}
 use Rattle.page_model.specs.PageTime.{deadline, first_task}
@@ -27,7 +27,7 @@ use Rattle.page_laws.specs.TimerLaws.{keeps_firing}
 use Rattle.page_laws.specs.Moves.{is_aside, is_end, is_free, role_at, Places, places, PlaceChange, places_stay, task_queued, task_left, armed_again, signal_armed, id_cleared, idle_armed, completed, idle_started, idle_queued, idle_left, Dropping, timer_dropped, idle_dropped, listener_dropped, FirstPlace, nowhere, at_listener, at_timer, at_delay, at_idle, at_host, DueChange, timer_due, delay_due, signal_due, idle_due, answer_due, promise_changes, AsBefore, PageChange, elsewhere, told, arm_told, rested, registered as made_one, promised, settled, followed, adopted, subscribed, micro_asked, then_asked, answered, dropped, frame_dropped, frame_asked, rejected_taken, noted, Beginning, TheScript, ATimer, AFrame, AnIdle, ALateIdle, AListener, APost, AContinuation, AMicro, AReaction, called_by, role_of, taken, Waited, task_dropped, enqueued_anew, fell_due, post_fell_due, prio_told, Moves, here, changing, arming, calling, ending, flagging, running, framing, idling}
 use Rattle.page_laws.proofs.ArmedTimes.{kind-given}
 use Rattle.page_laws.proofs.Framed.{false_true}
-use Rattle.page_laws.proofs.Lines.{added, emit_each-events}
+use Rattle.page_laws.proofs.Lines.{changed-each, added, emit_each-events}
 use Rattle.page_laws.proofs.Once as once
 use Rattle.page_laws.proofs.Registered.{KindsFit, at_number, kind_in_role}
 use Rattle.page_laws.proofs.Scans.{Test, Kept}
@@ -317,25 +317,8 @@ added-fits : (now : ℕ) (es : List Event) (xs : List Registration) (ts : List T
 added-fits now [] xs ts past h f = f
 added-fits now (e ∷ es) xs ts past h f = added-fits now es xs ts (record { time = now; event = e } ∷ past) h.1 (still-fits e now xs ts past h.0 f)
 
-Each-append : (xs ys : List Event) → Each Still xs → Each Still ys → Each Still (xs ++ ys)
-Each-append [] ys h k = k
-Each-append (x ∷ xs) ys h k = (h.0, Each-append xs ys h.1 k)
-
-settle_line-still : (names : List (List ℕ)) (n : ℕ) (o : Option Settled) → Each Still (settle_line names n o)
-settle_line-still names n None = tt
-settle_line-still names n (Some (Fulfilled v)) = (refl, tt)
-settle_line-still names n (Some (Failed v)) = (refl, tt)
-
-if_settled-still : (b : Bool) (lines : List Event) → Each Still lines → Each Still (cond b lines [])
-if_settled-still true lines h = h
-if_settled-still false lines h = tt
-
-queue_jobs-still : (current : Context) (jobs : List PromiseJob) (s : Notices) → Each Still (queue_jobs current jobs s).lines
-queue_jobs-still current [] s = tt
-queue_jobs-still current (j ∷ jobs) s = (refl, queue_jobs-still current jobs _)
-
 changed-still : (current : Context) (names : List (List ℕ)) (n : ℕ) (c : Promises.Change) (s : Notices) → Each Still (changed current names n c s).lines
-changed-still current names n c s = Each-append (cond c.settled (settle_line names n c.promise.outcome) []) _ (if_settled-still c.settled _ (settle_line-still names n c.promise.outcome)) (queue_jobs-still current c.jobs _)
+changed-still = changed-each Still (λ n ok bs. refl) (λ j what. refl)
 
 notices-fit : (f : Notices → Noticed) (p : Page) → Each Still (f p.notices).lines → Fits p → Fits (on_notices f p)
 notices-fit f p h k =

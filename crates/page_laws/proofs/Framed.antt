@@ -1,5 +1,5 @@
 -- What each change and each call does to the frame callbacks that wait: those that stay keep their mark, and those that come are new.
-use Rattle.std.proofs.Common.{◌≡◌, ◌⊎◌, inl, inr, ℕ, suc, ◌≤◌, ◌<◌, Bool, true, false, not, ◌&&◌, List, [], ◌∷◌, ◌++◌, Option, Some, None, refl, sym, subst, ap, ◌∙◌, cond, length, arith, eqb-true}
+use Rattle.std.proofs.Common.{◌≡◌, ◌⊎◌, inl, inr, ℕ, suc, ◌≤◌, ◌<◌, Bool, true, false, not, ◌&&◌, List, [], ◌∷◌, Some, None, refl, sym, subst, ap, ◌∙◌, cond, length, arith, eqb-true}
 use Rattle.std.specs.Prelude.{◌==◌, if◌then◌else◌}
 use Rattle.std.proofs.lemmas.Bool.{eq-eqb}
 use Rattle.page_types.specs.declared.RegKind.{RegKind}
@@ -10,7 +10,7 @@ use Rattle.page_parts.specs.Frames.{Callback, Frames, request, cancel}
 use Rattle.page_parts.specs.Words.{and_last, without}
 use Rattle.page_parts.specs.Promises.{Settled, Fulfilled, Failed, PromiseJob, Reaction}
 use Rattle.page_parts.specs.Promises as Promises
-use Rattle.page_parts.specs.Notices.{Notices, Noticed, changed, queue_jobs, settle_line, subscribe_promise, queue_micro, Context}
+use Rattle.page_parts.specs.Notices.{Notices, Noticed, changed, subscribe_promise, queue_micro, Context}
 use Rattle.page_parts.specs.Promises.{the_promise}
 use Rattle.page_model.specs.State.{Page, Registration, emit, emit_each, on_notices, context}
 use Rattle.page_model.specs.Invoke.{register_as, call_begun, call_ended}
@@ -18,7 +18,7 @@ use Rattle.page_model.specs.Numbers.{Each}
 use Rattle.page_model.proofs.NumbersGrow.{length-last}
 use Rattle.page_laws.specs.History.{History, is_rest}
 use Rattle.page_laws.specs.Moves.{is_aside, is_end, marked, marked_by, IsIn, FrameIsOver, promise_changes, AsBefore, PageChange, elsewhere, told, arm_told, rested, registered, promised, settled, followed, adopted, subscribed, micro_asked, then_asked, answered, dropped, frame_dropped, frame_asked, rejected_taken, noted, Changes, nothing, with_change, with_arm, Beginning, TheScript, ATimer, AFrame, AnIdle, ALateIdle, AListener, APost, AContinuation, AMicro, AReaction, called_by, taken, Waited, task_dropped, enqueued_anew, fell_due, post_fell_due, prio_told, Moves, here, changing, arming, calling, ending, flagging, running, framing, idling}
-use Rattle.page_laws.proofs.Lines.{added, emit_each-events}
+use Rattle.page_laws.proofs.Lines.{changed-each, added, emit_each-events}
 
 -- ---- lists of callbacks
 
@@ -278,26 +278,8 @@ added-unmarking : (now : ℕ) (es : List Event) (past : History) (r : ℕ) → E
 added-unmarking now [] past r h = refl
 added-unmarking now (e ∷ es) past r h = added-unmarking now es (record { time = now; event = e } ∷ past) r h.1 ∙ h.0 r (marked past r)
 
-Each-append : (xs ys : List Event) → Each Unmarking xs → Each Unmarking ys → Each Unmarking (xs ++ ys)
-Each-append [] ys h k = k
-Each-append (x ∷ xs) ys h k = (h.0, Each-append xs ys h.1 k)
-
-settle_line-unmarking : (names : List (List ℕ)) (n : ℕ) (o : Option Settled) → Each Unmarking (settle_line names n o)
-settle_line-unmarking names n None = tt
-settle_line-unmarking names n (Some (Fulfilled v)) = (λ r b. refl, tt)
-settle_line-unmarking names n (Some (Failed v)) = (λ r b. refl, tt)
-
-if_settled-unmarking : (b : Bool) (lines : List Event) → Each Unmarking lines → Each Unmarking (cond b lines [])
-if_settled-unmarking true lines h = h
-if_settled-unmarking false lines h = tt
-
-queue_jobs-unmarking : (current : Context) (jobs : List PromiseJob) (s : Notices) → Each Unmarking (queue_jobs current jobs s).lines
-queue_jobs-unmarking current [] s = tt
-queue_jobs-unmarking current (j ∷ jobs) s = (λ r b. refl, queue_jobs-unmarking current jobs _)
-
 changed-unmarking : (current : Context) (names : List (List ℕ)) (n : ℕ) (c : Promises.Change) (s : Notices) → Each Unmarking (changed current names n c s).lines
-changed-unmarking current names n c s =
-    Each-append (cond c.settled (settle_line names n c.promise.outcome) []) _ (if_settled-unmarking c.settled _ (settle_line-unmarking names n c.promise.outcome)) (queue_jobs-unmarking current c.jobs _)
+changed-unmarking = changed-each Unmarking (λ n ok bs. λ r b. refl) (λ j what. λ r b. refl)
 
 -- ---- changes
 

@@ -9,7 +9,7 @@ use Rattle.page_parts.specs.Words.{and_last, without, is_there}
 use Rattle.page_parts.specs.HostClosures.{HostClosure, fired}
 use Rattle.page_parts.specs.Promises.{Settled, Fulfilled, Failed, Reaction, PromiseJob, the_promise}
 use Rattle.page_parts.specs.Promises as Promises
-use Rattle.page_parts.specs.Notices.{Context, Notices, changed, queue_jobs, settle_line, subscribe_promise}
+use Rattle.page_parts.specs.Notices.{Context, Notices, changed, subscribe_promise}
 use Rattle.page_model.specs.State.{Role, ScriptRole, OfKind, Registration, Task, HostTask, Steps, AnswerHost, HostAnswer}
 use Rattle.page_model.specs.PageSignals.{is_for, host_task_of, drop_closure, drop_at, closure_dropped, task_in_answer, task_in_net}
 use Rattle.page_model.specs.Numbers.{Each, IfThere}
@@ -21,7 +21,7 @@ use Rattle.page_laws.specs.Moves.{is_aside, is_end, is_free, role_at, fired_at}
 use Rattle.page_laws.proofs.Cancelled.{unless, made-kind, no_kind, answer_claims}
 use Rattle.page_laws.proofs.Finding.{false_true, true_false, found-counts, same_number, found-passes}
 use Rattle.page_laws.proofs.HostCounts.{answers, live_host, live_hosts, times, dues, total-most, total-more, answers-pass, made-live, due-live, host-live, drop-live, drop-none, kind-times, dues-more, dues-none}
-use Rattle.page_laws.proofs.Lines.{added}
+use Rattle.page_laws.proofs.Lines.{changed-each, added}
 use Rattle.page_laws.proofs.Registered.{At, KindsFit, at_number, kind_in_role}
 use Rattle.page_laws.proofs.Scans.{Test, Kept}
 use Rattle.page_laws.proofs.Totals.{one_if, total, total-last, total-without, IsLess, less-found, less-within}
@@ -206,25 +206,8 @@ pub added-fits : (now : ℕ) (es : List Event) (xs : List Registration) (ts : Li
 added-fits now [] xs ts as' hosts past h f = f
 added-fits now (e ∷ es) xs ts as' hosts past h f = added-fits now es xs ts as' hosts (record { time = now; event = e } ∷ past) h.1 (silent-fits e now xs ts as' hosts past h.0 f)
 
-Each-append : (xs ys : List Event) → Each Silent xs → Each Silent ys → Each Silent (xs ++ ys)
-Each-append [] ys h k = k
-Each-append (x ∷ xs) ys h k = (h.0, Each-append xs ys h.1 k)
-
-settle_line-silent : (names : List (List ℕ)) (n : ℕ) (o : Option Settled) → Each Silent (settle_line names n o)
-settle_line-silent names n None = tt
-settle_line-silent names n (Some (Fulfilled v)) = (refl, tt)
-settle_line-silent names n (Some (Failed v)) = (refl, tt)
-
-if_settled-silent : (b : Bool) (lines : List Event) → Each Silent lines → Each Silent (cond b lines [])
-if_settled-silent true lines h = h
-if_settled-silent false lines h = tt
-
-queue_jobs-silent : (current : Context) (jobs : List PromiseJob) (s : Notices) → Each Silent (queue_jobs current jobs s).lines
-queue_jobs-silent current [] s = tt
-queue_jobs-silent current (j ∷ jobs) s = (refl, queue_jobs-silent current jobs _)
-
 pub changed-silent : (current : Context) (names : List (List ℕ)) (n : ℕ) (c : Promises.Change) (s : Notices) → Each Silent (changed current names n c s).lines
-changed-silent current names n c s = Each-append (cond c.settled (settle_line names n c.promise.outcome) []) _ (if_settled-silent c.settled _ (settle_line-silent names n c.promise.outcome)) (queue_jobs-silent current c.jobs _)
+changed-silent = changed-each Silent (λ n ok bs. refl) (λ j what. refl)
 
 pub subscribed-silent : (current : Context) (n : ℕ) (r : Reaction) (s : Notices) → Each Silent (subscribe_promise current n r s).lines
 subscribed-silent current n r s =

@@ -1,5 +1,5 @@
 -- What each change and each call does to the idle period that goes on: nothing but a new idle period start ends it.
-use Rattle.std.proofs.Common.{◌≡◌, ◌⊎◌, inl, inr, ℕ, suc, ◌≤◌, Bool, true, false, ◌||◌, List, [], ◌∷◌, ◌++◌, Option, Some, None, refl, sym, subst, ap, ◌∙◌, cond, length, arith, eqb-true}
+use Rattle.std.proofs.Common.{◌≡◌, ◌⊎◌, inl, inr, ℕ, suc, ◌≤◌, Bool, true, false, ◌||◌, List, [], ◌∷◌, Option, Some, refl, sym, subst, ap, ◌∙◌, cond, length, arith, eqb-true}
 use Rattle.std.specs.Prelude.{◌==◌}
 use Rattle.page_types.specs.declared.RegKind.{RegKind}
 use Rattle.page_types.specs.declared.RegKind.TheVariants as kind
@@ -10,7 +10,7 @@ use Rattle.page_parts.specs.TaskSignals.{Prios}
 use Rattle.page_parts.specs.Words.{and_last, without}
 use Rattle.page_parts.specs.Promises.{Settled, Fulfilled, Failed, PromiseJob, Reaction}
 use Rattle.page_parts.specs.Promises as Promises
-use Rattle.page_parts.specs.Notices.{Notices, Noticed, WaitingJob, changed, queue_jobs, settle_line, subscribe_promise, queue_micro, Context}
+use Rattle.page_parts.specs.Notices.{Notices, Noticed, WaitingJob, changed, subscribe_promise, queue_micro, Context}
 use Rattle.page_parts.specs.Promises.{the_promise}
 use Rattle.page_model.specs.State.{Page, Registration, emit, emit_each, on_notices, context}
 use Rattle.page_model.specs.Invoke.{register_as, call_begun, call_ended, job_begun}
@@ -20,7 +20,7 @@ use Rattle.page_laws.specs.History.{History, is_period, is_reg_of, is_rest, sinc
 use Rattle.page_laws.specs.TimerLaws.{period_in, period_start}
 use Rattle.page_laws.specs.Moves.{is_aside, is_end, IsIn, PeriodGoesOn, InPeriod, Places, places, PlaceChange, places_stay, task_queued, task_left, armed_again, signal_armed, id_cleared, idle_armed, completed, idle_started, idle_queued, idle_left, DueChange, timer_due, delay_due, signal_due, idle_due, answer_due, Dropping, timer_dropped, idle_dropped, listener_dropped, FirstPlace, nowhere, at_listener, at_timer, at_delay, at_idle, at_host, scheduling_of, Scheduling, promise_changes, AsBefore, PageChange, elsewhere, told, arm_told, rested, registered, promised, settled, followed, adopted, subscribed, micro_asked, then_asked, answered, dropped, frame_dropped, frame_asked, rejected_taken, noted, Changes, nothing, with_change, with_arm, Beginning, TheScript, ATimer, AFrame, AnIdle, ALateIdle, AListener, APost, AContinuation, AMicro, AReaction, called_by, taken, task_dropped, enqueued_anew, fell_due, post_fell_due, prio_told}
 use Rattle.page_laws.proofs.Framed.{in-without, false_true}
-use Rattle.page_laws.proofs.Lines.{added, emit_each-events}
+use Rattle.page_laws.proofs.Lines.{changed-each, added, emit_each-events}
 use Rattle.page_laws.proofs.Moved.{in-either}
 
 -- ---- what lines tell of the period
@@ -76,26 +76,8 @@ added-period n now (e ∷ es) past h =
     let next : History = record { time = now; event = e } ∷ past in
     period-then n past next (added now es next) (quiet-period n now e past h.0) (added-period n now es next h.1)
 
-Each-append : (xs ys : List Event) → Each Unperiodic xs → Each Unperiodic ys → Each Unperiodic (xs ++ ys)
-Each-append [] ys h k = k
-Each-append (x ∷ xs) ys h k = (h.0, Each-append xs ys h.1 k)
-
-settle_line-unperiodic : (names : List (List ℕ)) (n : ℕ) (o : Option Settled) → Each Unperiodic (settle_line names n o)
-settle_line-unperiodic names n None = tt
-settle_line-unperiodic names n (Some (Fulfilled v)) = ((refl, λ r. refl), tt)
-settle_line-unperiodic names n (Some (Failed v)) = ((refl, λ r. refl), tt)
-
-if_settled-unperiodic : (b : Bool) (lines : List Event) → Each Unperiodic lines → Each Unperiodic (cond b lines [])
-if_settled-unperiodic true lines h = h
-if_settled-unperiodic false lines h = tt
-
-queue_jobs-unperiodic : (current : Context) (jobs : List PromiseJob) (s : Notices) → Each Unperiodic (queue_jobs current jobs s).lines
-queue_jobs-unperiodic current [] s = tt
-queue_jobs-unperiodic current (j ∷ jobs) s = ((refl, λ r. refl), queue_jobs-unperiodic current jobs _)
-
 changed-unperiodic : (current : Context) (names : List (List ℕ)) (n : ℕ) (c : Promises.Change) (s : Notices) → Each Unperiodic (changed current names n c s).lines
-changed-unperiodic current names n c s =
-    Each-append (cond c.settled (settle_line names n c.promise.outcome) []) _ (if_settled-unperiodic c.settled _ (settle_line-unperiodic names n c.promise.outcome)) (queue_jobs-unperiodic current c.jobs _)
+changed-unperiodic = changed-each Unperiodic (λ n ok bs. (refl, λ r. refl)) (λ j what. (refl, λ r. refl))
 
 -- ---- the period goes on
 

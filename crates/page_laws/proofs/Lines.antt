@@ -4,7 +4,8 @@ use Rattle.page_types.specs.declared.RegKind.TheVariants as kind
 use Rattle.page_model.specs.Invoke.{register_as}
 use Rattle.std.specs.Prelude.{◌==◌}
 use Rattle.page_parts.specs.Words.{without}
-use Rattle.page_types.specs.Events.{Event, Call, Ret, Throw}
+use Rattle.page_types.specs.Events.{Event, Call, Ret, Throw, Settle, Job, Queued}
+use Rattle.page_model.proofs.NumbersGrow.{Each-append}
 use Rattle.page_parts.specs.Promises.{Settled, Fulfilled, Failed, PromiseJob}
 use Rattle.page_parts.specs.Promises as Promises
 use Rattle.page_parts.specs.Notices.{Notices, Noticed, changed, queue_jobs, settle_line, subscribe_promise, queue_micro, Context}
@@ -59,25 +60,26 @@ added-open : (now : ℕ) (es : List Event) (past : History) → Each Shut es →
 added-open now [] past h = refl
 added-open now (e ∷ es) past h = added-open now es (record { time = now; event = e } ∷ past) h.1 ∙ h.0 (open_registrations past)
 
-Each-append : (xs ys : List Event) → Each Shut xs → Each Shut ys → Each Shut (xs ++ ys)
-Each-append [] ys h k = k
-Each-append (x ∷ xs) ys h k = (h.0, Each-append xs ys h.1 k)
+-- the lines of a change of a promise are `settle` and `job` lines
+if_settled-each : (P : Event → Type 0) (b : Bool) (lines : List Event) → Each P lines → Each P (cond b lines [])
+if_settled-each P true lines h = h
+if_settled-each P false lines h = tt
 
-settle_line-shut : (names : List (List ℕ)) (n : ℕ) (o : Option Settled) → Each Shut (settle_line names n o)
-settle_line-shut names n None = tt
-settle_line-shut names n (Some (Fulfilled v)) = (λ calls. refl, tt)
-settle_line-shut names n (Some (Failed v)) = (λ calls. refl, tt)
+pub changed-each : (P : Event → Type 0) → ((n : ℕ) (ok : Bool) (bs : List ℕ) → P (Settle n ok bs)) → ((j : ℕ) (what : Queued) → P (Job j what)) → (current : Context) (names : List (List ℕ)) (n : ℕ) (c : Promises.Change) (s : Notices) → Each P (changed current names n c s).lines
+changed-each P settles jobs current names n c s =
+    Each-append P (cond c.settled (settle_line names n c.promise.outcome) []) _ (if_settled-each P c.settled _ (by_outcome c.promise.outcome)) (by_jobs c.jobs _)
+  where
+    by_outcome : (o : Option Settled) → Each P (settle_line names n o)
+    by_outcome None = tt
+    by_outcome (Some (Fulfilled v)) = (settles n true _, tt)
+    by_outcome (Some (Failed v)) = (settles n false _, tt)
 
-if_settled-shut : (b : Bool) (lines : List Event) → Each Shut lines → Each Shut (cond b lines [])
-if_settled-shut true lines h = h
-if_settled-shut false lines h = tt
-
-queue_jobs-shut : (current : Context) (jobs : List PromiseJob) (s : Notices) → Each Shut (queue_jobs current jobs s).lines
-queue_jobs-shut current [] s = tt
-queue_jobs-shut current (j ∷ jobs) s = (λ calls. refl, queue_jobs-shut current jobs _)
+    by_jobs : (js : List PromiseJob) (s : Notices) → Each P (queue_jobs current js s).lines
+    by_jobs [] s = tt
+    by_jobs (j ∷ js) s = (jobs _ _, by_jobs js _)
 
 changed-shut : (current : Context) (names : List (List ℕ)) (n : ℕ) (c : Promises.Change) (s : Notices) → Each Shut (changed current names n c s).lines
-changed-shut current names n c s = Each-append (cond c.settled (settle_line names n c.promise.outcome) []) _ (if_settled-shut c.settled _ (settle_line-shut names n c.promise.outcome)) (queue_jobs-shut current c.jobs _)
+changed-shut = changed-each Shut (λ n ok bs. λ calls. refl) (λ j what. λ calls. refl)
 
 -- the same calls are open, and the flag is as it was
 abbrev pub Same : Page → Page → Type 0

@@ -1,6 +1,6 @@
 -- The scheduler's tasks are called directly behind a turn of the scheduler, in the order of their priorities.
 use Rattle.page_model.specs.Tasks.{background}
-use Rattle.std.proofs.Common.{◌≡◌, ℕ, zero, suc, ◌≤◌, Bool, true, false, List, [], ◌∷◌, ◌++◌, ◌&&◌, ◌||◌, not, Option, Some, None, refl, sym, subst, ap, ◌∙◌, cond, length, arith, nat_lt, option_map, unwrap_or}
+use Rattle.std.proofs.Common.{◌≡◌, ℕ, zero, suc, ◌≤◌, Bool, true, false, List, [], ◌∷◌, ◌&&◌, ◌||◌, not, Option, Some, None, refl, sym, subst, ap, ◌∙◌, cond, length, arith, nat_lt, option_map, unwrap_or}
 use Rattle.std.proofs.lemmas.Bool.{eqb-true, eq-eqb, ltb-false}
 use Rattle.std.specs.Prelude.{◌==◌, filter, find}
 use Rattle.std.specs.List.{list_all}
@@ -16,7 +16,7 @@ use Rattle.page_parts.specs.HostClosures.{HostClosure}
 use Rattle.page_parts.specs.Setup.{Setup}
 use Rattle.page_parts.specs.Promises.{Settled, Fulfilled, Failed, Reaction, PromiseJob, the_promise}
 use Rattle.page_parts.specs.Promises as Promises
-use Rattle.page_parts.specs.Notices.{Context, Notices, Noticed, changed, queue_jobs, settle_line, subscribe_promise, queue_micro}
+use Rattle.page_parts.specs.Notices.{Context, Notices, Noticed, changed, subscribe_promise, queue_micro}
 use Rattle.page_model.specs.State.{Role, ScriptRole, OfKind, Registration, Page, PrioSource, Fixed, OfSignal, SchedTask, SchedulingState, Completion, EnqueuePost, Completing, emit, emit_each, on_notices, context, caller, no_registration}
 use Rattle.page_model.specs.Invoke.{register_as, call_begun}
 use Rattle.page_model.specs.PageTime.{deadline, completion_of}
@@ -32,7 +32,7 @@ use Rattle.page_laws.proofs.Cancelled.{unless, made-kind, no_kind, kind-there, G
 use Rattle.page_laws.proofs.Claims.{completed-less}
 use Rattle.page_laws.proofs.Finding.{false_true, same_number}
 use Rattle.page_laws.proofs.First.{turned, turned-last, turned-filter, first-found, first_of-has}
-use Rattle.page_laws.proofs.Lines.{added, emit_each-events}
+use Rattle.page_laws.proofs.Lines.{changed-each, added, emit_each-events}
 use Rattle.page_laws.proofs.Once as once
 use Rattle.page_laws.proofs.Registered.{At, KindsFit, at_number, kind_in_role}
 use Rattle.page_laws.proofs.Scans.{Test, Kept}
@@ -122,25 +122,8 @@ added-fits : (now : ℕ) (es : List Event) (xs : List Registration) (ts : List S
 added-fits now [] xs ts cs g past h f = f
 added-fits now (e ∷ es) xs ts cs g past h f = added-fits now es xs ts cs g (record { time = now; event = e } ∷ past) h.1 (silent-fits e now xs ts cs g past h.0 f)
 
-Each-append : (xs ys : List Event) → Each Silent xs → Each Silent ys → Each Silent (xs ++ ys)
-Each-append [] ys h k = k
-Each-append (x ∷ xs) ys h k = (h.0, Each-append xs ys h.1 k)
-
-settle_line-silent : (names : List (List ℕ)) (n : ℕ) (o : Option Settled) → Each Silent (settle_line names n o)
-settle_line-silent names n None = tt
-settle_line-silent names n (Some (Fulfilled v)) = (refl, tt)
-settle_line-silent names n (Some (Failed v)) = (refl, tt)
-
-if_settled-silent : (b : Bool) (lines : List Event) → Each Silent lines → Each Silent (cond b lines [])
-if_settled-silent true lines h = h
-if_settled-silent false lines h = tt
-
-queue_jobs-silent : (current : Context) (jobs : List PromiseJob) (s : Notices) → Each Silent (queue_jobs current jobs s).lines
-queue_jobs-silent current [] s = tt
-queue_jobs-silent current (j ∷ jobs) s = (refl, queue_jobs-silent current jobs _)
-
 changed-silent : (current : Context) (names : List (List ℕ)) (n : ℕ) (c : Promises.Change) (s : Notices) → Each Silent (changed current names n c s).lines
-changed-silent current names n c s = Each-append (cond c.settled (settle_line names n c.promise.outcome) []) _ (if_settled-silent c.settled _ (settle_line-silent names n c.promise.outcome)) (queue_jobs-silent current c.jobs _)
+changed-silent = changed-each Silent (λ n ok bs. refl) (λ j what. refl)
 
 subscribed-silent : (current : Context) (n : ℕ) (r : Reaction) (s : Notices) → Each Silent (subscribe_promise current n r s).lines
 subscribed-silent current n r s =

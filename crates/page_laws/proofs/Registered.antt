@@ -1,5 +1,5 @@
 -- No registration is made twice, and what is called was registered before, for something that has a callback.
-use Rattle.std.proofs.Common.{◌≡◌, ℕ, zero, suc, pred, ◌≤◌, Bool, true, false, List, [], ◌∷◌, ◌++◌, ◌&&◌, ◌||◌, Option, Some, None, refl, sym, subst, ap, ◌∙◌, cond, length, arith, not, unwrap_or, slice_get}
+use Rattle.std.proofs.Common.{◌≡◌, ℕ, zero, suc, pred, ◌≤◌, Bool, true, false, List, [], ◌∷◌, ◌&&◌, ◌||◌, Option, Some, None, refl, sym, subst, ap, ◌∙◌, cond, length, arith, not, unwrap_or, slice_get}
 use Rattle.std.proofs.lemmas.Bool.{eqb-true, eq-eqb}
 use Rattle.std.proofs.lemmas.Option.{slice_get_past}
 use Rattle.std.specs.Prelude.{◌==◌}
@@ -11,7 +11,7 @@ use Rattle.page_types.specs.declared.Source.TheVariants.{Sched}
 use Rattle.page_parts.specs.Words.{and_last, numbered, without}
 use Rattle.page_parts.specs.Promises.{Settled, Fulfilled, Failed, PromiseJob, Reaction}
 use Rattle.page_parts.specs.Promises as Promises
-use Rattle.page_parts.specs.Notices.{Notices, Noticed, changed, queue_jobs, settle_line, subscribe_promise, queue_micro, Context}
+use Rattle.page_parts.specs.Notices.{Notices, Noticed, changed, subscribe_promise, queue_micro, Context}
 use Rattle.page_parts.specs.Promises.{the_promise}
 use Rattle.page_model.specs.State.{Role, ScriptRole, OfKind, Registration, Page, emit, emit_each, on_notices, no_registration, context, caller}
 use Rattle.page_model.specs.PageTime.{deadline}
@@ -20,7 +20,7 @@ use Rattle.page_model.proofs.NumbersGrow.{numbered-last, length-last}
 use Rattle.page_laws.specs.History.{History, some_line, is_reg_of, kind_of, kind_in, has_kind, is_some_and, is_rest}
 use Rattle.page_laws.specs.CallLaws.{has_no_callback}
 use Rattle.page_laws.specs.Moves.{frame_asked, is_aside, is_end, promise_changes, PageChange, elsewhere, told, arm_told, rested, registered, promised, settled, followed, adopted, subscribed, micro_asked, then_asked, answered, dropped, frame_dropped, AsBefore, rejected_taken, noted, Beginning, TheScript, ATimer, AFrame, AnIdle, ALateIdle, AListener, APost, AContinuation, AMicro, AReaction, called_by, role_of, taken, Moves, here, changing, arming, calling, ending, flagging, running, framing, idling, task_dropped, enqueued_anew, fell_due, post_fell_due, prio_told}
-use Rattle.page_laws.proofs.Lines.{added, emit_each-events}
+use Rattle.page_laws.proofs.Lines.{changed-each, added, emit_each-events}
 use Rattle.page_laws.proofs.Scans.{Test, Kept}
 
 -- a part of what runs once: a registration is new; what is called is the script, or was registered for something that has a callback
@@ -204,25 +204,8 @@ Fits p = KindsFit p.registrations p.events
 abbrev pub Silent : Event → Type 0
 Silent e = tells_of_kinds e ≡ false
 
-Each-append : (xs ys : List Event) → Each Silent xs → Each Silent ys → Each Silent (xs ++ ys)
-Each-append [] ys h k = k
-Each-append (x ∷ xs) ys h k = (h.0, Each-append xs ys h.1 k)
-
-settle_line-silent : (names : List (List ℕ)) (n : ℕ) (o : Option Settled) → Each Silent (settle_line names n o)
-settle_line-silent names n None = tt
-settle_line-silent names n (Some (Fulfilled v)) = (refl, tt)
-settle_line-silent names n (Some (Failed v)) = (refl, tt)
-
-if_settled-silent : (b : Bool) (lines : List Event) → Each Silent lines → Each Silent (cond b lines [])
-if_settled-silent true lines h = h
-if_settled-silent false lines h = tt
-
-queue_jobs-silent : (current : Context) (jobs : List PromiseJob) (s : Notices) → Each Silent (queue_jobs current jobs s).lines
-queue_jobs-silent current [] s = tt
-queue_jobs-silent current (j ∷ jobs) s = (refl, queue_jobs-silent current jobs _)
-
 pub changed-silent : (current : Context) (names : List (List ℕ)) (n : ℕ) (c : Promises.Change) (s : Notices) → Each Silent (changed current names n c s).lines
-changed-silent current names n c s = Each-append (cond c.settled (settle_line names n c.promise.outcome) []) _ (if_settled-silent c.settled _ (settle_line-silent names n c.promise.outcome)) (queue_jobs-silent current c.jobs _)
+changed-silent = changed-each Silent (λ n ok bs. refl) (λ j what. refl)
 
 emit_each-registrations : (es : List Event) (p : Page) → (emit_each es p).registrations ≡ p.registrations
 emit_each-registrations [] p = refl
