@@ -377,7 +377,8 @@ pub data PageChange : Page → Page → Type 0 where
   told : {p : Page} (e : Event) → is_aside e ≡ true → PageChange p (emit e p)
   -- a registration is armed
   arm_told : {p : Page} (r due level : ℕ) → ArmedAt p.registrations (places p) r due → PageChange p (emit (Arm r due level) p)
-  -- a line between turns, where no call is open, no job waits and no frame is in progress; that of the scheduler's turn comes with its call
+  -- a line between turns, where no call is open, no job waits and no frame is in progress; that of the scheduler's turn comes with its
+  -- call, and that of a period at the idle period start
   rested : {p : Page} (e : Event) → is_rest e ≡ true → open_registrations p.events ≡ [] → p.notices.jobs ≡ []
       → is_sched_turn e ≡ false → FrameIsOver p → (is_period e ≡ true → p.last_idle_start ≡ p.now) → PageChange p (emit e p)
   -- a host's task is taken, and the host answers
