@@ -14,7 +14,7 @@ use Rattle.page_model.specs.Numbers.{Each, IsGiven}
 use Rattle.page_model.specs.State.{Page, emit, emit_each, on_notices, context}
 use Rattle.page_model.proofs.NumbersParts.{length-with}
 use Rattle.page_model.proofs.NumbersSignals.{with_reason-by_number}
-use Rattle.page_laws.specs.Moves.{StaysAborted, PageChange, elsewhere, told, rested, answered, dropped, task_dropped, frame_dropped, registered, enqueued_anew, fell_due, post_fell_due, frame_asked, frame_gone, promised, settled, followed, adopted, subscribed, then_asked, micro_asked, rejected_taken, noted, Changes, nothing, with_change, Beginning, TheScript, ATimer, AFrame, AnIdle, ALateIdle, AListener, APost, AContinuation, AMicro, AReaction, taken, Moves, here, changing, calling, ending, flagging, running, prio_told}
+use Rattle.page_laws.specs.Moves.{StaysAborted, PageChange, elsewhere, told, arm_told, rested, answered, dropped, task_dropped, frame_dropped, registered, enqueued_anew, fell_due, post_fell_due, frame_asked, promised, settled, followed, adopted, subscribed, then_asked, micro_asked, rejected_taken, noted, Changes, nothing, with_change, with_arm, Beginning, TheScript, ATimer, AFrame, AnIdle, ALateIdle, AListener, APost, AContinuation, AMicro, AReaction, taken, Moves, here, changing, arming, calling, ending, flagging, running, framing, idling, prio_told}
 
 emit_each-aborted : (es : List Event) (p : Page) → StaysAborted p (emit_each es p)
 emit_each-aborted [] p s h = h
@@ -24,11 +24,12 @@ notices-aborted : (f : Notices → Noticed) (p : Page) → StaysAborted p (on_no
 notices-aborted f p = emit_each-aborted (f p.notices).lines (record p { notices = (f p.notices).notices })
 
 pub change-aborted : {p q : Page} → PageChange p q → StaysAborted p q
-change-aborted (elsewhere c b) s h = b.aborted s h
+change-aborted (elsewhere c b k) s h = b.aborted s h
 change-aborted (told e x) s h = h
-change-aborted (rested e x y z w) s h = h
+change-aborted (arm_told r due level w) s h = h
+change-aborted (rested e x y z w over begun) s h = h
 change-aborted (answered source task t answer x y live z b) s h = b.aborted s h
-change-aborted (registered k x e u b) s h = b.aborted s h
+change-aborted (registered k x e unframed u b) s h = b.aborted s h
 change-aborted (enqueued_anew k x t queue e i w n b) s h = b.aborted s h
 change-aborted (fell_due r d b) s h = b.aborted s h
 change-aborted (post_fell_due start source t queue e role a w n b) s h = b.aborted s h
@@ -37,7 +38,6 @@ change-aborted (task_dropped r role a e w b) s h = b.aborted s h
 change-aborted (prio_told t priority ps c) s h = h
 change-aborted (frame_dropped handle c e role) s h = h
 change-aborted (frame_asked f) s h = h
-change-aborted (frame_gone handle) s h = h
 change-aborted promised s h = h
 change-aborted {p = p} (settled n how x y) s h = notices-aborted (λ t. changed (context p) p.names n (Promises.settle n (the_promise p.notices.promises n) how) t) p s h
 change-aborted {p = p} (followed n how x y) s h = notices-aborted (λ t. changed (context p) p.names n (Promises.settle n (the_promise p.notices.promises n) how) t) p s h
@@ -50,7 +50,8 @@ change-aborted (noted n) s h = h
 
 pub changes-aborted : {p q : Page} → Changes p q → StaysAborted p q
 changes-aborted nothing s h = h
-changes-aborted (with_change a c) s h = change-aborted c s (changes-aborted a s h)
+changes-aborted (with_change a c plain) s h = change-aborted c s (changes-aborted a s h)
+changes-aborted (with_arm a b c w) s h = change-aborted c s (change-aborted b s (changes-aborted a s h))
 
 pub begins-aborted : (b : Beginning) (p : Page) → StaysAborted p (taken b p)
 begins-aborted (TheScript source task) p s h = h
@@ -66,11 +67,14 @@ begins-aborted (AReaction job others of x r) p s h = h
 
 pub moves-aborted : {p q : Page} → Moves p q → StaysAborted p q
 moves-aborted here s h = h
-moves-aborted (changing a c) s h = change-aborted c s (moves-aborted a s h)
+moves-aborted (changing a c plain) s h = change-aborted c s (moves-aborted a s h)
+moves-aborted (arming a c d w) s h = change-aborted d s (change-aborted c s (moves-aborted a s h))
 moves-aborted (calling {q = q} a b w i) s h = begins-aborted b q s (moves-aborted a s h)
 moves-aborted (ending a e x) s h = moves-aborted a s h
 moves-aborted (flagging a x y z w u v t j) s h = ap {A = Signals Value} {B = Bool} (λ ss. is_aborted ss s) t ∙ moves-aborted a s h
 moves-aborted (running a j others x y) s h = moves-aborted a s h
+moves-aborted (framing a t) s h = moves-aborted a s h
+moves-aborted (idling a none) s h = moves-aborted a s h
 
 -- ---- the signals on which a reason is set are aborted
 

@@ -1,14 +1,13 @@
 -- Runs in pieces are rows of moves.
-use Rattle.std.proofs.Common.{ℕ, List, [], ◌∷◌, refl, nat_le}
+use Rattle.std.proofs.Common.{◌≡◌, Bool, true, false, ℕ, List, [], ◌∷◌, refl, nat_le}
 use Rattle.lang_meaning.specs.Evaluation.{call_from_outside}
 use Rattle.lang_meaning.specs.Machine.{Caller}
-use Rattle.page_laws.proofs.Moved.{idle_step-changes}
+use Rattle.page_laws.proofs.Ready.{first-ready}
 use Rattle.page_laws.proofs.Operations.{outside-goes}
 use Rattle.page_laws.proofs.Runs.{CallsGo}
-use Rattle.page_laws.proofs.Turns.{Lands, Rests, Stops, at_time-comes, choose-lands, comes_by, ends-lands, idle_step-notices, lands-then, next_turn-stops, step_one-comes, step_three-lands}
+use Rattle.page_laws.proofs.Turns.{Lands, Rests, Stops, at_time-comes, choose-lands, ends-lands, idle_step-comes, lands-then, next_turn-stops, step_one-comes, step_three-lands}
 use Rattle.page_laws.specs.Moves.{Moves, here}
 use Rattle.page_model.proofs.NumbersEvaluation.{Good}
-use Rattle.page_model.proofs.NumbersPages.{idle_step-held}
 use Rattle.page_model.proofs.NumbersTurns.{first_state-good}
 use Rattle.page_model.specs.Choosing.{Rules}
 use Rattle.page_model.specs.Gaps.{Act, Pass, Rest, Serve, Stop, act, acts, at_moment, pass, rest, run_gaps_by, serve, stop, stop_by_clock}
@@ -31,9 +30,11 @@ module _ {C : Type 0} (program : Program) where
         (let a = at_time-comes program rules call calls_go t m g x in lands-then program m (on_page (at_time t) m) (next c (on_page (at_time t) m)) a.0 (k (on_page (at_time t) m) a.1 a.2)) here
 
     rest-lands : (c : C) (m : State) → Good m → Rests m → Lands program m (rest c m)
-    rest-lands c m g x =
-        choose-lands program (is_empty (view m.host)) (λ m. GoesOn (on_page idle_step m) c) (λ m. Stuck NoAct m c) m
-        (comes_by m idle_step g x (idle_step-held m.host g.0, idle_step-changes m.host x.0.0 x.1) (idle_step-notices m.host)) here
+    rest-lands c m g x = by_view (is_empty (view m.host)) refl
+      where
+        by_view : (b : Bool) → is_empty (view m.host) ≡ b → Lands program m (choose_turned b (λ m. GoesOn (on_page idle_step m) c) (λ m. Stuck NoAct m c) m)
+        by_view true e = idle_step-comes m g x e
+        by_view false e = here
 
     serve-lands : (until : ℕ) (c : C) (m : State) → Good m → Rests m → Lands program m (serve rules call until c m)
     serve-lands until c m g x = choose-lands program (is_empty (view m.host)) (λ m. Stuck NoAct m c) (step_three rules call until c) m here (step_three-lands program rules call calls_go until c m g x)
@@ -60,4 +61,4 @@ module _ {C : Type 0} (program : Program) where
 pub gaps_are_moves : {C : Type 0} (rules : Rules C) (program : Program) (setup : Setup) (c : C) (list : List Act) → HoldsNoNumbers setup → Moves (first_page program setup []) (state_of (run_gaps_by rules program setup list c)).host
 unfolding run_gaps_by
 gaps_are_moves rules program setup c list h =
-    acts-stop program rules (call_from_outside program page_operations) (outside-goes program) setup.until list (first_state program setup []) c (first_state-good program setup [] h) ((refl, refl), refl)
+    acts-stop program rules (call_from_outside program page_operations) (outside-goes program) setup.until list (first_state program setup []) c (first_state-good program setup [] h) ((refl, refl, tt), refl, ((λ c i. elim i [ ]), first-ready program setup []))

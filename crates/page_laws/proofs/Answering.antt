@@ -1,16 +1,16 @@
 -- A closure of the host answers once at most: its answer is pending, or due, or given, and only where it is not live.
 use Rattle.page_parts.specs.TaskSignals.{Prios}
-use Rattle.std.proofs.Common.{◌≡◌, ℕ, zero, suc, ◌≤◌, ◌+◌, Bool, true, false, List, [], ◌∷◌, ◌++◌, ◌||◌, not, Option, Some, None, refl, sym, subst, ap, ◌∙◌, cond, length, arith, unwrap_or, slice_get, ℤ, Result}
+use Rattle.std.proofs.Common.{◌≡◌, ℕ, zero, suc, ◌≤◌, ◌+◌, Bool, true, false, List, [], ◌∷◌, ◌||◌, not, Option, Some, None, refl, sym, subst, ap, ◌∙◌, cond, length, arith, unwrap_or, slice_get, ℤ, Result}
 use Rattle.std.proofs.lemmas.Bool.{eqb-true, eq-eqb}
 use Rattle.std.specs.Prelude.{◌==◌, filter, find, slice_set}
 use Rattle.page_types.specs.declared.HostMark.{HostMark}
 use Rattle.page_types.specs.declared.HostMark.TheVariants.{Live, Queued as QueuedMark, Fired, Dropped}
-use Rattle.page_types.specs.Events.{Event, Call, Drop, Reg, Host, Due, Enq, Prio}
+use Rattle.page_types.specs.Events.{Arm, Event, Call, Drop, Reg, Host, Due, Enq, Prio}
 use Rattle.page_types.specs.Tree.{Program}
 use Rattle.page_parts.specs.HostClosures.{HostClosure, fired}
 use Rattle.page_parts.specs.Promises.{Settled, Fulfilled, Failed, Reaction, PromiseJob, the_promise}
 use Rattle.page_parts.specs.Promises as Promises
-use Rattle.page_parts.specs.Notices.{Context, Notices, Noticed, changed, queue_jobs, settle_line, subscribe_promise, queue_micro}
+use Rattle.page_parts.specs.Notices.{Context, Notices, Noticed, changed, subscribe_promise, queue_micro}
 use Rattle.page_parts.specs.Setup.{Setup}
 use Rattle.page_parts.specs.Sources.{same_source}
 use Rattle.page_parts.specs.Words.{and_last, without}
@@ -19,12 +19,12 @@ use Rattle.page_model.specs.Invoke.{register_as}
 use Rattle.page_model.specs.Numbers.{Each}
 use Rattle.page_model.specs.Operations.{queued_mark}
 use Rattle.page_model.specs.PageSignals.{closure_dropped, drop_at, drop_closure, task_in_answer, task_in_net, waiting_answer, waiting_net_task}
-use Rattle.page_model.specs.State.{Registration, Page, Task, HostTask, Steps, AnswerHost, RunTimer, HostAnswer, emit, emit_each, on_notices, context}
+use Rattle.page_model.specs.State.{IdleTimeout, Registration, Page, Task, HostTask, Steps, AnswerHost, RunTimer, HostAnswer, emit, emit_each, on_notices, context}
 use Rattle.page_model.specs.Turns.{first_page}
 use Rattle.page_laws.specs.CallLaws.{is_answer_of, keeps_once}
 use Rattle.page_laws.specs.History.{History, count_lines, some_line, is_rest}
-use Rattle.page_laws.specs.Moves.{is_aside, is_end, is_free, fired_at, promise_changes, Places, places, PlaceChange, places_stay, task_queued, task_left, armed_again, signal_armed, timer_due, completed, idle_started, idle_left, answer_due, id_cleared, idle_armed, idle_due, Dropping, timer_dropped, idle_dropped, listener_dropped, task_dropped, FirstPlace, nowhere, at_listener, at_timer, at_delay, at_idle, at_host, AsBefore, PageChange, elsewhere, told, rested, answered, dropped, frame_dropped, registered, frame_asked, frame_gone, promised, settled, followed, adopted, subscribed, then_asked, micro_asked, rejected_taken, noted, Beginning, TheScript, ATimer, AFrame, AnIdle, ALateIdle, AListener, APost, AContinuation, AMicro, AReaction, called_by, taken, Moves, here, changing, calling, ending, flagging, running, enqueued_anew, fell_due, post_fell_due, delay_due, signal_due, DueChange, without_queued, without_answer, prio_told}
-use Rattle.page_laws.proofs.Lines.{added, emit_each-events}
+use Rattle.page_laws.specs.Moves.{is_aside, is_end, is_free, fired_at, promise_changes, Places, places, PlaceChange, places_stay, task_queued, task_left, armed_again, signal_armed, timer_due, completed, idle_started, idle_queued, idle_left, answer_due, id_cleared, idle_armed, idle_due, Dropping, timer_dropped, idle_dropped, listener_dropped, task_dropped, FirstPlace, nowhere, at_listener, at_timer, at_delay, at_idle, at_host, AsBefore, PageChange, elsewhere, told, arm_told, rested, answered, dropped, frame_dropped, registered, frame_asked, promised, settled, followed, adopted, subscribed, then_asked, micro_asked, rejected_taken, noted, Beginning, TheScript, ATimer, AFrame, AnIdle, ALateIdle, AListener, APost, AContinuation, AMicro, AReaction, called_by, taken, Moves, here, changing, arming, calling, ending, flagging, running, framing, idling, enqueued_anew, fell_due, post_fell_due, delay_due, signal_due, DueChange, without_queued, without_answer, prio_told}
+use Rattle.page_laws.proofs.Lines.{changed-each, added, emit_each-events}
 use Rattle.page_laws.proofs.Once.{keeps_calls, once_calls}
 use Rattle.page_laws.proofs.Scans.{Test, Kept}
 use Rattle.page_laws.proofs.Totals.{one_if, total, total-last, total-without, IsLess, less-found, less-within}
@@ -92,25 +92,8 @@ added-fits : (now : ℕ) (es : List Event) (x : Places) (past : History) → Eac
 added-fits now [] x past h f = f
 added-fits now (e ∷ es) x past h f = added-fits now es x (record { time = now; event = e } ∷ past) h.1 (silent-fits e now x past h.0 f)
 
-Each-append : (xs ys : List Event) → Each Silent xs → Each Silent ys → Each Silent (xs ++ ys)
-Each-append [] ys h k = k
-Each-append (x ∷ xs) ys h k = (h.0, Each-append xs ys h.1 k)
-
-settle_line-silent : (names : List (List ℕ)) (n : ℕ) (o : Option Settled) → Each Silent (settle_line names n o)
-settle_line-silent names n None = tt
-settle_line-silent names n (Some (Fulfilled v)) = (refl, tt)
-settle_line-silent names n (Some (Failed v)) = (refl, tt)
-
-if_settled-silent : (b : Bool) (lines : List Event) → Each Silent lines → Each Silent (cond b lines [])
-if_settled-silent true lines h = h
-if_settled-silent false lines h = tt
-
-queue_jobs-silent : (current : Context) (jobs : List PromiseJob) (s : Notices) → Each Silent (queue_jobs current jobs s).lines
-queue_jobs-silent current [] s = tt
-queue_jobs-silent current (j ∷ jobs) s = (refl, queue_jobs-silent current jobs _)
-
 changed-silent : (current : Context) (names : List (List ℕ)) (n : ℕ) (c : Promises.Change) (s : Notices) → Each Silent (changed current names n c s).lines
-changed-silent current names n c s = Each-append (cond c.settled (settle_line names n c.promise.outcome) []) _ (if_settled-silent c.settled _ (settle_line-silent names n c.promise.outcome)) (queue_jobs-silent current c.jobs _)
+changed-silent = changed-each Silent (λ n ok bs. refl) (λ j what. refl)
 
 subscribed-silent : (current : Context) (n : ℕ) (r : Reaction) (s : Notices) → Each Silent (subscribe_promise current n r s).lines
 subscribed-silent current n r s =
@@ -199,15 +182,17 @@ free-claims k steps h = refl
 
 place-fits : {made : List Registration} {x y : Places} → PlaceChange made x y → (past : History) → HostsFit x past → HostsFit y past
 place-fits places_stay past f = f
-place-fits {x = x} {y = y} (task_queued t h) past f =
+place-fits {x = x} {y = y} (task_queued t h plain) past f =
     lessen-fits x (record x { tasks = and_last x.tasks t }) past (λ k. let a = total-last (net_claims k) x.tasks t in let b = free-claims k t.steps h in omega (arith, a, b)) (same-live x.hosts) f
+place-fits {x = x} {y = y} (idle_queued t e from) past f =
+    lessen-fits x (record x { tasks = and_last x.tasks t }) past (λ k. let a = total-last (net_claims k) x.tasks t in let b = free-claims k t.steps (ap is_free e) in omega (arith, a, b)) (same-live x.hosts) f
 place-fits {x = x} (task_left number) past f =
     lessen-fits x (record x { tasks = without (λ t. t.number == number) x.tasks }) past (λ k. let a = total-without (net_claims k) (λ t. t.number == number) x.tasks in omega (arith, a)) (same-live x.hosts) f
 place-fits (armed_again a t role there own) past f = record { once = f.once; live = f.live; kept = f.kept }
 place-fits (signal_armed ms now q signal) past f = record { once = f.once; live = f.live; kept = f.kept }
 place-fits (id_cleared id) past f = record { once = f.once; live = f.live; kept = f.kept }
-place-fits (idle_armed t) past f = record { once = f.once; live = f.live; kept = f.kept }
-place-fits (completed start) past f = record { once = f.once; live = f.live; kept = f.kept }
+place-fits (idle_armed t most own) past f = record { once = f.once; live = f.live; kept = f.kept }
+place-fits (completed start gone) past f = record { once = f.once; live = f.live; kept = f.kept }
 place-fits idle_started past f = record { once = f.once; live = f.live; kept = f.kept }
 place-fits (idle_left handle) past f = record { once = f.once; live = f.live; kept = f.kept }
 
@@ -218,7 +203,9 @@ due-fits {x = x} {y = y} (timer_due start number source t e i role) past f =
     (λ k. let a = total-last (net_claims k) x.tasks (record { number = number; source = source; steps = RunTimer t }) in omega (arith, a)) (same-live x.hosts) f
 due-fits (delay_due start source e role) past f = record { once = f.once; live = f.live; kept = f.kept }
 due-fits (signal_due start s e role) past f = record { once = f.once; live = f.live; kept = f.kept }
-due-fits (idle_due handle role) past f = record { once = f.once; live = f.live; kept = f.kept }
+due-fits {x = x} {y = y} (idle_due t number source i e role) past f =
+    lessen-fits x y past
+    (λ k. let a = total-last (net_claims k) x.tasks (record { number = number; source = source; steps = IdleTimeout t.handle }) in omega (arith, a)) (same-live x.hosts) f
 due-fits {x = x} (answer_due before a after number source e i role) past f =
     let gone : HostAnswer → Bool = λ b. b.task.registration == a.task.registration in
     lessen-fits x (record x { host_answers = without gone x.host_answers; tasks = and_last x.tasks (record { number = number; source = source; steps = AnswerHost a.task }) }) past
@@ -324,11 +311,12 @@ changes-fit : (n : ℕ) (c : Promises.Change) (p : Page) → Fits p → Fits (pr
 changes-fit n c p f = notices-fit (λ s. changed (context p) p.names n c s) p (changed-silent (context p) p.names n c p.notices) f
 
 change-fits : {p q : Page} → PageChange p q → Fits p → Fits q
-change-fits {p = p} (elsewhere c b) f = before-fits b (place-fits c p.events f)
+change-fits {p = p} (elsewhere c b k) f = before-fits b (place-fits c p.events f)
 change-fits {p = p} (told e h) f = silent-fits e p.now (places p) p.events (aside-silent e h) f
-change-fits {p = p} (rested e h x y z) f = silent-fits e p.now (places p) p.events (rest-silent e h) f
+change-fits {p = p} (arm_told r due level w) f = silent-fits (Arm r due level) p.now (places p) p.events refl f
+change-fits {p = p} (rested e h x y z over begun) f = silent-fits e p.now (places p) p.events (rest-silent e h) f
 change-fits {p = p} {q = q} (answered source task t answer x y live z b) f = before-fits b (answered-fits (places p) (places q) (λ t. same_source t.source source) task t answer p.now p.events x y z f)
-change-fits {p = p} {q = q} (registered k x e u b) f = before-fits b (first-fits u (register_as k x p).events (record { once = f.once; live = f.live; kept = (refl, f.kept) }))
+change-fits {p = p} {q = q} (registered k x e unframed u b) f = before-fits b (first-fits u (register_as k x p).events (record { once = f.once; live = f.live; kept = (refl, f.kept) }))
 change-fits {p = p} (dropped r d b) f = before-fits b (drop-fits d (emit (Drop r) p).events (record { once = f.once; live = f.live; kept = (refl, f.kept) }))
 change-fits {p = p} {q = q} (task_dropped r role a e s b) f =
     before-fits b
@@ -346,7 +334,6 @@ change-fits {p = p} {q = q} (post_fell_due start source t queue e role a s n b) 
 change-fits {p = p} (prio_told s priority ps c) f = silent-fits (Prio s priority) p.now (places p) p.events refl f
 change-fits (frame_dropped handle c e role) f = record { once = f.once; live = f.live; kept = (refl, f.kept) }
 change-fits (frame_asked g) f = record { once = f.once; live = f.live; kept = (refl, f.kept) }
-change-fits (frame_gone handle) f = f
 change-fits promised f = f
 change-fits {p = p} (settled n how x y) f = changes-fit n (Promises.settle n (the_promise p.notices.promises n) how) p f
 change-fits {p = p} (followed n how x y) f = changes-fit n (Promises.settle n (the_promise p.notices.promises n) how) p f
@@ -376,11 +363,14 @@ begins-fit (AReaction job others of x r) p f = record { once = f.once; live = f.
 
 moves-fit : {p q : Page} → Moves p q → Fits p → Fits q
 moves-fit here f = f
-moves-fit (changing a c) f = change-fits c (moves-fit a f)
+moves-fit (changing a c plain) f = change-fits c (moves-fit a f)
+moves-fit (arming a c e w) f = change-fits e (change-fits c (moves-fit a f))
 moves-fit (calling {q = q} a b w i) f = silent-fits (Call (called_by b)) (taken b q).now (places (taken b q)) (taken b q).events refl (begins-fit b q (moves-fit a f))
 moves-fit (ending {q = q} a e h) f = silent-fits e q.now (places q) q.events (end-silent e h) (moves-fit a f)
 moves-fit (flagging {q = q} {r = r} a x y z w u v t j) f = subst (λ (x : Places). HostsFit x r.events) (sym u) (subst (HostsFit (places q)) (sym y) (moves-fit a f))
 moves-fit (running {q = q} a j others x y) f = let g = moves-fit a f in record { once = g.once; live = g.live; kept = (refl, g.kept) }
+moves-fit (framing a t) f = let g = moves-fit a f in record { once = g.once; live = g.live; kept = (refl, g.kept) }
+moves-fit (idling a none) f = moves-fit a f
 
 -- from a first page on, no closure answers twice
 pub answered_once : (program : Program) (setup : Setup) (hosts : List HostClosure) {q : Page} → Moves (first_page program setup hosts) q → Kept once_answers q.events

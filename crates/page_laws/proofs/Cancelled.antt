@@ -1,12 +1,12 @@
 -- After a cancel nothing is called or enqueued, and no host is due: what was dropped waits at its place no more.
 use Rattle.page_parts.specs.TaskSignals.{Prios}
-use Rattle.std.proofs.Common.{◌≡◌, ℕ, zero, suc, pred, ◌≤◌, ◌<◌, ◌+◌, Bool, true, false, List, [], ◌∷◌, ◌++◌, ◌&&◌, ◌||◌, not, Option, Some, None, refl, sym, subst, ap, ◌∙◌, cond, length, arith, nat_le}
+use Rattle.std.proofs.Common.{◌≡◌, ℕ, zero, suc, pred, ◌≤◌, ◌<◌, ◌+◌, Bool, true, false, List, [], ◌∷◌, ◌++◌, ◌&&◌, ◌||◌, not, Option, Some, None, refl, sym, subst, ap, ◌∙◌, length, arith, nat_le}
 use Rattle.std.proofs.lemmas.Bool.{eqb-true, eq-eqb, leb-true, leb-false}
 use Rattle.std.specs.Prelude.{◌==◌, find}
 use Rattle.page_types.specs.declared.RegKind.{RegKind}
 use Rattle.page_types.specs.declared.RegKind.TheVariants as kind
 use Rattle.page_types.specs.declared.Source.TheVariants.{Sched}
-use Rattle.page_types.specs.Events.{Event, Call, Reg, Run, Turn, IdleLine, Host, Drop, Due, Enq, Prio}
+use Rattle.page_types.specs.Events.{Arm, Frame, Event, Call, Reg, Run, Turn, IdleLine, Host, Drop, Due, Enq, Prio}
 use Rattle.page_types.specs.Tree.{Program}
 use Rattle.page_parts.specs.Words.{and_last, without, is_there}
 use Rattle.page_parts.specs.Timers.{Timers, TimerId, with_id, with_armed, clear, has_id, is_live, id_entry}
@@ -17,7 +17,7 @@ use Rattle.page_parts.specs.HostClosures.{HostClosure}
 use Rattle.page_parts.specs.Setup.{Setup}
 use Rattle.page_parts.specs.Promises.{Settled, Fulfilled, Failed, Reaction, PromiseJob, the_promise}
 use Rattle.page_parts.specs.Promises as Promises
-use Rattle.page_parts.specs.Notices.{Context, Notices, Noticed, changed, queue_jobs, settle_line, subscribe_promise, queue_micro}
+use Rattle.page_parts.specs.Notices.{Context, Notices, Noticed, changed, subscribe_promise, queue_micro}
 use Rattle.page_model.specs.State.{Role, ScriptRole, OfKind, Registration, Page, SchedTask, HostAnswer, emit, emit_each, on_notices, context, caller}
 use Rattle.page_model.specs.Invoke.{register_as}
 use Rattle.page_model.specs.PageTime.{deadline}
@@ -27,11 +27,11 @@ use Rattle.page_model.specs.Turns.{first_page}
 use Rattle.page_model.proofs.NumbersGrow.{length-last}
 use Rattle.page_laws.specs.History.{History, has_kind, is_host, is_some_and, kind_of, was_dropped, is_drop_of, is_rest}
 use Rattle.page_laws.specs.CallLaws.{keeps_cancel}
-use Rattle.page_laws.specs.Moves.{is_aside, is_end, role_at, id_at, signal_at, promise_changes, Places, places, with_queued, without_start, without_aborted, PlaceChange, places_stay, task_queued, task_left, armed_again, signal_armed, completed, idle_started, idle_left, id_cleared, idle_armed, DueChange, timer_due, delay_due, signal_due, idle_due, answer_due, Dropping, timer_dropped, idle_dropped, listener_dropped, FirstPlace, nowhere, at_listener, at_timer, at_delay, at_idle, at_host, AsBefore, PageChange, elsewhere, told, rested, answered, dropped, task_dropped, frame_dropped, registered, enqueued_anew, fell_due, post_fell_due, frame_asked, frame_gone, promised, settled, followed, adopted, subscribed, then_asked, micro_asked, rejected_taken, noted, Beginning, TheScript, ATimer, AFrame, AnIdle, ALateIdle, AListener, APost, AContinuation, AMicro, AReaction, called_by, role_of, taken, Waited, Moves, here, changing, calling, ending, flagging, running, prio_told}
+use Rattle.page_laws.specs.Moves.{is_aside, is_end, role_at, id_at, signal_at, promise_changes, Places, places, with_queued, without_start, without_aborted, PlaceChange, places_stay, task_queued, task_left, armed_again, signal_armed, completed, idle_started, idle_queued, idle_left, id_cleared, idle_armed, DueChange, timer_due, delay_due, signal_due, idle_due, answer_due, Dropping, timer_dropped, idle_dropped, listener_dropped, FirstPlace, nowhere, at_listener, at_timer, at_delay, at_idle, at_host, AsBefore, PageChange, elsewhere, told, arm_told, rested, answered, dropped, task_dropped, frame_dropped, registered, enqueued_anew, fell_due, post_fell_due, frame_asked, promised, settled, followed, adopted, subscribed, then_asked, micro_asked, rejected_taken, noted, Beginning, TheScript, ATimer, AFrame, AnIdle, ALateIdle, AListener, APost, AContinuation, AMicro, AReaction, called_by, role_of, taken, Waited, Moves, here, changing, arming, calling, ending, flagging, running, framing, idling, prio_told}
 use Rattle.page_laws.proofs.Aborted.{moves-aborted}
 use Rattle.page_laws.proofs.Claims.{callback_claims, sched_claims, sched-less}
 use Rattle.page_laws.proofs.Finding.{false_true, none-left, found-counts, found-passes, not-without, not-left, not-last, same_number, off-none, off-keeps, add-keeps}
-use Rattle.page_laws.proofs.Lines.{added, emit_each-events}
+use Rattle.page_laws.proofs.Lines.{changed-each, added, emit_each-events}
 use Rattle.page_laws.proofs.Once as once
 use Rattle.page_laws.proofs.Registered.{At, KindsFit, at_past, at_number, kind_in_role}
 use Rattle.page_laws.proofs.Scans.{Test, Kept}
@@ -178,25 +178,8 @@ added-fits : (now : ℕ) (es : List Event) (xs : List Registration) (w : Waits) 
 added-fits now [] xs w past h f = f
 added-fits now (e ∷ es) xs w past h f = added-fits now es xs w (record { time = now; event = e } ∷ past) h.1 (silent-fits e now xs w past h.0 f)
 
-Each-append : (xs ys : List Event) → Each Silent xs → Each Silent ys → Each Silent (xs ++ ys)
-Each-append [] ys h k = k
-Each-append (x ∷ xs) ys h k = (h.0, Each-append xs ys h.1 k)
-
-settle_line-silent : (names : List (List ℕ)) (n : ℕ) (o : Option Settled) → Each Silent (settle_line names n o)
-settle_line-silent names n None = tt
-settle_line-silent names n (Some (Fulfilled v)) = (refl, tt)
-settle_line-silent names n (Some (Failed v)) = (refl, tt)
-
-if_settled-silent : (b : Bool) (lines : List Event) → Each Silent lines → Each Silent (cond b lines [])
-if_settled-silent true lines h = h
-if_settled-silent false lines h = tt
-
-queue_jobs-silent : (current : Context) (jobs : List PromiseJob) (s : Notices) → Each Silent (queue_jobs current jobs s).lines
-queue_jobs-silent current [] s = tt
-queue_jobs-silent current (j ∷ jobs) s = (refl, queue_jobs-silent current jobs _)
-
 changed-silent : (current : Context) (names : List (List ℕ)) (n : ℕ) (c : Promises.Change) (s : Notices) → Each Silent (changed current names n c s).lines
-changed-silent current names n c s = Each-append (cond c.settled (settle_line names n c.promise.outcome) []) _ (if_settled-silent c.settled _ (settle_line-silent names n c.promise.outcome)) (queue_jobs-silent current c.jobs _)
+changed-silent = changed-each Silent (λ n ok bs. refl) (λ j what. refl)
 
 subscribed-silent : (current : Context) (n : ℕ) (r : Reaction) (s : Notices) → Each Silent (subscribe_promise current n r s).lines
 subscribed-silent current n r s =
@@ -272,15 +255,16 @@ cancel-less r handle i =
 
 place-shrinks : {made : List Registration} {x y : Places} → PlaceChange made x y → (cs : List Callback) (a : ℕ → Bool) (r id : ℕ) → Shrinks r id (waits x cs a) (waits y cs a)
 place-shrinks {x = x} places_stay cs a r id = same r id (waits x cs a)
-place-shrinks {x = x} (task_queued t h) cs a r id = same r id (waits x cs a)
+place-shrinks {x = x} (task_queued t h plain) cs a r id = same r id (waits x cs a)
 place-shrinks {x = x} (task_left number) cs a r id = same r id (waits x cs a)
 place-shrinks {x = x} (armed_again armed t role there own) cs a r id =
     to_timers r id (waits x cs a) (with_armed (Some t.id) armed x.timers)
     (λ h. with_id-keeps id armed.id armed.handle x.timers.ids (λ e. false_true (sym (ap {A = ℕ} {B = Bool} (λ n. has_id n x.timers) (sym own ∙ e) ∙ h) ∙ there)) h)
 place-shrinks {x = x} (signal_armed ms now q s) cs a r id = to_timers r id (waits x cs a) _ (λ h. h)
 place-shrinks {x = x} (id_cleared other) cs a r id = to_timers r id (waits x cs a) (clear other x.timers) (λ h. not-without (λ (e : TimerId). e.id == id) (λ e. e.id == other) x.timers.ids h)
-place-shrinks {x = x} (idle_armed t) cs a r id = same r id (waits x cs a)
-place-shrinks {x = x} (completed start) cs a r id = to_timers r id (waits x cs a) _ (λ h. h)
+place-shrinks {x = x} (idle_queued t e from) cs a r id = same r id (waits x cs a)
+place-shrinks {x = x} (idle_armed t most own) cs a r id = same r id (waits x cs a)
+place-shrinks {x = x} (completed start gone) cs a r id = to_timers r id (waits x cs a) _ (λ h. h)
 place-shrinks {x = x} idle_started cs a r id =
     to_idle r id (waits x cs a) (started x.idle) (let e = total-append (callback_claims r) x.idle.runnable x.idle.pending in omega (arith, e))
 place-shrinks {x = x} (idle_left handle) cs a r id = to_idle r id (waits x cs a) (cancel handle x.idle) (cancel-less r handle x.idle)
@@ -289,7 +273,7 @@ due-shrinks : {made : List Registration} {q : ℕ} {x y : Places} → DueChange 
 due-shrinks {x = x} (timer_due start number source t e i role) cs a r id = to_timers r id (waits x cs a) _ (λ h. h)
 due-shrinks {x = x} (delay_due start source e role) cs a r id = to_timers r id (waits x cs a) _ (λ h. h)
 due-shrinks {x = x} (signal_due start s e role) cs a r id = to_timers r id (waits x cs a) _ (λ h. h)
-due-shrinks {x = x} (idle_due handle role) cs a r id = same r id (waits x cs a)
+due-shrinks {x = x} (idle_due t number source i e role) cs a r id = same r id (waits x cs a)
 due-shrinks {x = x} (answer_due before b after number source e i role) cs a r id =
     to_answers r id (waits x cs a) _ (total-without (answer_claims r) (λ c. c.task.registration == b.task.registration) x.host_answers)
 
@@ -460,7 +444,7 @@ due-line {xs = xs} {r = r} (timer_due start number source t e i role) cs a past 
     by_repeats false role = due-passes past r kind.Timeout (kind-there xs past r kind.Timeout k role) refl
 due-line {xs = xs} {r = r} (delay_due start source e role) cs a past k f = due-passes past r kind.Post (kind-there xs past r kind.Post k role) refl
 due-line {xs = xs} {r = r} (signal_due start s e role) cs a past k f = due-passes past r kind.Signal (kind-there xs past r kind.Signal k role) refl
-due-line {xs = xs} {r = r} (idle_due handle role) cs a past k f = due-passes past r kind.Idle (kind-there xs past r kind.Idle k role) refl
+due-line {xs = xs} {r = r} (idle_due t number source i e role) cs a past k f = due-passes past r kind.Idle (kind-there xs past r kind.Idle k role) refl
 due-line {xs = xs} {r = r} {x = x} (answer_due before b after number source e i role) cs a past k f =
     ap {A = Bool} {B = Bool} (λ d. not (has_kind is_host past r && d)) (unless (was_dropped past r) not_gone) ∙ and-false (has_kind is_host past r)
   where
@@ -491,16 +475,17 @@ dropping-gone {xs = xs} {r = r} {x = x} {y = y} (listener_dropped there role) s 
 
 -- ---- changes
 
-change-fits : {p q : Page} → PageChange p q → once.Fits p → Fits p → Fits q
-change-fits {p = p} {q = q} (elsewhere c b) o f =
+pub change-fits : {p q : Page} → PageChange p q → once.Fits p → Fits p → Fits q
+change-fits {p = p} {q = q} (elsewhere c b k) o f =
     before-fits b (shrink-fits p.registrations (page_waits p) (waits (places q) p.frames.callbacks (is_aborted p)) p.events (λ r. place-shrinks c p.frames.callbacks (is_aborted p) r (id_at p.registrations r)) f)
 change-fits {p = p} (told e h) o f = silent-fits e p.now p.registrations (page_waits p) p.events (aside-silent e h) f
-change-fits {p = p} (rested e h x y z) o f = silent-fits e p.now p.registrations (page_waits p) p.events (rest-silent e h) f
+change-fits {p = p} (arm_told r due level w) o f = silent-fits (Arm r due level) p.now p.registrations (page_waits p) p.events refl f
+change-fits {p = p} (rested e h x y z over begun) o f = silent-fits e p.now p.registrations (page_waits p) p.events (rest-silent e h) f
 change-fits {p = p} (answered source task t answer x y live z b) o f =
     before-fits b
     (subst (λ (y : Places). Cancels p.registrations (waits y p.frames.callbacks (is_aborted p)) (emit (Host t.closure t.number answer) p).events) (sym z)
     (silent-fits (Host t.closure t.number answer) p.now p.registrations (page_waits p) p.events refl f))
-change-fits {p = p} {q = q} (registered k x e u b) o f =
+change-fits {p = p} {q = q} (registered k x e unframed u b) o f =
     before-fits b
     (made-fits k (caller p) x p.now p.registrations (page_waits p) (waits (places q) p.frames.callbacks (is_aborted p)) p.events
     (λ r one le. first-shrinks u p.frames.callbacks (is_aborted p) r (λ same. absurd (omega (arith, same, le)))) f)
@@ -582,9 +567,6 @@ change-fits {p = p} (frame_asked g) o f =
     (let more = total-last (callback_claims r) p.frames.callbacks d in
     let none : one_if (length (and_last p.registrations x) == r) ≡ 0 = ap one_if (same_number (length (and_last p.registrations x)) r (λ same. let l = length-last p.registrations x in absurd (omega (arith, same, le, l)))) in
     omega (arith, more, none))) f
-change-fits {p = p} (frame_gone handle) o f =
-    shrink-fits p.registrations (page_waits p) (waits (places p) (without_handle handle p.frames.callbacks) (is_aborted p)) p.events
-    (λ r. to_frames r (id_at p.registrations r) (page_waits p) _ (total-without (callback_claims r) (λ c. c.handle == handle) p.frames.callbacks)) f
 change-fits promised o f = f
 change-fits {p = p} (settled n how x y) o f = changes-fit n (Promises.settle n (the_promise p.notices.promises n) how) p f
 change-fits {p = p} (followed n how x y) o f = changes-fit n (Promises.settle n (the_promise p.notices.promises n) how) p f
@@ -638,7 +620,7 @@ not-gone (ATimer source task t) p w g = by_repeats t.repeats g
     by_repeats true e = live e
     by_repeats false e = live e
 not-gone (AFrame key c) p w g =
-    let le = found-counts (callback_claims c.registration) (λ (d : Callback). d.handle == key) p.frames.callbacks c w in
+    let le = found-counts (callback_claims c.registration) (λ (d : Callback). d.handle == key) p.frames.callbacks c w.0 in
     let one : one_if (c.registration == c.registration) ≡ 1 = ap one_if (eq-eqb c.registration c.registration refl) in
     absurd (omega (arith, le, one, g))
 not-gone (AnIdle c others) p w g =
@@ -646,7 +628,7 @@ not-gone (AnIdle c others) p w g =
     let one : one_if (c.registration == c.registration) ≡ 1 = ap one_if (eq-eqb c.registration c.registration refl) in
     absurd (omega (arith, all, one, g))
 not-gone (ALateIdle handle c) p w g =
-    let le = found-counts (callback_claims c.registration) (λ (d : Callback). d.handle == handle) (p.idle.runnable ++ p.idle.pending) c w in
+    let le = found-counts (callback_claims c.registration) (λ (d : Callback). d.handle == handle) (p.idle.runnable ++ p.idle.pending) c w.0 in
     let split = total-append (callback_claims c.registration) p.idle.runnable p.idle.pending in
     let one : one_if (c.registration == c.registration) ≡ 1 = ap one_if (eq-eqb c.registration c.registration refl) in
     absurd (omega (arith, le, split, one, g))
@@ -684,7 +666,8 @@ same-drops (AReaction job others of x q) p r = refl
 
 pub moves-fit : {p q : Page} → Moves p q → once.Fits p → Fits p → Fits q
 moves-fit here o f = f
-moves-fit (changing a c) o f = change-fits c (once.moves-fit a o) (moves-fit a o f)
+moves-fit (changing a c plain) o f = change-fits c (once.moves-fit a o) (moves-fit a o f)
+moves-fit (arming a c e w) o f = let once_there = once.moves-fit a o in change-fits e (once.change-fits c once_there) (change-fits c once_there (moves-fit a o f))
 moves-fit (calling {q = q} a b w i) o f =
     let g = moves-fit a o f in
     line-fits (Call (called_by b)) (taken b q).now (taken b q).registrations (page_waits (taken b q)) (taken b q).events
@@ -699,6 +682,8 @@ moves-fit (flagging {q = q} {r = r} a x y z w u v t j) o f =
     (subst (λ (xs : List Registration). Cancels xs (page_waits q) r.events) (sym z)
     (subst (Cancels q.registrations (page_waits q)) (sym y) g))))
 moves-fit (running {q = q} a j others x y) o f = silent-fits (Run j.number) q.now q.registrations (page_waits q) q.events refl (moves-fit a o f)
+moves-fit (framing {q = q} a t) o f = silent-fits (Frame t) q.now q.registrations (page_waits q) q.events refl (moves-fit a o f)
+moves-fit (idling a none) o f = moves-fit a o f
 
 -- before a first page's first line nothing was dropped
 pub first_fits : (program : Program) (setup : Setup) (hosts : List HostClosure) → Fits (first_page program setup hosts)

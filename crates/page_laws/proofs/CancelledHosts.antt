@@ -1,42 +1,40 @@
 -- Each answer of a host stands for a registration that was due and not dropped: what is dropped answers no more.
 use Rattle.page_parts.specs.TaskSignals.{Prios}
-use Rattle.std.proofs.Common.{◌≡◌, ℕ, zero, suc, ◌≤◌, ◌<◌, ◌+◌, Bool, true, false, List, [], ◌∷◌, ◌++◌, ◌&&◌, ◌||◌, not, Option, Some, None, refl, sym, subst, ap, ◌∙◌, cond, length, arith, nat_le, slice_get}
-use Rattle.std.proofs.lemmas.Bool.{eqb-true, eq-eqb, leb-true, leb-false}
-use Rattle.std.specs.Prelude.{◌==◌, find, slice_set}
+use Rattle.std.proofs.Common.{◌≡◌, ℕ, zero, suc, ◌≤◌, Bool, true, false, List, [], ◌∷◌, ◌&&◌, Option, Some, None, refl, sym, subst, ap, ◌∙◌, length, arith}
+use Rattle.std.proofs.lemmas.Bool.{eq-eqb}
+use Rattle.std.specs.Prelude.{◌==◌, slice_set}
 use Rattle.page_types.specs.declared.HostMark.{HostMark}
 use Rattle.page_types.specs.declared.HostMark.TheVariants.{Live, Queued as QueuedMark, Fired, Dropped}
 use Rattle.page_types.specs.declared.RegKind.{RegKind}
 use Rattle.page_types.specs.declared.RegKind.TheVariants as kind
 use Rattle.page_types.specs.declared.Source.TheVariants.{Sched}
-use Rattle.page_types.specs.Events.{Event, Call, Reg, Run, Turn, IdleLine, Host, Drop, Due, Enq, Prio}
+use Rattle.page_types.specs.Events.{Arm, Frame, Event, Call, Reg, Run, Turn, IdleLine, Host, Drop, Due, Enq, Prio}
 use Rattle.page_types.specs.Tree.{Program}
 use Rattle.page_parts.specs.Words.{and_last, without, is_there}
-use Rattle.page_parts.specs.HostClosures.{HostClosure, fired}
+use Rattle.page_parts.specs.HostClosures.{HostClosure}
 use Rattle.page_parts.specs.Setup.{Setup}
 use Rattle.page_parts.specs.Sources.{same_source}
 use Rattle.page_parts.specs.Promises.{Settled, Fulfilled, Failed, Reaction, PromiseJob, the_promise}
 use Rattle.page_parts.specs.Promises as Promises
-use Rattle.page_parts.specs.Notices.{Context, Notices, Noticed, changed, queue_jobs, settle_line, subscribe_promise, queue_micro}
-use Rattle.page_model.specs.State.{Role, ScriptRole, OfKind, Registration, Page, Task, HostTask, Steps, AnswerHost, RunTimer, HostAnswer, emit, emit_each, on_notices, context, caller}
+use Rattle.page_parts.specs.Notices.{Notices, Noticed, changed, subscribe_promise, queue_micro}
+use Rattle.page_model.specs.State.{IdleTimeout, Role, ScriptRole, OfKind, Registration, Page, HostTask, AnswerHost, RunTimer, HostAnswer, emit, emit_each, on_notices, context, caller}
 use Rattle.page_model.specs.Invoke.{register_as}
 use Rattle.page_model.specs.PageTime.{deadline}
-use Rattle.page_model.specs.PageSignals.{is_for, host_task_of, drop_closure, drop_at, closure_dropped, task_in_answer, task_in_net, waiting_answer, waiting_net_task}
-use Rattle.page_model.specs.Numbers.{Each, timer_role, is_timer_role, IfThere}
+use Rattle.page_model.specs.PageSignals.{drop_closure, task_in_answer, task_in_net, waiting_answer, waiting_net_task}
+use Rattle.page_model.specs.Numbers.{Each, timer_role, is_timer_role}
 use Rattle.page_model.specs.Operations.{queued_mark}
-use Rattle.page_model.specs.Turns.{first_page, not_dropped}
-use Rattle.page_model.proofs.NumbersGrow.{length-last, Each-more, Each-last, Each-without, Each-find}
-use Rattle.page_laws.specs.History.{History, has_kind, is_host, is_some_and, kind_of, was_dropped, is_rest, was_due}
-use Rattle.page_laws.specs.CallLaws.{answers_fit, is_answer, keeps_cancel}
-use Rattle.page_laws.specs.Moves.{is_aside, is_end, is_free, role_at, fired_at, promise_changes, Places, places, without_aborted, PlaceChange, places_stay, task_queued, task_left, armed_again, signal_armed, completed, idle_started, idle_left, id_cleared, idle_armed, DueChange, timer_due, delay_due, signal_due, idle_due, answer_due, Dropping, timer_dropped, idle_dropped, listener_dropped, FirstPlace, nowhere, at_listener, at_timer, at_delay, at_idle, at_host, AsBefore, PageChange, elsewhere, told, rested, answered, dropped, task_dropped, frame_dropped, registered as made_one, enqueued_anew, fell_due, post_fell_due, frame_asked, frame_gone, promised, settled, followed, adopted, subscribed, then_asked, micro_asked, rejected_taken, noted, Beginning, TheScript, ATimer, AFrame, AnIdle, ALateIdle, AListener, APost, AContinuation, AMicro, AReaction, called_by, taken, Moves, here, changing, calling, ending, flagging, running, prio_told}
+use Rattle.page_model.specs.Turns.{first_page}
+use Rattle.page_laws.specs.History.{History, is_host, was_dropped}
+use Rattle.page_laws.specs.CallLaws.{answers_fit, keeps_cancel}
+use Rattle.page_laws.specs.Moves.{is_free, role_at, promise_changes, Places, places, without_aborted, PlaceChange, places_stay, task_queued, task_left, armed_again, signal_armed, completed, idle_started, idle_queued, idle_left, id_cleared, idle_armed, DueChange, timer_due, delay_due, signal_due, idle_due, answer_due, Dropping, timer_dropped, idle_dropped, listener_dropped, FirstPlace, nowhere, at_listener, at_timer, at_delay, at_idle, at_host, AsBefore, PageChange, elsewhere, told, arm_told, rested, answered, dropped, task_dropped, frame_dropped, registered as made_one, enqueued_anew, fell_due, post_fell_due, frame_asked, promised, settled, followed, adopted, subscribed, then_asked, micro_asked, rejected_taken, noted, Beginning, TheScript, ATimer, AFrame, AnIdle, ALateIdle, AListener, APost, AContinuation, AMicro, AReaction, called_by, taken, Moves, here, changing, arming, calling, ending, flagging, running, framing, idling, prio_told}
 use Rattle.page_laws.proofs.Cancelled as cancelled
 use Rattle.page_laws.proofs.Cancelled.{Cancels, GoneBy, waits, unless, made-kind, no_kind, kind-there, answer_claims, keeps_dropped}
-use Rattle.page_laws.proofs.Finding.{false_true, true_false, found-counts, same_number, found-passes}
-use Rattle.page_laws.proofs.HostCounts.{answers, live_host, live_hosts, times, dues, total-most, total-more, answers-pass, made-live, due-live, host-live, drop-live, drop-none, kind-times, dues-more, dues-none}
-use Rattle.page_laws.proofs.Lines.{added, emit_each-events}
+use Rattle.page_laws.proofs.Finding.{false_true}
+use Rattle.page_laws.proofs.Lines.{emit_each-events}
 use Rattle.page_laws.proofs.Once as once
-use Rattle.page_laws.proofs.Registered.{At, KindsFit, at_number, kind_in_role}
+use Rattle.page_laws.proofs.Registered.{At, KindsFit}
 use Rattle.page_laws.proofs.Scans.{Test, Kept}
-use Rattle.page_laws.proofs.Totals.{one_if, total, total-last, total-without, IsLess, less-found, less-within}
+use Rattle.page_laws.proofs.Totals.{one_if, total, total-last, total-without, IsLess, less-within}
 use Rattle.page_laws.proofs.HostAnswers.{answers_test, Answers, set-live, drop-stays, Silent, aside-silent, rest-silent, end-silent, silent-fits, added-fits, changed-silent, subscribed-silent, free-net, task-more, task-gone, made-fits, other-due, no_host, host-due, is_host_role, other-drop, host-drop, answered-fits}
 
 -- ---- pages
@@ -80,13 +78,14 @@ plain-fits k x p f = made-fits k (caller p) x p.now p.registrations p.tasks p.ho
 
 place-fits : {xs : List Registration} {x y : Places} → PlaceChange xs x y → (past : History) → AnswersAt xs x past → AnswersAt xs y past
 place-fits places_stay past f = f
-place-fits {xs = xs} {x = x} (task_queued t h) past f = task-more t xs x.tasks x.host_answers x.hosts past (free-net t.steps h) f
+place-fits {xs = xs} {x = x} (task_queued t h plain) past f = task-more t xs x.tasks x.host_answers x.hosts past (free-net t.steps h) f
 place-fits {xs = xs} {x = x} (task_left number) past f = task-gone number xs x.tasks x.host_answers x.hosts past f
 place-fits (armed_again armed t role there own) past f = f
 place-fits (signal_armed ms now q s) past f = f
 place-fits (id_cleared other) past f = f
-place-fits (idle_armed t) past f = f
-place-fits (completed start) past f = f
+place-fits {xs = xs} {x = x} (idle_queued t e from) past f = task-more t xs x.tasks x.host_answers x.hosts past (free-net t.steps (ap is_free e)) f
+place-fits (idle_armed t most own) past f = f
+place-fits (completed start gone) past f = f
 place-fits idle_started past f = f
 place-fits (idle_left handle) past f = f
 
@@ -100,7 +99,9 @@ due-fits {xs = xs} {r = r} {x = x} (timer_due start number source t e i role) no
     by_repeats false role = other-due r now kind.Timeout xs x.tasks x.host_answers x.hosts past role (no_host kind.Timeout refl) f
 due-fits {xs = xs} {r = r} {x = x} (delay_due start source e role) now past k g f = other-due r now kind.Post xs x.tasks x.host_answers x.hosts past role (no_host kind.Post refl) f
 due-fits {xs = xs} {r = r} {x = x} (signal_due start s e role) now past k g f = other-due r now kind.Signal xs x.tasks x.host_answers x.hosts past role (no_host kind.Signal refl) f
-due-fits {xs = xs} {r = r} {x = x} (idle_due handle role) now past k g f = other-due r now kind.Idle xs x.tasks x.host_answers x.hosts past role (no_host kind.Idle refl) f
+due-fits {xs = xs} {r = r} {x = x} (idle_due t number source i e role) now past k g f =
+    task-more (record { number = number; source = source; steps = IdleTimeout t.handle }) xs x.tasks x.host_answers x.hosts (record { time = now; event = Due r } ∷ past) refl
+    (other-due r now kind.Idle xs x.tasks x.host_answers x.hosts past role (no_host kind.Idle refl) f)
 due-fits {xs = xs} {r = r} {x = x} {y = y} (answer_due before a after number source e i role) now past k g f =
     let own : role_at xs a.task.registration ≡ OfKind kind.Host = ap {A = ℕ} {B = Role} (role_at xs) i ∙ role in
     let l : IsLess (answer_claims a.task.registration) (λ b. true) x.host_answers a = subst (λ (ys : List HostAnswer). IsLess (answer_claims a.task.registration) (λ b. true) ys a) (sym e) (less-within (answer_claims a.task.registration) (λ b. true) before a after refl) in
@@ -161,14 +162,15 @@ first-fits {made = made} {x = x} (at_host c a e1 there live) k by e now past i f
 -- ---- changes
 
 change-fits : {p q : Page} → PageChange p q → once.Fits p → cancelled.Fits p → Fits p → Fits q
-change-fits {p = p} (elsewhere c b) o d f = before-fits b (place-fits c p.events f)
+change-fits {p = p} (elsewhere c b k) o d f = before-fits b (place-fits c p.events f)
 change-fits {p = p} (told e h) o d f = silent-fits e p.now p.registrations p.tasks p.host_answers p.hosts p.events (aside-silent e h) f
-change-fits {p = p} (rested e h x y z) o d f = silent-fits e p.now p.registrations p.tasks p.host_answers p.hosts p.events (rest-silent e h) f
+change-fits {p = p} (arm_told r due level w) o d f = silent-fits (Arm r due level) p.now p.registrations p.tasks p.host_answers p.hosts p.events refl f
+change-fits {p = p} (rested e h x y z over begun) o d f = silent-fits e p.now p.registrations p.tasks p.host_answers p.hosts p.events (rest-silent e h) f
 change-fits {p = p} (answered source task t answer x y live z b) o d f =
     before-fits b
     (subst (λ (y : Places). AnswersAt p.registrations y (emit (Host t.closure t.number answer) p).events) (sym z)
     (answered-fits task.number p.now p.registrations p.tasks p.host_answers p.hosts p.events (λ u. same_source u.source source) task t (Host t.closure t.number answer) refl x y live f))
-change-fits {p = p} (made_one k x e u b) o d f = before-fits b (first-fits u k (caller p) x p.now p.events refl f)
+change-fits {p = p} (made_one k x e unframed u b) o d f = before-fits b (first-fits u k (caller p) x p.now p.events refl f)
 change-fits {p = p} (enqueued_anew k x t queue e i s n b) o d f =
     before-fits b
     (subst (λ (y : Places). AnswersAt (and_last p.registrations x) y (emit (Enq t.registration queue t.continuation t.order) (register_as k x p)).events) (sym s)
@@ -205,7 +207,6 @@ change-fits {p = p} (frame_dropped handle c e role) o d f =
     other-drop c.registration p.now p.registrations p.tasks p.host_answers p.host_answers p.hosts p.hosts p.events (λ n. omega arith) (λ k h. h) o.kinds (ap is_host_role role) f
 change-fits {p = p} (frame_asked g) o d f =
     plain-fits kind.Frame (record { role = OfKind kind.Frame; callback = Some g; second_callback = None; timer_id = 0; promise = 0; signal = None; finally = false }) p f
-change-fits (frame_gone handle) o d f = f
 change-fits promised o d f = f
 change-fits {p = p} (settled n how x y) o d f = changes-fit n (Promises.settle n (the_promise p.notices.promises n) how) p f
 change-fits {p = p} (followed n how x y) o d f = changes-fit n (Promises.settle n (the_promise p.notices.promises n) how) p f
@@ -230,7 +231,11 @@ begins-fit (AReaction job others of x r) p f = silent-fits (Run job.number) p.no
 
 moves-fit : {p q : Page} → Moves p q → once.Fits p → cancelled.Fits p → Fits p → Fits q
 moves-fit here o d f = f
-moves-fit (changing a c) o d f = change-fits c (once.moves-fit a o) (cancelled.moves-fit a o d) (moves-fit a o d f)
+moves-fit (changing a c plain) o d f = change-fits c (once.moves-fit a o) (cancelled.moves-fit a o d) (moves-fit a o d f)
+moves-fit (arming a c e w) o d f =
+    let once_there = once.moves-fit a o in
+    let gone_there = cancelled.moves-fit a o d in
+    change-fits e (once.change-fits c once_there) (cancelled.change-fits c once_there gone_there) (change-fits c once_there gone_there (moves-fit a o d f))
 moves-fit (calling {q = q} a b w i) o d f =
     let r = taken b q in
     silent-fits (Call (called_by b)) r.now r.registrations r.tasks r.host_answers r.hosts r.events refl (begins-fit b q (moves-fit a o d f))
@@ -239,6 +244,8 @@ moves-fit (flagging {q = q} {r = r} a x y z w u v t j) o d f =
     subst (λ (x : Places). AnswersAt r.registrations x r.events) (sym u)
     (subst (λ (xs : List Registration). AnswersAt xs (places q) r.events) (sym z) (subst (AnswersAt q.registrations (places q)) (sym y) (moves-fit a o d f)))
 moves-fit (running {q = q} a j others x y) o d f = silent-fits (Run j.number) q.now q.registrations q.tasks q.host_answers q.hosts q.events refl (moves-fit a o d f)
+moves-fit (framing {q = q} a t) o d f = silent-fits (Frame t) q.now q.registrations q.tasks q.host_answers q.hosts q.events refl (moves-fit a o d f)
+moves-fit (idling a none) o d f = moves-fit a o d f
 
 -- from a first page on, each answer of a host stands for a registration that was due and not dropped
 pub answers_stand : (program : Program) (setup : Setup) (hosts : List HostClosure) {q : Page} → Moves (first_page program setup hosts) q → Kept answers_test q.events

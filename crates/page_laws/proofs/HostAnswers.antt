@@ -1,39 +1,27 @@
 -- Each answer of a host stands for a registration that was due and not dropped: what a line and a change keep of it.
-use Rattle.page_parts.specs.TaskSignals.{Prios}
 use Rattle.std.proofs.Common.{◌≡◌, ℕ, zero, suc, ◌≤◌, ◌<◌, ◌+◌, Bool, true, false, List, [], ◌∷◌, ◌++◌, ◌&&◌, ◌||◌, not, Option, Some, None, refl, sym, subst, ap, ◌∙◌, cond, length, arith, nat_le, slice_get}
 use Rattle.std.proofs.lemmas.Bool.{eqb-true, eq-eqb, leb-true, leb-false}
 use Rattle.std.specs.Prelude.{◌==◌, find, slice_set}
-use Rattle.page_types.specs.declared.HostMark.{HostMark}
-use Rattle.page_types.specs.declared.HostMark.TheVariants.{Live, Queued as QueuedMark, Fired, Dropped}
 use Rattle.page_types.specs.declared.RegKind.{RegKind}
 use Rattle.page_types.specs.declared.RegKind.TheVariants as kind
-use Rattle.page_types.specs.declared.Source.TheVariants.{Sched}
-use Rattle.page_types.specs.Events.{Event, Call, Reg, Run, Turn, IdleLine, Host, Drop, Due, Enq, Prio}
-use Rattle.page_types.specs.Tree.{Program}
+use Rattle.page_types.specs.Events.{Event, Reg, Host, Drop, Due}
 use Rattle.page_parts.specs.Words.{and_last, without, is_there}
 use Rattle.page_parts.specs.HostClosures.{HostClosure, fired}
-use Rattle.page_parts.specs.Setup.{Setup}
-use Rattle.page_parts.specs.Sources.{same_source}
 use Rattle.page_parts.specs.Promises.{Settled, Fulfilled, Failed, Reaction, PromiseJob, the_promise}
 use Rattle.page_parts.specs.Promises as Promises
-use Rattle.page_parts.specs.Notices.{Context, Notices, Noticed, changed, queue_jobs, settle_line, subscribe_promise, queue_micro}
-use Rattle.page_model.specs.State.{Role, ScriptRole, OfKind, Registration, Page, Task, HostTask, Steps, AnswerHost, RunTimer, HostAnswer, emit, emit_each, on_notices, context, caller}
-use Rattle.page_model.specs.Invoke.{register_as}
-use Rattle.page_model.specs.PageTime.{deadline}
-use Rattle.page_model.specs.PageSignals.{is_for, host_task_of, drop_closure, drop_at, closure_dropped, task_in_answer, task_in_net, waiting_answer, waiting_net_task}
-use Rattle.page_model.specs.Numbers.{Each, timer_role, is_timer_role, IfThere}
-use Rattle.page_model.specs.Operations.{queued_mark}
-use Rattle.page_model.specs.Turns.{first_page, not_dropped}
+use Rattle.page_parts.specs.Notices.{Context, Notices, changed, subscribe_promise}
+use Rattle.page_model.specs.State.{Role, ScriptRole, OfKind, Registration, Task, HostTask, Steps, AnswerHost, HostAnswer}
+use Rattle.page_model.specs.PageSignals.{is_for, host_task_of, drop_closure, drop_at, closure_dropped, task_in_answer, task_in_net}
+use Rattle.page_model.specs.Numbers.{Each, IfThere}
+use Rattle.page_model.specs.Turns.{not_dropped}
 use Rattle.page_model.proofs.NumbersGrow.{length-last, Each-more, Each-last, Each-without, Each-find}
 use Rattle.page_laws.specs.History.{History, has_kind, is_host, is_some_and, kind_of, was_dropped, is_rest, was_due}
-use Rattle.page_laws.specs.CallLaws.{answers_fit, is_answer, keeps_cancel}
-use Rattle.page_laws.specs.Moves.{is_aside, is_end, is_free, role_at, fired_at, promise_changes, Places, places, without_aborted, PlaceChange, places_stay, task_queued, task_left, armed_again, signal_armed, completed, idle_started, idle_left, id_cleared, idle_armed, DueChange, timer_due, delay_due, signal_due, idle_due, answer_due, Dropping, timer_dropped, idle_dropped, listener_dropped, FirstPlace, nowhere, at_listener, at_timer, at_delay, at_idle, at_host, AsBefore, PageChange, elsewhere, told, rested, answered, dropped, task_dropped, frame_dropped, registered as made_one, enqueued_anew, fell_due, post_fell_due, frame_asked, frame_gone, promised, settled, followed, adopted, subscribed, then_asked, micro_asked, rejected_taken, noted, Beginning, TheScript, ATimer, AFrame, AnIdle, ALateIdle, AListener, APost, AContinuation, AMicro, AReaction, called_by, taken, Moves, here, changing, calling, ending, flagging, running, prio_told}
-use Rattle.page_laws.proofs.Cancelled as cancelled
-use Rattle.page_laws.proofs.Cancelled.{Cancels, GoneBy, waits, unless, made-kind, no_kind, kind-there, answer_claims, keeps_dropped}
+use Rattle.page_laws.specs.CallLaws.{answers_fit, is_answer}
+use Rattle.page_laws.specs.Moves.{is_aside, is_end, is_free, role_at, fired_at}
+use Rattle.page_laws.proofs.Cancelled.{unless, made-kind, no_kind, answer_claims}
 use Rattle.page_laws.proofs.Finding.{false_true, true_false, found-counts, same_number, found-passes}
 use Rattle.page_laws.proofs.HostCounts.{answers, live_host, live_hosts, times, dues, total-most, total-more, answers-pass, made-live, due-live, host-live, drop-live, drop-none, kind-times, dues-more, dues-none}
-use Rattle.page_laws.proofs.Lines.{added, emit_each-events}
-use Rattle.page_laws.proofs.Once as once
+use Rattle.page_laws.proofs.Lines.{changed-each, added}
 use Rattle.page_laws.proofs.Registered.{At, KindsFit, at_number, kind_in_role}
 use Rattle.page_laws.proofs.Scans.{Test, Kept}
 use Rattle.page_laws.proofs.Totals.{one_if, total, total-last, total-without, IsLess, less-found, less-within}
@@ -72,22 +60,22 @@ abbrev pub TaskFits : List Registration → List HostClosure → History → Tas
 TaskFits xs hosts past t = StepsFit xs hosts past t.steps
 
 pub record Answers (xs : List Registration) (tasks : List Task) (pending : List HostAnswer) (hosts : List HostClosure) (past : History) : Type 0 where
-  asked : (r : ℕ) → role_at xs r ≡ OfKind kind.Host → total (answer_claims r) pending + dues r past ≤ 1
-  fresh : (r : ℕ) → length xs < r → total (answer_claims r) pending + dues r past ≤ 0
-  due : (r : ℕ) → total (net_claims r) tasks ≤ dues r past
-  waiting : Each (TaskFits xs hosts past) tasks
-  once : (r : ℕ) → times r past ≤ 1
-  new : (r : ℕ) → length xs < r → times r past ≤ 0
-  none : times 0 past ≤ 0
-  fits : answers past + total (open_claims past) tasks ≤ live_hosts past
-  kept : Kept answers_test past
+  pub asked : (r : ℕ) → role_at xs r ≡ OfKind kind.Host → total (answer_claims r) pending + dues r past ≤ 1
+  pub fresh : (r : ℕ) → length xs < r → total (answer_claims r) pending + dues r past ≤ 0
+  pub due : (r : ℕ) → total (net_claims r) tasks ≤ dues r past
+  pub waiting : Each (TaskFits xs hosts past) tasks
+  pub once : (r : ℕ) → times r past ≤ 1
+  pub new : (r : ℕ) → length xs < r → times r past ≤ 0
+  pub none : times 0 past ≤ 0
+  pub fits : answers past + total (open_claims past) tasks ≤ live_hosts past
+  pub kept : Kept answers_test past
 
 -- ---- closures
 
 StaysDropped : List HostClosure → List HostClosure → Type 0
 StaysDropped before after = (k : ℕ) → IsDropped before k → IsDropped after k
 
-set-live : (hosts : List HostClosure) (j : ℕ) (c d : HostClosure) → slice_get hosts j ≡ Some c → is_there (not_dropped (Some c)) ≡ true → (k : ℕ) → IsDropped hosts k → IsDropped (slice_set hosts j d) k
+pub set-live : (hosts : List HostClosure) (j : ℕ) (c d : HostClosure) → slice_get hosts j ≡ Some c → is_there (not_dropped (Some c)) ≡ true → (k : ℕ) → IsDropped hosts k → IsDropped (slice_set hosts j d) k
 set-live [] j c d e l k h = h
 set-live (b ∷ hosts) zero c d e l zero h = absurd (false_true (sym h ∙ (ap {A = Option HostClosure} {B = Bool} (λ o. is_there (not_dropped o)) e ∙ l)))
 set-live (b ∷ hosts) zero c d e l (suc k) h = h
@@ -106,7 +94,7 @@ set-there [] j b d e = Prim.cc
 set-there (c ∷ hosts) zero b d e = refl
 set-there (c ∷ hosts) (suc j) b d e = set-there hosts j b d e
 
-drop-stays : (t : Option HostTask) (hosts : List HostClosure) (k : ℕ) → IsDropped hosts k → IsDropped (drop_closure t hosts) k
+pub drop-stays : (t : Option HostTask) (hosts : List HostClosure) (k : ℕ) → IsDropped hosts k → IsDropped (drop_closure t hosts) k
 drop-stays None hosts k h = h
 drop-stays (Some t) hosts k h = by_closure (slice_get hosts t.closure)
   where
@@ -175,28 +163,28 @@ tells_of_hosts e = false
 abbrev pub Silent : Event → Type 0
 Silent e = tells_of_hosts e ≡ false
 
-aside-silent : (e : Event) → is_aside e ≡ true → Silent e
+pub aside-silent : (e : Event) → is_aside e ≡ true → Silent e
 aside-silent (Reg r kind by) h = Prim.cc
 aside-silent (Due r) h = Prim.cc
 aside-silent (Drop r) h = Prim.cc
 aside-silent (Host k x answer) h = Prim.cc
 aside-silent e h = refl
 
-rest-silent : (e : Event) → is_rest e ≡ true → Silent e
+pub rest-silent : (e : Event) → is_rest e ≡ true → Silent e
 rest-silent (Reg r kind by) h = Prim.cc
 rest-silent (Due r) h = Prim.cc
 rest-silent (Drop r) h = Prim.cc
 rest-silent (Host k x answer) h = Prim.cc
 rest-silent e h = refl
 
-end-silent : (e : Event) → is_end e ≡ true → Silent e
+pub end-silent : (e : Event) → is_end e ≡ true → Silent e
 end-silent (Reg r kind by) h = Prim.cc
 end-silent (Due r) h = Prim.cc
 end-silent (Drop r) h = Prim.cc
 end-silent (Host k x answer) h = Prim.cc
 end-silent e h = refl
 
-silent-fits : (e : Event) (now : ℕ) (xs : List Registration) (ts : List Task) (as' : List HostAnswer) (hosts : List HostClosure) (past : History) → Silent e → Answers xs ts as' hosts past → Answers xs ts as' hosts (record { time = now; event = e } ∷ past)
+pub silent-fits : (e : Event) (now : ℕ) (xs : List Registration) (ts : List Task) (as' : List HostAnswer) (hosts : List HostClosure) (past : History) → Silent e → Answers xs ts as' hosts past → Answers xs ts as' hosts (record { time = now; event = e } ∷ past)
 silent-fits (Reg r kind by) now xs ts as' hosts past h f = Prim.cc
 silent-fits (Due r) now xs ts as' hosts past h f = Prim.cc
 silent-fits (Drop r) now xs ts as' hosts past h f = Prim.cc
@@ -214,31 +202,14 @@ silent-fits e now xs ts as' hosts past h f =
       kept = (answers-pass (record { time = now; event = e } ∷ past) (total (open_claims past) ts) f.fits, f.kept);
     }
 
-added-fits : (now : ℕ) (es : List Event) (xs : List Registration) (ts : List Task) (as' : List HostAnswer) (hosts : List HostClosure) (past : History) → Each Silent es → Answers xs ts as' hosts past → Answers xs ts as' hosts (added now es past)
+pub added-fits : (now : ℕ) (es : List Event) (xs : List Registration) (ts : List Task) (as' : List HostAnswer) (hosts : List HostClosure) (past : History) → Each Silent es → Answers xs ts as' hosts past → Answers xs ts as' hosts (added now es past)
 added-fits now [] xs ts as' hosts past h f = f
 added-fits now (e ∷ es) xs ts as' hosts past h f = added-fits now es xs ts as' hosts (record { time = now; event = e } ∷ past) h.1 (silent-fits e now xs ts as' hosts past h.0 f)
 
-Each-append : (xs ys : List Event) → Each Silent xs → Each Silent ys → Each Silent (xs ++ ys)
-Each-append [] ys h k = k
-Each-append (x ∷ xs) ys h k = (h.0, Each-append xs ys h.1 k)
+pub changed-silent : (current : Context) (names : List (List ℕ)) (n : ℕ) (c : Promises.Change) (s : Notices) → Each Silent (changed current names n c s).lines
+changed-silent = changed-each Silent (λ n ok bs. refl) (λ j what. refl)
 
-settle_line-silent : (names : List (List ℕ)) (n : ℕ) (o : Option Settled) → Each Silent (settle_line names n o)
-settle_line-silent names n None = tt
-settle_line-silent names n (Some (Fulfilled v)) = (refl, tt)
-settle_line-silent names n (Some (Failed v)) = (refl, tt)
-
-if_settled-silent : (b : Bool) (lines : List Event) → Each Silent lines → Each Silent (cond b lines [])
-if_settled-silent true lines h = h
-if_settled-silent false lines h = tt
-
-queue_jobs-silent : (current : Context) (jobs : List PromiseJob) (s : Notices) → Each Silent (queue_jobs current jobs s).lines
-queue_jobs-silent current [] s = tt
-queue_jobs-silent current (j ∷ jobs) s = (refl, queue_jobs-silent current jobs _)
-
-changed-silent : (current : Context) (names : List (List ℕ)) (n : ℕ) (c : Promises.Change) (s : Notices) → Each Silent (changed current names n c s).lines
-changed-silent current names n c s = Each-append (cond c.settled (settle_line names n c.promise.outcome) []) _ (if_settled-silent c.settled _ (settle_line-silent names n c.promise.outcome)) (queue_jobs-silent current c.jobs _)
-
-subscribed-silent : (current : Context) (n : ℕ) (r : Reaction) (s : Notices) → Each Silent (subscribe_promise current n r s).lines
+pub subscribed-silent : (current : Context) (n : ℕ) (r : Reaction) (s : Notices) → Each Silent (subscribe_promise current n r s).lines
 subscribed-silent current n r s =
     changed-silent current [] n (Promises.subscribe n (the_promise s.promises n) r) (record s { rejected = without (λ m. m == n) s.rejected; outstanding = without (λ m. m == n) s.outstanding })
 
@@ -249,7 +220,7 @@ abbrev pub is_net : Steps → Bool
 is_net (AnswerHost t) = true
 is_net steps = false
 
-free-net : (steps : Steps) → is_free steps ≡ true → is_net steps ≡ false
+pub free-net : (steps : Steps) → is_free steps ≡ true → is_net steps ≡ false
 free-net (AnswerHost t) h = Prim.cc
 free-net steps h = refl
 
@@ -265,7 +236,7 @@ net-fits : (xs : List Registration) (hosts : List HostClosure) (past : History) 
 net-fits xs hosts past (AnswerHost t) h = Prim.cc
 net-fits xs hosts past steps h = tt
 
-task-more : (task : Task) (xs : List Registration) (ts : List Task) (as' : List HostAnswer) (hosts : List HostClosure) (past : History) → is_net task.steps ≡ false → Answers xs ts as' hosts past → Answers xs (and_last ts task) as' hosts past
+pub task-more : (task : Task) (xs : List Registration) (ts : List Task) (as' : List HostAnswer) (hosts : List HostClosure) (past : History) → is_net task.steps ≡ false → Answers xs ts as' hosts past → Answers xs (and_last ts task) as' hosts past
 task-more task xs ts as' hosts past h f =
     record {
       asked = f.asked;
@@ -279,7 +250,7 @@ task-more task xs ts as' hosts past h f =
       kept = f.kept;
     }
 
-task-gone : (number : ℕ) (xs : List Registration) (ts : List Task) (as' : List HostAnswer) (hosts : List HostClosure) (past : History) → Answers xs ts as' hosts past → Answers xs (without (λ t. t.number == number) ts) as' hosts past
+pub task-gone : (number : ℕ) (xs : List Registration) (ts : List Task) (as' : List HostAnswer) (hosts : List HostClosure) (past : History) → Answers xs ts as' hosts past → Answers xs (without (λ t. t.number == number) ts) as' hosts past
 task-gone number xs ts as' hosts past f =
     record {
       asked = f.asked;
@@ -304,7 +275,7 @@ hosts-fit xs hosts hosts' past ts s h = Each-more (TaskFits xs hosts past) (Task
 -- ---- registrations
 
 -- a registration more, which is asked once at most
-made-fits : (k : RegKind) (by : Option ℕ) (x : Registration) (now : ℕ) (xs : List Registration) (ts : List Task) (as' bs : List HostAnswer) (hosts hosts' : List HostClosure) (past : History)
+pub made-fits : (k : RegKind) (by : Option ℕ) (x : Registration) (now : ℕ) (xs : List Registration) (ts : List Task) (as' bs : List HostAnswer) (hosts hosts' : List HostClosure) (past : History)
     → ((r : ℕ) → total (answer_claims r) bs ≤ total (answer_claims r) as' + one_if (suc (length xs) == r)) → ((n : ℕ) → IsDropped hosts n → IsDropped hosts' n)
     → Answers xs ts as' hosts past → Answers (and_last xs x) ts bs hosts' (record { time = now; event = Reg (suc (length xs)) k by } ∷ past)
 made-fits k by x now xs ts as' bs hosts hosts' past more s f =
@@ -379,7 +350,7 @@ made-fits k by x now xs ts as' bs hosts hosts' past more s f =
 -- ---- due lines
 
 -- what is no host is due
-other-due : (r now : ℕ) (k : RegKind) (xs : List Registration) (ts : List Task) (as' : List HostAnswer) (hosts : List HostClosure) (past : History) → role_at xs r ≡ OfKind k → (OfKind k ≡ OfKind kind.Host → ⊥) → Answers xs ts as' hosts past → Answers xs ts as' hosts (record { time = now; event = Due r } ∷ past)
+pub other-due : (r now : ℕ) (k : RegKind) (xs : List Registration) (ts : List Task) (as' : List HostAnswer) (hosts : List HostClosure) (past : History) → role_at xs r ≡ OfKind k → (OfKind k ≡ OfKind kind.Host → ⊥) → Answers xs ts as' hosts past → Answers xs ts as' hosts (record { time = now; event = Due r } ∷ past)
 other-due r now k xs ts as' hosts past role other f =
     record {
       asked = λ q host.
@@ -408,7 +379,7 @@ other-due r now k xs ts as' hosts past role other f =
     live : answers past + total (open_claims past) ts ≤ live_hosts (record { time = now; event = Due r } ∷ past)
     live = let a = due-live r now past in let b = f.fits in omega (arith, a, b)
 
-no_host : (k : RegKind) → is_host k ≡ false → OfKind k ≡ OfKind kind.Host → ⊥
+pub no_host : (k : RegKind) → is_host k ≡ false → OfKind k ≡ OfKind kind.Host → ⊥
 no_host k h e = false_true (sym h ∙ ap is_host_role e)
   where
     is_host_role : Role → Bool
@@ -416,7 +387,7 @@ no_host k h e = false_true (sym h ∙ ap is_host_role e)
     is_host_role (OfKind k) = is_host k
 
 -- the pending answer of a host is due
-host-due : (now number : ℕ) (a : HostAnswer) (task : Task) (before after : List HostAnswer) (xs : List Registration) (ts : List Task) (as' : List HostAnswer) (hosts : List HostClosure) (past : History) → as' ≡ before ++ a ∷ after → role_at xs a.task.registration ≡ OfKind kind.Host → task.steps ≡ AnswerHost a.task
+pub host-due : (now number : ℕ) (a : HostAnswer) (task : Task) (before after : List HostAnswer) (xs : List Registration) (ts : List Task) (as' : List HostAnswer) (hosts : List HostClosure) (past : History) → as' ≡ before ++ a ∷ after → role_at xs a.task.registration ≡ OfKind kind.Host → task.steps ≡ AnswerHost a.task
     → kind_of past a.task.registration ≡ Some kind.Host → was_dropped past a.task.registration ≡ false → Answers xs ts as' hosts past
     → Answers xs (and_last ts task) (without (λ b. b.task.registration == a.task.registration) as') hosts (record { time = now; event = Due a.task.registration } ∷ past)
 host-due now number a task before after xs ts as' hosts past e role steps there stays f =
@@ -531,7 +502,7 @@ not_live xs past r k one h = ap {A = Option RegKind} {B = Bool} (λ o. is_some_a
     by_role (OfKind k) m e = ap {A = Bool} {B = Bool} (λ b. b && m) e
 
 -- a cancel of what is no host
-other-drop : (r now : ℕ) (xs : List Registration) (ts : List Task) (as' bs : List HostAnswer) (hosts hosts' : List HostClosure) (past : History) → ((q : ℕ) → total (answer_claims q) bs ≤ total (answer_claims q) as') → ((k : ℕ) → IsDropped hosts k → IsDropped hosts' k) → KindsFit xs past → is_host_role (role_at xs r) ≡ false → Answers xs ts as' hosts past → Answers xs ts bs hosts' (record { time = now; event = Drop r } ∷ past)
+pub other-drop : (r now : ℕ) (xs : List Registration) (ts : List Task) (as' bs : List HostAnswer) (hosts hosts' : List HostClosure) (past : History) → ((q : ℕ) → total (answer_claims q) bs ≤ total (answer_claims q) as') → ((k : ℕ) → IsDropped hosts k → IsDropped hosts' k) → KindsFit xs past → is_host_role (role_at xs r) ≡ false → Answers xs ts as' hosts past → Answers xs ts bs hosts' (record { time = now; event = Drop r } ∷ past)
 other-drop r now xs ts as' bs hosts hosts' past less s k other f =
     drop-fits r now xs ts as' bs hosts hosts' past less s (all ts) (live r other refl) f
   where
@@ -549,7 +520,7 @@ other-drop r now xs ts as' bs hosts hosts' past less s k other f =
     live (suc i) h same = unlive r now xs ts as' hosts past (subst (λ (n : ℕ). live_host past n ≡ false) same (not_live xs past (suc i) k (omega arith) h)) f
 
 -- a cancel of a host's registration, whose answer is pending or due
-host-drop : (r now : ℕ) (xs : List Registration) (ts : List Task) (as' : List HostAnswer) (hosts : List HostClosure) (past : History) → role_at xs r ≡ OfKind kind.Host
+pub host-drop : (r now : ℕ) (xs : List Registration) (ts : List Task) (as' : List HostAnswer) (hosts : List HostClosure) (past : History) → role_at xs r ≡ OfKind kind.Host
     → is_there (find (λ a. a.task.registration == r) as') || is_there (find (λ t. is_for r (host_task_of t.steps)) ts) ≡ true → Answers xs ts as' hosts past
     → Answers xs ts (without (λ a. a.task.registration == r) as') (drop_closure (task_in_answer (find (λ a. a.task.registration == r) as')) (drop_closure (task_in_net (find (λ t. is_for r (host_task_of t.steps)) ts)) hosts)) (record { time = now; event = Drop r } ∷ past)
 host-drop r now xs ts as' hosts past role begun f =
@@ -624,7 +595,7 @@ host-drop r now xs ts as' hosts past role begun f =
 
 -- ---- an answer
 
-answered-fits : (number now : ℕ) (xs : List Registration) (ts : List Task) (as' : List HostAnswer) (hosts : List HostClosure) (past : History) (find_test : Task → Bool) (task : Task) (t : HostTask) (e : Event) → is_answer e ≡ true → find find_test ts ≡ Some task → task.steps ≡ AnswerHost t → is_there (not_dropped (slice_get hosts t.closure)) ≡ true
+pub answered-fits : (number now : ℕ) (xs : List Registration) (ts : List Task) (as' : List HostAnswer) (hosts : List HostClosure) (past : History) (find_test : Task → Bool) (task : Task) (t : HostTask) (e : Event) → is_answer e ≡ true → find find_test ts ≡ Some task → task.steps ≡ AnswerHost t → is_there (not_dropped (slice_get hosts t.closure)) ≡ true
     → Answers xs ts as' hosts past → Answers xs (without (λ u. u.number == task.number) ts) as' (fired_at t.closure (slice_get hosts t.closure) hosts) (record { time = now; event = e } ∷ past)
 answered-fits number now xs ts as' hosts past find_test task t (Host k x answer) h found steps live f =
     record {

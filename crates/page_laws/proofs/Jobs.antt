@@ -8,7 +8,7 @@ use Rattle.std.specs.Prelude.{◌==◌}
 use Rattle.page_types.specs.declared.End.TheVariants.{Done as DoneEnd, Clock as ClockEnd}
 use Rattle.page_types.specs.declared.Source.TheVariants.{Sched}
 use Rattle.page_model.specs.PageTime.{deadline}
-use Rattle.page_types.specs.Events.{Drop, Host, Reg, Event, Turn, Call, Ret, Throw, Run, Job, Settle, Period, IdleLine, Wait, EndLine, Due, Enq, Prio}
+use Rattle.page_types.specs.Events.{Arm, Frame, Drop, Host, Reg, Event, Turn, Call, Ret, Throw, Run, Job, Settle, Period, IdleLine, Wait, EndLine, Due, Enq, Prio}
 use Rattle.page_parts.specs.Words.{and_last, without}
 use Rattle.page_parts.specs.Promises.{Settled, Fulfilled, Failed, PromiseJob, Reaction}
 use Rattle.page_parts.specs.Promises as Promises
@@ -17,7 +17,7 @@ use Rattle.page_parts.specs.Promises.{the_promise}
 use Rattle.page_model.specs.State.{Registration, Page, emit_each, on_notices, context, caller, emit}
 use Rattle.page_laws.specs.History.{History, count_lines, some_line, is_job, is_run, is_rest}
 use Rattle.page_laws.specs.CallLaws.{keeps_jobs, is_job_number}
-use Rattle.page_laws.specs.Moves.{frame_asked, frame_gone, registered, is_aside, is_end, promise_changes, PageChange, elsewhere, told, rested, promised, settled, followed, adopted, subscribed, micro_asked, then_asked, answered, dropped, frame_dropped, AsBefore, rejected_taken, noted, Beginning, TheScript, ATimer, AFrame, AnIdle, ALateIdle, AListener, APost, AContinuation, AMicro, AReaction, taken, called_by, Waited, Moves, here, changing, calling, ending, flagging, running, task_dropped, enqueued_anew, fell_due, post_fell_due, prio_told}
+use Rattle.page_laws.specs.Moves.{frame_asked, registered, is_aside, is_end, promise_changes, PageChange, elsewhere, told, arm_told, rested, promised, settled, followed, adopted, subscribed, micro_asked, then_asked, answered, dropped, frame_dropped, AsBefore, rejected_taken, noted, Beginning, TheScript, ATimer, AFrame, AnIdle, ALateIdle, AListener, APost, AContinuation, AMicro, AReaction, taken, called_by, Waited, Moves, here, changing, arming, calling, ending, flagging, running, framing, idling, task_dropped, enqueued_anew, fell_due, post_fell_due, prio_told}
 use Rattle.page_laws.proofs.Lines.{added, added-append, emit_each-events, emit_each-notices}
 use Rattle.page_laws.proofs.Scans.{Test, Kept}
 
@@ -191,11 +191,12 @@ registered-fits : (k : RegKind) (x : Registration) (p : Page) → Fits p → Fit
 registered-fits k x p f = silent-fits (Reg (suc (length p.registrations)) k (caller p)) p.now p.notices p.events refl f
 
 change-fits : {p q : Page} → PageChange p q → Fits p → Fits q
-change-fits (elsewhere c b) f = before-fits b f
+change-fits (elsewhere c b k) f = before-fits b f
 change-fits {p = p} (told e h) f = silent-fits e p.now p.notices p.events (aside-silent e h) f
-change-fits {p = p} (rested e h x y z) f = rest-fits e p.now p.notices p.events h y f
+change-fits {p = p} (arm_told r due level w) f = silent-fits (Arm r due level) p.now p.notices p.events refl f
+change-fits {p = p} (rested e h x y z over begun) f = rest-fits e p.now p.notices p.events h y f
 change-fits {p = p} (answered source task t answer x y live z b) f = before-fits b (silent-fits (Host t.closure t.number answer) p.now p.notices p.events refl f)
-change-fits {p = p} (registered kind x e u b) f = before-fits b (registered-fits kind x p f)
+change-fits {p = p} (registered kind x e unframed u b) f = before-fits b (registered-fits kind x p f)
 change-fits {p = p} (frame_asked g) f = silent-fits (Reg (suc (length p.registrations)) kind.Frame (caller p)) p.now p.notices p.events refl f
 change-fits {p = p} (dropped r d b) f = before-fits b (silent-fits (Drop r) p.now p.notices p.events refl f)
 change-fits {p = p} (task_dropped r role a e s b) f = before-fits b (silent-fits (Drop r) p.now p.notices p.events refl f)
@@ -206,7 +207,6 @@ change-fits {p = p} (post_fell_due start source t queue e role a s n b) f =
     before-fits b (silent-fits (Enq t.registration queue t.continuation t.order) p.now p.notices (emit (Due t.registration) p).events refl (silent-fits (Due t.registration) p.now p.notices p.events refl f))
 change-fits {p = p} (prio_told s priority ps c) f = silent-fits (Prio s priority) p.now p.notices p.events refl f
 change-fits {p = p} (frame_dropped handle c e role) f = silent-fits (Drop c.registration) p.now p.notices p.events refl f
-change-fits (frame_gone handle) f = f
 change-fits {p = p} promised f = again-fits p.notices _ p.events refl refl f
 change-fits {p = p} (settled n how x y) f = changes-fit n (Promises.settle n (the_promise p.notices.promises n) how) p f
 change-fits {p = p} (followed n how x y) f = changes-fit n (Promises.settle n (the_promise p.notices.promises n) how) p f
@@ -233,11 +233,14 @@ begins-fit (AReaction job others of x r) p w f = run-fits p.now p.notices p.even
 
 moves-fit : {p q : Page} → Moves p q → Fits p → Fits q
 moves-fit here f = f
-moves-fit (changing a c) f = change-fits c (moves-fit a f)
+moves-fit (changing a c plain) f = change-fits c (moves-fit a f)
+moves-fit (arming a c e w) f = change-fits e (change-fits c (moves-fit a f))
 moves-fit (calling {q = q} a b w i) f = silent-fits (Call (called_by b)) (taken b q).now (taken b q).notices (taken b q).events refl (begins-fit b q w (moves-fit a f))
 moves-fit (ending {q = q} a e h) f = silent-fits e q.now q.notices q.events (end-silent e h) (moves-fit a f)
 moves-fit (flagging {q = q} {r = r} a x y z w u v t j) f = subst (λ (s : Notices). JobsFit s r.events) (sym x) (subst (JobsFit q.notices) (sym y) (moves-fit a f))
 moves-fit (running {q = q} a j others x y) f = run-fits q.now q.notices q.events j others x (moves-fit a f)
+moves-fit (framing {q = q} a t) f = silent-fits (Frame t) q.now q.notices q.events refl (moves-fit a f)
+moves-fit (idling a none) f = moves-fit a f
 
 -- from a page with no lines and no jobs on, jobs go in order
 pub jobs_in_order : {p q : Page} → Moves p q → p.events ≡ [] → p.notices.jobs ≡ [] → p.notices.jobs_made ≡ 0 → Kept in_order q.events

@@ -1,8 +1,12 @@
 pub mod Going
 pub mod Moving
 pub mod Lines
+pub mod Framed
 pub mod Prioritised
 pub mod Moved
+pub mod Items
+pub mod Idling
+pub mod Ready
 pub mod Aborted
 pub mod Evaluating
 pub mod Onto
@@ -13,6 +17,7 @@ pub mod Jobs
 pub mod Settling
 pub mod Runs
 pub mod Operations
+pub mod Drawing
 pub mod Tasks
 pub mod Turns
 pub mod RunLaws
@@ -27,6 +32,10 @@ pub mod Cancelled
 pub mod HostCounts
 pub mod HostAnswers
 pub mod CancelledHosts
+pub mod FrameOrder
+pub mod ArmedTimes
+pub mod Deadlines
+pub mod Firing
 pub mod First
 pub mod Priorities
 pub mod OpenCalls

@@ -4,7 +4,8 @@ use Rattle.page_types.specs.declared.RegKind.TheVariants as kind
 use Rattle.page_model.specs.Invoke.{register_as}
 use Rattle.std.specs.Prelude.{◌==◌}
 use Rattle.page_parts.specs.Words.{without}
-use Rattle.page_types.specs.Events.{Event, Call, Ret, Throw}
+use Rattle.page_types.specs.Events.{Event, Call, Ret, Throw, Settle, Job, Queued}
+use Rattle.page_model.proofs.NumbersGrow.{Each-append}
 use Rattle.page_parts.specs.Promises.{Settled, Fulfilled, Failed, PromiseJob}
 use Rattle.page_parts.specs.Promises as Promises
 use Rattle.page_parts.specs.Notices.{Notices, Noticed, changed, queue_jobs, settle_line, subscribe_promise, queue_micro, Context}
@@ -12,7 +13,7 @@ use Rattle.page_parts.specs.Promises.{the_promise}
 use Rattle.page_model.specs.State.{Page, emit, emit_each, on_notices, context}
 use Rattle.page_model.specs.Numbers.{Each}
 use Rattle.page_laws.specs.History.{History, open_after, open_registrations, is_rest}
-use Rattle.page_laws.specs.Moves.{frame_asked, frame_gone, is_aside, promise_changes, PageChange, elsewhere, told, rested, registered, promised, settled, followed, adopted, subscribed, micro_asked, then_asked, answered, dropped, frame_dropped, AsBefore, rejected_taken, noted, Changes, nothing, with_change, Beginning, TheScript, ATimer, AFrame, AnIdle, ALateIdle, AListener, APost, AContinuation, AMicro, AReaction, taken, task_dropped, enqueued_anew, fell_due, post_fell_due, prio_told}
+use Rattle.page_laws.specs.Moves.{frame_asked, is_aside, promise_changes, PageChange, elsewhere, told, arm_told, rested, registered, promised, settled, followed, adopted, subscribed, micro_asked, then_asked, answered, dropped, frame_dropped, AsBefore, rejected_taken, noted, Changes, nothing, with_change, with_arm, Beginning, TheScript, ATimer, AFrame, AnIdle, ALateIdle, AListener, APost, AContinuation, AMicro, AReaction, taken, task_dropped, enqueued_anew, fell_due, post_fell_due, prio_told}
 
 -- ---- lines
 
@@ -59,25 +60,26 @@ added-open : (now : ℕ) (es : List Event) (past : History) → Each Shut es →
 added-open now [] past h = refl
 added-open now (e ∷ es) past h = added-open now es (record { time = now; event = e } ∷ past) h.1 ∙ h.0 (open_registrations past)
 
-Each-append : (xs ys : List Event) → Each Shut xs → Each Shut ys → Each Shut (xs ++ ys)
-Each-append [] ys h k = k
-Each-append (x ∷ xs) ys h k = (h.0, Each-append xs ys h.1 k)
+-- the lines of a change of a promise are `settle` and `job` lines
+if_settled-each : (P : Event → Type 0) (b : Bool) (lines : List Event) → Each P lines → Each P (cond b lines [])
+if_settled-each P true lines h = h
+if_settled-each P false lines h = tt
 
-settle_line-shut : (names : List (List ℕ)) (n : ℕ) (o : Option Settled) → Each Shut (settle_line names n o)
-settle_line-shut names n None = tt
-settle_line-shut names n (Some (Fulfilled v)) = (λ calls. refl, tt)
-settle_line-shut names n (Some (Failed v)) = (λ calls. refl, tt)
+pub changed-each : (P : Event → Type 0) → ((n : ℕ) (ok : Bool) (bs : List ℕ) → P (Settle n ok bs)) → ((j : ℕ) (what : Queued) → P (Job j what)) → (current : Context) (names : List (List ℕ)) (n : ℕ) (c : Promises.Change) (s : Notices) → Each P (changed current names n c s).lines
+changed-each P settles jobs current names n c s =
+    Each-append P (cond c.settled (settle_line names n c.promise.outcome) []) _ (if_settled-each P c.settled _ (by_outcome c.promise.outcome)) (by_jobs c.jobs _)
+  where
+    by_outcome : (o : Option Settled) → Each P (settle_line names n o)
+    by_outcome None = tt
+    by_outcome (Some (Fulfilled v)) = (settles n true _, tt)
+    by_outcome (Some (Failed v)) = (settles n false _, tt)
 
-if_settled-shut : (b : Bool) (lines : List Event) → Each Shut lines → Each Shut (cond b lines [])
-if_settled-shut true lines h = h
-if_settled-shut false lines h = tt
-
-queue_jobs-shut : (current : Context) (jobs : List PromiseJob) (s : Notices) → Each Shut (queue_jobs current jobs s).lines
-queue_jobs-shut current [] s = tt
-queue_jobs-shut current (j ∷ jobs) s = (λ calls. refl, queue_jobs-shut current jobs _)
+    by_jobs : (js : List PromiseJob) (s : Notices) → Each P (queue_jobs current js s).lines
+    by_jobs [] s = tt
+    by_jobs (j ∷ js) s = (jobs _ _, by_jobs js _)
 
 changed-shut : (current : Context) (names : List (List ℕ)) (n : ℕ) (c : Promises.Change) (s : Notices) → Each Shut (changed current names n c s).lines
-changed-shut current names n c s = Each-append (cond c.settled (settle_line names n c.promise.outcome) []) _ (if_settled-shut c.settled _ (settle_line-shut names n c.promise.outcome)) (queue_jobs-shut current c.jobs _)
+changed-shut = changed-each Shut (λ n ok bs. λ calls. refl) (λ j what. λ calls. refl)
 
 -- the same calls are open, and the flag is as it was
 abbrev pub Same : Page → Page → Type 0
@@ -101,11 +103,12 @@ before-same : {p q : Page} → AsBefore p q → Same p q
 before-same b = (ap open_registrations b.events, b.performing)
 
 pub change-same : {p q : Page} → PageChange p q → Same p q
-change-same (elsewhere c b) = before-same b
+change-same (elsewhere c b k) = before-same b
 change-same {p = p} (told e h) = (aside-open e h (open_registrations p.events), refl)
-change-same {p = p} (rested e h x y z) = (rest-open e h (open_registrations p.events), refl)
+change-same (arm_told r due level w) = (refl, refl)
+change-same {p = p} (rested e h x y z over begun) = (rest-open e h (open_registrations p.events), refl)
 change-same (answered source task t answer x y live z b) = before-same b
-change-same (registered kind x e u b) = before-same b
+change-same (registered kind x e unframed u b) = before-same b
 change-same (dropped r d b) = before-same b
 change-same (task_dropped r role a e s b) = before-same b
 change-same (enqueued_anew kind x t queue e i s n b) = before-same b
@@ -114,7 +117,6 @@ change-same (post_fell_due start source t queue e role a s n b) = before-same b
 change-same (prio_told s priority ps c) = (refl, refl)
 change-same (frame_dropped handle c e role) = (refl, refl)
 change-same (frame_asked f) = (refl, refl)
-change-same (frame_gone handle) = (refl, refl)
 change-same promised = (refl, refl)
 change-same {p = p} (settled n how x y) = promise_changes-same n (Promises.settle n (the_promise p.notices.promises n) how) p
 change-same {p = p} (followed n how x y) = promise_changes-same n (Promises.settle n (the_promise p.notices.promises n) how) p
@@ -130,7 +132,8 @@ same-then p q r a b = (b.0 ∙ a.0, b.1 ∙ a.1)
 
 pub changes-same : {p q : Page} → Changes p q → Same p q
 changes-same nothing = (refl, refl)
-changes-same {p = p} {q = r} (with_change {q = q} a b) = same-then p q r (changes-same a) (change-same b)
+changes-same {p = p} {q = r} (with_change {q = q} a b plain) = same-then p q r (changes-same a) (change-same b)
+changes-same {p = p} {q = s} (with_arm {q = q} {r = r} a b c w) = same-then p q s (changes-same a) (same-then q r s (change-same b) (change-same c))
 
 -- where a callback is taken, the same calls are open still, and the flag is as it was
 pub begins-same : (b : Beginning) (p : Page) → Same p (taken b p)
@@ -155,11 +158,12 @@ notices-calls : (f : Notices → Noticed) (p : Page) → (on_notices f p).calls 
 notices-calls f p = emit_each-calls (f p.notices).lines (record p { notices = (f p.notices).notices })
 
 pub change-calls : {p q : Page} → PageChange p q → q.calls ≡ p.calls
-change-calls (elsewhere c b) = b.calls
+change-calls (elsewhere c b k) = b.calls
 change-calls (told e h) = refl
-change-calls (rested e h x y z) = refl
+change-calls (arm_told r due level w) = refl
+change-calls (rested e h x y z over begun) = refl
 change-calls (answered source task t answer x y live z b) = b.calls
-change-calls (registered kind x e u b) = b.calls
+change-calls (registered kind x e unframed u b) = b.calls
 change-calls (dropped r d b) = b.calls
 change-calls (task_dropped r role a e s b) = b.calls
 change-calls (enqueued_anew kind x t queue e i s n b) = b.calls
@@ -168,7 +172,6 @@ change-calls (post_fell_due start source t queue e role a s n b) = b.calls
 change-calls (prio_told s priority ps c) = refl
 change-calls (frame_dropped handle c e role) = refl
 change-calls (frame_asked f) = refl
-change-calls (frame_gone handle) = refl
 change-calls promised = refl
 change-calls {p = p} (settled n how x y) = notices-calls (λ s. changed (context p) p.names n (Promises.settle n (the_promise p.notices.promises n) how) s) p
 change-calls {p = p} (followed n how x y) = notices-calls (λ s. changed (context p) p.names n (Promises.settle n (the_promise p.notices.promises n) how) s) p

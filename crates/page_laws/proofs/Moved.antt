@@ -4,21 +4,20 @@ use Rattle.page_laws.proofs.Prioritised.{give-set, begun-set, ended-same, depend
 use Rattle.page_parts.specs.TaskSignals.{Prios, priority_of}
 use Rattle.page_laws.proofs.Finding.{found-passes}
 use Rattle.page_model.proofs.NumbersSignals.{with-by_number, last-by_number, with_reason-by_number, any-by_number}
-use Rattle.page_model.proofs.NumbersTasks.{ItemIsGiven, IfItemIsGiven, items-given, first_of-given, due_item-given, take_item-held, completion_of-given}
 use Rattle.page_model.proofs.NumbersPages.{the_registration-given}
-use Rattle.std.proofs.lemmas.Bool.{eqb-true}
-use Rattle.std.proofs.Common.{◌≡◌, ℕ, zero, suc, ◌+◌, ◌*◌, Bool, true, false, List, [], ◌∷◌, Option, Some, None, refl, ap, sym, subst, ◌∙◌, ◌++◌, cond, ℤ, Result, Ok, Err, length, slice_get, ◌&&◌, nat_lt, nat_le, map, ◌≤◌, unwrap_or, arith, ◌||◌}
-use Rattle.std.specs.Prelude.{◌==◌, slice_set, find}
+use Rattle.std.proofs.lemmas.Bool.{eqb-true, eq-eqb}
+use Rattle.std.proofs.Common.{◌≡◌, ℕ, suc, ◌+◌, ◌*◌, ◌⊎◌, inl, inr, Bool, true, false, List, [], ◌∷◌, Option, Some, None, refl, ap, sym, subst, ◌∙◌, ◌++◌, cond, ℤ, Result, Ok, Err, length, slice_get, ◌&&◌, nat_lt, nat_le, map, ◌≤◌, unwrap_or, arith, ◌||◌}
+use Rattle.std.specs.Prelude.{◌==◌, slice_set, find, option_map}
 use Rattle.page_types.specs.Values.{Value, IntValue}
 use Rattle.page_types.specs.declared.FaultName.TheVariants.{TypeError}
 use Rattle.page_types.specs.declared.Priority.{Priority}
 use Rattle.page_types.specs.declared.RegKind.{RegKind}
 use Rattle.page_types.specs.declared.RegKind.TheVariants.{Frame as FrameKind, Interval as IntervalKind, Idle as IdleKind, Post as PostKind, Yield as YieldKind, Host as HostKind, Listener as ListenerKind, Then as ThenKind, Micro as MicroKind, Signal as SignalKind}
 use Rattle.page_types.specs.declared.Source.{Source}
-use Rattle.page_types.specs.declared.Source.TheVariants.{Dom, Net, Timer, Render, Idle as IdleSource}
+use Rattle.page_types.specs.declared.Source.TheVariants.{Dom, Idle as IdleSource}
 use Rattle.page_types.specs.declared.HostMark.TheVariants.{Live}
 use Rattle.page_types.specs.Events.{Event, Report, Arm, Due, Drop, Period, Abort, Host, Send, Enq}
-use Rattle.page_parts.specs.Words.{is_empty, and_last, without, numbered, without_numbered, is_there}
+use Rattle.page_parts.specs.Words.{is_empty, and_last, without, numbered, is_there}
 use Rattle.page_parts.proofs.Numbered.{with_numbered-own}
 use Rattle.page_parts.specs.Spelling.{spelled}
 use Rattle.page_parts.specs.Kinds.{Func, func_in, promise_in, a_fault}
@@ -28,7 +27,6 @@ use Rattle.page_parts.specs.Notices.{Notices, subscribe_promise, is_outstanding,
 use Rattle.page_parts.specs.Promises.{the_promise}
 use Rattle.page_parts.specs.Timers as Timers
 use Rattle.page_parts.specs.Timers.{armed, with_armed, ActiveTimer}
-use Rattle.page_parts.specs.Setup.{Arrival}
 use Rattle.page_parts.specs.Frames.{Callback, callback_in}
 use Rattle.page_parts.specs.IdleCallbacks as IdleCallbacks
 use Rattle.page_parts.specs.IdleCallbacks.{waits}
@@ -37,21 +35,20 @@ use Rattle.page_parts.specs.AbortGraph.{the_signal, with_algorithms, with_reason
 use Rattle.page_parts.specs.TaskSignals as TaskSignals
 use Rattle.page_parts.specs.Listeners.{Target, is_listening, off, Listener}
 use Rattle.page_parts.specs.HostClosures.{HostClosure}
-use Rattle.page_model.specs.State.{context, OfKind, Registration, no_registration, Task, TimerTask, SchedTask, HostAnswer, IdleTimer, AnswerHost, TimeOutSignal, FireAtWindow, RunFrame, IdleTimeout, NotifyHandled, NotifyRejected, Steps, PrioSource, SchedulingState, HostTask, Completion, QueueTimer, EnqueuePost, QueueSignal, InvokeIdle, Page, emit, emit_each, on_notices, queue_task, the_registration, last_registration, Role, Completing}
+use Rattle.page_model.specs.State.{Completing, context, Role, ScriptRole, OfKind, Registration, no_registration, Task, TimerTask, SchedTask, HostAnswer, IdleTimer, AnswerHost, NotifyHandled, NotifyRejected, Steps, PrioSource, SchedulingState, HostTask, Completion, QueueTimer, EnqueuePost, QueueSignal, InvokeIdle, Page, emit, emit_each, on_notices, queue_task, the_registration, last_registration, Role, Completing}
 use Rattle.page_model.specs.PagePromises as promises
 use Rattle.page_model.specs.PagePromises.{new_promise, last_promise}
-use Rattle.page_model.specs.PageTime.{init_timer, clear_id, clear_timer, registration_with_id, first_task, next_frame, without_frame, cancel_frame, deadline, period_begun, idle_step, idle_timeout, idle_callback, without_idle, cancel_idle, completion_of, without_timer}
+use Rattle.page_model.specs.PageTime.{start_period, init_timer, clear_id, clear_timer, registration_with_id, first_task, without_frame, cancel_frame, deadline, period_begun, idle_timeout, idle_callback, without_idle, cancel_idle, completion_of}
 use Rattle.page_model.specs.Turns.{without_task, not_dropped}
-use Rattle.page_model.proofs.NumbersGrow.{length-last, Each-append, Held, Each-find, InFrames, InIdle, InTimers, InListeners, InCompletions, InSchedTasks, InPrios}
+use Rattle.page_model.proofs.NumbersGrow.{length-last, numbered-last, Each-more, Each-append, Held, Each-find, InFrames, InIdle, InTimers, InListeners, InCompletions, InSchedTasks, InPrios}
 use Rattle.page_model.specs.SchedulerTasks.{enqueue, queue_name}
 use Rattle.page_model.specs.Invoke.{WhenReported, BeforeCheckpoint, AfterCheckpoint, Never, report_before, report_after, notify_rejected, register, register_as}
 use Rattle.page_model.specs.PageSignals.{waiting_answer, waiting_net_task, has_not_begun, drop_registration, abort_registration, reason_set, watch, unwatch, give_priority, change_begun, change_ended, is_aborted_source, is_delay_of, is_for, host_task_of, is_aborted}
 use Rattle.page_model.specs.Operations.{latency_of, queued_mark, micro_registered, script_promise, then_made, timer_set, frame_requested, idle_requested, with_signals, task_signal_made, any_made, last_signal, timeout_signal_made, listener_added, listener_removed, promised, post_delayed, post_queued, continuation_queued, host_queued, finally_made, posted}
 use Rattle.page_model.specs.Tasks.{invoke_idle_again, outstanding_if_unhandled, fire_closure, settle_answer, answer_host}
-use Rattle.page_model.specs.Parallel.{ItemKind, ArrivalItem, HostItem, TimerItem, IdleItem, FrameItem, Item, arrival_items, frame_items, items_in_order, first_item_from, first_item_of, complete, complete_at, take_item, due_item, first_item, take_due, item_count, parallel}
-use Rattle.page_model.specs.Numbers.{IsGiven, Each, IfThere, made_by, Made, is_abortable, TimerIdIsGiven, CallbackIsGiven, IdleIsGiven, ListenerIsGiven, CompletionIsGiven, SchedTaskIsGiven, CompletingIsGiven, sched_role}
-use Rattle.page_laws.specs.History.{open_registrations, is_scheduled}
-use Rattle.page_laws.specs.Moves.{is_aside, promise_changes, Places, places, is_free, PlaceChange, places_stay, task_queued, completed, idle_started, idle_left, id_cleared, Dropping, timer_dropped, idle_dropped, listener_dropped, FirstPlace, nowhere, at_listener, at_timer, at_delay, at_idle, at_host, AsBefore, fired_at, PageChange, elsewhere, frame_asked, frame_gone, registered, answered, dropped, frame_dropped, then_asked, micro_asked, told, rested, settled, followed, adopted, subscribed, rejected_taken, noted, Changes, nothing, with_change, armed_again, signal_armed, idle_armed, timer_due, delay_due, signal_due, idle_due, answer_due, DueChange, StaysAborted, fell_due, post_fell_due, enqueued_anew, task_dropped, role_at, id_at, signal_at, Scheduling, scheduling_of, SchedulingAfter, HasPriority, Sourced, known, prio_told}
+use Rattle.page_model.specs.Numbers.{IsGiven, Each, IfThere, made_by, Made, is_abortable, timer_role, TimerIdIsGiven, CallbackIsGiven, IdleIsGiven, ListenerIsGiven, CompletionIsGiven, SchedTaskIsGiven, CompletingIsGiven, sched_role}
+use Rattle.page_laws.specs.History.{is_frame, open_registrations, is_scheduled}
+use Rattle.page_laws.specs.Moves.{PlaceIsPlain, FirstArms, with_arm, is_delayed_role, is_aside, is_idle_task, role_at, IsIn, PeriodGoesOn, InPeriod, ArmedAt, by_timer, by_idle, by_host, completes_for, with_timer, idle_queued, FrameIsOver, promise_changes, Places, places, is_free, PlaceChange, places_stay, task_queued, completed, idle_started, idle_left, id_cleared, Dropping, timer_dropped, idle_dropped, listener_dropped, FirstPlace, nowhere, at_listener, at_timer, at_delay, at_idle, at_host, AsBefore, fired_at, PageChange, elsewhere, frame_asked, registered, answered, dropped, frame_dropped, then_asked, micro_asked, told, rested, settled, followed, adopted, subscribed, rejected_taken, noted, Changes, nothing, with_change, with_arm, armed_again, signal_armed, idle_armed, timer_due, delay_due, signal_due, idle_due, answer_due, DueChange, StaysAborted, fell_due, post_fell_due, enqueued_anew, task_dropped, role_at, id_at, signal_at, Scheduling, scheduling_of, SchedulingAfter, HasPriority, Sourced, known, prio_told}
 use Rattle.page_laws.specs.Moves as moves
 use Rattle.page_laws.proofs.Moving.{changes-then}
 
@@ -63,29 +60,63 @@ same_signals p q e s h = ap {A = AbortGraph.Signals Value} {B = Bool} (λ ss. Ab
 
 -- the same for the scheduler
 same_scheduling : (a b : Scheduling) → b ≡ a → SchedulingAfter a b
-same_scheduling a b e = subst (SchedulingAfter a) (sym e) (record { priorities = λ s. refl; states = refl; tasks_made = omega arith })
+same_scheduling a b e = subst (SchedulingAfter a) (sym e) (record { priorities = λ s. refl; states = refl; tasks_made = omega arith; idle_start = refl })
 
 -- a change of the places, and of what is not named otherwise
-pub placed : (p q : Page) → PlaceChange p.registrations (places p) (places q) → q.notices ≡ p.notices → q.performing ≡ p.performing → q.events ≡ p.events → q.registrations ≡ p.registrations → q.frames ≡ p.frames → q.calls ≡ p.calls → q.signals ≡ p.signals → scheduling_of q ≡ scheduling_of p → Changes p q
-placed p q c x y z w v u t j = with_change nothing (elsewhere c (record { notices = x; performing = y; events = z; registrations = w; frames = v; calls = u; aborted = same_signals p q t; scheduling = same_scheduling (scheduling_of p) (scheduling_of q) j }))
+pub placed : (p q : Page) (c : PlaceChange p.registrations (places p) (places q)) → PlaceIsPlain c → InPeriod c p → q.notices ≡ p.notices → q.performing ≡ p.performing → q.events ≡ p.events → q.registrations ≡ p.registrations → q.frames ≡ p.frames → q.calls ≡ p.calls → q.signals ≡ p.signals → scheduling_of q ≡ scheduling_of p → Changes p q
+placed p q c plain k x y z w v u t j = with_change nothing (elsewhere c (record { notices = x; performing = y; events = z; registrations = w; frames = v; calls = u; aborted = same_signals p q t; scheduling = same_scheduling (scheduling_of p) (scheduling_of q) j }) k) plain
+
+-- a change of the places, with what holds then
+record StaysAt (made : List Registration) (x y : Places) (p : Page) : Type 0 where
+  change : PlaceChange made x y
+  plain : PlaceIsPlain change
+  period : InPeriod change p
 
 pub quietly : (p q : Page) → places q ≡ places p → q.notices ≡ p.notices → q.performing ≡ p.performing → q.events ≡ p.events → q.registrations ≡ p.registrations → q.frames ≡ p.frames → q.calls ≡ p.calls → q.signals ≡ p.signals → scheduling_of q ≡ scheduling_of p → Changes p q
-quietly p q s x y z w v u t j = placed p q (subst (PlaceChange p.registrations (places p)) (sym s) places_stay) x y z w v u t j
+quietly p q s x y z w v u t j = placed p q (same_places s).change (same_places s).plain (same_places s).period x y z w v u t j
+  where
+    same_places : {a : Places} → a ≡ places p → StaysAt p.registrations (places p) a p
+    same_places e = subst (λ (a : Places). StaysAt p.registrations (places p) a p) (sym e) (record { change = places_stay; plain = tt; period = tt })
 
 -- the signals are changed, and what was aborted stays so
 pub signals-changes : (ss : AbortGraph.Signals Value) (p : Page) → StaysAborted p (record p { signals = ss }) → Changes p (record p { signals = ss })
-signals-changes ss p h = with_change nothing (elsewhere places_stay (record { notices = refl; performing = refl; events = refl; registrations = refl; frames = refl; calls = refl; aborted = h; scheduling = record { priorities = λ s. refl; states = refl; tasks_made = omega arith } }))
+signals-changes ss p h = with_change nothing (elsewhere places_stay (record { notices = refl; performing = refl; events = refl; registrations = refl; frames = refl; calls = refl; aborted = h; scheduling = record { priorities = λ s. refl; states = refl; tasks_made = omega arith; idle_start = refl } }) tt) tt
 
--- the same with a line
-pub lined_placed : (e : Event) (p q : Page) → is_aside e ≡ true → PlaceChange p.registrations (places p) (places q) → q.notices ≡ p.notices → q.performing ≡ p.performing → q.events ≡ (emit e p).events → q.registrations ≡ p.registrations → q.frames ≡ p.frames → q.calls ≡ p.calls → q.signals ≡ p.signals → scheduling_of q ≡ scheduling_of p → Changes p q
-lined_placed e p q h c x y z w v u t j = with_change {q = emit e p} (with_change nothing (told e h)) (elsewhere c (record { notices = x; performing = y; events = z; registrations = w; frames = v; calls = u; aborted = same_signals p q t; scheduling = same_scheduling (scheduling_of p) (scheduling_of q) j }))
-
+-- a line, and then nothing that is told of here
 pub lined : (e : Event) (p q : Page) → is_aside e ≡ true → places q ≡ places p → q.notices ≡ p.notices → q.performing ≡ p.performing → q.events ≡ (emit e p).events → q.registrations ≡ p.registrations → q.frames ≡ p.frames → q.calls ≡ p.calls → q.signals ≡ p.signals → scheduling_of q ≡ scheduling_of p → Changes p q
-lined e p q h s x y z w v u t j = lined_placed e p q h (subst (PlaceChange p.registrations (places p)) (sym s) places_stay) x y z w v u t j
+lined e p q h s x y z w v u t j = changes-then (with_change nothing (told e h) tt) (quietly (emit e p) q s x y z w v u t j)
+
+-- starts of completion steps were given
+abbrev Started : Page → Type 0
+Started p = Each (λ (c : Completing). c.start ≤ p.timers.starts_made) p.completions
+
+started : (p : Page) → Held (made_by p) p → Started p
+started p h = Each-more (CompletingIsGiven (made_by p)) (λ c. c.start ≤ p.timers.starts_made) (λ c k. k.start.to_last) p.completions (h InCompletions)
+
+-- the completion steps of a new start are found by it
+found_last : (starts : ℕ) (cs : List Completing) (k : Completion) → Each (λ (c : Completing). c.start ≤ starts) cs → completion_of (and_last cs (record { start = suc starts; completion = k })) (suc starts) ≡ Some k
+found_last starts [] k h = ap {A = Bool} {B = Option Completion} (λ b. option_map (λ (c : Completing). c.completion) (cond b (Some (record { start = suc starts; completion = k })) None)) (eq-eqb (suc starts) (suc starts) refl)
+found_last starts (c ∷ cs) k h = by_test (c.start == suc starts) refl (found_last starts cs k h.1)
+  where
+    by_test : (b : Bool) → (c.start == suc starts) ≡ b → completion_of (and_last cs (record { start = suc starts; completion = k })) (suc starts) ≡ Some k
+        → option_map (λ (c : Completing). c.completion) (cond b (Some c) (find (λ c. c.start == suc starts) (and_last cs (record { start = suc starts; completion = k })))) ≡ Some k
+    by_test true e rest = let same = eqb-true c.start (suc starts) e in let le = h.0 in absurd (omega (arith, same, le))
+    by_test false e rest = rest
+
+is-last : {X : Type 0} (x : X) (xs : List X) → IsIn x (and_last xs x)
+is-last x [] = inl refl
+is-last x (y ∷ xs) = inr (is-last x xs)
+
+-- a timer that was just set is armed
+timer_armed : (made : List Registration) (x : Places) (r due : ℕ) (timers : Timers.Timers) (k : Completion) → timers.active ≡ and_last x.timers.active (record { start = suc x.timers.starts_made; due = due }) → Each (λ (c : Completing). c.start ≤ x.timers.starts_made) x.completions → completes_for k ≡ r → is_delayed_role (role_at made r) ≡ true
+    → ArmedAt made (with_timer timers (suc x.timers.starts_made) k x) r due
+timer_armed made x r due timers k e h own role =
+    by_timer (record { start = suc x.timers.starts_made; due = due }) k (subst (λ (as' : List ActiveTimer). IsIn (record { start = suc x.timers.starts_made; due = due }) as') (sym e) (is-last (record { start = suc x.timers.starts_made; due = due }) x.timers.active)) refl
+    (found_last x.timers.starts_made x.completions k h) own role
 
 -- a registration is due, with its line
-due-changes : (r : ℕ) (p q : Page) → DueChange p.registrations r (places p) (places q) → AsBefore (emit (Due r) p) q → Changes p q
-due-changes r p q c b = with_change nothing (fell_due r c b)
+pub due-changes : (r : ℕ) (p q : Page) → DueChange p.registrations r (places p) (places q) → AsBefore (emit (Due r) p) q → Changes p q
+due-changes r p q c b = with_change nothing (fell_due r c b) tt
 
 pub cond_of-changes : (b : Bool) (f g : Page → Page) (p q : Page) → Changes q (f p) → Changes q (g p) → Changes q (cond b f g p)
 cond_of-changes true f g p q h k = h
@@ -110,7 +141,7 @@ by_lock n p c true e k = unchanged n p
 by_lock n p c false e k = k e
 
 first_settled : (n : ℕ) (how : Settled) (p : Page) → IsGiven (length p.notices.promises) n → (the_promise p.notices.promises n).locked ≡ false → Changes p (promise_changes n (Promises.settle n (the_promise p.notices.promises n) how) p)
-first_settled n how p x e = with_change nothing (settled n how x e)
+first_settled n how p x e = with_change nothing (settled n how x e) tt
 
 unlocked-changes : (n : ℕ) (v : Value) (p : Page) (o : Option ℕ) → IsGiven (length p.notices.promises) n → (the_promise p.notices.promises n).locked ≡ false → Changes p (promise_changes n (Promises.resolve_unlocked n (the_promise p.notices.promises n) v o) p)
 unlocked-changes n v p None x e = first_settled n (Fulfilled v) p x e
@@ -118,7 +149,7 @@ unlocked-changes n v p (Some other) x e = by_itself (other == n)
   where
     by_itself : (b : Bool) → Changes p (promise_changes n (cond b (Promises.settle n (the_promise p.notices.promises n) (Failed (a_fault TypeError))) (Promises.adopt n (the_promise p.notices.promises n) other)) p)
     by_itself true = first_settled n (Failed (a_fault TypeError)) p x e
-    by_itself false = with_change nothing (adopted n other x e)
+    by_itself false = with_change nothing (adopted n other x e) tt
 
 pub settle-changes : (n : ℕ) (how : Settled) (p : Page) → IsGiven (length p.notices.promises) n → Changes p (promises.settle n how p)
 settle-changes n (Fulfilled v) p x =
@@ -129,62 +160,91 @@ pub follow-changes : (n : ℕ) (how : Settled) (p : Page) → IsGiven (length p.
 follow-changes n how p x = by_outcome (the_promise p.notices.promises n).outcome refl
   where
     by_outcome : (o : Option Settled) → (the_promise p.notices.promises n).outcome ≡ o → Changes p (promise_changes n (elim o [ None ↦ Promises.settle n (the_promise p.notices.promises n) how | Some before ↦ no_change (the_promise p.notices.promises n) ]) p)
-    by_outcome None e = with_change nothing (followed n how x e)
+    by_outcome None e = with_change nothing (followed n how x e) tt
     by_outcome (Some before) e = unchanged n p
 
-pub queue_task-changes : (source : Source) (steps : Steps) (p : Page) → is_free steps ≡ true → Changes p (queue_task source steps p)
-queue_task-changes source steps p h = with_change nothing (elsewhere (task_queued (record { number = suc p.tasks_made; source = source; steps = steps }) h) (record { notices = refl; performing = refl; events = refl; registrations = refl; frames = refl; calls = refl; aborted = λ s h. h; scheduling = record { priorities = λ s. refl; states = refl; tasks_made = omega arith } }))
+pub queue_task-changes : (source : Source) (steps : Steps) (p : Page) → is_free steps ≡ true → is_idle_task steps ≡ false → Changes p (queue_task source steps p)
+queue_task-changes source steps p h plain = with_change nothing (elsewhere (task_queued (record { number = suc p.tasks_made; source = source; steps = steps }) h plain) (record { notices = refl; performing = refl; events = refl; registrations = refl; frames = refl; calls = refl; aborted = λ s h. h; scheduling = record { priorities = λ s. refl; states = refl; tasks_made = omega arith; idle_start = refl } }) tt) tt
+
+-- the task that invokes idle callbacks, in the period that goes on
+queue_idle-changes : (p : Page) → PeriodGoesOn p → Changes p (queue_task IdleSource InvokeIdle p)
+queue_idle-changes p k = with_change nothing (elsewhere (idle_queued (record { number = suc p.tasks_made; source = IdleSource; steps = InvokeIdle }) refl refl) (record { notices = refl; performing = refl; events = refl; registrations = refl; frames = refl; calls = refl; aborted = λ s h. h; scheduling = record { priorities = λ s. refl; states = refl; tasks_made = omega arith; idle_start = refl } }) k) tt
 
 -- a reaction was added, and where the promise was outstanding a task is queued
 handled-changes : (n : ℕ) (b : Bool) (p q : Page) → Changes p q → Changes p (cond b (queue_task Dom (NotifyHandled n)) (λ q. q) q)
-handled-changes n b p q first = cond_of-changes b (queue_task Dom (NotifyHandled n)) (λ q. q) q p (changes-then first (queue_task-changes Dom (NotifyHandled n) q refl)) first
+handled-changes n b p q first = cond_of-changes b (queue_task Dom (NotifyHandled n)) (λ q. q) q p (changes-then first (queue_task-changes Dom (NotifyHandled n) q refl refl)) first
 
 pub subscribe-changes : (n : ℕ) (r : Reaction) (p : Page) → IsGiven (length p.notices.promises) n → r.registration ≡ None → Changes p (promises.subscribe n r p)
-subscribe-changes n r p x e = handled-changes n (is_outstanding n p.notices) p (on_notices (subscribe_promise (context p) n r) p) (with_change nothing (subscribed n r x e))
+subscribe-changes n r p x e = handled-changes n (is_outstanding n p.notices) p (on_notices (subscribe_promise (context p) n r) p) (with_change nothing (subscribed n r x e) tt)
 
 pub new_promise-changes : (p : Page) → Changes p (new_promise p)
-new_promise-changes p = with_change nothing moves.promised
+new_promise-changes p = with_change nothing moves.promised tt
 
 -- ---- callbacks
 
 pub report_before-changes : (when : WhenReported) (v : Value) (p : Page) → Changes p (report_before when v p)
-report_before-changes BeforeCheckpoint v p = with_change nothing (told (Report (spelled p.names v)) refl)
+report_before-changes BeforeCheckpoint v p = with_change nothing (told (Report (spelled p.names v)) refl) tt
 report_before-changes AfterCheckpoint v p = nothing
 report_before-changes Never v p = nothing
 
 pub report_after-changes : (when : WhenReported) (v : Value) (p : Page) → Changes p (report_after when v p)
 report_after-changes BeforeCheckpoint v p = nothing
-report_after-changes AfterCheckpoint v p = with_change nothing (told (Report (spelled p.names v)) refl)
+report_after-changes AfterCheckpoint v p = with_change nothing (told (Report (spelled p.names v)) refl) tt
 report_after-changes Never v p = nothing
 
 pub notify_rejected-changes : (p : Page) → Changes p (notify_rejected p)
 notify_rejected-changes p =
     cond-changes (is_empty p.notices.rejected) p p _ nothing
-    (changes-then (with_change nothing rejected_taken) (queue_task-changes Dom (NotifyRejected p.notices.rejected) (record p { notices = record p.notices { rejected = [] } }) refl))
+    (changes-then (with_change nothing rejected_taken tt) (queue_task-changes Dom (NotifyRejected p.notices.rejected) (record p { notices = record p.notices { rejected = [] } }) refl refl))
 
 -- the number of a registration that was just made
 pub made_last : (kind : RegKind) (x : Registration) (p : Page) → last_registration (register_as kind x p) ≡ suc (length p.registrations)
 made_last kind x p = length-last p.registrations x
 
--- a registration is made and waits nowhere
-pub register-changes : (kind : RegKind) (x : Registration) (p : Page) → x.role ≡ OfKind kind → Changes p (register_as kind x p)
-register-changes kind x p e = with_change nothing (registered kind x e nowhere (record { notices = refl; performing = refl; events = refl; registrations = refl; frames = refl; calls = refl; aborted = λ s h. h; scheduling = record { priorities = λ s. refl; states = refl; tasks_made = omega arith } }))
+-- what the registration that was just made is for
+new_role : (kind : RegKind) (x : Registration) (p : Page) → x.role ≡ OfKind kind → role_at (and_last p.registrations x) (length (and_last p.registrations x)) ≡ OfKind kind
+new_role kind x p e = ap {A = Registration} {B = Role} (λ y. y.role) (numbered-last p.registrations x no_registration) ∙ e
 
--- it is made and waits at its first place, and its line is given
-register_at-changes : (kind : RegKind) (x : Registration) (e : Event) (p q : Page) → x.role ≡ OfKind kind → is_aside e ≡ true → FirstPlace p.registrations p.prios (suc (length p.registrations)) (places p) (places q) → AsBefore (register_as kind x p) q → Changes p (emit e q)
-register_at-changes kind x e p q role h u b = with_change {q = q} (with_change nothing (registered kind x role u b)) (told e h)
+in-last : {X : Type 0} (x y : X) (xs : List X) → IsIn x (and_last xs y) → IsIn x xs ⊎ (x ≡ y)
+in-last x y [] (inl e) = inr e
+in-last x y [] (inr i) = elim i [ ]
+in-last x y (z ∷ xs) (inl e) = inl (inl e)
+in-last {X = X} x y (z ∷ xs) (inr i) = by_rest (in-last x y xs i)
+  where
+    by_rest : IsIn x xs ⊎ (x ≡ y) → IsIn x (z ∷ xs) ⊎ (x ≡ y)
+    by_rest (inl j) = inl (inr j)
+    by_rest (inr e) = inr e
+
+pub in-either : {X : Type 0} (x : X) (xs ys : List X) → IsIn x (xs ++ ys) → IsIn x xs ⊎ IsIn x ys
+in-either x [] ys i = inr i
+in-either x (z ∷ xs) ys (inl e) = inl (inl e)
+in-either {X = X} x (z ∷ xs) ys (inr i) = by_rest (in-either x xs ys i)
+  where
+    by_rest : IsIn x xs ⊎ IsIn x ys → IsIn x (z ∷ xs) ⊎ IsIn x ys
+    by_rest (inl j) = inl (inr j)
+    by_rest (inr j) = inr j
+
+-- a registration is made and waits nowhere
+pub register-changes : (kind : RegKind) (x : Registration) (p : Page) → x.role ≡ OfKind kind → is_frame kind ≡ false → Changes p (register_as kind x p)
+register-changes kind x p e unframed = with_change nothing (registered kind x e unframed nowhere (record { notices = refl; performing = refl; events = refl; registrations = refl; frames = refl; calls = refl; aborted = λ s h. h; scheduling = record { priorities = λ s. refl; states = refl; tasks_made = omega arith; idle_start = refl } })) tt
+
+-- it is made, waits at its first place, and is armed
+register_at-changes : (kind : RegKind) (x : Registration) (r due level : ℕ) (p q : Page) → x.role ≡ OfKind kind → is_frame kind ≡ false → ArmedAt q.registrations (places q) r due → r ≡ suc (length p.registrations) → (u : FirstPlace p.registrations p.prios (suc (length p.registrations)) (places p) (places q)) → FirstArms u due → AsBefore (register_as kind x p) q → Changes p (emit (Arm r due level) q)
+register_at-changes kind x r due level p q role unframed w e u arms b = with_arm {r = q} nothing (registered kind x role unframed u b) (moves.arm_told r due level w) (e, arms)
 
 -- ---- time
 
 -- an interval whose id is in the map is armed again
-pub init_again-changes : (id r : ℕ) (timeout : ℤ) (p : Page) → (numbered p.registrations r no_registration).role ≡ OfKind IntervalKind → Timers.has_id id p.timers ≡ true → Changes p (init_timer (Some id) r true timeout p)
-init_again-changes id r timeout p e there =
+pub init_again-changes : (id r : ℕ) (timeout : ℤ) (p : Page) → Held (made_by p) p → (numbered p.registrations r no_registration).role ≡ OfKind IntervalKind → Timers.has_id id p.timers ≡ true → Changes p (init_timer (Some id) r true timeout p)
+init_again-changes id r timeout p h e there =
     let a = armed (Some id) timeout p.level p.now p.timers in
     let t : TimerTask = record { registration = r; id = a.id; handle = a.handle; level = a.level; repeats = true; timeout = timeout } in
-    lined_placed (Arm r a.due a.level) p (init_timer (Some id) r true timeout p) refl (armed_again a t e there refl) refl refl refl refl refl refl refl refl
+    let set : Page = record p { timers = with_armed (Some id) a p.timers; completions = and_last p.completions (record { start = a.start; completion = QueueTimer t }) } in
+    with_arm {r = set} nothing (elsewhere (armed_again a t e there refl) (record { notices = refl; performing = refl; events = refl; registrations = refl; frames = refl; calls = refl; aborted = λ s h. h; scheduling = record { priorities = λ s. refl; states = refl; tasks_made = omega arith; idle_start = refl } }) tt)
+    (moves.arm_told r a.due a.level (timer_armed p.registrations (places p) r a.due (with_armed (Some id) a p.timers) (QueueTimer t) refl (started p h) refl (ap is_delayed_role e))) (refl, refl)
 
 pub clear_id-changes : (id : ℕ) (p : Page) → Changes p (clear_id id p)
-clear_id-changes id p = placed p (clear_id id p) (id_cleared id) refl refl refl refl refl refl refl refl
+clear_id-changes id p = placed p (clear_id id p) (id_cleared id) tt tt refl refl refl refl refl refl refl refl
 
 -- the registration that is found by a timer id has it
 found_id : (id k : ℕ) (before xs : List Registration) → k ≡ suc (length before) → 1 ≤ registration_with_id id k xs → id_at (before ++ xs) (registration_with_id id k xs) ≡ id
@@ -225,7 +285,7 @@ clear_timer-changes id p h = by_id (Timers.has_id id p.timers) refl
     own le = found_id id 1 [] p.registrations refl le
 
     by_id : (b : Bool) → Timers.has_id id p.timers ≡ b → Changes p (cond b (emit (Drop r) (clear_id id p)) p)
-    by_id true e = with_change nothing (dropped r (timer_dropped id e refl (λ le. (own le, (the_registration-given p r h).timer (let one = has_id-given (made_by p) id p.timers.ids (h InTimers).ids e in let same = own le in omega (arith, one, same))))) (record { notices = refl; performing = refl; events = refl; registrations = refl; frames = refl; calls = refl; aborted = λ s h. h; scheduling = record { priorities = λ s. refl; states = refl; tasks_made = omega arith } }))
+    by_id true e = with_change nothing (dropped r (timer_dropped id e refl (λ le. (own le, (the_registration-given p r h).timer (let one = has_id-given (made_by p) id p.timers.ids (h InTimers).ids e in let same = own le in omega (arith, one, same))))) (record { notices = refl; performing = refl; events = refl; registrations = refl; frames = refl; calls = refl; aborted = λ s h. h; scheduling = record { priorities = λ s. refl; states = refl; tasks_made = omega arith; idle_start = refl } })) tt
     by_id false e = nothing
 
 -- a callback that was found is for what its place holds
@@ -233,41 +293,63 @@ found_for : (kind : RegKind) (last : ℕ) (n : Made) (cs : List Callback) (handl
 found_for kind last n cs handle c h e =
     (subst (λ (o : Option Callback). IfThere (CallbackIsGiven kind last n) o) e (Each-find (CallbackIsGiven kind last n) (λ d. d.handle == handle) cs h)).registration.role
 
-pub without_frame-changes : (handle : ℕ) (p : Page) → Changes p (without_frame handle p)
-without_frame-changes handle p = with_change nothing (frame_gone handle)
-
 pub cancel_frame-changes : (handle : ℕ) (p : Page) → Held (made_by p) p → Changes p (cancel_frame handle p)
 cancel_frame-changes handle p h = by_callback (callback_in p.frames.callbacks handle) refl
   where
     by_callback : (o : Option Callback) → callback_in p.frames.callbacks handle ≡ o → Changes p (elim o [ None ↦ p | Some c ↦ emit (Drop c.registration) (without_frame handle p) ])
     by_callback None e = nothing
-    by_callback (Some c) e = with_change nothing (frame_dropped handle c e (found_for FrameKind p.frames.made (made_by p) p.frames.callbacks handle c (h InFrames) e))
-
-pub idle_step-changes : (p : Page) → open_registrations p.events ≡ [] → p.notices.jobs ≡ [] → Changes p (idle_step p)
-idle_step-changes p x y =
-    let here : Page = record p { last_idle_start = p.now } in
-    let end = deadline here.last_idle_start here in
-    let told_one : Page = emit (Period end) p in
-    let begun : Changes p told_one = with_change nothing (rested (Period end) refl x y refl) in
-    let started : Page = record told_one { last_idle_start = p.now; idle = IdleCallbacks.started p.idle; idle_period_end = end } in
-    cond-changes (waits here.idle && nat_lt here.now (deadline here.last_idle_start here) && nat_le here.idle_period_end here.now) p (period_begun end here) here
-    (changes-then (changes-then begun (placed told_one started idle_started refl refl refl refl refl refl refl refl)) (queue_task-changes IdleSource InvokeIdle started refl)) (quietly p here refl refl refl refl refl refl refl refl refl)
-
-pub idle_timeout-changes : (ms r : ℕ) (p : Page) → Changes p (idle_timeout ms r p)
-idle_timeout-changes ms r p = lined_placed (Arm r (p.now + ms * 1000) 0) p (idle_timeout ms r p) refl (idle_armed (record { due = p.now + ms * 1000; handle = p.idle.made; registration = r })) refl refl refl refl refl refl refl refl
-
-pub without_idle-changes : (handle : ℕ) (p : Page) → Changes p (without_idle handle p)
-without_idle-changes handle p = placed p (without_idle handle p) (idle_left handle) refl refl refl refl refl refl refl refl
+    by_callback (Some c) e = with_change nothing (frame_dropped handle c e (found_for FrameKind p.frames.made (made_by p) p.frames.callbacks handle c (h InFrames) e)) tt
 
 idle_lists : {n : Made} {i : IdleCallbacks.Idle} → IdleIsGiven n i → Each (CallbackIsGiven IdleKind n.idle n) i.runnable × Each (CallbackIsGiven IdleKind n.idle n) i.pending
 idle_lists h = (h.runnable, h.pending)
+
+-- an idle callback that waits was given its handle and its registration
+pub callback-given : (kind : RegKind) (last : ℕ) (n : Made) (c : Callback) (cs : List Callback) → Each (CallbackIsGiven kind last n) cs → IsIn c cs → CallbackIsGiven kind last n c
+callback-given kind last n c [] h i = elim i [ ]
+callback-given kind last n c (d ∷ cs) h (inl e) = subst (CallbackIsGiven kind last n) (sym e) h.0
+callback-given kind last n c (d ∷ cs) h (inr i) = callback-given kind last n c cs h.1 i
+
+-- an idle period starts, unless its start is delayed, where the idle period start is now
+pub start_period-changes : (p : Page) → p.last_idle_start ≡ p.now → open_registrations p.events ≡ [] → p.notices.jobs ≡ [] → FrameIsOver p → Held (made_by p) p → Changes p (start_period p)
+start_period-changes p now x y over h =
+    cond-changes (waits p.idle && nat_lt p.now (deadline p.last_idle_start p) && nat_le p.idle_period_end p.now) p (period_begun end p) p
+    (changes-then (changes-then (with_change nothing (rested (Period end) refl x y refl over (λ e. now)) tt) (placed told_one started_one idle_started tt (λ c i. (refl, (of_pending c i).registration.registration.to_last)) refl refl refl refl refl refl refl refl))
+    (queue_idle-changes started_one (record { start = ap Some (sym now); runnable = λ c i. refl; given = λ c i. (of_all c i).registration.registration.to_last }))) nothing
+  where
+    end : ℕ
+    end = deadline p.last_idle_start p
+
+    told_one : Page
+    told_one = emit (Period (deadline p.last_idle_start p)) p
+
+    started_one : Page
+    started_one = record (emit (Period (deadline p.last_idle_start p)) p) { idle = IdleCallbacks.started p.idle; idle_period_end = deadline p.last_idle_start p }
+
+    of_pending : (c : Callback) → IsIn c p.idle.pending → CallbackIsGiven IdleKind p.idle.made (made_by p) c
+    of_pending c i = callback-given IdleKind p.idle.made (made_by p) c p.idle.pending (idle_lists (h InIdle)).1 i
+
+    of_all : (c : Callback) → IsIn c (p.idle.runnable ++ p.idle.pending) → CallbackIsGiven IdleKind p.idle.made (made_by p) c
+    of_all c i =
+        callback-given IdleKind p.idle.made (made_by p) c (p.idle.runnable ++ p.idle.pending)
+        (Each-append (CallbackIsGiven IdleKind p.idle.made (made_by p)) p.idle.runnable p.idle.pending (idle_lists (h InIdle)).0 (idle_lists (h InIdle)).1) i
+
+-- an idle timeout is started for a callback, whose handle is the last one
+pub idle_timeout-changes : (ms r : ℕ) (p : Page) → role_at p.registrations r ≡ OfKind IdleKind → ((c : Callback) → IsIn c (p.idle.runnable ++ p.idle.pending) → c.handle ≡ p.idle.made → c.registration ≡ r) → Changes p (idle_timeout ms r p)
+idle_timeout-changes ms r p role own =
+    let t : IdleTimer = record { due = p.now + ms * 1000; handle = p.idle.made; registration = r } in
+    let set : Page = record p { idle_timers = and_last p.idle_timers t } in
+    with_arm {r = set} nothing (elsewhere (idle_armed t (omega arith) own) (record { notices = refl; performing = refl; events = refl; registrations = refl; frames = refl; calls = refl; aborted = λ s h. h; scheduling = record { priorities = λ s. refl; states = refl; tasks_made = omega arith; idle_start = refl } }) tt)
+    (moves.arm_told r (p.now + ms * 1000) 0 (by_idle t (is-last t p.idle_timers) refl refl role)) (refl, refl)
+
+pub without_idle-changes : (handle : ℕ) (p : Page) → Changes p (without_idle handle p)
+without_idle-changes handle p = placed p (without_idle handle p) (idle_left handle) tt tt refl refl refl refl refl refl refl refl
 
 pub cancel_idle-changes : (handle : ℕ) (p : Page) → Held (made_by p) p → Changes p (cancel_idle handle p)
 cancel_idle-changes handle p h = by_callback (idle_callback handle p) refl
   where
     by_callback : (o : Option Callback) → idle_callback handle p ≡ o → Changes p (elim o [ None ↦ p | Some c ↦ emit (Drop c.registration) (without_idle handle p) ])
     by_callback None e = nothing
-    by_callback (Some c) e = with_change nothing (dropped c.registration (idle_dropped handle c e refl (found_for IdleKind p.idle.made (made_by p) (p.idle.runnable ++ p.idle.pending) handle c (Each-append (CallbackIsGiven IdleKind p.idle.made (made_by p)) p.idle.runnable p.idle.pending (idle_lists (h InIdle)).0 (idle_lists (h InIdle)).1) e)) (record { notices = refl; performing = refl; events = refl; registrations = refl; frames = refl; calls = refl; aborted = λ s h. h; scheduling = record { priorities = λ s. refl; states = refl; tasks_made = omega arith } }))
+    by_callback (Some c) e = with_change nothing (dropped c.registration (idle_dropped handle c e refl (found_for IdleKind p.idle.made (made_by p) (p.idle.runnable ++ p.idle.pending) handle c (Each-append (CallbackIsGiven IdleKind p.idle.made (made_by p)) p.idle.runnable p.idle.pending (idle_lists (h InIdle)).0 (idle_lists (h InIdle)).1) e)) (record { notices = refl; performing = refl; events = refl; registrations = refl; frames = refl; calls = refl; aborted = λ s h. h; scheduling = record { priorities = λ s. refl; states = refl; tasks_made = omega arith; idle_start = refl } })) tt
 
 -- ---- scheduler tasks, signals, hosts
 
@@ -318,7 +400,7 @@ pub record Aborts (p : Page) (r : ℕ) : Type 0 where
   pub aborted : is_aborted_source p (signal_at p.registrations r) ≡ true
 
 drop-changes : (r : ℕ) (p : Page) → is_abortable (role_at p.registrations r) ≡ true → is_aborted_source p (signal_at p.registrations r) ≡ true → (role_at p.registrations r ≡ OfKind HostKind → is_there (waiting_answer r p) || is_there (waiting_net_task r p) ≡ true) → Changes p (drop_registration r p)
-drop-changes r p role aborted e = with_change nothing (task_dropped r role aborted e refl (record { notices = refl; performing = refl; events = refl; registrations = refl; frames = refl; calls = refl; aborted = λ s h. h; scheduling = record { priorities = λ s. refl; states = refl; tasks_made = omega arith } }))
+drop-changes r p role aborted e = with_change nothing (task_dropped r role aborted e refl (record { notices = refl; performing = refl; events = refl; registrations = refl; frames = refl; calls = refl; aborted = λ s h. h; scheduling = record { priorities = λ s. refl; states = refl; tasks_made = omega arith; idle_start = refl } })) tt
 
 -- rejecting a promise leaves what the abort steps test
 record Rejected (p q : Page) : Type 0 where
@@ -388,7 +470,7 @@ abort_registration-changes reason r p h x =
 
 emit_aborts : (ss : List ℕ) (p : Page) → Changes p (emit_each (map Abort ss) p)
 emit_aborts [] p = nothing
-emit_aborts (s ∷ ss) p = changes-then (with_change nothing (told (Abort s) refl)) (emit_aborts ss (emit (Abort s) p))
+emit_aborts (s ∷ ss) p = changes-then (with_change nothing (told (Abort s) refl) tt) (emit_aborts ss (emit (Abort s) p))
 
 pub reason_set-changes : (reason : Value) (ss : List ℕ) (p : Page) → Changes p (reason_set reason ss p)
 reason_set-changes reason ss p =
@@ -397,14 +479,14 @@ reason_set-changes reason ss p =
 
 -- a signal without a priority is given one
 pub give_priority-changes : (s : ℕ) (priority : Priority) (p : Page) → priority_of p.prios s ≡ None → Changes p (give_priority s priority p)
-give_priority-changes s priority p h = with_change nothing (prio_told s priority (TaskSignals.give s priority p.prios) (give-set s priority p.prios h))
+give_priority-changes s priority p h = with_change nothing (prio_told s priority (TaskSignals.give s priority p.prios) (give-set s priority p.prios h)) tt
 
 pub change_begun-changes : (s : ℕ) (priority : Priority) (p : Page) → Changes p (change_begun s priority p)
-change_begun-changes s priority p = with_change nothing (prio_told s priority (TaskSignals.begun s priority p.prios) (begun-set s priority p.prios))
+change_begun-changes s priority p = with_change nothing (prio_told s priority (TaskSignals.begun s priority p.prios) (begun-set s priority p.prios)) tt
 
 -- a change of the priorities that leaves each signal's own
 prios-changes : (ps : Prios) (p : Page) → ((s : ℕ) → priority_of ps s ≡ priority_of p.prios s) → Changes p (record p { prios = ps })
-prios-changes ps p h = with_change nothing (elsewhere places_stay (record { notices = refl; performing = refl; events = refl; registrations = refl; frames = refl; calls = refl; aborted = λ s k. k; scheduling = record { priorities = h; states = refl; tasks_made = omega arith } }))
+prios-changes ps p h = with_change nothing (elsewhere places_stay (record { notices = refl; performing = refl; events = refl; registrations = refl; frames = refl; calls = refl; aborted = λ s k. k; scheduling = record { priorities = h; states = refl; tasks_made = omega arith; idle_start = refl } }) tt) tt
 
 pub change_ended-changes : (s : ℕ) (p : Page) → Changes p (change_ended s p)
 change_ended-changes s p = prios-changes (TaskSignals.ended s p.prios) p (ended-same s p.prios)
@@ -414,7 +496,7 @@ change_ended-changes s p = prios-changes (TaskSignals.ended s p.prios) p (ended-
 pub micro_registered-changes : (f : Func) (p : Page) → Changes p (micro_registered f p)
 micro_registered-changes f p =
     let x : Registration = record { role = OfKind MicroKind; callback = Some f; second_callback = None; timer_id = 0; promise = 0; signal = None; finally = false } in
-    with_change nothing (micro_asked x (last_registration (register_as MicroKind x p)) refl (made_last MicroKind x p))
+    with_change nothing (micro_asked x (last_registration (register_as MicroKind x p)) refl (made_last MicroKind x p)) tt
 
 pub script_promise-changes : (p : Page) → Changes p (script_promise p)
 script_promise-changes p = changes-then (new_promise-changes p) (quietly (new_promise p) (script_promise p) refl refl refl refl refl refl refl refl refl)
@@ -425,7 +507,7 @@ then_asked-changes : (n : ℕ) (x : Registration) (p : Page) → x.role ≡ OfKi
 then_asked-changes n x p e g =
     let r : Reaction = record { registration = Some (last_registration (register_as ThenKind x p)); into = last_promise p; state = p.scheduling } in
     handled-changes n (is_outstanding n p.notices) p (on_notices (subscribe_promise (context p) n r) (register_as ThenKind x p))
-    (with_change nothing (then_asked n x r e g (ap Some (made_last ThenKind x p))))
+    (with_change nothing (then_asked n x r e g (ap Some (made_last ThenKind x p))) tt)
 
 pub then_made-changes : (n : ℕ) (f g : Value) (p : Page) → IsGiven (length (new_promise p).notices.promises) n → Changes p (then_made n f g p)
 then_made-changes n f g p x =
@@ -442,8 +524,26 @@ finally_made-changes n f p x =
 pub posted-changes : (port : ℕ) (v : Value) (p : Page) → Changes p (posted port v p)
 posted-changes port v p = lined (Send port (spelled p.names v)) p (posted port v p) refl refl refl refl refl refl refl refl refl refl
 
-pub timer_set-changes : (kind : RegKind) (repeats : Bool) (f : Func) (timeout : ℤ) (p : Page) → Held (made_by p) p → Changes p (timer_set kind repeats f timeout p)
-timer_set-changes kind repeats f timeout p h =
+-- a timer waits in an active timer
+delayed_timer : (repeats : Bool) → is_delayed_role (timer_role repeats) ≡ true
+delayed_timer true = refl
+delayed_timer false = refl
+
+-- a timer is for no frame
+no_frame : (repeats : Bool) (kind : RegKind) → OfKind kind ≡ timer_role repeats → is_frame kind ≡ false
+no_frame true kind e = ap {A = Role} {B = Bool} frames e
+  where
+    frames : Role → Bool
+    frames ScriptRole = false
+    frames (OfKind k) = is_frame k
+no_frame false kind e = ap {A = Role} {B = Bool} frames e
+  where
+    frames : Role → Bool
+    frames ScriptRole = false
+    frames (OfKind k) = is_frame k
+
+pub timer_set-changes : (kind : RegKind) (repeats : Bool) (f : Func) (timeout : ℤ) (p : Page) → OfKind kind ≡ timer_role repeats → Held (made_by p) p → Changes p (timer_set kind repeats f timeout p)
+timer_set-changes kind repeats f timeout p role h =
     let x : Registration = record { role = OfKind kind; callback = Some f; second_callback = None; timer_id = suc p.timers.ids_made; promise = 0; signal = None; finally = false } in
     let made = register_as kind x p in
     let r = last_registration made in
@@ -451,19 +551,33 @@ timer_set-changes kind repeats f timeout p h =
     let t : TimerTask = record { registration = r; id = a.id; handle = a.handle; level = a.level; repeats = repeats; timeout = timeout } in
     let fresh : (q : ℕ) → id_at p.registrations q ≡ a.id → ⊥ = λ q e. let le = (the_registration-given p q h).timer_id in absurd (omega (arith, le, e)) in
     let set : Page = record made { timers = with_armed None a made.timers; completions = and_last made.completions (record { start = a.start; completion = QueueTimer t }) } in
-    register_at-changes kind x (Arm r a.due a.level) p set refl refl (at_timer a t (made_last kind x p) fresh) (record { notices = refl; performing = refl; events = refl; registrations = refl; frames = refl; calls = refl; aborted = λ s h. h; scheduling = record { priorities = λ s. refl; states = refl; tasks_made = omega arith } })
+    register_at-changes kind x r a.due a.level p set refl (no_frame repeats kind role) (timer_armed made.registrations (places made) r a.due (with_armed None a made.timers) (QueueTimer t) refl (started p h) refl (ap is_delayed_role (new_role kind x p refl ∙ role) ∙ delayed_timer repeats)) (made_last kind x p) (at_timer a t (made_last kind x p) fresh) refl (record { notices = refl; performing = refl; events = refl; registrations = refl; frames = refl; calls = refl; aborted = λ s h. h; scheduling = record { priorities = λ s. refl; states = refl; tasks_made = omega arith; idle_start = refl } })
 
 pub frame_requested-changes : (f : Func) (p : Page) → Changes p (frame_requested f p)
-frame_requested-changes f p = with_change nothing (frame_asked f)
+frame_requested-changes f p = with_change nothing (frame_asked f) tt
 
-pub idle_requested-changes : (f : Func) (ms : ℕ) (p : Page) → Changes p (idle_requested f ms p)
-idle_requested-changes f ms p =
+pub idle_requested-changes : (f : Func) (ms : ℕ) (p : Page) → Held (made_by p) p → Changes p (idle_requested f ms p)
+idle_requested-changes f ms p h =
     let x : Registration = record { role = OfKind IdleKind; callback = Some f; second_callback = None; timer_id = 0; promise = 0; signal = None; finally = false } in
     let made = register_as IdleKind x p in
     let r = last_registration made in
     let q : Page = record made { idle = IdleCallbacks.request r made.idle } in
-    let first : Changes p q = with_change nothing (registered IdleKind x refl (at_idle r (made_last IdleKind x p)) (record { notices = refl; performing = refl; events = refl; registrations = refl; frames = refl; calls = refl; aborted = λ s h. h; scheduling = record { priorities = λ s. refl; states = refl; tasks_made = omega arith } })) in
-    cond_of-changes (ms == 0) (λ q. q) (idle_timeout ms r) q p first (changes-then first (idle_timeout-changes ms r q))
+    let first : Changes p q = with_change nothing (registered IdleKind x refl refl (at_idle r (made_last IdleKind x p)) (record { notices = refl; performing = refl; events = refl; registrations = refl; frames = refl; calls = refl; aborted = λ s h. h; scheduling = record { priorities = λ s. refl; states = refl; tasks_made = omega arith; idle_start = refl } })) tt in
+    cond_of-changes (ms == 0) (λ q. q) (idle_timeout ms r) q p first (changes-then first (idle_timeout-changes ms r q (new_role IdleKind x p refl) (λ c i e. own c (in-either c p.idle.runnable (and_last p.idle.pending (record { handle = suc p.idle.made; registration = r })) i) e)))
+  where
+    last : ℕ
+    last = length (and_last p.registrations (record { role = OfKind IdleKind; callback = Some f; second_callback = None; timer_id = 0; promise = 0; signal = None; finally = false }))
+
+    old : (c : Callback) → CallbackIsGiven IdleKind p.idle.made (made_by p) c → c.handle ≡ suc p.idle.made → c.registration ≡ last
+    old c k e = let le = k.handle.to_last in absurd (omega (arith, le, e))
+
+    by_pending : (c : Callback) → IsIn c p.idle.pending ⊎ (c ≡ record { handle = suc p.idle.made; registration = last }) → c.handle ≡ suc p.idle.made → c.registration ≡ last
+    by_pending c (inl i) e = old c (callback-given IdleKind p.idle.made (made_by p) c p.idle.pending (idle_lists (h InIdle)).1 i) e
+    by_pending c (inr same) e = ap {A = Callback} {B = ℕ} (λ y. y.registration) same
+
+    own : (c : Callback) → IsIn c p.idle.runnable ⊎ IsIn c (and_last p.idle.pending (record { handle = suc p.idle.made; registration = last })) → c.handle ≡ suc p.idle.made → c.registration ≡ last
+    own c (inl i) e = old c (callback-given IdleKind p.idle.made (made_by p) c p.idle.runnable (idle_lists (h InIdle)).0 i) e
+    own c (inr i) e = by_pending c (in-last c (record { handle = suc p.idle.made; registration = last }) p.idle.pending i) e
 
 pub make-changes : (p : Page) → Changes p (with_signals AbortGraph.make p)
 make-changes p = signals-changes (AbortGraph.make p.signals) p (make-aborted p)
@@ -486,19 +600,22 @@ any_made-changes ss priority follows p h =
     let first : Changes p given_one = changes-then (any-changes ss p) (give_priority-changes (last_signal made) priority made (fresh-prio (made_by p) p.prios (last_signal made) (h InPrios) (let l = any-count ss p.signals in omega (arith, l)))) in
     elim-changes follows p given_one _ first (λ on. changes-then first (prios-changes (TaskSignals.depend (last_signal made) on given_one.prios) given_one (depend-same (last_signal made) on given_one.prios)))
 
-pub timeout_signal_made-changes : (ms : ℕ) (p : Page) → Changes p (timeout_signal_made ms p)
-timeout_signal_made-changes ms p =
+pub timeout_signal_made-changes : (ms : ℕ) (p : Page) → Held (made_by p) p → Changes p (timeout_signal_made ms p)
+timeout_signal_made-changes ms p h =
     let new = with_signals AbortGraph.make p in
     let made = register SignalKind None None new in
-    let told_one = emit (Arm (last_registration made) (made.now + ms * 1000) 0) made in
-    changes-then (with_change {q = made} (changes-then (make-changes p) (register-changes SignalKind _ new refl)) (told _ refl))
-    (placed told_one (timeout_signal_made ms p) (signal_armed ms made.now (last_registration made) (last_signal made)) refl refl refl refl refl refl refl refl)
+    let r = last_registration made in
+    let timers = Timers.run_after ms made.now made.timers in
+    let k = QueueSignal r (last_signal made) in
+    let set : Page = record made { timers = timers; completions = and_last made.completions (record { start = suc made.timers.starts_made; completion = k }) } in
+    with_arm {r = set} (changes-then (make-changes p) (register-changes SignalKind _ new refl refl)) (elsewhere (signal_armed ms made.now r (last_signal made)) (record { notices = refl; performing = refl; events = refl; registrations = refl; frames = refl; calls = refl; aborted = λ s h. h; scheduling = record { priorities = λ s. refl; states = refl; tasks_made = omega arith; idle_start = refl } }) tt)
+    (moves.arm_told r (made.now + ms * 1000) 0 (timer_armed made.registrations (places made) r (made.now + ms * 1000) timers k refl (started p h) refl (ap is_delayed_role (new_role SignalKind _ new refl)))) (refl, refl)
 
 pub listener_added-changes : (target : Target) (name : List ℕ) (f : Func) (p : Page) → Changes p (listener_added target name f p)
 listener_added-changes target name f p =
     let x : Registration = record { role = OfKind ListenerKind; callback = Some f; second_callback = None; timer_id = 0; promise = 0; signal = None; finally = false } in
     let made = register_as ListenerKind x p in
-    with_change nothing (registered ListenerKind x refl (at_listener target name (last_registration made) (made_last ListenerKind x p)) (record { notices = refl; performing = refl; events = refl; registrations = refl; frames = refl; calls = refl; aborted = λ s h. h; scheduling = record { priorities = λ s. refl; states = refl; tasks_made = omega arith } }))
+    with_change nothing (registered ListenerKind x refl refl (at_listener target name (last_registration made) (made_last ListenerKind x p)) (record { notices = refl; performing = refl; events = refl; registrations = refl; frames = refl; calls = refl; aborted = λ s h. h; scheduling = record { priorities = λ s. refl; states = refl; tasks_made = omega arith; idle_start = refl } })) tt
 
 listening_role : (n : Made) (r : ℕ) (ls : List Listener) → Each (ListenerIsGiven n) ls → is_listening r ls ≡ true → role_at n.registrations r ≡ OfKind ListenerKind
 listening_role n r [] h e = Prim.cc
@@ -512,7 +629,7 @@ pub listener_removed-changes : (r : ℕ) (p : Page) → Held (made_by p) p → C
 listener_removed-changes r p h = by_there (is_listening r p.listeners) refl
   where
     by_there : (b : Bool) → is_listening r p.listeners ≡ b → Changes p (cond b (emit (Drop r) (record p { listeners = off r p.listeners })) p)
-    by_there true e = with_change nothing (dropped r (listener_dropped e (listening_role (made_by p) r p.listeners (h InListeners) e)) (record { notices = refl; performing = refl; events = refl; registrations = refl; frames = refl; calls = refl; aborted = λ s h. h; scheduling = record { priorities = λ s. refl; states = refl; tasks_made = omega arith } }))
+    by_there true e = with_change nothing (dropped r (listener_dropped e (listening_role (made_by p) r p.listeners (h InListeners) e)) (record { notices = refl; performing = refl; events = refl; registrations = refl; frames = refl; calls = refl; aborted = λ s h. h; scheduling = record { priorities = λ s. refl; states = refl; tasks_made = omega arith; idle_start = refl } })) tt
     by_there false e = nothing
 
 -- the registration of a task, a delay or a host answer
@@ -535,6 +652,10 @@ ready-prios : (kind : RegKind) (f : Option Func) (signal : Option ℕ) (p : Page
 ready-prios kind f None p = refl
 ready-prios kind f (Some s) p = refl
 
+ready-started : (kind : RegKind) (f : Option Func) (signal : Option ℕ) (p : Page) → Started p → Started (ready kind f signal p)
+ready-started kind f None p h = h
+ready-started kind f (Some s) p h = h
+
 ready-states : (kind : RegKind) (f : Option Func) (signal : Option ℕ) (p : Page) → (ready kind f signal p).scheduling_states ≡ p.scheduling_states
 ready-states kind f None p = refl
 ready-states kind f (Some s) p = refl
@@ -546,25 +667,25 @@ enqueued-changes kind x source continuation p e of_sched from =
     let r = last_registration made in
     let t : SchedTask = record { registration = r; source = source; continuation = continuation; order = suc p.tasks_made } in
     let q : Page = record made { tasks_made = suc p.tasks_made; sched_tasks = and_last made.sched_tasks t } in
-    with_change nothing (enqueued_anew {q = emit (Enq r (queue_name source) continuation (suc p.tasks_made)) q} kind x t (queue_name source) e (made_last kind x p) refl (record { order = refl; made = omega arith; named = refl }, from, of_sched) (record { notices = refl; performing = refl; events = refl; registrations = refl; frames = refl; calls = refl; aborted = λ s h. h; scheduling = record { priorities = λ s. refl; states = refl; tasks_made = omega arith } }))
+    with_change nothing (enqueued_anew {q = emit (Enq r (queue_name source) continuation (suc p.tasks_made)) q} kind x t (queue_name source) e (made_last kind x p) refl (record { order = refl; made = omega arith; named = refl }, from, of_sched) (record { notices = refl; performing = refl; events = refl; registrations = refl; frames = refl; calls = refl; aborted = λ s h. h; scheduling = record { priorities = λ s. refl; states = refl; tasks_made = omega arith; idle_start = refl } })) tt
 
 -- a delayed post of a new registration
-delayed-changes : (x : Registration) (source : PrioSource) (ms : ℕ) (p : Page) → x.role ≡ OfKind PostKind → HasPriority p.prios source → Changes p (post_delayed ms (last_registration (register_as PostKind x p)) source (register_as PostKind x p))
-delayed-changes x source ms p e from =
+delayed-changes : (x : Registration) (source : PrioSource) (ms : ℕ) (p : Page) → Started p → x.role ≡ OfKind PostKind → HasPriority p.prios source → Changes p (post_delayed ms (last_registration (register_as PostKind x p)) source (register_as PostKind x p))
+delayed-changes x source ms p h e from =
     let made = register_as PostKind x p in
     let r = last_registration made in
     let timers = Timers.run_after ms made.now made.timers in
     let q : Page = record made { timers = timers; completions = and_last made.completions (record { start = timers.starts_made; completion = EnqueuePost r source }) } in
-    register_at-changes PostKind x (Arm r (made.now + ms * 1000) 0) p q e refl (at_delay ms made.now r source (made_last PostKind x p) from) (record { notices = refl; performing = refl; events = refl; registrations = refl; frames = refl; calls = refl; aborted = λ s h. h; scheduling = record { priorities = λ s. refl; states = refl; tasks_made = omega arith } })
+    register_at-changes PostKind x r (made.now + ms * 1000) 0 p q e refl (timer_armed made.registrations (places made) r (made.now + ms * 1000) timers (EnqueuePost r source) refl h refl (ap is_delayed_role (new_role PostKind x p e))) (made_last PostKind x p) (at_delay ms made.now r source (made_last PostKind x p) from) refl (record { notices = refl; performing = refl; events = refl; registrations = refl; frames = refl; calls = refl; aborted = λ s h. h; scheduling = record { priorities = λ s. refl; states = refl; tasks_made = omega arith; idle_start = refl } })
 
-pub post_queued-changes : (f : Func) (source : PrioSource) (signal : Option ℕ) (ms : ℕ) (p : Page) → HasPriority p.prios source → Changes p (post_queued f source signal ms p)
-post_queued-changes f source signal ms p from =
+pub post_queued-changes : (f : Func) (source : PrioSource) (signal : Option ℕ) (ms : ℕ) (p : Page) → Held (made_by p) p → HasPriority p.prios source → Changes p (post_queued f source signal ms p)
+post_queued-changes f source signal ms p h from =
     let x = entry PostKind (Some f) signal p in
     let before = ready PostKind (Some f) signal p in
     subst (λ (made : Page). Changes p (cond (ms == 0) (enqueue (last_registration made) source false) (post_delayed ms (last_registration made) source) made)) (sym (promised-ready PostKind (Some f) signal p))
     (changes-then (ready-changes PostKind (Some f) signal p)
     (cond_of-changes (ms == 0) (enqueue (last_registration (register_as PostKind x before)) source false) (post_delayed ms (last_registration (register_as PostKind x before)) source) (register_as PostKind x before) before
-    (enqueued-changes PostKind x source false before refl refl (known there)) (delayed-changes x source ms before refl there)))
+    (enqueued-changes PostKind x source false before refl refl (known there)) (delayed-changes x source ms before (ready-started PostKind (Some f) signal p (started p h)) refl there)))
   where
     there : HasPriority (ready PostKind (Some f) signal p).prios source
     there = subst (λ (ps : Prios). HasPriority ps source) (sym (ready-prios PostKind (Some f) signal p)) from
@@ -591,7 +712,7 @@ asked-changes k c x e p role there live =
     let due = made.now + latency_of made.latencies k in
     let a : HostAnswer = record { due = due; task = record { registration = r; closure = k; number = x } } in
     let q : Page = record made { hosts = slice_set made.hosts k (queued_mark c); host_answers = and_last made.host_answers a } in
-    register_at-changes HostKind e (Arm r due 0) p q role refl (at_host c a (made_last HostKind e p) there live) (record { notices = refl; performing = refl; events = refl; registrations = refl; frames = refl; calls = refl; aborted = λ s h. h; scheduling = record { priorities = λ s. refl; states = refl; tasks_made = omega arith } })
+    register_at-changes HostKind e r due 0 p q role refl (by_host a (is-last a made.host_answers) refl refl (new_role HostKind e p role)) (made_last HostKind e p) (at_host c a (made_last HostKind e p) there live) refl (record { notices = refl; performing = refl; events = refl; registrations = refl; frames = refl; calls = refl; aborted = λ s h. h; scheduling = record { priorities = λ s. refl; states = refl; tasks_made = omega arith; idle_start = refl } })
 
 ready-hosts : (kind : RegKind) (f : Option Func) (signal : Option ℕ) (p : Page) → (ready kind f signal p).hosts ≡ p.hosts
 ready-hosts kind f None p = refl
@@ -605,11 +726,11 @@ host_queued-changes k c x signal p there live =
 
 -- ---- tasks
 
-pub invoke_idle_again-changes : (p : Page) → Changes p (invoke_idle_again p)
-invoke_idle_again-changes p = cond-changes (is_empty p.idle.runnable) p p _ nothing (queue_task-changes IdleSource InvokeIdle p refl)
+pub invoke_idle_again-changes : (p : Page) → PeriodGoesOn p → Changes p (invoke_idle_again p)
+invoke_idle_again-changes p k = cond-changes (is_empty p.idle.runnable) p p _ nothing (queue_idle-changes p k)
 
 pub outstanding-changes : (n : ℕ) (p : Page) → Changes p (outstanding_if_unhandled n p)
-outstanding-changes n p = with_change nothing (noted n)
+outstanding-changes n p = with_change nothing (noted n) tt
 
 settle_answer-changes : (n : ℕ) (answer : Result ℤ ℤ) (p : Page) → IsGiven (length p.notices.promises) n → Changes p (settle_answer n answer p)
 settle_answer-changes n (Ok v) p x = settle-changes n (Fulfilled (IntValue v)) p x
@@ -630,125 +751,7 @@ answer_task-changes source task t answer p e e1 live x = by_closure (slice_get p
     rest q x h = changes-then (changes-then h (settle_answer-changes into answer q x)) (unwatch-changes t.registration (settle_answer into answer q))
 
     by_closure : (c : Option HostClosure) → slice_get p.hosts t.closure ≡ c → Changes p (unwatch t.registration (settle_answer into answer (fire_closure t.closure c told_one)))
-    by_closure None k = rest told_one x (with_change nothing (answered source task t answer e e1 live (ap {A = Option HostClosure} {B = Places} (λ o. record (places told_one) { hosts = fired_at t.closure o p.hosts }) (sym k)) (record { notices = refl; performing = refl; events = refl; registrations = refl; frames = refl; calls = refl; aborted = λ s h. h; scheduling = record { priorities = λ s. refl; states = refl; tasks_made = omega arith } })))
+    by_closure None k = rest told_one x (with_change nothing (answered source task t answer e e1 live (ap {A = Option HostClosure} {B = Places} (λ o. record (places told_one) { hosts = fired_at t.closure o p.hosts }) (sym k)) (record { notices = refl; performing = refl; events = refl; registrations = refl; frames = refl; calls = refl; aborted = λ s h. h; scheduling = record { priorities = λ s. refl; states = refl; tasks_made = omega arith; idle_start = refl } })) tt)
     by_closure (Some c) k =
         let fired = fire_closure t.closure (Some c) told_one in
-        rest fired x (with_change nothing (answered source task t answer e e1 live (ap {A = Option HostClosure} {B = Places} (λ o. record (places told_one) { hosts = fired_at t.closure o p.hosts }) (sym k)) (record { notices = refl; performing = refl; events = refl; registrations = refl; frames = refl; calls = refl; aborted = λ s h. h; scheduling = record { priorities = λ s. refl; states = refl; tasks_made = omega arith } })))
-
--- ---- parallel items
-
--- the steps of an active timer complete, which were found by its start
-complete-changes : (start : ℕ) (c : Completion) (p : Page) → completion_of p.completions start ≡ Some c → CompletionIsGiven (made_by p) c → Changes p (complete c (without_timer start p))
-complete-changes start (QueueTimer t) p e x =
-    due-changes t.registration p (complete (QueueTimer t) (without_timer start p)) (timer_due start (suc p.tasks_made) Timer t e refl x.registration.role) (record { notices = refl; performing = refl; events = refl; registrations = refl; frames = refl; calls = refl; aborted = λ s h. h; scheduling = record { priorities = λ s. refl; states = refl; tasks_made = omega arith } })
-complete-changes start (EnqueuePost r source) p e x = by_abort (is_aborted_source p (the_registration p r).signal) refl
-  where
-    t : SchedTask
-    t = record { registration = r; source = source; continuation = false; order = suc p.tasks_made }
-
-    by_abort : (b : Bool) → is_aborted_source p (the_registration p r).signal ≡ b → Changes p (cond b (λ q. q) (enqueue r source false) (emit (Due r) (without_timer start p)))
-    by_abort true k = due-changes r p (emit (Due r) (without_timer start p)) (delay_due start source e x.2.role) (record { notices = refl; performing = refl; events = refl; registrations = refl; frames = refl; calls = refl; aborted = λ s h. h; scheduling = record { priorities = λ s. refl; states = refl; tasks_made = omega arith } })
-    by_abort false k = with_change nothing (post_fell_due start source t (queue_name source) e x.2.role k refl (record { order = refl; made = omega arith; named = refl }, refl, refl) (record { notices = refl; performing = refl; events = refl; registrations = refl; frames = refl; calls = refl; aborted = λ s h. h; scheduling = record { priorities = λ s. refl; states = refl; tasks_made = omega arith } }))
-complete-changes start (QueueSignal r s) p e x =
-    let gone = emit (Due r) (without_timer start p) in
-    changes-then (due-changes r p gone (signal_due start s e x.0.role) (record { notices = refl; performing = refl; events = refl; registrations = refl; frames = refl; calls = refl; aborted = λ s h. h; scheduling = record { priorities = λ s. refl; states = refl; tasks_made = omega arith } })) (queue_task-changes Timer (TimeOutSignal s) gone refl)
-
-complete_at-changes : (start : ℕ) (c : Option Completion) (p : Page) → completion_of p.completions start ≡ c → IfThere (CompletionIsGiven (made_by p)) c → Changes p (complete_at c (without_timer start p))
-complete_at-changes start None p e x = placed p (without_timer start p) (completed start) refl refl refl refl refl refl refl refl
-complete_at-changes start (Some c) p e x = complete-changes start c p e x
-
--- an answer that is pending: the ones before it and behind it
-record Pending (xs : List HostAnswer) (a : HostAnswer) : Type 0 where
-  before : List HostAnswer
-  after : List HostAnswer
-  whole : xs ≡ before ++ a ∷ after
-
--- a host's item is an answer that is pending
-abbrev Stands : Page → ItemKind → Type 0
-Stands p (HostItem a) = Pending p.host_answers a
-Stands p what = Unit {0}
-
-take_item-changes : (what : ItemKind) (p : Page) → Stands p what → Held (made_by p) p → ItemIsGiven (made_by p) what → Changes p (take_item what p)
-take_item-changes (ArrivalItem n a) p h k x =
-    let q : Page = record p { arrivals = without_numbered n p.arrivals } in
-    changes-then (quietly p q refl refl refl refl refl refl refl refl refl) (queue_task-changes a.source (FireAtWindow a.name a.value) q refl)
-take_item-changes (HostItem a) p h k x =
-    due-changes a.task.registration p (take_item (HostItem a) p) (answer_due h.before a h.after (suc p.tasks_made) Net h.whole refl x.kind.role) (record { notices = refl; performing = refl; events = refl; registrations = refl; frames = refl; calls = refl; aborted = λ s h. h; scheduling = record { priorities = λ s. refl; states = refl; tasks_made = omega arith } })
-take_item-changes (TimerItem t) p h k x = complete_at-changes t.start (completion_of p.completions t.start) p refl (completion_of-given (made_by p) p.completions t.start (k InCompletions))
-take_item-changes (IdleItem t) p h k x =
-    let q : Page = emit (Due t.registration) (record p { idle_timers = without (λ u. u.handle == t.handle) p.idle_timers }) in
-    changes-then (due-changes t.registration p q (idle_due t.handle x.registration.role) (record { notices = refl; performing = refl; events = refl; registrations = refl; frames = refl; calls = refl; aborted = λ s h. h; scheduling = record { priorities = λ s. refl; states = refl; tasks_made = omega arith } })) (queue_task-changes IdleSource (IdleTimeout t.handle) q refl)
-take_item-changes FrameItem p h k x =
-    let q : Page = record p { last_opportunity = p.now } in
-    changes-then (quietly p q refl refl refl refl refl refl refl refl refl) (queue_task-changes Render (RunFrame p.now) q refl)
-
--- ---- the items that stand in a page
-
-arrivals_stand : (p : Page) (n : ℕ) (xs : List Arrival) → Each (λ (i : Item). Stands p i.what) (arrival_items n xs)
-arrivals_stand p n [] = tt
-arrivals_stand p n (x ∷ xs) = (tt, arrivals_stand p (suc n) xs)
-
-hosts_stand : (p : Page) (before xs : List HostAnswer) → p.host_answers ≡ before ++ xs → Each (λ (i : Item). Stands p i.what) (map (λ a. record { due = a.due; what = HostItem a }) xs)
-hosts_stand p before [] e = tt
-hosts_stand p before (x ∷ xs) e = (record { before = before; after = xs; whole = e }, hosts_stand p (before ++ x ∷ []) xs (e ∙ shifted before))
-  where
-    shifted : (ys : List HostAnswer) → ys ++ x ∷ xs ≡ (ys ++ x ∷ []) ++ xs
-    shifted [] = refl
-    shifted (y ∷ ys) = ap (y ∷◌) (shifted ys)
-
-timers_stand : (p : Page) (xs : List ActiveTimer) → Each (λ (i : Item). Stands p i.what) (map (λ t. record { due = t.due; what = TimerItem t }) xs)
-timers_stand p [] = tt
-timers_stand p (x ∷ xs) = (tt, timers_stand p xs)
-
-idles_stand : (p : Page) (xs : List IdleTimer) → Each (λ (i : Item). Stands p i.what) (map (λ t. record { due = t.due; what = IdleItem t }) xs)
-idles_stand p [] = tt
-idles_stand p (x ∷ xs) = (tt, idles_stand p xs)
-
-frames_stand : (p : Page) (o : Option ℕ) → Each (λ (i : Item). Stands p i.what) (frame_items o)
-frames_stand p None = tt
-frames_stand p (Some t) = (tt, tt)
-
-items_stand : (p : Page) → Each (λ (i : Item). Stands p i.what) (items_in_order p)
-items_stand p =
-    let P : Item → Type 0 = λ i. Stands p i.what in
-    let arrivals : List Item = arrival_items 1 p.arrivals in
-    let hosts : List Item = map (λ a. record { due = a.due; what = HostItem a }) p.host_answers in
-    let timers : List Item = map (λ t. record { due = t.due; what = TimerItem t }) p.timers.active in
-    let idles : List Item = map (λ t. record { due = t.due; what = IdleItem t }) p.idle_timers in
-    Each-append P (arrivals ++ hosts ++ timers ++ idles) (frame_items (next_frame p))
-    (Each-append P (arrivals ++ hosts ++ timers) idles
-    (Each-append P (arrivals ++ hosts) timers
-    (Each-append P arrivals hosts (arrivals_stand p 1 p.arrivals) (hosts_stand p [] p.host_answers refl)) (timers_stand p p.timers.active)) (idles_stand p p.idle_timers)) (frames_stand p (next_frame p))
-
-first_from_stands : (p : Page) (a : Item) (others : List Item) → Stands p a.what → Each (λ (i : Item). Stands p i.what) others → Stands p (first_item_from a others).what
-first_from_stands p a [] h k = h
-first_from_stands p a (b ∷ others) h k = first_from_stands p (cond (nat_lt b.due a.due) b a) others (by_test (nat_lt b.due a.due)) k.1
-  where
-    by_test : (c : Bool) → Stands p (cond c b a).what
-    by_test true = k.0
-    by_test false = h
-
-first_of_stands : (p : Page) (xs : List Item) → Each (λ (i : Item). Stands p i.what) xs → IfThere (λ (i : Item). Stands p i.what) (first_item_of xs)
-first_of_stands p [] k = tt
-first_of_stands p (a ∷ others) k = first_from_stands p a others k.0 k.1
-
-due_stands : (p : Page) (now : ℕ) (o : Option Item) → IfThere (λ (i : Item). Stands p i.what) o → IfThere (λ (i : Item). Stands p i.what) (due_item now o)
-due_stands p now None k = tt
-due_stands p now (Some a) k = by_test (nat_le a.due now)
-  where
-    by_test : (b : Bool) → IfThere (λ (i : Item). Stands p i.what) (cond b (Some a) None)
-    by_test true = k
-    by_test false = tt
-
-take_due-changes : (n : ℕ) (p : Page) → Held (made_by p) p → Changes p (take_due n p)
-take_due-changes zero p h = nothing
-take_due-changes (suc n) p h =
-    by_item (due_item p.now (first_item p)) (due_stands p p.now (first_item p) (first_of_stands p (items_in_order p) (items_stand p)))
-    (due_item-given (made_by p) p.now (first_item p) (first_of-given (made_by p) (items_in_order p) (items-given p h))) (λ q k. take_due-changes n q k)
-  where
-    by_item : (o : Option Item) → IfThere (λ (i : Item). Stands p i.what) o → IfItemIsGiven (made_by p) o → ((q : Page) → Held (made_by q) q → Changes q (take_due n q)) → Changes p (elim o [ None ↦ p | Some a ↦ take_due n (take_item a.what p) ])
-    by_item None k x rest = nothing
-    by_item (Some a) k x rest = changes-then (take_item-changes a.what p k h x) (rest (take_item a.what p) (take_item-held a.what p h x).1)
-
-pub parallel-changes : (p : Page) → Held (made_by p) p → Changes p (parallel p)
-parallel-changes p h = take_due-changes (item_count p) p h
+        rest fired x (with_change nothing (answered source task t answer e e1 live (ap {A = Option HostClosure} {B = Places} (λ o. record (places told_one) { hosts = fired_at t.closure o p.hosts }) (sym k)) (record { notices = refl; performing = refl; events = refl; registrations = refl; frames = refl; calls = refl; aborted = λ s h. h; scheduling = record { priorities = λ s. refl; states = refl; tasks_made = omega arith; idle_start = refl } })) tt)

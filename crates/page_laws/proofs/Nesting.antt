@@ -1,5 +1,5 @@
 -- No job is run inside a call.
-use Rattle.std.proofs.Common.{◌≡◌, ℕ, Bool, true, false, List, [], ◌∷◌, ◌++◌, Option, Some, None, refl, sym, subst, ap, cond}
+use Rattle.std.proofs.Common.{◌≡◌, ℕ, true, List, [], refl, sym, subst, ap}
 use Rattle.page_types.specs.declared.RegKind.TheVariants as kind
 use Rattle.page_model.specs.Invoke.{register_as}
 use Rattle.page_types.specs.Events.{Event, Run}
@@ -7,14 +7,14 @@ use Rattle.page_parts.specs.Promises.{Settled, Fulfilled, Failed, PromiseJob, Re
 use Rattle.page_parts.specs.Promises as Promises
 use Rattle.page_parts.specs.Words.{without}
 use Rattle.std.specs.Prelude.{◌==◌}
-use Rattle.page_parts.specs.Notices.{Notices, Noticed, changed, queue_jobs, settle_line, subscribe_promise, queue_micro, Context}
+use Rattle.page_parts.specs.Notices.{Notices, Noticed, changed, subscribe_promise, queue_micro, Context}
 use Rattle.page_parts.specs.Promises.{the_promise}
 use Rattle.page_model.specs.State.{Page, on_notices, context}
 use Rattle.page_model.specs.Numbers.{Each}
 use Rattle.page_laws.specs.History.{History, is_rest}
 use Rattle.page_laws.specs.CallLaws.{keeps_nesting, is_nil}
-use Rattle.page_laws.specs.Moves.{frame_asked, frame_gone, is_aside, is_end, promise_changes, PageChange, elsewhere, told, rested, registered, promised, settled, followed, adopted, subscribed, micro_asked, then_asked, answered, dropped, frame_dropped, rejected_taken, noted, Beginning, TheScript, ATimer, AFrame, AnIdle, ALateIdle, AListener, APost, AContinuation, AMicro, AReaction, taken, Waited, Moves, here, changing, calling, ending, flagging, running, task_dropped, enqueued_anew, fell_due, post_fell_due, prio_told}
-use Rattle.page_laws.proofs.Lines.{emit_each-events}
+use Rattle.page_laws.specs.Moves.{frame_asked, is_aside, is_end, promise_changes, PageChange, elsewhere, told, arm_told, rested, registered, promised, settled, followed, adopted, subscribed, micro_asked, then_asked, answered, dropped, frame_dropped, rejected_taken, noted, Beginning, TheScript, ATimer, AFrame, AnIdle, ALateIdle, AListener, APost, AContinuation, AMicro, AReaction, taken, Waited, Moves, here, changing, arming, calling, ending, flagging, running, framing, idling, task_dropped, enqueued_anew, fell_due, post_fell_due, prio_told}
+use Rattle.page_laws.proofs.Lines.{changed-each, emit_each-events}
 use Rattle.page_laws.proofs.Scans.{Test, Kept, kept-added}
 
 abbrev pub nesting : Test
@@ -36,25 +36,8 @@ end-passes : (e : Event) → is_end e ≡ true → Passes e
 end-passes (Run j) h older = Prim.cc
 end-passes e h older = refl
 
-Each-append : (xs ys : List Event) → Each Passes xs → Each Passes ys → Each Passes (xs ++ ys)
-Each-append [] ys h k = k
-Each-append (x ∷ xs) ys h k = (h.0, Each-append xs ys h.1 k)
-
-settle_line-passes : (names : List (List ℕ)) (n : ℕ) (o : Option Settled) → Each Passes (settle_line names n o)
-settle_line-passes names n None = tt
-settle_line-passes names n (Some (Fulfilled v)) = (λ older. refl, tt)
-settle_line-passes names n (Some (Failed v)) = (λ older. refl, tt)
-
-if_settled-passes : (b : Bool) (lines : List Event) → Each Passes lines → Each Passes (cond b lines [])
-if_settled-passes true lines h = h
-if_settled-passes false lines h = tt
-
-queue_jobs-passes : (current : Context) (jobs : List PromiseJob) (s : Notices) → Each Passes (queue_jobs current jobs s).lines
-queue_jobs-passes current [] s = tt
-queue_jobs-passes current (j ∷ jobs) s = (λ older. refl, queue_jobs-passes current jobs _)
-
 changed-passes : (current : Context) (names : List (List ℕ)) (n : ℕ) (c : Promises.Change) (s : Notices) → Each Passes (changed current names n c s).lines
-changed-passes current names n c s = Each-append (cond c.settled (settle_line names n c.promise.outcome) []) _ (if_settled-passes c.settled _ (settle_line-passes names n c.promise.outcome)) (queue_jobs-passes current c.jobs _)
+changed-passes = changed-each Passes (λ n ok bs. λ older. refl) (λ j what. λ older. refl)
 
 notices-kept : (f : Notices → Noticed) (p : Page) → Each Passes (f p.notices).lines → Kept nesting p.events → Kept nesting (on_notices f p).events
 notices-kept f p h k =
@@ -70,11 +53,12 @@ subscribed-kept n r p k =
     (changed-passes (context p) [] n (Promises.subscribe n (the_promise p.notices.promises n) r) (record p.notices { rejected = without (λ m. m == n) p.notices.rejected; outstanding = without (λ m. m == n) p.notices.outstanding })) k
 
 change-kept : {p q : Page} → PageChange p q → Kept nesting p.events → Kept nesting q.events
-change-kept (elsewhere c b) k = subst (Kept nesting) (sym b.events) k
+change-kept (elsewhere c b within) k = subst (Kept nesting) (sym b.events) k
 change-kept {p = p} (told e h) k = (aside-passes e h p.events, k)
-change-kept {p = p} (rested e h x y z) k = (rest-passes e h p.events, k)
+change-kept (arm_told r due level w) k = (refl, k)
+change-kept {p = p} (rested e h x y z over begun) k = (rest-passes e h p.events, k)
 change-kept (answered source task t answer x y live z b) k = subst (Kept nesting) (sym b.events) (refl, k)
-change-kept (registered kind x e u b) k = subst (Kept nesting) (sym b.events) (refl, k)
+change-kept (registered kind x e unframed u b) k = subst (Kept nesting) (sym b.events) (refl, k)
 change-kept (dropped r d b) k = subst (Kept nesting) (sym b.events) (refl, k)
 change-kept (task_dropped r role a e s b) k = subst (Kept nesting) (sym b.events) (refl, k)
 change-kept (enqueued_anew kind x t queue e i s n b) k = subst (Kept nesting) (sym b.events) (refl, (refl, k))
@@ -83,7 +67,6 @@ change-kept (post_fell_due start source t queue e role a s n b) k = subst (Kept 
 change-kept (prio_told s priority ps c) k = (refl, k)
 change-kept (frame_dropped handle c e role) k = (refl, k)
 change-kept (frame_asked f) k = (refl, k)
-change-kept (frame_gone handle) k = k
 change-kept promised k = k
 change-kept {p = p} (settled n how x y) k = changes-kept n (Promises.settle n (the_promise p.notices.promises n) how) p k
 change-kept {p = p} (followed n how x y) k = changes-kept n (Promises.settle n (the_promise p.notices.promises n) how) p k
@@ -108,8 +91,11 @@ begins-kept (AReaction job others of x r) p w k = (ap is_nil w.3, k)
 
 pub moves-kept : {p q : Page} → Moves p q → Kept nesting p.events → Kept nesting q.events
 moves-kept here k = k
-moves-kept (changing a c) k = change-kept c (moves-kept a k)
+moves-kept (changing a c plain) k = change-kept c (moves-kept a k)
+moves-kept (arming a c d w) k = change-kept d (change-kept c (moves-kept a k))
 moves-kept (calling {q = q} a b w i) k = (refl, begins-kept b q w (moves-kept a k))
 moves-kept (ending {q = q} a e h) k = (end-passes e h q.events, moves-kept a k)
 moves-kept (flagging a x y z w u v t j) k = subst (Kept nesting) (sym y) (moves-kept a k)
 moves-kept (running {q = q} a j others x y) k = (ap is_nil y, moves-kept a k)
+moves-kept (framing a t) k = (refl, moves-kept a k)
+moves-kept (idling a none) k = moves-kept a k

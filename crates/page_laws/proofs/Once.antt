@@ -5,21 +5,21 @@ use Rattle.std.specs.Prelude.{◌==◌, filter, find}
 use Rattle.page_types.specs.declared.RegKind.{RegKind}
 use Rattle.page_types.specs.declared.RegKind.TheVariants as kind
 use Rattle.page_types.specs.declared.Source.TheVariants.{Sched}
-use Rattle.page_types.specs.Events.{Event, Call, Reg, Run, Turn, IdleLine, Host, Drop, Due, Enq, Prio}
+use Rattle.page_types.specs.Events.{Arm, Frame, Event, Call, Reg, Run, Turn, IdleLine, Host, Drop, Due, Enq, Prio}
 use Rattle.page_parts.specs.Words.{and_last, without}
 use Rattle.page_parts.specs.Frames.{Frames, Callback, without_handle}
 use Rattle.page_parts.specs.Promises.{Settled, Reaction, the_promise, pending_promise}
 use Rattle.page_parts.specs.Promises as Promises
 use Rattle.page_parts.specs.Notices.{WaitingJob, Notices, Noticed, changed, subscribe_promise, queue_micro, note_outstanding}
 use Rattle.page_parts.specs.Sources.{same_source}
-use Rattle.page_model.specs.State.{Role, ScriptRole, OfKind, Registration, Page, Task, QueueTimer, QueueSignal, RunTimer, AnswerHost, EnqueuePost, emit, emit_each, on_notices, context, caller}
+use Rattle.page_model.specs.State.{IdleTimeout, Role, ScriptRole, OfKind, Registration, Page, Task, QueueTimer, QueueSignal, RunTimer, AnswerHost, EnqueuePost, emit, emit_each, on_notices, context, caller}
 use Rattle.page_model.specs.Invoke.{call_begun, register_as}
 use Rattle.page_model.specs.PageTime.{deadline}
 use Rattle.page_model.specs.Numbers.{Each, IsFor, made_by, timer_role}
 use Rattle.page_model.proofs.NumbersGrow.{length-last}
 use Rattle.page_laws.specs.History.{History, count_lines, has_kind, is_some_and, is_call_of, kind_of, was_called}
 use Rattle.page_laws.specs.CallLaws.{is_one_shot, has_no_callback, was_made, runs_once, may_be_called, may_be_registered}
-use Rattle.page_laws.specs.Moves.{promise_changes, Places, places, PlaceChange, places_stay, task_queued, task_left, armed_again, signal_armed, timer_due, completed, idle_started, idle_left, answer_due, id_cleared, idle_armed, idle_due, Dropping, timer_dropped, idle_dropped, listener_dropped, task_dropped, AsBefore, PageChange, elsewhere, told, rested, answered, dropped, frame_dropped, registered, frame_asked, frame_gone, promised, settled, followed, adopted, subscribed, then_asked, micro_asked, rejected_taken, noted, Beginning, TheScript, ATimer, AFrame, AnIdle, ALateIdle, AListener, APost, AContinuation, AMicro, AReaction, called_by, role_of, taken, Waited, Moves, here, changing, calling, ending, flagging, running, enqueued_anew, fell_due, post_fell_due, delay_due, signal_due, DueChange, prio_told}
+use Rattle.page_laws.specs.Moves.{is_free, promise_changes, Places, places, PlaceChange, places_stay, task_queued, task_left, armed_again, signal_armed, timer_due, completed, idle_started, idle_queued, idle_left, answer_due, id_cleared, idle_armed, idle_due, Dropping, timer_dropped, idle_dropped, listener_dropped, task_dropped, AsBefore, PageChange, elsewhere, told, arm_told, rested, answered, dropped, frame_dropped, registered, frame_asked, promised, settled, followed, adopted, subscribed, then_asked, micro_asked, rejected_taken, noted, Beginning, TheScript, ATimer, AFrame, AnIdle, ALateIdle, AListener, APost, AContinuation, AMicro, AReaction, called_by, role_of, taken, Waited, Moves, here, changing, arming, calling, ending, flagging, running, framing, idling, enqueued_anew, fell_due, post_fell_due, delay_due, signal_due, DueChange, prio_told}
 use Rattle.page_types.specs.Tree.{Program}
 use Rattle.page_parts.specs.Setup.{Setup}
 use Rattle.page_parts.specs.HostClosures.{HostClosure}
@@ -324,10 +324,14 @@ registered-fits k x p y s cs e h f = made-fits k (caller p) x p.now p.registrati
 
 place-fits : {xs : List Registration} {x y : Places} → PlaceChange xs x y → (s : Notices) (cs : List Callback) (past : History) → FitsBy xs x s cs past → FitsBy xs y s cs past
 place-fits places_stay s cs past f = f
-place-fits {xs = xs} {x = x} (task_queued t h) s cs past f =
+place-fits {xs = xs} {x = x} (task_queued t h plain) s cs past f =
     let y : Places = record x { tasks = and_last x.tasks t } in
     lessen-fits xs (claims_of x s cs) (claims_of y s cs) past
     (λ r. let a = total-last (task_claims r) x.tasks t in let b = free-claims r t.steps h in omega (arith, a, b)) f
+place-fits {xs = xs} {x = x} (idle_queued t e from) s cs past f =
+    let y : Places = record x { tasks = and_last x.tasks t } in
+    lessen-fits xs (claims_of x s cs) (claims_of y s cs) past
+    (λ r. let a = total-last (task_claims r) x.tasks t in let b = free-claims r t.steps (ap is_free e) in omega (arith, a, b)) f
 place-fits {xs = xs} {x = x} (task_left number) s cs past f =
     let y : Places = record x { tasks = without (λ t. t.number == number) x.tasks } in
     lessen-fits xs (claims_of x s cs) (claims_of y s cs) past (λ r. let a = total-without (task_claims r) (λ t. t.number == number) x.tasks in omega (arith, a)) f
@@ -338,8 +342,8 @@ place-fits {xs = xs} {x = x} {y = y} (signal_armed ms now q signal) s cs past f 
     lessen-fits xs (claims_of x s cs) (claims_of y s cs) past
     (λ r. let a = total-last (completing_claims r) x.completions (record { start = suc x.timers.starts_made; completion = QueueSignal q signal }) in omega (arith, a)) f
 place-fits {xs = xs} {x = x} {y = y} (id_cleared id) s cs past f = lessen-fits xs (claims_of x s cs) (claims_of y s cs) past (λ r. omega arith) f
-place-fits {xs = xs} {x = x} {y = y} (idle_armed t) s cs past f = lessen-fits xs (claims_of x s cs) (claims_of y s cs) past (λ r. omega arith) f
-place-fits {xs = xs} {x = x} {y = y} (completed start) s cs past f =
+place-fits {xs = xs} {x = x} {y = y} (idle_armed t most own) s cs past f = lessen-fits xs (claims_of x s cs) (claims_of y s cs) past (λ r. omega arith) f
+place-fits {xs = xs} {x = x} {y = y} (completed start gone) s cs past f =
     lessen-fits xs (claims_of x s cs) (claims_of y s cs) past (λ r. let a = total-without (completing_claims r) (λ c. c.start == start) x.completions in omega (arith, a)) f
 place-fits {xs = xs} {x = x} idle_started s cs past f =
     let y : Places = record x { idle = record x.idle { runnable = x.idle.runnable ++ x.idle.pending; pending = [] } } in
@@ -360,7 +364,9 @@ due-less {x = x} (timer_due start number source t e i role) r =
     omega (arith, a, b)
 due-less {x = x} (delay_due start source e role) r = let a = total-without (completing_claims r) (λ c. c.start == start) x.completions in omega (arith, a)
 due-less {x = x} (signal_due start s e role) r = let a = total-without (completing_claims r) (λ c. c.start == start) x.completions in omega (arith, a)
-due-less (idle_due handle role) r = omega arith
+due-less {x = x} (idle_due t number source i e role) r =
+    let a = total-last (task_claims r) x.tasks (record { number = number; source = source; steps = IdleTimeout t.handle }) in
+    omega (arith, a)
 due-less {x = x} (answer_due before a after number source e i role) r =
     let b = total-last (task_claims r) x.tasks (record { number = number; source = source; steps = AnswerHost a.task }) in
     omega (arith, b)
@@ -385,10 +391,11 @@ subscribed-silent : (n : ℕ) (r : Reaction) (p : Page) → Each Silent (subscri
 subscribed-silent n r p =
     changed-silent (context p) [] n (Promises.subscribe n (the_promise p.notices.promises n) r) (record p.notices { rejected = without (λ m. m == n) p.notices.rejected; outstanding = without (λ m. m == n) p.notices.outstanding })
 
-change-fits : {p q : Page} → PageChange p q → Fits p → Fits q
-change-fits {p = p} (elsewhere c b) f = before-fits b (place-fits c p.notices p.frames.callbacks p.events f)
+pub change-fits : {p q : Page} → PageChange p q → Fits p → Fits q
+change-fits {p = p} (elsewhere c b k) f = before-fits b (place-fits c p.notices p.frames.callbacks p.events f)
 change-fits {p = p} (told e h) f = silent-fits e p.now p.registrations (claims_of (places p) p.notices p.frames.callbacks) p.events (aside-silent e h) f
-change-fits {p = p} (rested e h x y z) f = silent-fits e p.now p.registrations (claims_of (places p) p.notices p.frames.callbacks) p.events (rest-silent e h) f
+change-fits {p = p} (arm_told r due level w) f = silent-fits (Arm r due level) p.now p.registrations (claims_of (places p) p.notices p.frames.callbacks) p.events refl f
+change-fits {p = p} (rested e h x y z over begun) f = silent-fits e p.now p.registrations (claims_of (places p) p.notices p.frames.callbacks) p.events (rest-silent e h) f
 change-fits {p = p} {q = q} (answered source task t answer x y live z b) f =
     before-fits b
     (lessen-fits p.registrations (claims_of (places p) p.notices p.frames.callbacks) (claims_of (places q) p.notices p.frames.callbacks) (emit (Host t.closure t.number answer) p).events
@@ -397,7 +404,7 @@ change-fits {p = p} {q = q} (answered source task t answer x y live z b) f =
     let e = ap (place_claims r) z in
     omega (arith, a, e))
     (silent-fits (Host t.closure t.number answer) p.now p.registrations (claims_of (places p) p.notices p.frames.callbacks) p.events refl f))
-change-fits {p = p} {q = q} (registered k x e u b) f =
+change-fits {p = p} {q = q} (registered k x e unframed u b) f =
     before-fits b (registered-fits k x p (places q) p.notices p.frames.callbacks e (λ r. let a = first-claims u r in omega (arith, a)) f)
 change-fits {p = p} {q = q} (dropped r d b) f =
     before-fits b (drop-fits d p.notices p.frames.callbacks (emit (Drop r) p).events (silent-fits (Drop r) p.now p.registrations (claims_of (places p) p.notices p.frames.callbacks) p.events refl f))
@@ -443,9 +450,6 @@ change-fits {p = p} {q = q} (frame_asked g) f =
     let a = total-last (callback_claims r) p.frames.callbacks d in
     let e = ap {A = ℕ} {B = ℕ} (λ n. one_if (n == r)) (length-last p.registrations x) in
     omega (arith, a, e)) f
-change-fits {p = p} (frame_gone handle) f =
-    lessen-fits p.registrations (claims_of (places p) p.notices p.frames.callbacks) (claims_of (places p) p.notices (without_handle handle p.frames.callbacks)) p.events
-    (λ r. let a = total-without (callback_claims r) (λ c. c.handle == handle) p.frames.callbacks in omega (arith, a)) f
 change-fits {p = p} promised f = notices-less p (record p.notices { promises = and_last p.notices.promises pending_promise }) (λ r. let a = promised-claims r p.notices in omega (arith, a)) f
 change-fits {p = p} (settled n how g y) f = changes-fit n (Promises.settle n (the_promise p.notices.promises n) how) p (λ r. settled-claims r (context p) p.names n how p.notices g) f
 change-fits {p = p} (followed n how g y) f = changes-fit n (Promises.settle n (the_promise p.notices.promises n) how) p (λ r. settled-claims r (context p) p.names n how p.notices g) f
@@ -499,7 +503,7 @@ call-fits (ATimer source task t) p w i f =
     counted_if (is_once (timer_role t.repeats)) (claims_of (places (taken (ATimer source task t) p)) p.notices p.frames.callbacks r) (one_if (t.registration == r)) (claims_of (places p) p.notices p.frames.callbacks r) (omega (arith, a))) f
 call-fits (AFrame key d) p w i f =
     called-fits (AFrame key d) p p.now (claims_of (places p) p.notices p.frames.callbacks) (claims_of (places p) p.notices (without_handle d.handle p.frames.callbacks)) p.events i
-    (λ r. let a = less-found (callback_claims r) (λ c. c.handle == key) (λ c. c.handle == d.handle) p.frames.callbacks d w (eq-eqb d.handle d.handle refl) in omega (arith, a)) f
+    (λ r. let a = less-found (callback_claims r) (λ c. c.handle == key) (λ c. c.handle == d.handle) p.frames.callbacks d w.0 (eq-eqb d.handle d.handle refl) in omega (arith, a)) f
 call-fits (AnIdle d others) p w i f =
     called-fits (AnIdle d others) p p.now (claims_of (places p) p.notices p.frames.callbacks) (claims_of (places (taken (AnIdle d others) p)) p.notices p.frames.callbacks) _ i
     (λ r.
@@ -510,7 +514,7 @@ call-fits (AnIdle d others) p w i f =
     (silent-fits (IdleLine (deadline p.last_idle_start p)) p.now p.registrations (claims_of (places p) p.notices p.frames.callbacks) p.events refl f)
 call-fits (ALateIdle handle d) p w i f =
     called-fits (ALateIdle handle d) p p.now (claims_of (places p) p.notices p.frames.callbacks) (claims_of (places (taken (ALateIdle handle d) p)) p.notices p.frames.callbacks) p.events i
-    (λ r. let a = idle-less r handle p.idle d w in omega (arith, a)) f
+    (λ r. let a = idle-less r handle p.idle d w.0 in omega (arith, a)) f
 call-fits (AListener q) p w i f =
     called-fits (AListener q) p p.now (claims_of (places p) p.notices p.frames.callbacks) (claims_of (places p) p.notices p.frames.callbacks) p.events i (λ r. omega arith) f
 call-fits (APost t) p w i f =
@@ -540,7 +544,8 @@ job-fits p job others e f =
 
 pub moves-fit : {p q : Page} → Moves p q → Fits p → Fits q
 moves-fit here f = f
-moves-fit (changing a c) f = change-fits c (moves-fit a f)
+moves-fit (changing a c plain) f = change-fits c (moves-fit a f)
+moves-fit (arming a c e w) f = change-fits e (change-fits c (moves-fit a f))
 moves-fit (calling {q = q} a b w i) f = call-fits b q w i (moves-fit a f)
 moves-fit (ending {q = q} a e h) f = silent-fits e q.now q.registrations (claims_of (places q) q.notices q.frames.callbacks) q.events (end-silent e h) (moves-fit a f)
 moves-fit (flagging {q = q} {r = r} a x y z w u v t j) f =
@@ -551,6 +556,8 @@ moves-fit (flagging {q = q} {r = r} a x y z w u v t j) f =
     (subst (λ (past : History). FitsBy q.registrations (places q) q.notices q.frames.callbacks past) (sym y) (moves-fit a f)))))
 moves-fit (running {q = q} a j others x y) f =
     silent-fits (Run j.number) q.now q.registrations (claims_of (places q) (record q.notices { jobs = others }) q.frames.callbacks) q.events refl (job-fits q j others x (moves-fit a f))
+moves-fit (framing {q = q} a t) f = silent-fits (Frame t) q.now q.registrations (claims_of (places q) q.notices q.frames.callbacks) q.events refl (moves-fit a f)
+moves-fit (idling a none) f = moves-fit a f
 
 -- before a first page's first line only the script waits
 pub first_fits : (program : Program) (setup : Setup) (hosts : List HostClosure) → Fits (first_page program setup hosts)

@@ -1,19 +1,20 @@
 -- What a page does, with its numbers given, is rows of changes.
 use Rattle.page_laws.proofs.Aborted.{changes-aborted}
 use Rattle.page_laws.proofs.Evaluating.{Onto}
-use Rattle.page_laws.proofs.Moved.{abort_registration-changes, any_made-changes, cancel_frame-changes, cancel_idle-changes, change_begun-changes, change_ended-changes, clear_id-changes, clear_timer-changes, continuation_queued-changes, follow-changes, frame_requested-changes, host_queued-changes, idle_requested-changes, init_again-changes, listener_added-changes, listener_removed-changes, micro_registered-changes, new_promise-changes, parallel-changes, post_queued-changes, reason_set-changes, script_promise-changes, settle-changes, subscribe-changes, task_signal_made-changes, then_made-changes, timeout_signal_made-changes, timer_set-changes, unwatch-changes, without_frame-changes, without_idle-changes, finally_made-changes, posted-changes, make-changes, make_aborted-changes, any-changes, Aborts, signals-changes, with_algorithms-aborted}
+use Rattle.page_laws.proofs.Items.{parallel-changes}
+use Rattle.page_laws.proofs.Moved.{abort_registration-changes, any_made-changes, cancel_frame-changes, cancel_idle-changes, change_begun-changes, change_ended-changes, clear_id-changes, clear_timer-changes, continuation_queued-changes, follow-changes, frame_requested-changes, host_queued-changes, idle_requested-changes, init_again-changes, listener_added-changes, listener_removed-changes, micro_registered-changes, new_promise-changes, post_queued-changes, reason_set-changes, script_promise-changes, settle-changes, subscribe-changes, task_signal_made-changes, then_made-changes, timeout_signal_made-changes, timer_set-changes, unwatch-changes, without_idle-changes, finally_made-changes, posted-changes, make-changes, make_aborted-changes, any-changes, Aborts, signals-changes, with_algorithms-aborted}
 use Rattle.page_laws.proofs.Moving.{changes-then}
 use Rattle.page_laws.specs.Moves.{Changes, nothing, id_at, HasPriority, Sourced}
 use Rattle.page_model.proofs.NumbersGrow.{Each-more, HasPromise-grows, Held, InSignals, IsKnown-grows, Onward, last-given, promise-grows, IsAbortedBy-grows, InAlgorithms}
 use Rattle.page_model.proofs.NumbersMaking.{any-held, any_made-held, continuation_queued-held, frame_requested-held, host_queued-held, idle_requested-held, listener_added-held, listener_removed-held, make-held, make_aborted-held, micro_registered-held, new_settled-held, post_queued-held, script_promise-held, task_signal_made-held, then_made-held, timeout_signal_made-held, timer_set-held, finally_made-held, posted-held}
-use Rattle.page_model.proofs.NumbersPages.{abort_registration-held, cancel_frame-held, cancel_idle-held, change_begun-held, change_ended-held, clear_id-held, clear_timer-held, follow-held, init_again-held, new_promise-held, reason_set-held, reason_value-known, reject-held, resolve-held, run_algorithms-held, settle-held, subscribe-held, unwatch-held, with_algorithms-held, without_frame-held, without_idle-held}
+use Rattle.page_model.proofs.NumbersPages.{abort_registration-held, cancel_frame-held, cancel_idle-held, change_begun-held, change_ended-held, clear_id-held, clear_timer-held, follow-held, init_again-held, new_promise-held, reason_set-held, reason_value-known, reject-held, resolve-held, run_algorithms-held, settle-held, subscribe-held, unwatch-held, with_algorithms-held, without_idle-held}
 use Rattle.page_model.proofs.NumbersParts.{the_signal-given}
 use Rattle.page_model.proofs.NumbersTasks.{parallel-held}
 use Rattle.page_model.specs.Numbers.{IsFor, timer_role, AreKnown, Each, HasPromise, IfThere, IsGiven, IsKnown, PrioSourceIsGiven, ReactionIsGiven, StateIsGiven, TargetIsGiven, made_by, IsAbortedBy}
 use Rattle.page_model.specs.Operations.{any_made, continuation_queued, frame_requested, host_queued, idle_requested, listener_added, listener_removed, micro_registered, post_queued, script_promise, task_signal_made, then_made, timeout_signal_made, timer_set, with_signals, finally_made, posted}
 use Rattle.page_model.specs.PagePromises.{last_promise, new_promise, new_settled}
 use Rattle.page_model.specs.PageSignals.{abort_registration, abort_registrations, change_begun, change_ended, reason_set, reason_value, run_algorithms, unwatch, is_aborted, is_aborted_source}
-use Rattle.page_model.specs.PageTime.{cancel_frame, cancel_idle, clear_id, clear_timer, init_timer, without_frame, without_idle}
+use Rattle.page_model.specs.PageTime.{cancel_frame, cancel_idle, clear_id, clear_timer, init_timer, without_idle}
 use Rattle.page_model.specs.Parallel.{parallel}
 use Rattle.page_model.specs.State.{OfKind, Page, PrioSource, SchedulingState}
 use Rattle.page_parts.specs.AbortGraph.{make_aborted, the_signal, with_algorithms}
@@ -54,16 +55,13 @@ pub subscribe-onto : (k : ℕ) (r : Reaction) (p : Page) → Held (made_by p) p 
 subscribe-onto k r p h x y e = (subscribe-held k r p h x y, subscribe-changes k r p x e)
 
 pub init_again-onto : (id r : ℕ) (timeout : ℤ) (p : Page) → Held (made_by p) p → IsGiven p.timers.ids_made id → IsFor (timer_role true) (made_by p) r → id_at p.registrations r ≡ id → has_id id p.timers ≡ true → Onto p (init_timer (Some id) r true timeout p)
-init_again-onto id r timeout p h i x own there = (init_again-held id r true timeout p h i x own, init_again-changes id r timeout p x.role there)
+init_again-onto id r timeout p h i x own there = (init_again-held id r true timeout p h i x own, init_again-changes id r timeout p h x.role there)
 
 pub clear_id-onto : (id : ℕ) (p : Page) → Held (made_by p) p → Onto p (clear_id id p)
 clear_id-onto id p h = (clear_id-held id p h, clear_id-changes id p)
 
 pub clear_timer-onto : (id : ℕ) (p : Page) → Held (made_by p) p → Onto p (clear_timer id p)
 clear_timer-onto id p h = (clear_timer-held id p h, clear_timer-changes id p h)
-
-pub without_frame-onto : (handle : ℕ) (p : Page) → Held (made_by p) p → Onto p (without_frame handle p)
-without_frame-onto handle p h = (without_frame-held handle p h, without_frame-changes handle p)
 
 pub cancel_frame-onto : (handle : ℕ) (p : Page) → Held (made_by p) p → Onto p (cancel_frame handle p)
 cancel_frame-onto handle p h = (cancel_frame-held handle p h, cancel_frame-changes handle p h)
@@ -93,13 +91,13 @@ pub script_promise-onto : (p : Page) → Held (made_by p) p → Anew p (script_p
 script_promise-onto p h = (script_promise-held p h, script_promise-changes p)
 
 pub timer_set-onto : (kind : RegKind) (repeats : Bool) (f : Func) (timeout : ℤ) (p : Page) → OfKind kind ≡ timer_role repeats → Held (made_by p) p → AreKnown (made_by p) f.bound → Onto p (timer_set kind repeats f timeout p)
-timer_set-onto kind repeats f timeout p role h x = (timer_set-held kind repeats f timeout p role h x, timer_set-changes kind repeats f timeout p h)
+timer_set-onto kind repeats f timeout p role h x = (timer_set-held kind repeats f timeout p role h x, timer_set-changes kind repeats f timeout p role h)
 
 pub frame_requested-onto : (f : Func) (p : Page) → Held (made_by p) p → AreKnown (made_by p) f.bound → Onto p (frame_requested f p)
 frame_requested-onto f p h x = (frame_requested-held f p h x, frame_requested-changes f p)
 
 pub idle_requested-onto : (f : Func) (ms : ℕ) (p : Page) → Held (made_by p) p → AreKnown (made_by p) f.bound → Onto p (idle_requested f ms p)
-idle_requested-onto f ms p h x = (idle_requested-held f ms p h x, idle_requested-changes f ms p)
+idle_requested-onto f ms p h x = (idle_requested-held f ms p h x, idle_requested-changes f ms p h)
 
 pub make-onto : (p : Page) → Held (made_by p) p → Onto p (with_signals AbortGraph.make p)
 make-onto p h = (make-held p h, make-changes p)
@@ -117,7 +115,7 @@ pub any_made-onto : (ss : List ℕ) (priority : Priority) (follows : Option ℕ)
 any_made-onto ss priority follows p h k on = (any_made-held ss priority follows p h k on, any_made-changes ss priority follows p h)
 
 pub timeout_signal_made-onto : (ms : ℕ) (p : Page) → Held (made_by p) p → Onto p (timeout_signal_made ms p)
-timeout_signal_made-onto ms p h = (timeout_signal_made-held ms p h, timeout_signal_made-changes ms p)
+timeout_signal_made-onto ms p h = (timeout_signal_made-held ms p h, timeout_signal_made-changes ms p h)
 
 pub listener_added-onto : (target : Target) (name : List ℕ) (f : Func) (p : Page) → Held (made_by p) p → TargetIsGiven (made_by p) target → AreKnown (made_by p) f.bound → Onto p (listener_added target name f p)
 listener_added-onto target name f p h t x = (listener_added-held target name f p h t x, listener_added-changes target name f p)
@@ -126,7 +124,7 @@ pub listener_removed-onto : (r : ℕ) (p : Page) → Held (made_by p) p → Onto
 listener_removed-onto r p h = (listener_removed-held r p h, listener_removed-changes r p h)
 
 pub post_queued-onto : (f : Func) (source : PrioSource) (signal : Option ℕ) (ms : ℕ) (p : Page) → Held (made_by p) p → AreKnown (made_by p) f.bound → PrioSourceIsGiven (made_by p) source → IfThere (IsGiven (length p.signals)) signal → HasPriority p.prios source → Anew p (post_queued f source signal ms p)
-post_queued-onto f source signal ms p h x y s from = (post_queued-held f source signal ms p h x y s, post_queued-changes f source signal ms p from)
+post_queued-onto f source signal ms p h x y s from = (post_queued-held f source signal ms p h x y s, post_queued-changes f source signal ms p h from)
 
 pub continuation_queued-onto : (s : SchedulingState) (p : Page) → Held (made_by p) p → StateIsGiven (made_by p) s → Sourced p.prios p.scheduling_states s.prio_source → Anew p (continuation_queued s p)
 continuation_queued-onto s p h x from = (continuation_queued-held s p h x, continuation_queued-changes s p from)

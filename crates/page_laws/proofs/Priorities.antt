@@ -1,6 +1,6 @@
 -- The scheduler's tasks are called directly behind a turn of the scheduler, in the order of their priorities.
 use Rattle.page_model.specs.Tasks.{background}
-use Rattle.std.proofs.Common.{◌≡◌, ℕ, zero, suc, ◌≤◌, Bool, true, false, List, [], ◌∷◌, ◌++◌, ◌&&◌, ◌||◌, not, Option, Some, None, refl, sym, subst, ap, ◌∙◌, cond, length, arith, nat_lt, option_map, unwrap_or}
+use Rattle.std.proofs.Common.{◌≡◌, ℕ, zero, suc, ◌≤◌, Bool, true, false, List, [], ◌∷◌, ◌&&◌, ◌||◌, not, Option, Some, None, refl, sym, subst, ap, ◌∙◌, cond, length, arith, nat_lt, option_map, unwrap_or}
 use Rattle.std.proofs.lemmas.Bool.{eqb-true, eq-eqb, ltb-false}
 use Rattle.std.specs.Prelude.{◌==◌, filter, find}
 use Rattle.std.specs.List.{list_all}
@@ -8,7 +8,7 @@ use Rattle.page_types.specs.declared.Priority.{Priority}
 use Rattle.page_types.specs.declared.RegKind.{RegKind}
 use Rattle.page_types.specs.declared.RegKind.TheVariants as kind
 use Rattle.page_types.specs.declared.Source.TheVariants.{Sched}
-use Rattle.page_types.specs.Events.{QueueName, Event, Stamped, Call, Reg, Run, Turn, IdleLine, Host, Drop, Due, Enq, Prio}
+use Rattle.page_types.specs.Events.{Arm, Frame, QueueName, Event, Stamped, Call, Reg, Run, Turn, IdleLine, Host, Drop, Due, Enq, Prio}
 use Rattle.page_types.specs.Tree.{Program}
 use Rattle.page_parts.specs.Words.{and_last, without, is_there}
 use Rattle.page_parts.specs.TaskSignals.{Prios, priority_of}
@@ -16,7 +16,7 @@ use Rattle.page_parts.specs.HostClosures.{HostClosure}
 use Rattle.page_parts.specs.Setup.{Setup}
 use Rattle.page_parts.specs.Promises.{Settled, Fulfilled, Failed, Reaction, PromiseJob, the_promise}
 use Rattle.page_parts.specs.Promises as Promises
-use Rattle.page_parts.specs.Notices.{Context, Notices, Noticed, changed, queue_jobs, settle_line, subscribe_promise, queue_micro}
+use Rattle.page_parts.specs.Notices.{Context, Notices, Noticed, changed, subscribe_promise, queue_micro}
 use Rattle.page_model.specs.State.{Role, ScriptRole, OfKind, Registration, Page, PrioSource, Fixed, OfSignal, SchedTask, SchedulingState, Completion, EnqueuePost, Completing, emit, emit_each, on_notices, context, caller, no_registration}
 use Rattle.page_model.specs.Invoke.{register_as, call_begun}
 use Rattle.page_model.specs.PageTime.{deadline, completion_of}
@@ -26,13 +26,13 @@ use Rattle.page_model.specs.Turns.{first_page}
 use Rattle.page_model.proofs.NumbersGrow.{length-last, Each-more, Each-last, Each-without, Each-find, Each-numbered, numbered-last}
 use Rattle.page_laws.specs.History.{History, has_kind, is_scheduled, is_some_and, was_called, was_dropped, is_rest, is_sched_turn, last_line}
 use Rattle.page_laws.specs.SchedulerLaws.{Enqueued, enqueued, waiting, priority_now, precedes, first_tasks, has_task, is_later, keeps_priorities}
-use Rattle.page_laws.specs.Moves.{is_aside, is_end, role_at, signal_at, id_at, HasPriority, Sourced, known, inherited, Scheduling, scheduling_of, promise_changes, Places, places, completions_but, PlaceChange, places_stay, task_queued, task_left, armed_again, signal_armed, completed, idle_started, idle_left, id_cleared, idle_armed, DueChange, timer_due, delay_due, signal_due, idle_due, answer_due, Dropping, timer_dropped, idle_dropped, listener_dropped, FirstPlace, nowhere, at_listener, at_timer, at_delay, at_idle, at_host, AsBefore, PageChange, elsewhere, told, rested, answered, dropped, task_dropped, frame_dropped, prio_told, registered, enqueued_anew, fell_due, post_fell_due, frame_asked, frame_gone, promised, settled, followed, adopted, subscribed, then_asked, micro_asked, rejected_taken, noted, Beginning, TheScript, ATimer, AFrame, AnIdle, ALateIdle, AListener, APost, AContinuation, AMicro, AReaction, called_by, role_of, taken, Waited, Moves, here, changing, calling, ending, flagging, running, SchedulingAfter}
+use Rattle.page_laws.specs.Moves.{is_aside, is_end, role_at, signal_at, id_at, HasPriority, Sourced, known, inherited, Scheduling, scheduling_of, promise_changes, Places, places, completions_but, PlaceChange, places_stay, task_queued, task_left, armed_again, signal_armed, completed, idle_started, idle_queued, idle_left, id_cleared, idle_armed, DueChange, timer_due, delay_due, signal_due, idle_due, answer_due, Dropping, timer_dropped, idle_dropped, listener_dropped, FirstPlace, nowhere, at_listener, at_timer, at_delay, at_idle, at_host, AsBefore, PageChange, elsewhere, told, arm_told, rested, answered, dropped, task_dropped, frame_dropped, prio_told, registered, enqueued_anew, fell_due, post_fell_due, frame_asked, promised, settled, followed, adopted, subscribed, then_asked, micro_asked, rejected_taken, noted, Beginning, TheScript, ATimer, AFrame, AnIdle, ALateIdle, AListener, APost, AContinuation, AMicro, AReaction, called_by, role_of, taken, Waited, Moves, here, changing, arming, calling, ending, flagging, running, framing, idling, SchedulingAfter}
 use Rattle.page_laws.proofs.Cancelled as cancelled
 use Rattle.page_laws.proofs.Cancelled.{unless, made-kind, no_kind, kind-there, GoneBy}
 use Rattle.page_laws.proofs.Claims.{completed-less}
 use Rattle.page_laws.proofs.Finding.{false_true, same_number}
 use Rattle.page_laws.proofs.First.{turned, turned-last, turned-filter, first-found, first_of-has}
-use Rattle.page_laws.proofs.Lines.{added, emit_each-events}
+use Rattle.page_laws.proofs.Lines.{changed-each, added, emit_each-events}
 use Rattle.page_laws.proofs.Once as once
 use Rattle.page_laws.proofs.Registered.{At, KindsFit, at_number, kind_in_role}
 use Rattle.page_laws.proofs.Scans.{Test, Kept}
@@ -122,25 +122,8 @@ added-fits : (now : ℕ) (es : List Event) (xs : List Registration) (ts : List S
 added-fits now [] xs ts cs g past h f = f
 added-fits now (e ∷ es) xs ts cs g past h f = added-fits now es xs ts cs g (record { time = now; event = e } ∷ past) h.1 (silent-fits e now xs ts cs g past h.0 f)
 
-Each-append : (xs ys : List Event) → Each Silent xs → Each Silent ys → Each Silent (xs ++ ys)
-Each-append [] ys h k = k
-Each-append (x ∷ xs) ys h k = (h.0, Each-append xs ys h.1 k)
-
-settle_line-silent : (names : List (List ℕ)) (n : ℕ) (o : Option Settled) → Each Silent (settle_line names n o)
-settle_line-silent names n None = tt
-settle_line-silent names n (Some (Fulfilled v)) = (refl, tt)
-settle_line-silent names n (Some (Failed v)) = (refl, tt)
-
-if_settled-silent : (b : Bool) (lines : List Event) → Each Silent lines → Each Silent (cond b lines [])
-if_settled-silent true lines h = h
-if_settled-silent false lines h = tt
-
-queue_jobs-silent : (current : Context) (jobs : List PromiseJob) (s : Notices) → Each Silent (queue_jobs current jobs s).lines
-queue_jobs-silent current [] s = tt
-queue_jobs-silent current (j ∷ jobs) s = (refl, queue_jobs-silent current jobs _)
-
 changed-silent : (current : Context) (names : List (List ℕ)) (n : ℕ) (c : Promises.Change) (s : Notices) → Each Silent (changed current names n c s).lines
-changed-silent current names n c s = Each-append (cond c.settled (settle_line names n c.promise.outcome) []) _ (if_settled-silent c.settled _ (settle_line-silent names n c.promise.outcome)) (queue_jobs-silent current c.jobs _)
+changed-silent = changed-each Silent (λ n ok bs. refl) (λ j what. refl)
 
 subscribed-silent : (current : Context) (n : ℕ) (r : Reaction) (s : Notices) → Each Silent (subscribe_promise current n r s).lines
 subscribed-silent current n r s =
@@ -242,8 +225,8 @@ enqueue-fits : (t : SchedTask) (queue : QueueName) (now made : ℕ) (xs : List R
     → was_called past t.registration ≡ false → was_dropped past t.registration ≡ false → TaskFits xs g.prios t → Scheduled xs ts cs g past
     → Scheduled xs (and_last ts t) cs h (record { time = now; event = Enq t.registration queue t.continuation t.order } ∷ past)
 enqueue-fits t queue now made xs ts cs g h past order more named same states uncalled undropped fits f =
-    subst (λ (ps : Prios). Scheduled xs (and_last ts t) cs (record { prios = ps; states = h.states; tasks_made = h.tasks_made }) (line ∷ past)) (sym same)
-    (subst (λ (ss : List SchedulingState). Scheduled xs (and_last ts t) cs (record { prios = g.prios; states = ss; tasks_made = h.tasks_made }) (line ∷ past)) (sym states)
+    subst (λ (ps : Prios). Scheduled xs (and_last ts t) cs (record { prios = ps; states = h.states; tasks_made = h.tasks_made; idle_start = h.idle_start }) (line ∷ past)) (sym same)
+    (subst (λ (ss : List SchedulingState). Scheduled xs (and_last ts t) cs (record { prios = g.prios; states = ss; tasks_made = h.tasks_made; idle_start = h.idle_start }) (line ∷ past)) (sym states)
     (record {
       kept = (both, f.kept);
       last = refl;
@@ -285,10 +268,10 @@ completion-kept a b k (EnqueuePost r source) h = has-kept a b k source h
 completion-kept a b k c h = tt
 
 -- sources that have a priority keep one
-kept-fits : (xs : List Registration) (ts : List SchedTask) (cs : List Completing) (g : Scheduling) (ps : Prios) (ss : List SchedulingState) (made : ℕ) (past : History) → ss ≡ g.states → ((s : ℕ) → is_there (priority_of g.prios s) ≡ true → is_there (priority_of ps s) ≡ true) → g.tasks_made ≤ made
+kept-fits : (xs : List Registration) (ts : List SchedTask) (cs : List Completing) (g : Scheduling) (ps : Prios) (ss : List SchedulingState) (made from : ℕ) (past : History) → ss ≡ g.states → ((s : ℕ) → is_there (priority_of g.prios s) ≡ true → is_there (priority_of ps s) ≡ true) → g.tasks_made ≤ made
     → Kept in_priority past → last_line is_sched_turn past ≡ false → waiting past ≡ turned ts [] → Each (λ (u : Enqueued). u.order ≤ g.tasks_made) (enqueued past) → ((s : ℕ) (q : Priority) → priority_of ps s ≡ Some q → priority_now past s ≡ Some q)
-    → Each (TaskFits xs g.prios) ts → DelaysFit g.prios cs → StatesFit g.prios g.states → Scheduled xs ts cs (record { prios = ps; states = ss; tasks_made = made }) past
-kept-fits xs ts cs g ps ss made past same k le kept last row orders tells_now tasks delays states =
+    → Each (TaskFits xs g.prios) ts → DelaysFit g.prios cs → StatesFit g.prios g.states → Scheduled xs ts cs (record { prios = ps; states = ss; tasks_made = made; idle_start = from }) past
+kept-fits xs ts cs g ps ss made from past same k le kept last row orders tells_now tasks delays states =
     record {
       kept = kept;
       last = last;
@@ -302,7 +285,7 @@ kept-fits xs ts cs g ps ss made past same k le kept last row orders tells_now ta
 
 after-fits : (xs : List Registration) (ts : List SchedTask) (cs : List Completing) (g h : Scheduling) (past : History) → SchedulingAfter g h → Scheduled xs ts cs g past → Scheduled xs ts cs h past
 after-fits xs ts cs g h past a f =
-    kept-fits xs ts cs g h.prios h.states h.tasks_made past a.states (λ s x. ap is_there (a.priorities s) ∙ x) a.tasks_made f.kept f.last f.row f.orders (λ s q e. f.told s q (sym (a.priorities s) ∙ e)) f.tasks f.delays f.states
+    kept-fits xs ts cs g h.prios h.states h.tasks_made h.idle_start past a.states (λ s x. ap is_there (a.priorities s) ∙ x) a.tasks_made f.kept f.last f.row f.orders (λ s q e. f.told s q (sym (a.priorities s) ∙ e)) f.tasks f.delays f.states
 
 -- a scheduler task's registration was made
 made-role : (xs : List Registration) (r : ℕ) → is_scheduled_role (role_at xs r) ≡ true → 1 ≤ r × r ≤ length xs
@@ -391,13 +374,14 @@ plain-fits k x p f =
 
 place-fits : {xs : List Registration} {x y : Places} → PlaceChange xs x y → (g : Scheduling) (past : History) → ScheduledAt xs x g past → ScheduledAt xs y g past
 place-fits places_stay g past f = f
-place-fits (task_queued t h) g past f = f
+place-fits (task_queued t h plain) g past f = f
 place-fits (task_left number) g past f = f
 place-fits {xs = xs} {x = x} {y = y} (armed_again a t role there own) g past f = delays-fit xs x.sched_tasks x.completions y.completions g past (Each-last (λ (c : Completing). CompletionFits g.prios c.completion) x.completions _ f.delays tt) f
 place-fits {xs = xs} {x = x} {y = y} (signal_armed ms now r s) g past f = delays-fit xs x.sched_tasks x.completions y.completions g past (Each-last (λ (c : Completing). CompletionFits g.prios c.completion) x.completions _ f.delays tt) f
 place-fits (id_cleared id) g past f = f
-place-fits (idle_armed t) g past f = f
-place-fits {xs = xs} {x = x} {y = y} (completed start) g past f = delays-fit xs x.sched_tasks x.completions y.completions g past (Each-without (λ (c : Completing). CompletionFits g.prios c.completion) (λ c. c.start == start) x.completions f.delays) f
+place-fits (idle_queued t e from) g past f = f
+place-fits (idle_armed t most own) g past f = f
+place-fits {xs = xs} {x = x} {y = y} (completed start gone) g past f = delays-fit xs x.sched_tasks x.completions y.completions g past (Each-without (λ (c : Completing). CompletionFits g.prios c.completion) (λ c. c.start == start) x.completions f.delays) f
 place-fits idle_started g past f = f
 place-fits (idle_left handle) g past f = f
 
@@ -405,7 +389,7 @@ due-fits : {xs : List Registration} {r : ℕ} {x y : Places} → DueChange xs r 
 due-fits {xs = xs} {x = x} {y = y} (timer_due start number source t e i role) g past f = delays-fit xs x.sched_tasks x.completions y.completions g past (Each-without (λ (c : Completing). CompletionFits g.prios c.completion) (λ c. c.start == start) x.completions f.delays) f
 due-fits {xs = xs} {x = x} {y = y} (delay_due start source e role) g past f = delays-fit xs x.sched_tasks x.completions y.completions g past (Each-without (λ (c : Completing). CompletionFits g.prios c.completion) (λ c. c.start == start) x.completions f.delays) f
 due-fits {xs = xs} {x = x} {y = y} (signal_due start s e role) g past f = delays-fit xs x.sched_tasks x.completions y.completions g past (Each-without (λ (c : Completing). CompletionFits g.prios c.completion) (λ c. c.start == start) x.completions f.delays) f
-due-fits (idle_due handle role) g past f = f
+due-fits (idle_due t number source i e role) g past f = f
 due-fits (answer_due before a after number source e i role) g past f = f
 
 first-fits : {made : List Registration} {n : ℕ} {x y : Places} (g : Scheduling) → FirstPlace made g.prios n x y → (xs : List Registration) (past : History) → ScheduledAt xs x g past → ScheduledAt xs y g past
@@ -449,15 +433,16 @@ delay-source ps start cs c h e = by_found (find (λ c. c.start == start) cs) (Ea
     by_found (Some d) x e = subst (CompletionFits ps) (ap {A = Option Completion} {B = Completion} (λ o. unwrap_or o c) e) x
 
 change-fits : {p q : Page} → PageChange p q → once.Fits p → cancelled.Fits p → Fits p → Fits q
-change-fits {p = p} (elsewhere c b) o d f = before-fits b (place-fits c (scheduling_of p) p.events f)
+change-fits {p = p} (elsewhere c b k) o d f = before-fits b (place-fits c (scheduling_of p) p.events f)
 change-fits {p = p} (told e h) o d f = said e p (aside-silent e h) f
-change-fits {p = p} (rested e h x y z) o d f = said e p (rest-silent e h z) f
+change-fits {p = p} (arm_told r due level w) o d f = said (Arm r due level) p refl f
+change-fits {p = p} (rested e h x y z over begun) o d f = said e p (rest-silent e h z) f
 change-fits {p = p} (answered source task t answer x y live z b) o d f =
     before-fits b (subst (λ (y : Places). ScheduledAt p.registrations y (scheduling_of p) (emit (Host t.closure t.number answer) p).events) (sym z) (said (Host t.closure t.number answer) p refl f))
-change-fits {p = p} (registered k x e u b) o d f =
+change-fits {p = p} (registered k x e unframed u b) o d f =
     before-fits b (first-fits (scheduling_of p) u (and_last p.registrations x) (register_as k x p).events (plain-fits k x p f))
 change-fits {p = p} {q = q} (enqueued_anew k x t queue e i s n b) o d f =
-    before-by b next (record { priorities = b.scheduling.priorities; states = b.scheduling.states; tasks_made = omega arith })
+    before-by b next (record { priorities = b.scheduling.priorities; states = b.scheduling.states; tasks_made = omega arith; idle_start = b.scheduling.idle_start })
     (subst (λ (y : Places). ScheduledAt (and_last p.registrations x) y next (emit (Enq t.registration queue t.continuation t.order) (register_as k x p)).events) (sym s)
     (enqueue-fits t queue p.now q.tasks_made (and_last p.registrations x) p.sched_tasks p.completions (scheduling_of p) next (register_as k x p).events n.0.order n.0.made n.0.named refl refl
     (once.calls-none p.events t.registration (let none = o.fresh t.registration (omega (arith, i)) in omega (arith, none)))
@@ -465,7 +450,7 @@ change-fits {p = p} {q = q} (enqueued_anew k x t queue e i s n b) o d f =
     (record { role = role; source = by_source n.1 }) (plain-fits k x p f)))
   where
     next : Scheduling
-    next = record { prios = p.prios; states = p.scheduling_states; tasks_made = q.tasks_made }
+    next = record { prios = p.prios; states = p.scheduling_states; tasks_made = q.tasks_made; idle_start = p.last_idle_start }
 
     role : is_scheduled_role (role_at (and_last p.registrations x) t.registration) ≡ true
     role =
@@ -477,7 +462,7 @@ change-fits {p = p} {q = q} (enqueued_anew k x t queue e i s n b) o d f =
     by_source (inherited m) = Each-numbered (λ (s : SchedulingState). HasPriority p.prios s.prio_source) p.scheduling_states m no_state f.states tt
 change-fits {p = p} (fell_due r c b) o d f = before-fits b (due-fits c (scheduling_of p) (emit (Due r) p).events (said (Due r) p refl f))
 change-fits {p = p} {q = q} (post_fell_due start source t queue e role a s n b) o d f =
-    before-by b next (record { priorities = b.scheduling.priorities; states = b.scheduling.states; tasks_made = omega arith })
+    before-by b next (record { priorities = b.scheduling.priorities; states = b.scheduling.states; tasks_made = omega arith; idle_start = b.scheduling.idle_start })
     (subst (λ (y : Places). ScheduledAt p.registrations y next (emit (Enq t.registration queue t.continuation t.order) (emit (Due t.registration) p)).events) (sym s)
     (enqueue-fits t queue p.now q.tasks_made p.registrations p.sched_tasks (completions_but start p.completions) (scheduling_of p) next (emit (Due t.registration) p).events n.0.order n.0.made n.0.named refl refl
     (once.calls-none p.events t.registration uncalled) undropped
@@ -485,7 +470,7 @@ change-fits {p = p} {q = q} (post_fell_due start source t queue e role a s n b) 
     (delays-fit p.registrations p.sched_tasks p.completions (completions_but start p.completions) (scheduling_of p) (emit (Due t.registration) p).events (Each-without (λ (c : Completing). CompletionFits p.prios c.completion) (λ c. c.start == start) p.completions f.delays) (said (Due t.registration) p refl f))))
   where
     next : Scheduling
-    next = record { prios = p.prios; states = p.scheduling_states; tasks_made = q.tasks_made }
+    next = record { prios = p.prios; states = p.scheduling_states; tasks_made = q.tasks_made; idle_start = p.last_idle_start }
 
     uncalled : once.calls t.registration p.events ≤ 0
     uncalled =
@@ -510,14 +495,13 @@ change-fits {p = p} (task_dropped r role a e s b) o d f =
 change-fits {p = p} (frame_dropped handle c e role) o d f =
     other-drop c.registration p.now p.registrations p.sched_tasks p.completions (scheduling_of p) p.events (ap is_scheduled_role role) f
 change-fits {p = p} (prio_told s priority ps c) o d f =
-    kept-fits p.registrations p.sched_tasks p.completions (scheduling_of p) ps p.scheduling_states p.tasks_made (emit (Prio s priority) p).events refl c.kept (omega arith) (ap not f.last, f.kept) refl f.row f.orders
+    kept-fits p.registrations p.sched_tasks p.completions (scheduling_of p) ps p.scheduling_states p.tasks_made p.last_idle_start (emit (Prio s priority) p).events refl c.kept (omega arith) (ap not f.last, f.kept) refl f.row f.orders
     (λ t q e. by_number t q e (s == t) refl) f.tasks f.delays f.states
   where
     by_number : (t : ℕ) (q : Priority) → priority_of ps t ≡ Some q → (b : Bool) → (s == t) ≡ b → cond b (Some priority) (priority_now p.events t) ≡ Some q
     by_number t q e true k = ap Some (sym (c.own q (ap (priority_of ps) (eqb-true s t k) ∙ e)))
     by_number t q e false k = f.told t q (sym (c.others t k) ∙ e)
 change-fits {p = p} (frame_asked g) o d f = plain-fits kind.Frame (record { role = OfKind kind.Frame; callback = Some g; second_callback = None; timer_id = 0; promise = 0; signal = None; finally = false }) p f
-change-fits (frame_gone handle) o d f = f
 change-fits promised o d f = f
 change-fits {p = p} (settled n how x y) o d f = changes-fit n (Promises.settle n (the_promise p.notices.promises n) how) p f
 change-fits {p = p} (followed n how x y) o d f = changes-fit n (Promises.settle n (the_promise p.notices.promises n) how) p f
@@ -572,7 +556,11 @@ begun-fits (AReaction job others of x r) p w i k f = called-fits r (OfKind kind.
 
 moves-fit : {p q : Page} → Moves p q → once.Fits p → cancelled.Fits p → Fits p → Fits q
 moves-fit here o d f = f
-moves-fit (changing a c) o d f = change-fits c (once.moves-fit a o) (cancelled.moves-fit a o d) (moves-fit a o d f)
+moves-fit (changing a c plain) o d f = change-fits c (once.moves-fit a o) (cancelled.moves-fit a o d) (moves-fit a o d f)
+moves-fit (arming a c e w) o d f =
+    let once_there = once.moves-fit a o in
+    let gone_there = cancelled.moves-fit a o d in
+    change-fits e (once.change-fits c once_there) (cancelled.change-fits c once_there gone_there) (change-fits c once_there gone_there (moves-fit a o d f))
 moves-fit (calling {q = q} a b w i) o d f = begun-fits b q w i (once.moves-fit a o).kinds (moves-fit a o d f)
 moves-fit (ending {q = q} a e h) o d f = said e q (end-silent e h) (moves-fit a o d f)
 moves-fit (flagging {q = q} {r = r} a x y z w u v t j) o d f =
@@ -580,6 +568,10 @@ moves-fit (flagging {q = q} {r = r} a x y z w u v t j) o d f =
     (subst (λ (x : Places). ScheduledAt r.registrations x (scheduling_of q) r.events) (sym u)
     (subst (λ (xs : List Registration). ScheduledAt xs (places q) (scheduling_of q) r.events) (sym z) (subst (ScheduledAt q.registrations (places q) (scheduling_of q)) (sym y) (moves-fit a o d f))))
 moves-fit (running {q = q} a j others x y) o d f = said (Run j.number) q refl (moves-fit a o d f)
+moves-fit (framing {q = q} a t) o d f = said (Frame t) q refl (moves-fit a o d f)
+moves-fit (idling {q = q} a none) o d f =
+    let g = moves-fit a o d f in
+    kept-fits q.registrations q.sched_tasks q.completions (scheduling_of q) q.prios q.scheduling_states q.tasks_made q.now q.events refl (λ s h. h) (omega arith) g.kept g.last g.row g.orders g.told g.tasks g.delays g.states
 
 -- from a first page on, the scheduler's tasks go in the order of their priorities
 pub priorities_kept : (program : Program) (setup : Setup) (hosts : List HostClosure) {q : Page} → Moves (first_page program setup hosts) q → Kept in_priority q.events

@@ -11,7 +11,11 @@ use Rattle.page_laws.proofs.Answering.{answered_once, once_test, once-parts}
 use Rattle.page_laws.proofs.Cancelled.{dropped_stay_gone}
 use Rattle.page_laws.proofs.CancelledHosts.{answers_stand, cancel_test, cancel-parts}
 use Rattle.page_laws.proofs.Priorities.{in_priority, priorities_kept}
+use Rattle.page_laws.proofs.FrameOrder.{frames_in_order, framing_test}
 use Rattle.page_laws.specs.SchedulerLaws.{PriorityOrder}
+use Rattle.page_laws.specs.TimerLaws.{FramesInOrder, IdleDeadlines, TimersFireWhenDue}
+use Rattle.page_laws.proofs.Firing.{fired_when_due, firing}
+use Rattle.page_laws.proofs.Deadlines.{deadlines_kept, idle_test}
 use Rattle.page_laws.proofs.Turns.{run_is_moves}
 use Rattle.page_model.specs.Gaps.{Act, run_gaps_by}
 use Rattle.page_laws.specs.Moves.{Moves}
@@ -27,7 +31,7 @@ use Rattle.page_laws.specs.CallLaws.{Once, Cancel, SettleOnce, JobsInOrder, NoNe
 
 -- the laws of a row of moves from a first page
 abbrev pub Laws : Page → Type 0
-Laws p = SettleOnce (reverse p.events) × JobsInOrder (reverse p.events) × NoNesting (reverse p.events) × Once (reverse p.events) × p.calls ≡ open_registrations p.events × Cancel (reverse p.events) × PriorityOrder (reverse p.events)
+Laws p = SettleOnce (reverse p.events) × JobsInOrder (reverse p.events) × NoNesting (reverse p.events) × Once (reverse p.events) × p.calls ≡ open_registrations p.events × Cancel (reverse p.events) × PriorityOrder (reverse p.events) × FramesInOrder (reverse p.events) × IdleDeadlines (reverse p.events) × TimersFireWhenDue (reverse p.events)
 
 pub laws_of_moves : (program : Program) (setup : Setup) (hosts : List HostClosure) (p : Page) → Moves (first_page program setup hosts) p → Laws p
 laws_of_moves program setup hosts p a = (
@@ -38,6 +42,9 @@ laws_of_moves program setup hosts p a = (
   calls_told a refl refl,
   kept-each cancel_test p.events (cancel-parts p.events (dropped_stay_gone program setup hosts a) (answers_stand program setup hosts a)),
   kept-each in_priority p.events (priorities_kept program setup hosts a),
+  kept-each framing_test p.events (frames_in_order program setup hosts a),
+  kept-each idle_test p.events (deadlines_kept program setup hosts a),
+  kept-each firing p.events (fired_when_due program setup hosts a),
 )
 
 pub laws_of_runs : {C : Type 0} (rules : Rules C) (program : Program) (setup : Setup) (hosts : List HostClosure) (c : C) → HoldsNoNumbers setup → Laws (state_of (run_by rules program setup hosts c)).host

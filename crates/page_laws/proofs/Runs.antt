@@ -7,7 +7,9 @@ use Rattle.page_types.specs.declared.RegKind.TheVariants.{Then as ThenKind, List
 use Rattle.lang_meaning.specs.Machine.{Caller, Done, Gives, OutOfFuel, Returns, Throws, afterwards, and_then, branch, finish, take_unit, with_fuel}
 use Rattle.page_laws.proofs.Evaluating.{Le, Onto, Reached, entered, keeping, le-same, le-then, on_page-reached, call_over}
 use Rattle.page_laws.proofs.Going.{CallsHold, Holds, afterwards-holds, and_then-holds, branch-holds, finish-holds, wider}
-use Rattle.page_laws.proofs.Lines.{changes-same}
+use Rattle.page_laws.proofs.Lines.{Same, changes-same}
+use Rattle.page_laws.proofs.Idling.{all-go, goes-same, job-goes_on}
+use Rattle.page_laws.proofs.Framed.{FramesKept, Ordered, changes-kept, kept-same, kept-then, quiet, step-kept}
 use Rattle.page_laws.proofs.Moved.{notify_rejected-changes, quietly, report_after-changes, report_before-changes}
 use Rattle.page_laws.proofs.Moving.{moves-then, moves_of}
 use Rattle.page_laws.proofs.Onto.{change_begun-onto, change_ended-onto, reason_set-onto, reject-onto, resolve-onto, run_algorithms-onto, settle-onto, subscribe-onto}
@@ -30,7 +32,7 @@ use Rattle.page_parts.specs.Promises.{Adopt, React, Reaction, Settled, has_faile
 use Rattle.page_parts.specs.Spelling.{spelled}
 use Rattle.page_parts.specs.TaskSignals.{followers, priority_of}
 use Rattle.page_parts.specs.Words.{is_empty}
-use Rattle.page_types.specs.Events.{Ret, Throw, Event, Abort}
+use Rattle.page_types.specs.Events.{Ret, Throw, Event, Abort, Frame}
 use Rattle.page_types.specs.Tree.{Program}
 use Rattle.page_types.specs.Values.{SignalValue, Value, items_of}
 use Rattle.page_types.specs.declared.Priority.{Priority}
@@ -43,7 +45,7 @@ use Rattle.page_parts.specs.TaskSignals as TaskSignals
 
 -- ---- the page between callbacks
 
-report_before-onto : (when : WhenReported) (v : Value) (p : Page) → Held (made_by p) p → Onto p (report_before when v p)
+pub report_before-onto : (when : WhenReported) (v : Value) (p : Page) → Held (made_by p) p → Onto p (report_before when v p)
 report_before-onto when v p h = (by_when when, report_before-changes when v p)
   where
     by_when : (when : WhenReported) → Onward (made_by p) (report_before when v p)
@@ -85,15 +87,15 @@ priority_value-known n (Some priority) = tt
 abbrev pub NoneOpen : State → Type 0
 NoneOpen m = open_registrations m.host.events ≡ []
 
--- no call is open, and no checkpoint is being performed
+-- no call is open, no checkpoint is being performed, and the frame callbacks are in order
 abbrev pub AtTop : State → Type 0
-AtTop m = NoneOpen m × m.host.performing ≡ false
+AtTop m = NoneOpen m × m.host.performing ≡ false × Ordered m.host
 
 pub none_open-later : (m r : State) → Le m r → NoneOpen m → NoneOpen r
 none_open-later m r le x = le.2.0 ∙ x
 
-pub at_top-later : (m r : State) → Le m r → AtTop m → AtTop r
-at_top-later m r le x = (le.2.0 ∙ x.0, le.2.1 ∙ x.1)
+pub at_top-later : (m r : State) → Same m.host r.host → FramesKept m.host r.host → AtTop m → AtTop r
+at_top-later m r s k x = (s.0 ∙ x.0, s.1 ∙ x.1, k.ordered x.2)
 
 -- ---- what a checkpoint leaves: no job
 
@@ -156,6 +158,7 @@ module _ (program : Program) where
   pub record WaysGo (w : Ways) : Type 1 where
     pub Here : State → Type 0
     pub later : (m r : State) → Le m r → Here m → Here r
+    pub framed : (t : ℕ) (m : State) → Here m → Here (on_page (emit (Frame t)) m)
     pub call : CallsGo w.call
     pub after : (m : State) → Good m → Here m → Goes m (w.after m)
 
@@ -215,16 +218,23 @@ module _ (program : Program) where
       c f.function (items_of f.bound ++ args) m g
       (every (IsKnown (made_by m.host)) (items_of f.bound ++ args) (Each-append (IsKnown (made_by m.host)) (items_of f.bound) args (items-known (made_by m.host) f.bound b) k))
 
-  -- what waited at b is taken and invoked
-  pub invoke-goes : (w : Ways) (a : WaysGo w) → (b : Beginning) (second : Bool) (args : List Value) (m : State) → Good m → a.Here m → Waited b m.host → IsFor (role_of b) (made_by m.host) (called_by b) → Onward (made_by m.host) (taken b m.host) → Each (IsKnown (made_by m.host)) args → Goes m (invoke w (called_by b) second args (on_page (taken b) m))
-  invoke-goes w a b second args m g x y i o k =
+  -- the callback of what waited at b is called
+  pub entered-goes : (w : Ways) (a : WaysGo w) → (b : Beginning) (second : Bool) (args : List Value) (m : State) → Good m → IsFor (role_of b) (made_by m.host) (called_by b) → Onward (made_by m.host) (taken b m.host) → Each (IsKnown (made_by m.host)) args → Goes (entered b m) (call_back w.call (callback_of second (the_registration (taken b m.host) (called_by b))) args (entered b m))
+  entered-goes w a b second args m g i o k =
       let n = on_page (taken b) m in
       let there = numbers.on_page-good m (taken b) g o in
       let registered = IsFor-grows (made_by m.host) (made_by n.host) there.0 (role_of b) (called_by b) i in
       let called : Good (entered b m) = (numbers.on_page-good n (call_begun (called_by b)) there.1 (call_begun-held (called_by b) n.host there.1.0 registered.registration)).1 in
       let registration = the_registration n.host (called_by b) in
+      call_back-goes w.call a.call (callback_of second registration) args (entered b m) called (callback_of-given (made_by n.host) second registration (the_registration-given n.host (called_by b) there.1.0)) (values-grow (made_by m.host) (made_by n.host) there.0 args k)
+
+  -- what waited at b is taken and invoked
+  pub invoke-goes : (w : Ways) (a : WaysGo w) → (b : Beginning) (second : Bool) (args : List Value) (m : State) → Good m → a.Here m → Waited b m.host → IsFor (role_of b) (made_by m.host) (called_by b) → Onward (made_by m.host) (taken b m.host) → Each (IsKnown (made_by m.host)) args → Goes m (invoke w (called_by b) second args (on_page (taken b) m))
+  invoke-goes w a b second args m g x y i o k =
+      let there = numbers.on_page-good m (taken b) g o in
+      let registration = the_registration (taken b m.host) (called_by b) in
       end_of_callback-goes w a b (when_reported registration.role) m (call_back w.call (callback_of second registration) args (entered b m)) g x y i there.0
-      (call_back-goes w.call a.call (callback_of second registration) args (entered b m) called (callback_of-given (made_by n.host) second registration (the_registration-given n.host (called_by b) there.1.0)) (values-grow (made_by m.host) (made_by n.host) there.0 args k))
+      (entered-goes w a b second args m g i o k)
 
   -- one way or the other, by a test
   pub branch_when-goes : (b : Bool) (m : State) (then else : State → Done Page) → (b ≡ true → Goes m (then m)) → (b ≡ false → Goes m (else m)) → Goes m (branch b m then else)
@@ -232,7 +242,7 @@ module _ (program : Program) where
   branch_when-goes false m then else h k = k refl
 
   abbrev in_checkpoint-goes : (call : Caller Page) → CallsGo call → WaysGo (in_checkpoint call)
-  in_checkpoint-goes call c = record { Here = λ m. Unit {0}; later = λ m r le x. tt; call = c; after = λ m g x. finish-goes m g }
+  in_checkpoint-goes call c = record { Here = λ m. Unit {0}; later = λ m r le x. tt; framed = λ t m x. tt; call = c; after = λ m g x. finish-goes m g }
 
   -- ---- jobs
 
@@ -265,7 +275,7 @@ module _ (program : Program) where
   job_begins : (waiting : WaitingJob) (others : List WaitingJob) (m : State) → Good m → NoneOpen m → m.host.notices.jobs ≡ waiting ∷ others → JobIsGiven (made_by m.host) waiting → JobsGiven (made_by m.host) others → Reached m (begin_job waiting others m)
   job_begins waiting others m g z e y x =
       let a = numbers.on_page-good m (job_begun waiting others) g (job_begun-held program waiting others m.host g.0 y x) in
-      ((a.0, running here waiting others e z, (refl, refl)), a.1)
+      ((a.0, running here waiting others e z, (refl, refl), step-kept (quiet refl refl (λ r. refl)), job-goes_on m.host waiting others), a.1)
 
   -- a job runs: where it calls, its callback is taken with the job
   job-goes : (call : Caller Page) → CallsGo call → (job : WaitingJob) (others : List WaitingJob) (m : State) → Good m → NoneOpen m → m.host.notices.jobs ≡ job ∷ others → JobIsGiven (made_by m.host) job → JobsGiven (made_by m.host) others → Goes m (run_job call job.what (begin_job job others m))
@@ -342,7 +352,7 @@ module _ (program : Program) where
           let a = numbers.on_page-good r (checkpoint_ended m.host) h.1 (checkpoint_ended-held m.host r.host h.1.0 (if_state-grows (made_by m.host) (made_by r.host) h.0.0 m.host.scheduling (g.0 InScheduling))) in
           let row : Moves m.host (checkpoint_ended m.host r.host) =
           flagging (moves-then (moves-then (flagging here refl refl refl refl refl refl refl refl) h.0.1) (moves_of (notify_rejected-changes r.host))) refl refl refl refl refl refl refl refl in (
-            (Grows-then (made_by m.host) (made_by r.host) (made_by (checkpoint_ended m.host r.host)) h.0.0 a.0, row, ((changes-same (notify_rejected-changes r.host)).0 ∙ h.0.2.0, sym z.1)),
+            (Grows-then (made_by m.host) (made_by r.host) (made_by (checkpoint_ended m.host r.host)) h.0.0 a.0, row, ((changes-same (notify_rejected-changes r.host)).0 ∙ h.0.2.0, sym z.1), kept-then m.host begun.host (checkpoint_ended m.host r.host) (kept-same m.host begun.host refl refl refl) (kept-then begun.host r.host (checkpoint_ended m.host r.host) h.0.3 (kept-then r.host notified (checkpoint_ended m.host r.host) (changes-kept (notify_rejected-changes r.host)) (kept-same notified (checkpoint_ended m.host r.host) refl refl refl))), λ x. goes-same notified (checkpoint_ended m.host r.host) refl refl refl refl (all-go (notify_rejected-changes r.host) (h.0.4 (goes-same m.host begun.host refl refl refl refl x)))),
             a.1,
             tt,
           )
@@ -354,10 +364,10 @@ module _ (program : Program) where
   checkpoint-goes call c m g z = branch-goes m.host.performing m finish (perform_checkpoint call) (finish-goes m g) (perform_checkpoint-goes call c m g z)
 
   abbrev pub in_task-goes : (call : Caller Page) → CallsGo call → WaysGo (in_task call)
-  in_task-goes call c = record { Here = AtTop; later = at_top-later; call = c; after = checkpoint-goes call c }
+  in_task-goes call c = record { Here = AtTop; later = λ m r le x. at_top-later m r le.2 le.3 x; framed = λ t m x. x; call = c; after = checkpoint-goes call c }
 
   abbrev pub in_script-goes : (call : Caller Page) → CallsGo call → WaysGo (in_script call)
-  in_script-goes call c = record { Here = λ m. Unit {0}; later = λ m r le x. tt; call = c; after = λ m g x. finish-goes m g }
+  in_script-goes call c = record { Here = λ m. Unit {0}; later = λ m r le x. tt; framed = λ t m x. tt; call = c; after = λ m g x. finish-goes m g }
 
   -- ---- dispatch, abort, priority change
 

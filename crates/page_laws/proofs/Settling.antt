@@ -9,7 +9,7 @@ use Rattle.std.proofs.lemmas.Option.{unwrap_or-slice_get}
 use Rattle.std.specs.Prelude.{◌==◌, slice_set}
 use Rattle.page_types.specs.declared.Source.TheVariants.{Sched}
 use Rattle.page_model.specs.PageTime.{deadline}
-use Rattle.page_types.specs.Events.{Drop, Host, Reg, Event, Turn, Call, Ret, Throw, Run, IdleLine, Job, Settle, Due, Enq, Prio}
+use Rattle.page_types.specs.Events.{Arm, Frame, Drop, Host, Reg, Event, Turn, Call, Ret, Throw, Run, IdleLine, Job, Settle, Due, Enq, Prio}
 use Rattle.page_parts.specs.Spelling.{spelled}
 use Rattle.page_parts.specs.Words.{and_last, without, numbered, with_numbered, is_there}
 use Rattle.page_parts.specs.Promises.{Settled, Fulfilled, Failed, PromiseRecord, PromiseJob, React, Adopt, Reaction, pending_promise}
@@ -21,7 +21,7 @@ use Rattle.page_model.specs.PagePromises.{new_promise}
 use Rattle.page_model.specs.Numbers.{IsGiven, Each}
 use Rattle.page_laws.specs.History.{History, some_line, is_rest}
 use Rattle.page_laws.specs.CallLaws.{keeps_settled, is_settle_of, may_be_queued}
-use Rattle.page_laws.specs.Moves.{frame_asked, frame_gone, registered, is_aside, is_end, promise_changes, PageChange, elsewhere, told, rested, promised, settled, followed, adopted, subscribed, micro_asked, then_asked, answered, dropped, frame_dropped, AsBefore, rejected_taken, noted, Beginning, TheScript, ATimer, AFrame, AnIdle, ALateIdle, AListener, APost, AContinuation, AMicro, AReaction, taken, called_by, Moves, here, changing, calling, ending, flagging, running, task_dropped, enqueued_anew, fell_due, post_fell_due, prio_told}
+use Rattle.page_laws.specs.Moves.{frame_asked, registered, is_aside, is_end, promise_changes, PageChange, elsewhere, told, arm_told, rested, promised, settled, followed, adopted, subscribed, micro_asked, then_asked, answered, dropped, frame_dropped, AsBefore, rejected_taken, noted, Beginning, TheScript, ATimer, AFrame, AnIdle, ALateIdle, AListener, APost, AContinuation, AMicro, AReaction, taken, called_by, Moves, here, changing, arming, calling, ending, flagging, running, framing, idling, task_dropped, enqueued_anew, fell_due, post_fell_due, prio_told}
 use Rattle.page_laws.proofs.Lines.{added, added-append, emit_each-events, emit_each-notices}
 use Rattle.page_laws.proofs.Scans.{Test, Kept}
 
@@ -261,11 +261,12 @@ registered-fits : (k : RegKind) (x : Registration) (p : Page) → Fits p → Fit
 registered-fits k x p f = silent-fits (Reg (suc (length p.registrations)) k (caller p)) p.now p.notices.promises p.events refl f
 
 change-fits : {p q : Page} → PageChange p q → Fits p → Fits q
-change-fits (elsewhere c b) f = before-fits b f
+change-fits (elsewhere c b k) f = before-fits b f
 change-fits {p = p} (told e h) f = silent-fits e p.now p.notices.promises p.events (aside-silent e h) f
-change-fits {p = p} (rested e h x y z) f = silent-fits e p.now p.notices.promises p.events (rest-silent e h) f
+change-fits {p = p} (arm_told r due level w) f = silent-fits (Arm r due level) p.now p.notices.promises p.events refl f
+change-fits {p = p} (rested e h x y z over begun) f = silent-fits e p.now p.notices.promises p.events (rest-silent e h) f
 change-fits {p = p} (answered source task t answer x y live z b) f = before-fits b (silent-fits (Host t.closure t.number answer) p.now p.notices.promises p.events refl f)
-change-fits {p = p} (registered kind x e u b) f = before-fits b (registered-fits kind x p f)
+change-fits {p = p} (registered kind x e unframed u b) f = before-fits b (registered-fits kind x p f)
 change-fits {p = p} (frame_asked g) f = silent-fits (Reg (suc (length p.registrations)) kind.Frame (caller p)) p.now p.notices.promises p.events refl f
 change-fits {p = p} (dropped r d b) f = before-fits b (silent-fits (Drop r) p.now p.notices.promises p.events refl f)
 change-fits {p = p} (task_dropped r role a e s b) f = before-fits b (silent-fits (Drop r) p.now p.notices.promises p.events refl f)
@@ -276,7 +277,6 @@ change-fits {p = p} (post_fell_due start source t queue e role a s n b) f =
     before-fits b (silent-fits (Enq t.registration queue t.continuation t.order) p.now p.notices.promises (emit (Due t.registration) p).events refl (silent-fits (Due t.registration) p.now p.notices.promises p.events refl f))
 change-fits {p = p} (prio_told s priority ps c) f = silent-fits (Prio s priority) p.now p.notices.promises p.events refl f
 change-fits {p = p} (frame_dropped handle c e role) f = silent-fits (Drop c.registration) p.now p.notices.promises p.events refl f
-change-fits (frame_gone handle) f = f
 change-fits {p = p} promised f = promised-fits p f
 change-fits {p = p} (settled n how g y) f = settled-fits n how p g (f.unlocked n g.from_one y) f
 change-fits {p = p} (followed n how g y) f = settled-fits n how p g y f
@@ -303,11 +303,14 @@ begins-fit (AReaction job others of x r) p f = silent-fits (Run job.number) p.no
 
 moves-fit : {p q : Page} → Moves p q → Fits p → Fits q
 moves-fit here f = f
-moves-fit (changing a c) f = change-fits c (moves-fit a f)
+moves-fit (changing a c plain) f = change-fits c (moves-fit a f)
+moves-fit (arming a c e w) f = change-fits e (change-fits c (moves-fit a f))
 moves-fit (calling {q = q} a b w i) f = silent-fits (Call (called_by b)) (taken b q).now (taken b q).notices.promises (taken b q).events refl (begins-fit b q (moves-fit a f))
 moves-fit (ending {q = q} a e h) f = silent-fits e q.now q.notices.promises q.events (end-silent e h) (moves-fit a f)
 moves-fit (flagging {q = q} {r = r} a x y z w u v t j) f = subst (λ (s : Notices). SettlesFit s.promises r.events) (sym x) (subst (SettlesFit q.notices.promises) (sym y) (moves-fit a f))
 moves-fit (running {q = q} a j others x y) f = silent-fits (Run j.number) q.now q.notices.promises q.events refl (moves-fit a f)
+moves-fit (framing {q = q} a t) f = silent-fits (Frame t) q.now q.notices.promises q.events refl (moves-fit a f)
+moves-fit (idling a none) f = moves-fit a f
 
 -- from a page with no lines and no promises on, no promise is settled twice
 pub settle_once : {p q : Page} → Moves p q → p.events ≡ [] → p.notices.promises ≡ [] → Kept settling q.events

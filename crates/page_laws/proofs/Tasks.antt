@@ -1,15 +1,18 @@
 -- Tasks are rows of moves.
 use Rattle.page_types.specs.declared.RegKind.TheVariants as kind
 use Rattle.lang_meaning.specs.Machine.{Caller, Done, afterwards, branch, finish}
+use Rattle.page_laws.proofs.Drawing.{found-in, run_frame-goes}
+use Rattle.page_laws.proofs.Framed.{Ordered}
+use Rattle.page_laws.proofs.Ready.{Ready, due-there, task-there}
 use Rattle.page_laws.proofs.Evaluating.{Le, Onto, Reached, entered, le-same, le-then, on_page-reached, told-onto, call_over}
 use Rattle.page_laws.proofs.Moved.{invoke_idle_again-changes, outstanding-changes, placed, quietly}
 use Rattle.page_laws.proofs.Onto.{clear_id-onto, init_again-onto, resolve-onto, unwatch-onto}
 use Rattle.page_laws.proofs.Runs.{AtTop, CallsGo, Goes, WaysGo, abort-goes, afterwards-goes, at_top-later, branch-goes, branch_when-goes, checkpoint-goes, dispatch-goes, each_in_turn-goes, finish-goes, finish_page, invoke-goes, scheduling-onto, settle_derived-goes, then_page, wide}
-use Rattle.page_laws.specs.Moves.{task_left, AContinuation, AFrame, ALateIdle, APost, ATimer, AnIdle, TheScript, Waited, sched_begun, taken}
+use Rattle.page_laws.specs.Moves.{IsIn, PeriodGoesOn, task_left, AContinuation, ALateIdle, APost, ATimer, AnIdle, TheScript, FrameIsOver, Waited, sched_begun, taken}
 use Rattle.page_model.proofs.NumbersEvaluation as numbers
 use Rattle.page_model.proofs.NumbersEvaluation.{Good, on_page-good}
-use Rattle.page_model.proofs.NumbersGrow.{Each-append, Each-find, Each-last, Each-without, Held, InFrames, InIdle, InNotices, InTasks, Onward, TimerTask-grows, onward-then, promise-grows, stays, IsFor-grows}
-use Rattle.page_model.proofs.NumbersPages.{cond-onward, put_notices, queue_task-held, the_registration-given, with_state-held, without_frame-held, without_idle-held, without_sched-held, call_begun-held, call_ended-held}
+use Rattle.page_model.proofs.NumbersGrow.{Each-append, Each-find, Each-last, Each-without, Held, InIdle, InNotices, InTasks, Onward, TimerTask-grows, onward-then, promise-grows, stays, IsFor-grows}
+use Rattle.page_model.proofs.NumbersPages.{cond-onward, put_notices, queue_task-held, the_registration-given, with_state-held, without_idle-held, without_sched-held, call_begun-held, call_ended-held}
 use Rattle.page_model.proofs.NumbersParts.{the_promise-given}
 use Rattle.page_model.specs.Invoke.{Ways, checkpoint, invoke, settle_derived, call_ended, call_begun}
 use Rattle.page_model.specs.Numbers.{CallbackIsGiven, Each, HasPromise, IdleIsGiven, IfThere, IsFor, IsGiven, IsKnown, Made, NoticesAreGiven, SchedTaskIsGiven, StepsAreGiven, TaskIsGiven, TimerTaskIsGiven, made_by, sched_role, timer_role}
@@ -18,24 +21,24 @@ use Rattle.page_model.specs.PageSignals.{dispatch, unwatch}
 use Rattle.page_model.specs.PageTime.{clear_id, deadline, first_task, idle_callback, init_timer, without_idle}
 use Rattle.page_model.specs.SchedulerTasks.{first_sched, with_state}
 use Rattle.page_model.specs.State.{AnswerHost, FireAtWindow, IdleTimeout, InvokeIdle, NotifyHandled, NotifyRejected, OfKind, Page, RunFrame, RunScript, RunTimer, SchedTask, State, Steps, Task, TimeOutSignal, TimerTask, emit, on_page, queue_task, the_registration}
-use Rattle.page_model.specs.Tasks.{after_task, background, call_idle, continued, frame_callback, idle_called, initialised_again, invoke_idle, invoke_idle_again, notify_one, outstanding_if_unhandled, perform_sched, perform_steps, post_state, promise_reason, run_frame, run_post, run_timer, timed_out, timer_goes_on, where_live}
+use Rattle.page_model.specs.Tasks.{after_task, background, call_idle, continued, idle_called, initialised_again, invoke_idle, invoke_idle_again, notify_one, outstanding_if_unhandled, perform_sched, perform_steps, post_state, promise_reason, run_post, run_timer, timed_out, timer_goes_on, where_live}
 use Rattle.page_model.specs.Turns.{without_task}
-use Rattle.page_parts.specs.Frames.{Callback, callback_in, keys}
+use Rattle.page_parts.specs.Frames.{Callback, callback_in}
 use Rattle.page_parts.specs.Kinds.{a_fault}
 use Rattle.page_parts.specs.Listeners.{Window}
 use Rattle.page_parts.specs.Promises.{Settled, settled_value}
 use Rattle.page_parts.specs.Timers.{Timers, TimerId, id_entry, has_id, is_live}
 use Rattle.page_parts.specs.Words.{and_last, is_empty, is_there, without}
-use Rattle.page_types.specs.Events.{Frame, Handled, IdleLine, Ret, Turn, Unhandled}
+use Rattle.page_types.specs.Events.{Handled, IdleLine, Ret, Turn, Unhandled}
 use Rattle.page_types.specs.Tree.{Program}
-use Rattle.page_types.specs.Values.{DeadlineValue, IntValue, PromiseValue, UnitValue}
+use Rattle.page_types.specs.Values.{DeadlineValue, PromiseValue, UnitValue}
 use Rattle.page_types.specs.declared.FaultName.TheVariants.{TimeoutError}
 use Rattle.page_types.specs.declared.RegKind.{RegKind}
 use Rattle.page_types.specs.declared.Source.{Source}
 use Rattle.page_types.specs.declared.Source.TheVariants.{Idle, Sched}
-use Rattle.std.proofs.Common.{Bool, List, None, Option, Some, [], cond, false, length, nat_lt, pos, refl, subst, sym, true, ℕ, ◌++◌, ◌∷◌, ◌≡◌}
+use Rattle.std.proofs.Common.{Bool, List, None, Option, Some, [], cond, false, length, nat_lt, refl, subst, sym, true, ℕ, ◌++◌, ◌∷◌, ◌≡◌}
 use Rattle.std.specs.Prelude.{codes, ◌==◌}
-use Rattle.page_laws.specs.History.{open_registrations}
+use Rattle.page_laws.specs.History.{open_registrations, was_due}
 use Rattle.page_model.specs.PagePromises as promises
 
 -- ---- the page in tasks
@@ -73,13 +76,13 @@ without_task-held k p h =
     stays (without_task k p) (put_tasks (made_by p) p (without (λ t. t.number == k) p.tasks) (Each-without (TaskIsGiven (made_by p)) (λ t. t.number == k) p.tasks (h InTasks)) h)
 
 pub without_task-onto : (k : ℕ) (p : Page) → Held (made_by p) p → Onto p (without_task k p)
-without_task-onto k p h = (without_task-held k p h, placed p (without_task k p) (task_left k) refl refl refl refl refl refl refl refl)
+without_task-onto k p h = (without_task-held k p h, placed p (without_task k p) (task_left k) tt tt refl refl refl refl refl refl refl refl)
 
 outstanding-onto : (k : ℕ) (p : Page) → Held (made_by p) p → IsGiven (length p.notices.promises) k → Onto p (outstanding_if_unhandled k p)
 outstanding-onto k p h x = (outstanding-held k p h x, outstanding-changes k p)
 
-invoke_idle_again-onto : (p : Page) → Held (made_by p) p → Onto p (invoke_idle_again p)
-invoke_idle_again-onto p h = (invoke_idle_again-held p h, invoke_idle_again-changes p)
+invoke_idle_again-onto : (p : Page) → Held (made_by p) p → PeriodGoesOn p → Onto p (invoke_idle_again p)
+invoke_idle_again-onto p h k = (invoke_idle_again-held p h, invoke_idle_again-changes p k)
 
 -- a callback that was found is for its kind
 find_for : (k : RegKind) (last : ℕ) (n : Made) (cs : List Callback) (key : ℕ) (c : Callback) → Each (CallbackIsGiven k last n) cs → callback_in cs key ≡ Some c → IsFor (OfKind k) n c.registration
@@ -150,31 +153,13 @@ module _ (program : Program) where
       (λ live. afterwards-goes program m (invoke w t.registration false [] begun) (where_live t (timer_goes_on t))
       (invoke-goes program w a (ATimer source task t) false [] m g z (e, e1, live, x.own) x.registration o tt)
       (λ r le gr. where_live-goes t (timer_goes_on t) r gr (λ live. timer_goes_on-goes t r gr live (TimerTask-grows (made_by m.host) (made_by r.host) le.0 t x))))
-      (let b = on_page-reached m (taken (ATimer source task t)) g (o, placed m.host begun.host (task_left task.number) refl refl refl refl refl refl refl refl) in (b.0, b.1, tt))
+      (let b = on_page-reached m (taken (ATimer source task t)) g (o, placed m.host begun.host (task_left task.number) tt tt refl refl refl refl refl refl refl refl) in (b.0, b.1, tt))
     where
       branch_when-goes_from : (b : Bool) (m n : State) (then else : State → Done Page) → (b ≡ true → Goes program m (then n)) → Goes program m (else n) → Goes program m (branch b n then else)
       branch_when-goes_from true m n then else h k = h refl
       branch_when-goes_from false m n then else h k = k
 
-  -- ---- frames and idle callbacks
-
-  frame_callback-goes : (w : Ways) (a : WaysGo program w) → (t key : ℕ) (c : Option Callback) (m : State) → callback_in m.host.frames.callbacks key ≡ c → Good m → a.Here m → Goes program m (frame_callback w t c m)
-  frame_callback-goes w a t key None m e g z = finish-goes program m g
-  frame_callback-goes w a t key (Some c) m e g z = invoke-goes program w a (AFrame key c) false (IntValue (pos t) ∷ []) m g z e (find_for kind.Frame m.host.frames.made (made_by m.host) m.host.frames.callbacks key c (g.0 InFrames) e) (without_frame-held c.handle m.host g.0) (tt, tt)
-
-  abbrev IsAny : Made → ℕ → Type 0
-  IsAny n k = Unit {0}
-
-  any_numbers : (n : Made) (ks : List ℕ) → Each (IsAny n) ks
-  any_numbers n [] = tt
-  any_numbers n (k ∷ ks) = (tt, any_numbers n ks)
-
-  run_frame-goes : (w : Ways) (a : WaysGo program w) → (t : ℕ) (m : State) → Good m → a.Here m → Goes program m (run_frame w t m)
-  run_frame-goes w a t m g z =
-      let begun = on_page (emit (Frame t)) m in
-      then_page program m (emit (Frame t)) (run_frame w t m) g (told-onto (Frame t) m.host refl g.0)
-      (λ b. each_in_turn-goes program begun IsAny (λ n n' h k x. tt) (λ key m. frame_callback w t (callback_in m.host.frames.callbacks key) m)
-      (λ key r le gr x. frame_callback-goes w a t key (callback_in r.host.frames.callbacks key) r refl gr (a.later m r (le-then m begun r b.0 le) z)) (keys m.host.frames) begun (le-same begun) b.1 (any_numbers (made_by m.host) (keys m.host.frames)))
+  -- ---- idle callbacks
 
   idle_left-held : (c : Callback) (p : Page) → Held (made_by p) p → Onward (made_by p) (with_state background (without_idle c.handle p))
   idle_left-held c p h =
@@ -182,21 +167,23 @@ module _ (program : Program) where
       let first : Onward (made_by p) gone = without_idle-held c.handle p h in
       onward-then (made_by p) gone (with_state background gone) first (with_state-held background gone first.1 (record { abort_source = tt; prio_source = tt }))
 
-  idle_called-goes : (w : Ways) (a : WaysGo program w) → (cs : List Callback) (m : State) → m.host.idle.runnable ≡ cs → nat_lt m.host.now (deadline m.host.last_idle_start m.host) ≡ true → Good m → a.Here m → Goes program m (idle_called w cs m)
-  idle_called-goes w a [] m e before g z = finish-goes program m g
-  idle_called-goes w a (c ∷ others) m e before g z =
+  idle_called-goes : (w : Ways) (a : WaysGo program w) → (cs : List Callback) (m : State) → m.host.idle.runnable ≡ cs → nat_lt m.host.now (deadline m.host.last_idle_start m.host) ≡ true → PeriodGoesOn m.host → Good m → a.Here m → Goes program m (idle_called w cs m)
+  idle_called-goes w a [] m e before k g z = finish-goes program m g
+  idle_called-goes w a (c ∷ others) m e before k g z =
       let told = on_page (λ p. emit (IdleLine (deadline p.last_idle_start p)) p) m in
       afterwards-goes program m (call_idle w c None told) (λ m. finish (on_page invoke_idle_again m))
-      (invoke-goes program w a (AnIdle c others) false (DeadlineValue None ∷ []) m g z (e, before) (first_for m.host.idle.made (made_by m.host) m.host.idle.runnable c others (idle_given m g).runnable e) (idle_left-held c told.host g.0) (tt, tt))
-      (λ r le gr. finish_page program r invoke_idle_again gr (invoke_idle_again-onto r.host gr.0))
+      (invoke-goes program w a (AnIdle c others) false (DeadlineValue None ∷ []) m g z (e, before, k) (first_for m.host.idle.made (made_by m.host) m.host.idle.runnable c others (idle_given m g).runnable e) (idle_left-held c told.host g.0) (tt, tt))
+      (λ r le gr. finish_page program r invoke_idle_again gr (invoke_idle_again-onto r.host gr.0 (le.4 k)))
 
-  invoke_idle-goes : (w : Ways) (a : WaysGo program w) → (m : State) → Good m → a.Here m → Goes program m (invoke_idle w m)
-  invoke_idle-goes w a m g z =
-      branch_when-goes program (nat_lt m.host.now (deadline m.host.last_idle_start m.host)) m (λ m. idle_called w m.host.idle.runnable m) finish (λ before. idle_called-goes w a m.host.idle.runnable m refl before g z) (λ e. finish-goes program m g)
+  invoke_idle-goes : (w : Ways) (a : WaysGo program w) → (m : State) → PeriodGoesOn m.host → Good m → a.Here m → Goes program m (invoke_idle w m)
+  invoke_idle-goes w a m k g z =
+      branch_when-goes program (nat_lt m.host.now (deadline m.host.last_idle_start m.host)) m (λ m. idle_called w m.host.idle.runnable m) finish (λ before. idle_called-goes w a m.host.idle.runnable m refl before k g z) (λ e. finish-goes program m g)
 
-  timed_out-goes : (w : Ways) (a : WaysGo program w) → (handle : ℕ) (c : Option Callback) (m : State) → idle_callback handle m.host ≡ c → Good m → a.Here m → Goes program m (timed_out w c m)
-  timed_out-goes w a handle None m e g z = finish-goes program m g
-  timed_out-goes w a handle (Some c) m e g z = invoke-goes program w a (ALateIdle handle c) false (DeadlineValue (Some m.host.now) ∷ []) m g z e (find_for kind.Idle m.host.idle.made (made_by m.host) (m.host.idle.runnable ++ m.host.idle.pending) handle c (Each-append (CallbackIsGiven kind.Idle m.host.idle.made (made_by m.host)) m.host.idle.runnable m.host.idle.pending (idle_given m g).runnable (idle_given m g).pending) e) (idle_left-held c m.host g.0) (tt, tt)
+  timed_out-goes : (w : Ways) (a : WaysGo program w) → (handle : ℕ) (c : Option Callback) (m : State) → idle_callback handle m.host ≡ c → ((c : Callback) → IsIn c (m.host.idle.runnable ++ m.host.idle.pending) → c.handle ≡ handle → was_due m.host.events c.registration ≡ true) → Good m → a.Here m → Goes program m (timed_out w c m)
+  timed_out-goes w a handle None m e due g z = finish-goes program m g
+  timed_out-goes w a handle (Some c) m e due g z =
+      let there = found-in handle (m.host.idle.runnable ++ m.host.idle.pending) c e in
+      invoke-goes program w a (ALateIdle handle c) false (DeadlineValue (Some m.host.now) ∷ []) m g z (e, due c there.0 there.1) (find_for kind.Idle m.host.idle.made (made_by m.host) (m.host.idle.runnable ++ m.host.idle.pending) handle c (Each-append (CallbackIsGiven kind.Idle m.host.idle.made (made_by m.host)) m.host.idle.runnable m.host.idle.pending (idle_given m g).runnable (idle_given m g).pending) e) (idle_left-held c m.host g.0) (tt, tt)
 
   -- ---- rejected promises
 
@@ -216,8 +203,8 @@ module _ (program : Program) where
   -- ---- steps of tasks
 
   -- a task, from before it leaves its queue
-  pub task-goes : (w : Ways) (a : WaysGo program w) → (source : Source) (task : Task) (m : State) → Good m → a.Here m → first_task source m.host.tasks ≡ Some task → StepsAreGiven (made_by m.host) task.steps → Goes program m (perform_steps w task.steps (on_page (without_task task.number) m))
-  task-goes w a source task m g z e x = by_steps task.steps refl x
+  pub task-goes : (w : Ways) (a : WaysGo program w) → (source : Source) (task : Task) (m : State) → Good m → a.Here m → Ordered m.host → Ready m.host → first_task source m.host.tasks ≡ Some task → StepsAreGiven (made_by m.host) task.steps → Goes program m (perform_steps w task.steps (on_page (without_task task.number) m))
+  task-goes w a source task m g z o ready e x = by_steps task.steps refl x
     where
       left : Reached m (on_page (without_task task.number) m)
       left = on_page-reached m (without_task task.number) g (without_task-onto task.number m.host g.0)
@@ -234,9 +221,9 @@ module _ (program : Program) where
       by_steps (TimeOutSignal s) e1 x = wide program m (on_page (without_task task.number) m) (perform_steps w (TimeOutSignal s) (on_page (without_task task.number) m)) left.0 (abort-goes program w a s (a_fault TimeoutError) (on_page (without_task task.number) m) left.1 there x tt)
       by_steps (FireAtWindow name v) e1 x = wide program m (on_page (without_task task.number) m) (perform_steps w (FireAtWindow name v) (on_page (without_task task.number) m)) left.0 (dispatch-goes program w a Window name (v ∷ []) (on_page (without_task task.number) m) left.1 there (x, tt))
       by_steps (AnswerHost t) e1 x = wide program m (on_page (without_task task.number) m) (perform_steps w (AnswerHost t) (on_page (without_task task.number) m)) left.0 (finish-goes program (on_page (without_task task.number) m) left.1)
-      by_steps (RunFrame t) e1 x = wide program m (on_page (without_task task.number) m) (perform_steps w (RunFrame t) (on_page (without_task task.number) m)) left.0 (run_frame-goes w a t (on_page (without_task task.number) m) left.1 there)
-      by_steps InvokeIdle e1 x = wide program m (on_page (without_task task.number) m) (perform_steps w InvokeIdle (on_page (without_task task.number) m)) left.0 (invoke_idle-goes w a (on_page (without_task task.number) m) left.1 there)
-      by_steps (IdleTimeout handle) e1 x = wide program m (on_page (without_task task.number) m) (perform_steps w (IdleTimeout handle) (on_page (without_task task.number) m)) left.0 (timed_out-goes w a handle (idle_callback handle m.host) (on_page (without_task task.number) m) refl left.1 there)
+      by_steps (RunFrame t) e1 x = wide program m (on_page (without_task task.number) m) (perform_steps w (RunFrame t) (on_page (without_task task.number) m)) left.0 (run_frame-goes program w a t (on_page (without_task task.number) m) o left.1 there)
+      by_steps InvokeIdle e1 x = wide program m (on_page (without_task task.number) m) (perform_steps w InvokeIdle (on_page (without_task task.number) m)) left.0 (invoke_idle-goes w a (on_page (without_task task.number) m) (left.0.4 (ready.invoking (task-there source InvokeIdle m.host.tasks task e e1))) left.1 there)
+      by_steps (IdleTimeout handle) e1 x = wide program m (on_page (without_task task.number) m) (perform_steps w (IdleTimeout handle) (on_page (without_task task.number) m)) left.0 (timed_out-goes w a handle (idle_callback handle m.host) (on_page (without_task task.number) m) refl (λ c i same. due-there m.host handle c ready (task-there source (IdleTimeout handle) m.host.tasks task e e1) i same) left.1 there)
       by_steps (NotifyRejected ks) e1 x =
           wide program m (on_page (without_task task.number) m) (perform_steps w (NotifyRejected ks) (on_page (without_task task.number) m)) left.0
           (each_in_turn-goes program (on_page (without_task task.number) m) IsPromise promise-grows (notify_one w) (λ k r le gr y. notify_one-goes w a k r gr (a.later (on_page (without_task task.number) m) r le there) y) ks (on_page (without_task task.number) m) (le-same (on_page (without_task task.number) m)) left.1 x)
@@ -249,11 +236,11 @@ module _ (program : Program) where
           (λ b. dispatch-goes program w a Window (codes "rejectionhandled") args told b.1 (a.later n told b.0 there) (x, (promise_reason-known n.host k left.1.0, tt))))
 
   -- the scheduler's first task, from before the line of its turn
-  pub sched_task-goes : (w : Ways) (a : WaysGo program w) → (t : SchedTask) (m : State) → Good m → a.Here m → first_sched m.host ≡ Some t → open_registrations m.host.events ≡ [] → m.host.notices.jobs ≡ [] → SchedTaskIsGiven (made_by m.host) t → Goes program m (perform_sched w t (on_page (sched_begun t) m))
-  sched_task-goes w a t m g z e o j x = by_kind t.continuation refl
+  pub sched_task-goes : (w : Ways) (a : WaysGo program w) → (t : SchedTask) (m : State) → Good m → a.Here m → first_sched m.host ≡ Some t → open_registrations m.host.events ≡ [] → m.host.notices.jobs ≡ [] → FrameIsOver m.host → SchedTaskIsGiven (made_by m.host) t → Goes program m (perform_sched w t (on_page (sched_begun t) m))
+  sched_task-goes w a t m g z e o j over x = by_kind t.continuation refl
     where
       by_kind : (b : Bool) → t.continuation ≡ b → Goes program m (branch b (on_page (sched_begun t) m) (λ m. finish (on_page (continued t.registration) m)) (run_post w t))
-      by_kind true k = let b = continued-reached t m g (e, k, o, j) (subst (λ (b : Bool). IsFor (sched_role b) (made_by m.host) t.registration) k x.kind) x.registration in (b.0, b.1, tt)
+      by_kind true k = let b = continued-reached t m g (e, k, o, j, over) (subst (λ (b : Bool). IsFor (sched_role b) (made_by m.host) t.registration) k x.kind) x.registration in (b.0, b.1, tt)
       by_kind false k =
           let n = on_page (sched_begun t) m in
           let begun = on_page (post_state t) n in
@@ -262,10 +249,10 @@ module _ (program : Program) where
           let all : Onward (made_by m.host) begun.host = onward-then (made_by m.host) n.host begun.host first (post_state-held t n.host first.1 x) in
           let promise : IsGiven (length m.host.notices.promises) into = x.registration.promise in
           afterwards-goes program m (settle_derived into (invoke w t.registration false [] begun)) (λ m. finish (on_page (unwatch t.registration) m))
-          (settle_derived-goes program into m (invoke w t.registration false [] begun) promise (invoke-goes program w a (APost t) false [] m g z (e, k, o, j) (subst (λ (b : Bool). IsFor (sched_role b) (made_by m.host) t.registration) k x.kind) all tt))
+          (settle_derived-goes program into m (invoke w t.registration false [] begun) promise (invoke-goes program w a (APost t) false [] m g z (e, k, o, j, over) (subst (λ (b : Bool). IsFor (sched_role b) (made_by m.host) t.registration) k x.kind) all tt))
           (λ r le gr. finish_page program r (unwatch t.registration) gr (unwatch-onto t.registration r.host gr.0))
 
   pub after_task-goes : (call : Caller Page) → CallsGo program call → (m : State) → Good m → AtTop m → Goes program m (after_task call m)
   after_task-goes call c m g z =
       let idle_one = on_page (λ p. record p { level = 0; scheduling = None }) m in
-      then_page program m (λ p. record p { level = 0; scheduling = None }) (checkpoint call idle_one) g ((scheduling-onto program None m.host g.0 tt).0, quietly m.host idle_one.host refl refl refl refl refl refl refl refl refl) (λ b. checkpoint-goes program call c idle_one b.1 (at_top-later m idle_one b.0 z))
+      then_page program m (λ p. record p { level = 0; scheduling = None }) (checkpoint call idle_one) g ((scheduling-onto program None m.host g.0 tt).0, quietly m.host idle_one.host refl refl refl refl refl refl refl refl refl) (λ b. checkpoint-goes program call c idle_one b.1 (at_top-later m idle_one b.0.2 b.0.3 z))

@@ -4,16 +4,18 @@ use Rattle.page_model.proofs.HoldingTurns.{legal_choice}
 use Rattle.page_model.proofs.Ending.{runnable-there}
 use Rattle.lang_meaning.specs.Evaluation.{call_from_outside}
 use Rattle.lang_meaning.specs.Machine.{Caller, Done, Gives, OutOfFuel, Returns, Throws, finish}
-use Rattle.page_laws.proofs.Evaluating.{Le, Onto, Reached, Stop, le-same, le-then, on_page-reached}
-use Rattle.page_laws.proofs.Moved.{answer_task-changes, idle_step-changes, quietly}
+use Rattle.page_laws.proofs.Framed.{CameAfter, FramesKept, Ordered, Stayed, kept-same}
+use Rattle.page_laws.proofs.Evaluating.{Lasts, Onto, lasting, lasts-then, Reached, Stop, le-same, on_page-reached}
+use Rattle.page_laws.proofs.Moved.{answer_task-changes, quietly, start_period-changes}
+use Rattle.page_laws.proofs.Ready.{Ready, first-ready, moves-ready, none-invokes}
 use Rattle.page_laws.proofs.Moving.{moves-then}
 use Rattle.page_laws.proofs.Onto.{parallel-onto}
 use Rattle.page_model.proofs.NumbersTasks.{answer_host-held}
 use Rattle.page_laws.proofs.Operations.{outside-goes}
 use Rattle.page_laws.proofs.Runs.{AtTop, CallsGo, Clears, Goes, at_top-later, checkpoint-clears, finish-goes, finish_page, in_task-goes}
 use Rattle.page_laws.proofs.Tasks.{after_task-goes, sched_task-goes, task-goes, without_task-held, without_task-onto}
-use Rattle.page_laws.specs.Moves.{places_stay, Moves, changing, elsewhere, here, nothing, rested, sched_begun, told, with_change}
-use Rattle.page_model.proofs.NumbersEvaluation.{Good}
+use Rattle.page_laws.specs.Moves.{HasSteps, idling, FrameIsOver, marked, places_stay, Moves, changing, elsewhere, here, nothing, rested, sched_begun, told, with_change}
+use Rattle.page_model.proofs.NumbersEvaluation.{Good, on_page-good}
 use Rattle.page_model.proofs.NumbersGrow.{Each-find, Grows-same, InSchedTasks, InTasks, onward-then, stays}
 use Rattle.page_model.proofs.NumbersPages.{idle_step-held}
 use Rattle.page_model.proofs.NumbersTurns.{first_state-good}
@@ -22,7 +24,7 @@ use Rattle.page_model.specs.Invoke.{in_task}
 use Rattle.page_model.specs.Numbers.{Each, HasPromise, HoldsNoNumbers, IfThere, Made, SchedTaskIsGiven, StepsAreGiven, TaskIsGiven, made_by}
 use Rattle.page_model.specs.Operations.{page_operations}
 use Rattle.page_model.specs.PageSignals.{host_task_of, is_aborted_source}
-use Rattle.page_model.specs.PageTime.{completion_of, deadline, first_task, idle_step, period_begun, without_timer}
+use Rattle.page_model.specs.PageTime.{completion_of, deadline, first_task, start_period, idle_step, period_begun, without_timer}
 use Rattle.page_model.specs.SchedulerTasks.{enqueue, first_of, first_sched, first_sched_from, goes_before}
 use Rattle.page_model.specs.Parallel.{ArrivalItem, FrameItem, HostItem, IdleItem, Item, ItemKind, TimerItem, complete, complete_at, due_item, first_item, item_count, parallel, take_due, take_item}
 use Rattle.page_model.specs.State.{AnswerHost, Completion, EnqueuePost, FireAtWindow, HostTask, IdleTimeout, InvokeIdle, NotifyHandled, NotifyRejected, Page, QueueSignal, QueueTimer, RunFrame, RunScript, RunTimer, SchedTask, State, Steps, Task, TimeOutSignal, emit, on_page, the_registration}
@@ -42,9 +44,9 @@ use Rattle.page_types.specs.declared.End.{End}
 use Rattle.page_types.specs.declared.End.TheVariants.{Clock as ClockEnd, Done as DoneEnd, Fuel as FuelEnd}
 use Rattle.page_types.specs.declared.Source.{Source}
 use Rattle.page_types.specs.declared.Source.TheVariants.{Dom, Idle, Net, Render, Sched, Timer, User}
-use Rattle.std.proofs.Common.{Bool, List, None, Option, Result, Some, [], ap, cond, false, max, nat_le, nat_lt, refl, slice_get, subst, suc, sym, true, unwrap_or, zero, ℕ, ℤ, ◌&&◌, ◌||◌, ◌∙◌, ◌∷◌, ◌≡◌, arith}
+use Rattle.std.proofs.Common.{Bool, List, None, Option, Result, Some, [], ap, cond, false, inl, inr, ◌⊎◌, max, nat_le, nat_lt, refl, slice_get, subst, suc, sym, true, unwrap_or, zero, ℕ, ℤ, ◌&&◌, ◌||◌, ◌∙◌, ◌∷◌, ◌≡◌, arith}
 use Rattle.std.specs.Prelude.{◌==◌, option_map}
-use Rattle.page_laws.specs.History.{is_rest, is_sched, is_sched_turn}
+use Rattle.page_laws.specs.History.{is_period, is_rest, is_sched, is_sched_turn}
 
 -- ---- queues
 
@@ -139,36 +141,76 @@ idle_step-notices p = by_start (waits before.idle && nat_lt before.now (deadline
 
 -- ---- turns
 
+-- no frame is in progress, and tasks of idle callbacks find what they need
+abbrev pub Calm : State → Type 0
+Calm m = FrameIsOver m.host × Ready m.host
+
 -- between turns no call is open, no checkpoint is performed and no job waits
 abbrev pub Rests : State → Type 0
-Rests m = AtTop m × m.host.notices.jobs ≡ []
+Rests m = AtTop m × m.host.notices.jobs ≡ [] × Calm m
+
+-- where no frame is in progress, none is behind what went on since
+over-later : (m r : State) → FramesKept m.host r.host → Ordered m.host → FrameIsOver m.host → FrameIsOver r.host
+over-later m r k o over c i = by_place (k.each o c i)
+  where
+    by_place : Stayed m.host r.host c ⊎ CameAfter m.host r.host c → marked r.host.events c.registration ≡ false
+    by_place (inl s) = s.1 ∙ over c s.0
+    by_place (inr n) = n.2
+
+pub calm-later : (m r : State) → Moves m.host r.host → FramesKept m.host r.host → Ordered m.host → Calm m → Calm r
+calm-later m r a k o x = (over-later m r k o x.0, moves-ready a x.1)
 
 -- a state between turns that is reached from another one
 abbrev pub Comes : State → State → Type 0
-Comes m r = Le m r × Good r × Rests r
+Comes m r = Lasts m r × Good r × Rests r
 
-pub comes-then : (m r s : State) → Le m r → Comes r s → Comes m s
-comes-then m r s le h = (le-then m r s le h.0, h.1, h.2)
+pub comes-then : (m r s : State) → Lasts m r → Comes r s → Comes m s
+comes-then m r s le h = (lasts-then m r s le h.0, h.1, h.2)
 
 -- a change that leaves promises and jobs
 pub comes_by : (m : State) (f : Page → Page) → Good m → Rests m → Onto m.host (f m.host) → (f m.host).notices ≡ m.host.notices → Comes m (on_page f m)
 comes_by m f g x o e =
     let a = on_page-reached m f g o in
-    (a.0, a.1, (at_top-later m (on_page f m) a.0 x.0, ap {A = Notices} {B = List WaitingJob} (λ s. s.jobs) e ∙ x.1))
+    (lasting m (on_page f m) a.0, a.1, (at_top-later m (on_page f m) a.0.2 a.0.3 x.0, ap {A = Notices} {B = List WaitingJob} (λ s. s.jobs) e ∙ x.1, calm-later m (on_page f m) a.0.1 a.0.3 x.0.2 x.2))
 
 comes_here : (m : State) → Good m → Rests m → Comes m m
-comes_here m g x = (le-same m, g, x)
+comes_here m g x = (lasting m m (le-same m), g, x)
 
 -- a line between turns
-rested-onto : (e : Event) (m : State) → is_rest e ≡ true → is_sched_turn e ≡ false → Good m → Rests m → Onto m.host (emit e m.host)
-rested-onto e m h k g x = (stays m.host g.0, with_change nothing (rested e h x.0.0 x.1 k))
+rested-onto : (e : Event) (m : State) → is_rest e ≡ true → is_sched_turn e ≡ false → is_period e ≡ false → Good m → Rests m → Onto m.host (emit e m.host)
+rested-onto e m h k none g x = (stays m.host g.0, with_change nothing (rested e h x.0.0 x.1 k x.2.0 (λ e. absurd (no_period (sym none ∙ e)))) tt)
+  where
+    no_period : false ≡ true → ⊥
+    no_period e = Prim.cc
+
+-- the idle step, where no task is runnable
+pub idle_step-comes : (m : State) → Good m → Rests m → is_empty (view m.host) ≡ true → Comes m (on_page idle_step m)
+idle_step-comes m g x empty =
+    comes-then m mid (on_page idle_step m) now.0
+    (comes_by mid start_period now.1 now.2 (idle_step-held m.host g.0, start_period-changes mid.host refl x.0.0 x.1 x.2.0 now.1.0) (idle_step-notices m.host))
+  where
+    mid : State
+    mid = on_page (λ p. record p { last_idle_start = p.now }) m
+
+    none : HasSteps InvokeIdle m.host.tasks → ⊥
+    none h = none-invokes m.host x.2.1 empty h
+
+    row : Moves m.host mid.host
+    row = idling here none
+
+    now : Comes m (on_page (λ p. record p { last_idle_start = p.now }) m)
+    now = (
+      (Grows-same (made_by m.host), row, (refl, refl), kept-same m.host mid.host refl refl refl),
+      (on_page-good m (λ p. record p { last_idle_start = p.now }) g (stays mid.host g.0)).1,
+      (x.0, x.1, (x.2.0, moves-ready row x.2.1)),
+    )
 
 step_five-comes : (m : State) → Good m → Rests m → Comes m (step_five m)
-step_five-comes m g x = by_view (is_empty (view m.host))
+step_five-comes m g x = by_view (is_empty (view m.host)) refl
   where
-    by_view : (b : Bool) → Comes m (cond b (on_page idle_step) (λ m. m) m)
-    by_view true = comes_by m idle_step g x (idle_step-held m.host g.0, idle_step-changes m.host x.0.0 x.1) (idle_step-notices m.host)
-    by_view false = comes_here m g x
+    by_view : (b : Bool) → is_empty (view m.host) ≡ b → Comes m (cond b (on_page idle_step) (λ m. m) m)
+    by_view true e = idle_step-comes m g x e
+    by_view false e = comes_here m g x
 
 pub step_one-comes : (m : State) → Good m → Rests m → Comes m (step_one m)
 step_one-comes m g x = by_turns (m.host.turns == 0)
@@ -184,15 +226,15 @@ module _ {C : Type 0} (program : Program) where
   Lands m (Ended end r c) = Stop m r
   Lands m (Stuck at r c) = Stop m r
 
-  pub lands-then : (m r : State) (t : Turned C) → Le m r → Lands r t → Lands m t
+  pub lands-then : (m r : State) (t : Turned C) → Lasts m r → Lands r t → Lands m t
   lands-then m r (GoesOn s c) le h = comes-then m r s le h
   lands-then m r (Ended end s c) le h = moves-then le.1 h
   lands-then m r (Stuck at s c) le h = moves-then le.1 h
 
   pub ends-lands : (end : End) (c : C) (m : State) → Good m → Rests m → Lands m (ends end c m)
-  ends-lands DoneEnd c m g x = (on_page-reached m (emit (EndLine DoneEnd)) g (rested-onto (EndLine DoneEnd) m refl refl g x)).0.1
-  ends-lands ClockEnd c m g x = (on_page-reached m (emit (EndLine ClockEnd)) g (rested-onto (EndLine ClockEnd) m refl refl g x)).0.1
-  ends-lands FuelEnd c m g x = changing here (told (EndLine FuelEnd) refl)
+  ends-lands DoneEnd c m g x = (on_page-reached m (emit (EndLine DoneEnd)) g (rested-onto (EndLine DoneEnd) m refl refl refl g x)).0.1
+  ends-lands ClockEnd c m g x = (on_page-reached m (emit (EndLine ClockEnd)) g (rested-onto (EndLine ClockEnd) m refl refl refl g x)).0.1
+  ends-lands FuelEnd c m g x = changing here (told (EndLine FuelEnd) refl) tt
 
   pub choose-lands : (b : Bool) (then else : State → Turned C) (m : State) → Lands m (then m) → Lands m (else m) → Lands m (choose_turned b then else m)
   choose-lands true then else m h k = h
@@ -204,34 +246,34 @@ module _ {C : Type 0} (program : Program) where
 
   module _ (rules : Rules C) (call : Caller Page) (calls_go : CallsGo program call) where
     -- no task is current any more, and a checkpoint is performed
-    after_task-lands : (c : C) (m : State) → Good m → AtTop m → Lands m (goes_on c (after_task call m))
-    after_task-lands c m g z = by_end (after_task call m) (after_task-goes program call calls_go m g z) (checkpoint-clears call (on_page (λ p. record p { level = 0; scheduling = None }) m) z.1)
+    after_task-lands : (c : C) (m : State) → Good m → AtTop m → Calm m → Lands m (goes_on c (after_task call m))
+    after_task-lands c m g z y = by_end (after_task call m) (after_task-goes program call calls_go m g z) (checkpoint-clears call (on_page (λ p. record p { level = 0; scheduling = None }) m) z.1)
       where
         by_end : (d : Done Page) → Goes program m d → Clears d → Lands m (goes_on c d)
-        by_end (Gives v r) h k = (h.0, h.1, (at_top-later m r h.0 z, k))
+        by_end (Gives v r) h k = (lasting m r h.0, h.1, (at_top-later m r h.0.2 h.0.3 z, k, calm-later m r h.0.1 h.0.3 z.2 y))
         by_end (Throws v r) h k = elim k [ ]
         by_end (Returns v r) h k = elim k [ ]
-        by_end (OutOfFuel r) h k = changing h (told (EndLine FuelEnd) refl)
+        by_end (OutOfFuel r) h k = changing h (told (EndLine FuelEnd) refl) tt
 
-    task_done-lands : (c : C) (m : State) (d : Done Page) → AtTop m → Goes program m d → Lands m (task_done call c d)
-    task_done-lands c m (Gives v r) z h = lands-then m r (goes_on c (after_task call r)) h.0 (after_task-lands c r h.1 (at_top-later m r h.0 z))
-    task_done-lands c m (Throws v r) z h = lands-then m r (goes_on c (after_task call r)) h.0 (after_task-lands c r h.1 (at_top-later m r h.0 z))
-    task_done-lands c m (Returns v r) z h = lands-then m r (goes_on c (after_task call r)) h.0 (after_task-lands c r h.1 (at_top-later m r h.0 z))
-    task_done-lands c m (OutOfFuel r) z h = changing h (told (EndLine FuelEnd) refl)
+    task_done-lands : (c : C) (m : State) (d : Done Page) → AtTop m → Calm m → Goes program m d → Lands m (task_done call c d)
+    task_done-lands c m (Gives v r) z y h = lands-then m r (goes_on c (after_task call r)) (lasting m r h.0) (after_task-lands c r h.1 (at_top-later m r h.0.2 h.0.3 z) (calm-later m r h.0.1 h.0.3 z.2 y))
+    task_done-lands c m (Throws v r) z y h = lands-then m r (goes_on c (after_task call r)) (lasting m r h.0) (after_task-lands c r h.1 (at_top-later m r h.0.2 h.0.3 z) (calm-later m r h.0.1 h.0.3 z.2 y))
+    task_done-lands c m (Returns v r) z y h = lands-then m r (goes_on c (after_task call r)) (lasting m r h.0) (after_task-lands c r h.1 (at_top-later m r h.0.2 h.0.3 z) (calm-later m r h.0.1 h.0.3 z.2 y))
+    task_done-lands c m (OutOfFuel r) z y h = changing h (told (EndLine FuelEnd) refl) tt
 
     pub turn_line-comes : (source : Option Source) (m : State) → is_sched source ≡ false → Good m → Rests m → Comes m (turn_line source m)
-    turn_line-comes source m k g x = comes_by m (λ p. emit (Turn p.turns source) p) g x (rested-onto (Turn m.host.turns source) m refl k g x) refl
+    turn_line-comes source m k g x = comes_by m (λ p. emit (Turn p.turns source) p) g x (rested-onto (Turn m.host.turns source) m refl k refl g x) refl
 
-    perform_first-lands : (source : Source) (task : Option Task) (m : State) (c : C) → first_task source m.host.tasks ≡ task → Good m → AtTop m → IfThere (TaskIsGiven (made_by m.host)) task → Lands m (perform_first rules call task m c)
-    perform_first-lands source None m c e g z x = here
-    perform_first-lands source (Some task) m c e g z x = by_host (host_task_of task.steps) refl (host_task_of-given (made_by m.host) task.steps x.steps)
+    perform_first-lands : (source : Source) (task : Option Task) (m : State) (c : C) → first_task source m.host.tasks ≡ task → Good m → AtTop m → Calm m → IfThere (TaskIsGiven (made_by m.host)) task → Lands m (perform_first rules call task m c)
+    perform_first-lands source None m c e g z over x = here
+    perform_first-lands source (Some task) m c e g z over x = by_host (host_task_of task.steps) refl (host_task_of-given (made_by m.host) task.steps x.steps)
       where
         left : Reached m (on_page (without_task task.number) m)
         left = on_page-reached m (without_task task.number) g (without_task-onto task.number m.host g.0)
 
         by_host : (t : Option HostTask) → host_task_of task.steps ≡ t → IfThere (λ (t : HostTask). HasPromise (made_by m.host) t.registration) t → Lands m (perform_task rules call task t (on_page (without_task task.number) m) c)
         by_host None k y =
-            task_done-lands c m (perform_steps (in_task call) task.steps (on_page (without_task task.number) m)) z (task-goes program (in_task call) (in_task-goes program call calls_go) source task m g z e x.steps)
+            task_done-lands c m (perform_steps (in_task call) task.steps (on_page (without_task task.number) m)) z over (task-goes program (in_task call) (in_task-goes program call calls_go) source task m g z z.2 over.1 e x.steps)
         by_host (Some t) k y = by_closure (not_dropped (slice_get m.host.hosts t.closure)) refl
           where
             n : State
@@ -244,15 +286,15 @@ module _ {C : Type 0} (program : Program) where
 
             by_answer : is_there (not_dropped (slice_get m.host.hosts t.closure)) ≡ true → (a : Option (Chosen (Result ℤ ℤ) C)) → Lands m (host_answered call t a n c)
             by_answer live None = left.0.1
-            by_answer live (Some a) = task_done-lands a.left m (finish (on_page (answer_host t a.choice) n)) z (finish_page program m (λ p. answer_host t a.choice (without_task task.number p)) g (answered-onto live a.choice))
+            by_answer live (Some a) = task_done-lands a.left m (finish (on_page (answer_host t a.choice) n)) z over (finish_page program m (λ p. answer_host t a.choice (without_task task.number p)) g (answered-onto live a.choice))
 
             by_closure : (closure : Option HostClosure) → not_dropped (slice_get m.host.hosts t.closure) ≡ closure → Lands m (perform_host rules call t closure n c)
-            by_closure None live = lands-then m n (perform_host rules call t None n c) left.0 (task_done-lands c n (finish n) (at_top-later m n left.0 z) (finish-goes program n left.1))
+            by_closure None live = lands-then m n (perform_host rules call t None n c) (lasting m n left.0) (task_done-lands c n (finish n) (at_top-later m n left.0.2 left.0.3 z) (calm-later m n left.0.1 left.0.3 z.2 over) (finish-goes program n left.1))
             by_closure (Some closure) live = by_answer (ap {A = Option HostClosure} {B = Bool} is_there live) (chosen_answer rules closure.kind t.number c)
 
-    first_task-lands : (source : Source) (m : State) (c : C) → Good m → AtTop m → Lands m (perform_first rules call (first_task source m.host.tasks) m c)
-    first_task-lands source m c g z =
-        perform_first-lands source (first_task source m.host.tasks) m c refl g z (Each-find (TaskIsGiven (made_by m.host)) (λ t. same_source t.source source) m.host.tasks (g.0 InTasks))
+    first_task-lands : (source : Source) (m : State) (c : C) → Good m → AtTop m → Calm m → Lands m (perform_first rules call (first_task source m.host.tasks) m c)
+    first_task-lands source m c g z over =
+        perform_first-lands source (first_task source m.host.tasks) m c refl g z over (Each-find (TaskIsGiven (made_by m.host)) (λ t. same_source t.source source) m.host.tasks (g.0 InTasks))
 
     -- the scheduler's turn, from before its line
     sched-lands : (t : Option SchedTask) (m : State) (c : C) → first_sched m.host ≡ t → is_there t ≡ true → Good m → Rests m → IfThere (SchedTaskIsGiven (made_by m.host)) t → Lands m (perform_first_sched call t (turn_line (Some Sched) m) c)
@@ -261,14 +303,14 @@ module _ {C : Type 0} (program : Program) where
         none : false ≡ true → ⊥
         none e = Prim.cc
     sched-lands (Some t) m c e k g x y =
-        task_done-lands c m (perform_sched (in_task call) t (on_page (sched_begun t) m)) x.0
-        (sched_task-goes program (in_task call) (in_task-goes program call calls_go) t m g x.0 e x.0.0 x.1 y)
+        task_done-lands c m (perform_sched (in_task call) t (on_page (sched_begun t) m)) x.0 x.2
+        (sched_task-goes program (in_task call) (in_task-goes program call calls_go) t m g x.0 e x.0.0 x.1 x.2.0 y)
 
     -- any other turn, from before its line
     other-lands : (source : Source) (m : State) (c : C) → is_sched (Some source) ≡ false → Good m → Rests m → Lands m (perform_first rules call (first_task source (turn_line (Some source) m).host.tasks) (turn_line (Some source) m) c)
     other-lands source m c k g x =
         let a = turn_line-comes (Some source) m k g x in
-        lands-then m (turn_line (Some source) m) _ a.0 (first_task-lands source (turn_line (Some source) m) c a.1 a.2.0)
+        lands-then m (turn_line (Some source) m) _ a.0 (first_task-lands source (turn_line (Some source) m) c a.1 a.2.0 a.2.2)
 
     perform_picked-lands : (s : Option (Chosen Source C)) (m : State) (c : C) → IfThere (λ (s : Chosen Source C). is_runnable (view m.host) s.choice ≡ true) s → Good m → Rests m → Lands m (perform_picked rules call s m c)
     perform_picked-lands None m c k g x = here
@@ -301,7 +343,8 @@ module _ {C : Type 0} (program : Program) where
     with_turn_fuel-lands zero m c g x = ends-lands FuelEnd c m g x
     with_turn_fuel-lands (suc left) m c g x =
         let counted = counted_turn left m in
-        lands-then m counted (step_four rules call (view m.host) counted c) (Grows-same (made_by m.host), changing here (elsewhere places_stay (record { notices = refl; performing = refl; events = refl; registrations = refl; frames = refl; calls = refl; aborted = λ s h. h; scheduling = record { priorities = λ s. refl; states = refl; tasks_made = omega arith } })), (refl, refl)) (step_four-lands (view m.host) counted c refl g x)
+        let row : Moves m.host counted.host = changing here (elsewhere places_stay (record { notices = refl; performing = refl; events = refl; registrations = refl; frames = refl; calls = refl; aborted = λ s h. h; scheduling = record { priorities = λ s. refl; states = refl; tasks_made = omega arith; idle_start = refl } }) tt) tt in
+        lands-then m counted (step_four rules call (view m.host) counted c) (Grows-same (made_by m.host), row, (refl, refl), kept-same m.host counted.host refl refl refl) (step_four-lands (view m.host) counted c refl g (x.0, x.1, (x.2.0, moves-ready row x.2.1)))
 
     pub step_three-lands : (until : ℕ) (c : C) (m : State) → Good m → Rests m → Lands m (step_three rules call until c m)
     step_three-lands until c m g x =
@@ -332,8 +375,8 @@ module _ {C : Type 0} (program : Program) where
         let there = on_page (λ p. at_time x.choice p) m in
         let later = on_page (λ p. emit (Wait t) (at_time x.choice p)) m in
         let a = at_time-comes x.choice m g z in
-        let b = comes_by there (emit (Wait t)) a.1 a.2 (rested-onto (Wait t) there refl refl a.1 a.2) refl in
-        lands-then m later (again later x.left) (le-then m there later a.0 b.0) (k later x.left b.1 b.2)
+        let b = comes_by there (emit (Wait t)) a.1 a.2 (rested-onto (Wait t) there refl refl refl a.1 a.2) refl in
+        lands-then m later (again later x.left) (lasts-then m there later a.0 b.0) (k later x.left b.1 b.2)
 
     step_two_at-lands : (until t : ℕ) (again : State → C → Turned C) (next : State → Turned C) (c : C) (m : State) → LandsAgain again → LandsNext next → Good m → Rests m → Lands m (step_two_at rules until t again next c m)
     step_two_at-lands until t again next c m k h g z =
@@ -379,7 +422,7 @@ module _ {C : Type 0} (program : Program) where
 pub turns_are_moves : {C : Type 0} (rules : Rules C) (program : Program) (setup : Setup) (hosts : List HostClosure) (c : C) (until most : ℕ) → HoldsNoNumbers setup
     → Moves (first_page program setup hosts) (state_of (turns rules (call_from_outside program page_operations) until most (first_state program setup hosts) c)).host
 turns_are_moves rules program setup hosts c until most h =
-    turns-stop program rules (call_from_outside program page_operations) (outside-goes program) until most (first_state program setup hosts) c (first_state-good program setup hosts h) ((refl, refl), refl)
+    turns-stop program rules (call_from_outside program page_operations) (outside-goes program) until most (first_state program setup hosts) c (first_state-good program setup hosts h) ((refl, refl, tt), refl, ((λ c i. elim i [ ]), first-ready program setup hosts))
 
 -- A whole run is a row of moves.
 pub run_is_moves : {C : Type 0} (rules : Rules C) (program : Program) (setup : Setup) (hosts : List HostClosure) (c : C) → HoldsNoNumbers setup → Moves (first_page program setup hosts) (state_of (run_by rules program setup hosts c)).host

@@ -1,14 +1,14 @@
 -- What happens to a page, move by move: each move changes it once, with its lines.
-use Rattle.std.specs.Prelude.{◌≡◌, ◌≤◌, ℕ, suc, ℤ, Bool, true, false, List, [], ◌∷◌, length, nat_lt, Option, Some, None, Result, ◌==◌, ◌++◌, ◌||◌, slice_get, slice_set}
+use Rattle.std.specs.Prelude.{◌≡◌, ◌⊎◌, ◌≤◌, ◌+◌, ◌*◌, ℕ, suc, ℤ, Bool, true, false, not, ◌&&◌, if◌then◌else◌, List, [], ◌∷◌, length, nat_lt, Option, Some, None, Result, ◌==◌, ◌++◌, ◌||◌, slice_get, slice_set}
 use Rattle.page_types.specs.declared.End.TheVariants.{Fuel}
-use Rattle.page_types.specs.Events.{QueueName, Event, Ret, Throw, Report, Log, Turn, Arm, Due, Drop, IdleLine, Frame, Enq, Prio, Abort, Host, Unhandled, Handled, EndLine, Send}
+use Rattle.page_types.specs.Events.{QueueName, Event, Ret, Throw, Report, Log, Turn, Arm, Due, Drop, IdleLine, Frame, Reg, Enq, Prio, Abort, Host, Unhandled, Handled, EndLine, Send}
 use Rattle.page_types.specs.declared.Source.{Source}
-use Rattle.page_types.specs.declared.Source.TheVariants.{Sched}
+use Rattle.page_types.specs.declared.Source.TheVariants.{Sched, Idle as IdleSource}
 use Rattle.page_parts.specs.Promises.{Settled, Reaction, React}
 use Rattle.page_parts.specs.Promises as Promises
 use Rattle.page_parts.specs.Notices.{Micro, OfPromise, WaitingJob, changed, subscribe_promise, queue_micro, note_outstanding}
 use Rattle.page_parts.specs.Promises.{the_promise}
-use Rattle.page_model.specs.State.{Role, ScriptRole, OfKind, Registration, no_registration, Page, Task, TimerTask, HostTask, Steps, RunScript, RunTimer, AnswerHost, PrioSource, Fixed, OfSignal, SchedulingState, SchedTask, Completion, Completing, QueueTimer, EnqueuePost, QueueSignal, HostAnswer, IdleTimer, emit, on_notices, context}
+use Rattle.page_model.specs.State.{Role, ScriptRole, OfKind, Registration, no_registration, Page, Task, TimerTask, HostTask, Steps, RunScript, RunTimer, AnswerHost, InvokeIdle, IdleTimeout, PrioSource, Fixed, OfSignal, SchedulingState, SchedTask, Completion, Completing, QueueTimer, EnqueuePost, QueueSignal, HostAnswer, IdleTimer, emit, on_notices, context}
 use Rattle.page_model.specs.PagePromises.{new_promise}
 use Rattle.page_model.specs.PageTime.{first_task, registration_with_id, completion_of, without_frame, deadline, without_idle, idle_callback}
 use Rattle.page_model.specs.SchedulerTasks.{no_state, queue_name, with_state, first_sched, without_sched}
@@ -22,7 +22,7 @@ use Rattle.page_types.specs.declared.HostMark.TheVariants.{Live}
 use Rattle.page_model.specs.Tasks.{background, post_state}
 use Rattle.page_model.specs.Turns.{without_task, not_dropped}
 use Rattle.page_parts.specs.Timers as Timers
-use Rattle.page_parts.specs.Timers.{Timers, Armed, with_armed, run_after, clear, has_id, is_live}
+use Rattle.page_parts.specs.Timers.{Timers, ActiveTimer, Armed, with_armed, run_after, clear, has_id, is_live}
 use Rattle.page_parts.specs.Frames.{Callback, callback_in}
 use Rattle.page_parts.specs.Listeners.{Target, Listener, add, off, is_listening}
 use Rattle.page_model.specs.Numbers.{IsGiven, IsFor, made_by, timer_role, is_timer_role, is_abortable}
@@ -31,18 +31,16 @@ use Rattle.page_types.specs.declared.RegKind.{RegKind}
 use Rattle.page_types.specs.declared.RegKind.TheVariants as kind
 use Rattle.page_parts.specs.TaskSignals.{Prios, priority_of}
 use Rattle.page_types.specs.declared.Priority.{Priority}
-use Rattle.page_laws.specs.History.{open_registrations, is_rest, is_sched_turn, is_scheduled}
+use Rattle.page_laws.specs.TimerLaws.{period_start}
+use Rattle.page_laws.specs.History.{is_delayed, History, is_frame, is_period, is_reg_of, since_last, some_line, was_due, open_registrations, is_rest, is_sched_turn, is_scheduled}
 
 -- ---- Ours: kinds of lines
 
--- a line that tells nothing of calls, promises, jobs, cancels, answers of hosts, and of what was due or enqueued, and does not stand
--- between turns
+-- a line that tells nothing of calls, promises, jobs, frames, idle periods, cancels, answers of hosts, and of what was armed, due or
+-- enqueued, and does not stand between turns
 abbrev pub is_aside : Event → Bool
 is_aside (Report bs) = true
 is_aside (Log bs) = true
-is_aside (Arm r due level) = true
-is_aside (IdleLine d) = true
-is_aside (Frame t) = true
 is_aside (Abort s) = true
 is_aside (Unhandled n) = true
 is_aside (Handled n) = true
@@ -55,6 +53,53 @@ abbrev pub is_end : Event → Bool
 is_end Ret = true
 is_end (Throw bs) = true
 is_end e = false
+
+-- ---- Ours: frames
+
+-- whether a line leaves registration r among those that were made before the last frame line, where none between turns stands behind it
+abbrev pub marked_by : (r : ℕ) → Event → (earlier : Bool) → Bool
+marked_by r (Frame t) earlier = true
+marked_by r (Reg q kind by) earlier = if q == r then false else earlier
+marked_by r e earlier = not (is_rest e) && earlier
+
+-- a frame line stands behind the last line between turns, and no line registers r behind it
+abbrev pub marked : History → ℕ → Bool
+marked [] r = false
+marked (e ∷ past) r = marked_by r e.event (marked past r)
+
+-- a member of a list
+abbrev pub IsIn : {X : Type 0} → X → List X → Type 0
+IsIn x [] = ⊥
+IsIn x (y ∷ ys) = (x ≡ y) ⊎ IsIn x ys
+
+-- no frame callback waits that was requested before a frame line since the last line between turns
+abbrev pub FrameIsOver : Page → Type 0
+FrameIsOver p = (c : Callback) → IsIn c p.frames.callbacks → marked p.events c.registration ≡ false
+
+-- the callback waits, none that waits was registered before it, and it was requested before the frame line of the turn
+abbrev pub IsDrawnNext : (key : ℕ) → Callback → Page → Type 0
+IsDrawnNext key c p =
+    callback_in p.frames.callbacks key ≡ Some c
+    × ((d : Callback) → IsIn d p.frames.callbacks → c.registration ≤ d.registration) × marked p.events c.registration ≡ true
+
+-- ---- Ours: idle periods
+
+-- a task with these steps waits
+abbrev pub HasSteps : Steps → List Task → Type 0
+HasSteps steps [] = ⊥
+HasSteps steps (t ∷ ts) = (t.steps ≡ steps) ⊎ HasSteps steps ts
+
+-- steps that call idle callbacks
+abbrev pub is_idle_task : Steps → Bool
+is_idle_task InvokeIdle = true
+is_idle_task (IdleTimeout handle) = true
+is_idle_task steps = false
+
+-- the last period goes on: it began at the last idle period start, and what is runnable was registered before it
+pub record PeriodGoesOn (p : Page) : Type 0 where
+  pub start : period_start p.events ≡ Some p.last_idle_start
+  pub runnable : (c : Callback) → IsIn c p.idle.runnable → some_line (is_reg_of c.registration) (since_last is_period p.events) ≡ false
+  pub given : (c : Callback) → IsIn c p.idle.runnable → c.registration ≤ length p.registrations
 
 -- ---- Ours: where registrations wait
 
@@ -136,20 +181,23 @@ is_free steps = true
 
 -- ---- Ours: what the scheduler reads
 
--- the priorities of signals, the scheduling states, and how many task numbers were given
+-- the priorities of signals, the scheduling states, and how many task numbers were given; and the last idle period start
 pub record Scheduling : Type 0 where
   pub prios : Prios
   pub states : List SchedulingState
   pub tasks_made : ℕ
+  pub idle_start : ℕ
 
 abbrev pub scheduling_of : Page → Scheduling
-scheduling_of p = record { prios = p.prios; states = p.scheduling_states; tasks_made = p.tasks_made }
+scheduling_of p =
+    record { prios = p.prios; states = p.scheduling_states; tasks_made = p.tasks_made; idle_start = p.last_idle_start }
 
--- the same priorities and scheduling states, and no fewer task numbers
+-- the same priorities, scheduling states and idle period start, and no fewer task numbers
 pub record SchedulingAfter (before after : Scheduling) : Type 0 where
   pub priorities : (s : ℕ) → priority_of after.prios s ≡ priority_of before.prios s
   pub states : after.states ≡ before.states
   pub tasks_made : before.tasks_made ≤ after.tasks_made
+  pub idle_start : after.idle_start ≡ before.idle_start
 
 -- a priority source that has a priority: a fixed one, or a signal with a priority
 abbrev pub HasPriority : Prios → PrioSource → Type 0
@@ -172,7 +220,7 @@ pub data PlaceChange (made : List Registration) : Places → Places → Type 0 w
   -- none
   places_stay : {x : Places} → PlaceChange made x x
   -- a task is queued that calls nothing by itself; a task leaves its queue
-  task_queued : {x : Places} (t : Task) → is_free t.steps ≡ true → PlaceChange made x (with_task t x)
+  task_queued : {x : Places} (t : Task) → is_free t.steps ≡ true → is_idle_task t.steps ≡ false → PlaceChange made x (with_task t x)
   task_left : {x : Places} (number : ℕ) → PlaceChange made x (without_number number x)
   -- an interval whose id is in the map is armed again, and the timer of a signal is armed
   armed_again : {x : Places} (a : Armed) (t : TimerTask) → (numbered made t.registration no_registration).role ≡ OfKind kind.Interval
@@ -182,13 +230,25 @@ pub data PlaceChange (made : List Registration) : Places → Places → Type 0 w
       → PlaceChange made x (with_timer (run_after ms now x.timers) (suc x.timers.starts_made) (QueueSignal r s) x)
   -- a timer's id leaves the map
   id_cleared : {x : Places} (id : ℕ) → PlaceChange made x (record x { timers = clear id x.timers })
-  -- an idle timeout is started
-  idle_armed : {x : Places} (t : IdleTimer) → PlaceChange made x (record x { idle_timers = and_last x.idle_timers t })
+  -- an idle timeout is started, for the callback of its handle
+  idle_armed : {x : Places} (t : IdleTimer) → t.handle ≤ x.idle.made
+      → ((c : Callback) → IsIn c (x.idle.runnable ++ x.idle.pending) → c.handle ≡ t.handle → c.registration ≡ t.registration)
+      → PlaceChange made x (record x { idle_timers = and_last x.idle_timers t })
   -- an active timer without steps completes
-  completed : {x : Places} (start : ℕ) → PlaceChange made x (without_start start x)
-  -- the pending idle callbacks become runnable; an idle callback leaves the lists
+  completed : {x : Places} (start : ℕ) → completion_of x.completions start ≡ None → PlaceChange made x (without_start start x)
+  -- the pending idle callbacks become runnable, and the task is queued that invokes them; an idle callback leaves the lists
   idle_started : {x : Places} → PlaceChange made x (record x { idle = started x.idle })
+  idle_queued : {x : Places} (t : Task) → t.steps ≡ InvokeIdle → t.source ≡ IdleSource → PlaceChange made x (with_task t x)
   idle_left : {x : Places} (handle : ℕ) → PlaceChange made x (record x { idle = cancel handle x.idle })
+
+-- what holds where the places are changed so: the pending idle callbacks become runnable in the period that goes on, and the task that
+-- invokes them is queued in it
+abbrev pub InPeriod : {made : List Registration} {x y : Places} → PlaceChange made x y → Page → Type 0
+InPeriod idle_started p =
+    (c : Callback) → IsIn c p.idle.pending
+    → some_line (is_reg_of c.registration) (since_last is_period p.events) ≡ false × c.registration ≤ length p.registrations
+InPeriod (idle_queued t e from) p = PeriodGoesOn p
+InPeriod c p = Unit {0}
 
 -- what a registration is for
 abbrev pub role_at : List Registration → ℕ → Role
@@ -203,7 +263,7 @@ abbrev pub signal_at : List Registration → ℕ → Option ℕ
 signal_at made r = (numbered made r no_registration).signal
 
 -- how registration r is due: an active timer completes, whose task is queued, or a delayed post does nothing, or the task of a timeout
--- signal comes; an idle timeout is over; a pending answer of a host comes, and its task is queued
+-- signal comes; an idle timeout is over, or a pending answer of a host comes, and its task is queued
 pub data DueChange (made : List Registration) (r : ℕ) : Places → Places → Type 0 where
   timer_due : {x : Places} (start number : ℕ) (source : Source) (t : TimerTask)
       → completion_of x.completions start ≡ Some (QueueTimer t) → t.registration ≡ r → role_at made r ≡ timer_role t.repeats
@@ -212,12 +272,35 @@ pub data DueChange (made : List Registration) (r : ℕ) : Places → Places → 
       → role_at made r ≡ OfKind kind.Post → DueChange made r x (without_start start x)
   signal_due : {x : Places} (start s : ℕ) → completion_of x.completions start ≡ Some (QueueSignal r s)
       → role_at made r ≡ OfKind kind.Signal → DueChange made r x (without_start start x)
-  idle_due : {x : Places} (handle : ℕ) → role_at made r ≡ OfKind kind.Idle
-      → DueChange made r x (record x { idle_timers = without (λ u. u.handle == handle) x.idle_timers })
+  idle_due : {x : Places} (t : IdleTimer) (number : ℕ) (source : Source) → IsIn t x.idle_timers → t.registration ≡ r
+      → role_at made r ≡ OfKind kind.Idle
+      → DueChange made r x
+      (with_task (record { number = number; source = source; steps = IdleTimeout t.handle })
+      (record x { idle_timers = without (λ u. u.handle == t.handle) x.idle_timers }))
   answer_due : {x : Places} (before : List HostAnswer) (a : HostAnswer) (after : List HostAnswer) (number : ℕ) (source : Source)
       → x.host_answers ≡ before ++ a ∷ after → a.task.registration ≡ r → role_at made r ≡ OfKind kind.Host
       → DueChange made r x
       (with_task (record { number = number; source = source; steps = AnswerHost a.task }) (without_answer a.task.registration x))
+
+-- the registration whose steps an active timer completes with
+abbrev pub completes_for : Completion → ℕ
+completes_for (QueueTimer t) = t.registration
+completes_for (EnqueuePost r source) = r
+completes_for (QueueSignal r s) = r
+
+-- what waits for its due time in an active timer
+abbrev pub is_delayed_role : Role → Bool
+is_delayed_role ScriptRole = false
+is_delayed_role (OfKind k) = is_delayed k
+
+-- registration r waits for this due time: in an active timer, in an idle timeout, or in a pending answer of a host
+pub data ArmedAt (made : List Registration) (x : Places) (r due : ℕ) : Type 0 where
+  by_timer : (a : ActiveTimer) (c : Completion) → IsIn a x.timers.active → a.due ≡ due → completion_of x.completions a.start ≡ Some c
+      → completes_for c ≡ r → is_delayed_role (role_at made r) ≡ true → ArmedAt made x r due
+  by_idle : (t : IdleTimer) → IsIn t x.idle_timers → t.due ≡ due → t.registration ≡ r → role_at made r ≡ OfKind kind.Idle
+      → ArmedAt made x r due
+  by_host : (a : HostAnswer) → IsIn a x.host_answers → a.due ≡ due → a.task.registration ≡ r → role_at made r ≡ OfKind kind.Host
+      → ArmedAt made x r due
 
 -- how registration r leaves its place by a cancel
 pub data Dropping (made : List Registration) (r : ℕ) : Places → Places → Type 0 where
@@ -289,20 +372,23 @@ promise_changes n c p = on_notices (λ s. changed (context p) p.names n c s) p
 
 pub data PageChange : Page → Page → Type 0 where
   -- something else than promises, jobs, lines, registrations, frame callbacks and the checkpoint is changed, and the places so
-  elsewhere : {p q : Page} → PlaceChange p.registrations (places p) (places q) → AsBefore p q → PageChange p q
+  elsewhere : {p q : Page} (c : PlaceChange p.registrations (places p) (places q)) → AsBefore p q → InPeriod c p → PageChange p q
   -- a line that tells nothing of promises and jobs
   told : {p : Page} (e : Event) → is_aside e ≡ true → PageChange p (emit e p)
-  -- a line between turns, where no call is open and no job waits; that of the scheduler's turn comes with its call
+  -- a registration is armed
+  arm_told : {p : Page} (r due level : ℕ) → ArmedAt p.registrations (places p) r due → PageChange p (emit (Arm r due level) p)
+  -- a line between turns, where no call is open, no job waits and no frame is in progress; that of the scheduler's turn comes with its
+  -- call, and that of a period at the idle period start
   rested : {p : Page} (e : Event) → is_rest e ≡ true → open_registrations p.events ≡ [] → p.notices.jobs ≡ []
-      → is_sched_turn e ≡ false → PageChange p (emit e p)
+      → is_sched_turn e ≡ false → FrameIsOver p → (is_period e ≡ true → p.last_idle_start ≡ p.now) → PageChange p (emit e p)
   -- a host's task is taken, and the host answers
   answered : {p q : Page} (source : Source) (task : Task) (t : HostTask) (answer : Result ℤ ℤ) → first_task source p.tasks ≡ Some task
       → task.steps ≡ AnswerHost t
       → is_there (not_dropped (slice_get p.hosts t.closure)) ≡ true
       → places q ≡ host_fired t.closure (without_number task.number (places p))
       → AsBefore (emit (Host t.closure t.number answer) p) q → PageChange p q
-  -- a registration is made, and waits at its first place
-  registered : {p q : Page} (kind : RegKind) (x : Registration) → x.role ≡ OfKind kind
+  -- a registration is made, for no frame, and waits at its first place
+  registered : {p q : Page} (kind : RegKind) (x : Registration) → x.role ≡ OfKind kind → is_frame kind ≡ false
       → FirstPlace p.registrations p.prios (suc (length p.registrations)) (places p) (places q)
       → AsBefore (register_as kind x p) q → PageChange p q
   -- a registration is made, and its scheduler task is enqueued, with its line
@@ -333,9 +419,8 @@ pub data PageChange : Page → Page → Type 0 where
   -- a signal gets a priority, with its line
   prio_told : {p : Page} (s : ℕ) (priority : Priority) (ps : Prios) → PrioSet s priority p.prios ps
       → PageChange p (record (emit (Prio s priority) p) { prios = ps })
-  -- a frame callback is registered and requested, and one leaves the map
+  -- a frame callback is registered and requested
   frame_asked : {p : Page} (f : Func) → PageChange p (frame_requested f p)
-  frame_gone : {p : Page} (handle : ℕ) → PageChange p (without_frame handle p)
   -- a promise is made
   promised : {p : Page} → PageChange p (new_promise p)
   -- a promise that was never resolved is settled, with its jobs
@@ -364,10 +449,51 @@ pub data PageChange : Page → Page → Type 0 where
   -- a promise joins the outstanding ones
   noted : {p : Page} (n : ℕ) → PageChange p (record p { notices = note_outstanding n p.notices })
 
--- changes one after another
+-- whether a first place is one at which a registration is armed, for this due time
+abbrev pub FirstArms : {made : List Registration} {prios : Prios} {r : ℕ} {x y : Places} → FirstPlace made prios r x y → (due : ℕ) → Type 0
+FirstArms (at_timer a t e fresh) due = due ≡ a.due
+FirstArms (at_delay ms now q source e h) due = due ≡ now + ms * 1000
+FirstArms (at_host c a e there live) due = due ≡ a.due
+FirstArms u due = ⊥
+
+-- whether a change of the places arms this registration for this due time
+abbrev pub PlaceArms : {made : List Registration} {x y : Places} → PlaceChange made x y → (r due : ℕ) → Type 0
+PlaceArms (armed_again a t role there own) r due = r ≡ t.registration × due ≡ a.due
+PlaceArms (signal_armed ms now q s) r due = r ≡ q × due ≡ now + ms * 1000
+PlaceArms (idle_armed t most own) r due = r ≡ t.registration × due ≡ t.due
+PlaceArms c r due = ⊥
+
+-- a change and the line that tells what it arms
+abbrev pub Tells : {p q r : Page} → PageChange p q → PageChange q r → Type 0
+Tells {p = p} (registered kind x e unframed u b) (arm_told r due level w) = r ≡ suc (length p.registrations) × FirstArms u due
+Tells (elsewhere c b k) (arm_told r due level w) = PlaceArms c r due
+Tells a b = ⊥
+
+-- whether a first place, and a change of the places, arm nothing
+abbrev pub FirstIsPlain : {made : List Registration} {prios : Prios} {r : ℕ} {x y : Places} → FirstPlace made prios r x y → Type 0
+FirstIsPlain (at_timer a t e fresh) = ⊥
+FirstIsPlain (at_delay ms now q source e h) = ⊥
+FirstIsPlain (at_host c a e there live) = ⊥
+FirstIsPlain u = Unit {0}
+
+abbrev pub PlaceIsPlain : {made : List Registration} {x y : Places} → PlaceChange made x y → Type 0
+PlaceIsPlain (armed_again a t role there own) = ⊥
+PlaceIsPlain (signal_armed ms now q s) = ⊥
+PlaceIsPlain (idle_armed t most own) = ⊥
+PlaceIsPlain c = Unit {0}
+
+-- a change that arms nothing
+abbrev pub IsPlain : {p q : Page} → PageChange p q → Type 0
+IsPlain (registered kind x e unframed u b) = FirstIsPlain u
+IsPlain (elsewhere c b k) = PlaceIsPlain c
+IsPlain (arm_told r due level w) = ⊥
+IsPlain c = Unit {0}
+
+-- changes one after another, where each that arms is told of at once
 pub data Changes : Page → Page → Type 0 where
   nothing : {p : Page} → Changes p p
-  with_change : {p q r : Page} → Changes p q → PageChange q r → Changes p r
+  with_change : {p q r : Page} → Changes p q → (c : PageChange q r) → IsPlain c → Changes p r
+  with_arm : {p q r s : Page} → Changes p q → (c : PageChange q r) (d : PageChange r s) → Tells c d → Changes p s
 
 -- ---- Ours: how a call begins
 
@@ -435,22 +561,27 @@ Waited (TheScript source task) p = first_task source p.tasks ≡ Some task × ta
 Waited (ATimer source task t) p =
     first_task source p.tasks ≡ Some task × task.steps ≡ RunTimer t × is_live t.id t.handle p.timers ≡ true
     × id_at p.registrations t.registration ≡ t.id
-Waited (AFrame key c) p = callback_in p.frames.callbacks key ≡ Some c
-Waited (AnIdle c others) p = p.idle.runnable ≡ c ∷ others × nat_lt p.now (deadline p.last_idle_start p) ≡ true
-Waited (ALateIdle handle c) p = idle_callback handle p ≡ Some c
+Waited (AFrame key c) p = IsDrawnNext key c p
+Waited (AnIdle c others) p =
+    p.idle.runnable ≡ c ∷ others × nat_lt p.now (deadline p.last_idle_start p) ≡ true × PeriodGoesOn p
+Waited (ALateIdle handle c) p = idle_callback handle p ≡ Some c × was_due p.events c.registration ≡ true
 Waited (AListener r) p = is_listening r p.listeners ≡ true
-Waited (APost t) p = first_sched p ≡ Some t × t.continuation ≡ false × open_registrations p.events ≡ [] × p.notices.jobs ≡ []
-Waited (AContinuation t) p = first_sched p ≡ Some t × t.continuation ≡ true × open_registrations p.events ≡ [] × p.notices.jobs ≡ []
+Waited (APost t) p =
+    first_sched p ≡ Some t × t.continuation ≡ false × open_registrations p.events ≡ [] × p.notices.jobs ≡ [] × FrameIsOver p
+Waited (AContinuation t) p =
+    first_sched p ≡ Some t × t.continuation ≡ true × open_registrations p.events ≡ [] × p.notices.jobs ≡ [] × FrameIsOver p
 Waited (AMicro job others r) p = p.notices.jobs ≡ job ∷ others × job.what ≡ Micro r × open_registrations p.events ≡ []
 Waited (AReaction job others of x r) p =
     p.notices.jobs ≡ job ∷ others × job.what ≡ OfPromise (React of x) × x.registration ≡ Some r × open_registrations p.events ≡ []
 
 -- ---- Ours: moves
 
--- A row of moves: changes, calls and their ends, the begin and end of a checkpoint, and the jobs that run in it, where no call is open.
+-- A row of moves: changes, calls and their ends, the begin and end of a checkpoint, the jobs that run in it, where no call is open, idle
+-- period starts, and the lines of frames.
 pub data Moves : Page → Page → Type 0 where
   here : {p : Page} → Moves p p
-  changing : {p q r : Page} → Moves p q → PageChange q r → Moves p r
+  changing : {p q r : Page} → Moves p q → (c : PageChange q r) → IsPlain c → Moves p r
+  arming : {p q r s : Page} → Moves p q → (c : PageChange q r) (d : PageChange r s) → Tells c d → Moves p s
   calling : {p q : Page} → Moves p q → (b : Beginning) → Waited b q → IsFor (role_of b) (made_by q) (called_by b)
       → Moves p (call_begun (called_by b) (taken b q))
   ending : {p q : Page} → Moves p q → (e : Event) → is_end e ≡ true → Moves p (call_ended e q)
@@ -460,3 +591,7 @@ pub data Moves : Page → Page → Type 0 where
       → scheduling_of r ≡ scheduling_of q → Moves p r
   running : {p q : Page} → Moves p q → (job : WaitingJob) (others : List WaitingJob) → q.notices.jobs ≡ job ∷ others
       → open_registrations q.events ≡ [] → Moves p (job_begun job others q)
+  -- the idle period start is now, where no task waits that invokes idle callbacks
+  idling : {p q : Page} → Moves p q → (HasSteps InvokeIdle q.tasks → ⊥) → Moves p (record q { last_idle_start = q.now })
+  -- the line of a frame
+  framing : {p q : Page} → Moves p q → (t : ℕ) → Moves p (emit (Frame t) q)

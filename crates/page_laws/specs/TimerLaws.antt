@@ -98,6 +98,17 @@ holds_timers_in_order form es = each_line (λ past e. keeps_timers form past e.t
 abbrev pub TimersInOrder : (form : ℕ) → List Stamped → Type 0
 TimersInOrder form es = holds_timers_in_order form es ≡ true
 
+abbrev pub keeps_firing : History → Event → Bool
+keeps_firing past (Call r) = may_fire past r
+keeps_firing past e = true
+
+abbrev pub holds_fire_when_due : List Stamped → Bool
+holds_fire_when_due es = each_line (λ past e. keeps_firing past e.event) [] es
+
+-- A part of that law by itself: a timer is called no more often than it is due.
+abbrev pub TimersFireWhenDue : List Stamped → Type 0
+TimersFireWhenDue es = holds_fire_when_due es ≡ true
+
 -- ---- HTML, "Animation frames": run the animation frame callbacks
 
 abbrev pub is_frame_line : Event → Bool

@@ -13,6 +13,7 @@ ghost use Rattle.page_model.specs.Numbers.{HoldsNoNumbers};
 ghost use Rattle.page_laws.specs.CallLaws.{Once, Cancel, SettleOnce, JobsInOrder, NoNesting};
 ghost use Rattle.page_laws.specs.History.{open_registrations};
 ghost use Rattle.page_laws.specs.SchedulerLaws.{PriorityOrder};
+ghost use Rattle.page_laws.specs.TimerLaws.{FramesInOrder, IdleDeadlines, TimersFireWhenDue};
 ghost use Rattle.page_laws.specs.Moves.{Moves};
 ghost use Rattle.page_model.specs.Gaps.{Act, run_gaps_by};
 
@@ -66,6 +67,27 @@ pub fn scheduler_tasks_go_by_priority<R: Choosing>()
         → PriorityOrder (events_of_run (run_by R.rules program setup hosts c)) }
 {}
 
+/// A frame callback is called behind the frame line of its turn, before which it was requested; the calls of a turn go in the order of the
+/// requests, and between turns none is left that was requested before a frame line.
+pub fn frames_go_in_order<R: Choosing>()
+    ensures { (program : Program) (setup : Setup) (hosts : List HostClosure) (c : R.Held) → HoldsNoNumbers setup
+        → FramesInOrder (events_of_run (run_by R.rules program setup hosts c)) }
+{}
+
+/// An idle callback is called in an idle period, before whose start it was requested, or after its timeout. The deadline that a period's
+/// calls are given is after now, no later than 50 milliseconds behind the period's start, and no later than what any active registration is
+/// armed for; these calls go in the order of the requests.
+pub fn idle_deadlines_are_kept<R: Choosing>()
+    ensures { (program : Program) (setup : Setup) (hosts : List HostClosure) (c : R.Held) → HoldsNoNumbers setup
+        → IdleDeadlines (events_of_run (run_by R.rules program setup hosts c)) }
+{}
+
+/// A timer is called no more often than it is due: a part of the law of timers.
+pub fn timers_fire_when_due<R: Choosing>()
+    ensures { (program : Program) (setup : Setup) (hosts : List HostClosure) (c : R.Held) → HoldsNoNumbers setup
+        → TimersFireWhenDue (events_of_run (run_by R.rules program setup hosts c)) }
+{}
+
 /// The open calls that a page keeps are those that its lines tell, the innermost first, wherever a run stops.
 pub fn open_calls_are_told<R: Choosing>()
     ensures in_runs { (program : Program) (setup : Setup) (hosts : List HostClosure) (c : R.Held) → HoldsNoNumbers setup
@@ -90,4 +112,10 @@ pub fn acts_keep_the_laws<R: Choosing>()
         → PriorityOrder (events_of_run (run_gaps_by R.rules program setup list c)) }
     ensures cancels { (program : Program) (setup : Setup) (c : R.Held) (list : List Act) → HoldsNoNumbers setup
         → Cancel (events_of_run (run_gaps_by R.rules program setup list c)) }
+    ensures frames { (program : Program) (setup : Setup) (c : R.Held) (list : List Act) → HoldsNoNumbers setup
+        → FramesInOrder (events_of_run (run_gaps_by R.rules program setup list c)) }
+    ensures deadlines { (program : Program) (setup : Setup) (c : R.Held) (list : List Act) → HoldsNoNumbers setup
+        → IdleDeadlines (events_of_run (run_gaps_by R.rules program setup list c)) }
+    ensures firing { (program : Program) (setup : Setup) (c : R.Held) (list : List Act) → HoldsNoNumbers setup
+        → TimersFireWhenDue (events_of_run (run_gaps_by R.rules program setup list c)) }
 {}

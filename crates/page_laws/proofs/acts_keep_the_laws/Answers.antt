@@ -22,3 +22,12 @@ returns-clause-cancels g c = λ program setup choices list h. (laws_of_gaps g.R.
 
 pub returns-clause-priorities : goal.returns-clause-priorities
 returns-clause-priorities g c = λ program setup choices list h. (laws_of_gaps g.R.Choosing.rules program setup choices list h).6
+
+pub returns-clause-frames : goal.returns-clause-frames
+returns-clause-frames g c = λ program setup choices list h. (laws_of_gaps g.R.Choosing.rules program setup choices list h).7
+
+pub returns-clause-deadlines : goal.returns-clause-deadlines
+returns-clause-deadlines g c = λ program setup choices list h. (laws_of_gaps g.R.Choosing.rules program setup choices list h).8
+
+pub returns-clause-firing : goal.returns-clause-firing
+returns-clause-firing g c = λ program setup choices list h. (laws_of_gaps g.R.Choosing.rules program setup choices list h).9
