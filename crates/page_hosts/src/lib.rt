@@ -8,5 +8,5 @@ mod tests;
 
 pub use host_jobs::{HostPort, NoHost};
 pub use hosts::PageHosts;
-pub use laws::closures_are_those_of_a_page;
+pub use laws::{closures_are_those_of_a_page, kept_answers_are_choices};
 pub use page_values::MemoryFault;
