@@ -1,0 +1,15 @@
+use Rattle.std.proofs.Common.{List, ap, nat_cmp}
+use Rattle.std.specs.BTreeSet.{contains}
+use Rattle.page_parts.specs.HostClosures.{HostClosure}
+use Rattle.page_hosts.specs.Hosts.{Hosts}
+use Rattle.page_hosts.proofs.HostLemmas.{ask_is, asks_too}
+use Rattle.page_hosts.proofs.hosts.PageHosts.ask.Goals as goal
+
+pub returns-clause-ok : goal.returns-clause-ok
+returns-clause-ok g c =
+    let asked = contains nat_cmp c.self.inside.asked in
+    let now = contains nat_cmp c.insert.new.self in
+    let cs = g.P.HostPort.closures c.self.inside.port in
+    let seen : List HostClosure → Hosts = λ hosts. record { closures = hosts; kept = g.P.HostPort.kept c.self.inside.port; refusals = g.P.HostPort.refusals c.self.inside.port } in
+    rw (← c.self.view_is)
+    (ap seen (ask_is asked now cs c.args.k (rw (← c.self.view_is) at c.requires) (asks_too c.args.k asked now c.in_ok-insert.ensures.updates.0)))
