@@ -15,6 +15,7 @@ use Rattle.page_parts.specs.Channels.{Post}
 use Rattle.promise_combine.specs.Coded.{coded_combine}
 use Rattle.page_notices.specs.State.{coded_notices}
 use Rattle.page_model.specs.State.{Role, ScriptRole, OfKind, Registration, PrioSource, Fixed, OfSignal, SchedulingState, Combining, Element}
+use Rattle.page_tasks.specs.Coded.{coded_prio_source}
 use Rattle.page_script.specs.Script.{Script}
 
 abbrev pub coded_func : Coded Func
@@ -59,25 +60,9 @@ coded_registration =
 
 -- ---- Scheduling states
 
-abbrev split_source : PrioSource → Priority ⊎ ℕ
-split_source (Fixed priority) = inl priority
-split_source (OfSignal s) = inr s
-
-abbrev joined_source : Priority ⊎ ℕ → PrioSource
-joined_source (inl priority) = Fixed priority
-joined_source (inr s) = OfSignal s
-
-pub joined_source-split : (source : PrioSource) → joined_source (split_source source) ≡ source
-joined_source-split (Fixed priority) = refl
-joined_source-split (OfSignal s) = refl
-
-abbrev pub coded_source : Coded PrioSource
-coded_source =
-    code_by (Priority ⊎ ℕ) (coded⊎ priority_code.the_row.coded coded_ℕ) split_source joined_source joined_source-split
-
 abbrev pub coded_scheduling_state : Coded SchedulingState
 coded_scheduling_state =
-    code_by (Option ℕ × PrioSource) (coded× (coded_option coded_ℕ) coded_source)
+    code_by (Option ℕ × PrioSource) (coded× (coded_option coded_ℕ) coded_prio_source)
     (λ s. (s.abort_source, s.prio_source)) (λ t. record { abort_source = t.0; prio_source = t.1 }) (λ _. refl)
 
 -- ---- Combinators and messages

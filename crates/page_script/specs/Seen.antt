@@ -5,8 +5,7 @@ use Rattle.page_values.specs.Seen.{seen}
 use Rattle.page_parts.specs.Kinds as Kinds
 use Rattle.page_parts.specs.Channels as Channels
 use Rattle.page_model.specs.State as m
-use Rattle.post_task.specs.declared.level.PrioSource.{PrioSource}
-use Rattle.post_task.specs.declared.level.PrioSource.TheVariants as prio
+use Rattle.page_tasks.specs.Seen.{prio_source}
 use Rattle.page_script.specs.declared.parts.Role.{Role}
 use Rattle.page_script.specs.declared.parts.Role.TheVariants as role
 use Rattle.page_script.specs.declared.parts.Registration.{Registration}
@@ -32,12 +31,8 @@ registration_seen r =
       finally = r.finally;
     }
 
-abbrev pub source_seen : PrioSource → m.PrioSource
-source_seen (prio.Fixed priority) = m.Fixed priority
-source_seen (prio.Signal s) = m.OfSignal s
-
 abbrev pub state_seen : SchedulingState → m.SchedulingState
-state_seen s = record { abort_source = s.abort_source; prio_source = source_seen s.prio_source }
+state_seen s = record { abort_source = s.abort_source; prio_source = prio_source s.prio_source }
 
 abbrev pub post_seen : Post → Channels.Post
 post_seen x = record { port = x.port; value = seen x.value; at = x.at.0 }

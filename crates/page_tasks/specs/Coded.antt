@@ -50,7 +50,7 @@ priority_at-rank UserBlocking = refl
 abbrev pub coded_priority : Coded Priority
 coded_priority = code_by ℕ coded_ℕ rank priority_at priority_at-rank
 
-abbrev coded_timer_task : Coded TimerTask
+abbrev pub coded_timer_task : Coded TimerTask
 coded_timer_task =
     code_by (ℕ × (ℕ × (ℕ × (ℕ × (Bool × ℤ)))))
     (coded× coded_ℕ (coded× coded_ℕ (coded× coded_ℕ (coded× coded_ℕ (coded× coded_bool coded_ℤ)))))
@@ -65,7 +65,7 @@ coded_timer_task =
     })
     (λ _. refl)
 
-abbrev coded_host_task : Coded HostTask
+abbrev pub coded_host_task : Coded HostTask
 coded_host_task =
     code_by (ℕ × (ℕ × ℤ)) (coded× coded_ℕ (coded× coded_ℕ coded_ℤ))
     (λ t. (t.registration, (t.closure, t.number)))
@@ -146,7 +146,7 @@ pub joined_prio_source-split : (source : PrioSource) → joined_prio_source (spl
 joined_prio_source-split (Fixed priority) = refl
 joined_prio_source-split (OfSignal s) = refl
 
-abbrev coded_prio_source : Coded PrioSource
+abbrev pub coded_prio_source : Coded PrioSource
 coded_prio_source =
     code_by (Priority ⊎ ℕ) (coded⊎ coded_priority coded_ℕ) split_prio_source joined_prio_source joined_prio_source-split
 

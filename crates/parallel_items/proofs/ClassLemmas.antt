@@ -18,7 +18,8 @@ use Rattle.page_model.specs.Parallel.{Item, ArrivalItem, first_item_from, first_
 use Rattle.parallel_items.specs.declared.taken.HostAnswer.{HostAnswer}
 use Rattle.parallel_items.specs.Items.{answer_item, answer_items, due_of, earlier, left_of}
 use Rattle.parallel_items.specs.InParallel.{Waiting}
-use Rattle.parallel_items.specs.Seen.{task_seen, answer_seen, answers_of, arrivals_of}
+use Rattle.parallel_items.specs.Seen.{answer_seen, answers_of, arrivals_of}
+use Rattle.page_tasks.specs.Seen.{host_task}
 use Rattle.parallel_items.specs.Kept.{IsPlaced, AreArrivalsKept}
 use Rattle.parallel_items.proofs.FirstLemmas.{first_append}
 
@@ -110,12 +111,12 @@ first_arrival a more order =
 
 -- what a registration asked, in the code's list and in the model's
 pub pending_seen : (r : ℕ) (xs : List HostAnswer) (o : Option HostAnswer) → o ≡ find (λ (a : HostAnswer). eqb a.task.registration r) xs
-    → option_map task_seen (option_map (λ (a : HostAnswer). a.task) o) ≡ option_map (λ (a : model.HostAnswer). a.task) (find (λ (a : model.HostAnswer). eqb a.task.registration r) (answers_of xs))
+    → option_map host_task (option_map (λ (a : HostAnswer). a.task) o) ≡ option_map (λ (a : model.HostAnswer). a.task) (find (λ (a : model.HostAnswer). eqb a.task.registration r) (answers_of xs))
 pending_seen r xs o is =
     same o ∙ ap (λ (p : Option HostAnswer). option_map (λ (a : model.HostAnswer). a.task) (option_map answer_seen p)) is
     ∙ sym (ap (option_map (λ (a : model.HostAnswer). a.task)) (find_map answer_seen (λ (a : model.HostAnswer). eqb a.task.registration r) xs))
   where
-    same : (o : Option HostAnswer) → option_map task_seen (option_map (λ (a : HostAnswer). a.task) o) ≡ option_map (λ (a : model.HostAnswer). a.task) (option_map answer_seen o)
+    same : (o : Option HostAnswer) → option_map host_task (option_map (λ (a : HostAnswer). a.task) o) ≡ option_map (λ (a : model.HostAnswer). a.task) (option_map answer_seen o)
     same None = refl
     same (Some a) = refl
 

@@ -2,12 +2,11 @@
 use Rattle.std.specs.Prelude.{ℕ, Bool, List, ℤ, ◌⊎◌, ◌≡◌, refl}
 use Rattle.std.specs.Coded.{Coded, code_by, coded_list, coded×, coded⊎, coded_ℕ, coded_bool, coded_ℤ}
 use Rattle.page_types.specs.ValueCode.{coded_value}
-use Rattle.page_types.specs.contracts.Priority as priority_code
 use Rattle.page_types.specs.contracts.Source as source_code
-use Rattle.page_types.specs.declared.Priority.{Priority}
 use Rattle.page_parts.specs.Setup.{Arrival}
 use Rattle.page_parts.specs.Timers.{TimerId, ActiveTimer, Timers}
-use Rattle.page_model.specs.State.{TimerTask, PrioSource, Fixed, OfSignal, Completion, QueueTimer, EnqueuePost, QueueSignal, Completing, IdleTimer, HostAnswer}
+use Rattle.page_model.specs.State.{TimerTask, HostTask, PrioSource, Completion, QueueTimer, EnqueuePost, QueueSignal, Completing, IdleTimer, HostAnswer}
+use Rattle.page_tasks.specs.Coded.{coded_timer_task, coded_host_task, coded_prio_source}
 use Rattle.parallel_items.specs.InParallel.{Waiting, TimerOwner, InParallel}
 use Rattle.parallel_items.specs.Views.{ArrivalList}
 use mathlib.Core.Logic.{inl, inr}
@@ -27,36 +26,6 @@ coded_timers =
     (λ p. record { ids = p.0; active = p.1.0; ids_made = p.1.1.0; handles_made = p.1.1.1.0; starts_made = p.1.1.1.1 })
     (λ _. refl)
 
-abbrev coded_task : Coded TimerTask
-coded_task =
-    code_by ((ℕ × ℕ) × ((ℕ × ℕ) × (Bool × ℤ))) (coded× coded_pair (coded× coded_pair (coded× coded_bool coded_ℤ)))
-    (λ t. ((t.registration, t.id), ((t.handle, t.level), (t.repeats, t.timeout))))
-    (λ p. record {
-      registration = p.0.0;
-      id = p.0.1;
-      handle = p.1.0.0;
-      level = p.1.0.1;
-      repeats = p.1.1.0;
-      timeout = p.1.1.1;
-    })
-    (λ _. refl)
-
--- a priority source as a priority or a signal
-abbrev split_source : PrioSource → Priority ⊎ ℕ
-split_source (Fixed priority) = inl priority
-split_source (OfSignal s) = inr s
-
-abbrev joined_source : Priority ⊎ ℕ → PrioSource
-joined_source (inl priority) = Fixed priority
-joined_source (inr s) = OfSignal s
-
-pub joined_split_source : (source : PrioSource) → joined_source (split_source source) ≡ source
-joined_split_source (Fixed priority) = refl
-joined_split_source (OfSignal s) = refl
-
-abbrev coded_source : Coded PrioSource
-coded_source = code_by (Priority ⊎ ℕ) (coded⊎ priority_code.the_row.coded coded_ℕ) split_source joined_source joined_split_source
-
 -- completion steps as those of one kind or of another
 abbrev split_completion : Completion → TimerTask ⊎ ((ℕ × PrioSource) ⊎ (ℕ × ℕ))
 split_completion (QueueTimer t) = inl t
@@ -75,7 +44,7 @@ joined_split_completion (QueueSignal r s) = refl
 
 abbrev coded_completion : Coded Completion
 coded_completion =
-    code_by (TimerTask ⊎ ((ℕ × PrioSource) ⊎ (ℕ × ℕ))) (coded⊎ coded_task (coded⊎ (coded× coded_ℕ coded_source) coded_pair))
+    code_by (TimerTask ⊎ ((ℕ × PrioSource) ⊎ (ℕ × ℕ))) (coded⊎ coded_timer_task (coded⊎ (coded× coded_ℕ coded_prio_source) coded_pair))
     split_completion joined_completion joined_split_completion
 
 abbrev coded_completing : Coded Completing
@@ -92,10 +61,8 @@ coded_idle_timer =
 
 abbrev coded_host_answer : Coded HostAnswer
 coded_host_answer =
-    code_by (ℕ × (ℕ × (ℕ × ℤ))) (coded× coded_ℕ (coded× coded_ℕ (coded× coded_ℕ coded_ℤ)))
-    (λ a. (a.due, (a.task.registration, (a.task.closure, a.task.number))))
-    (λ p. record { due = p.0; task = record { registration = p.1.0; closure = p.1.1.0; number = p.1.1.1 } })
-    (λ _. refl)
+    code_by (ℕ × HostTask) (coded× coded_ℕ coded_host_task)
+    (λ a. (a.due, a.task)) (λ p. record { due = p.0; task = p.1 }) (λ _. refl)
 
 abbrev coded_arrival : Coded Arrival
 coded_arrival =

@@ -9,37 +9,23 @@ use Rattle.arrivals_text.specs.declared.arrival.Arrival as read
 use Rattle.post_task.specs.declared.level.PrioSource as post
 use Rattle.post_task.specs.declared.level.PrioSource.TheVariants as post_source
 use Rattle.timer_map.specs.InOrder.{in_order}
-use Rattle.parallel_items.specs.declared.completion.TimerTask.{TimerTask}
+use Rattle.page_tasks.specs.declared.tasks.TimerTask.{TimerTask}
 use Rattle.parallel_items.specs.declared.completion.Completion.{Completion}
 use Rattle.parallel_items.specs.declared.completion.Completion.TheVariants as completion
 use Rattle.parallel_items.specs.declared.idle.IdleTimeout.{IdleTimeout}
-use Rattle.parallel_items.specs.declared.taken.HostTask.{HostTask}
+use Rattle.page_tasks.specs.declared.tasks.HostTask.{HostTask}
 use Rattle.parallel_items.specs.declared.taken.HostAnswer.{HostAnswer}
 use Rattle.parallel_items.specs.declared.taken.Taken as code
 use Rattle.parallel_items.specs.declared.taken.Taken.TheVariants as taken
+use Rattle.page_tasks.specs.Seen.{timer_task, host_task, prio_source}
 use Rattle.parallel_items.specs.InParallel.{TimerOwner}
 use Rattle.parallel_items.specs.Items.{Taken, TakenArrival, TakenAnswer, TakenCompletion, TakenIdleTimeout}
 
 -- ---- completion steps
 
-abbrev pub timer_seen : TimerTask → model.TimerTask
-timer_seen t =
-    record {
-      registration = t.registration;
-      id = t.id;
-      handle = t.handle;
-      level = t.level;
-      repeats = t.repeats;
-      timeout = t.timeout;
-    }
-
-abbrev pub source_seen : post.PrioSource → model.PrioSource
-source_seen (post_source.Fixed priority) = model.Fixed priority
-source_seen (post_source.Signal s) = model.OfSignal s
-
 abbrev pub completion_seen : Completion → model.Completion
-completion_seen (completion.QueueTimer t) = model.QueueTimer (timer_seen t)
-completion_seen (completion.EnqueuePost r source) = model.EnqueuePost r (source_seen source)
+completion_seen (completion.QueueTimer t) = model.QueueTimer (timer_task t)
+completion_seen (completion.EnqueuePost r source) = model.EnqueuePost r (prio_source source)
 completion_seen (completion.QueueSignal r s) = model.QueueSignal r s
 
 -- the completion steps of the active timer with a start number
@@ -59,11 +45,8 @@ owners_of last entries = map owner_seen (in_order (λ (entry : ℕ × ℕ). entr
 
 -- ---- host answers
 
-abbrev pub task_seen : HostTask → model.HostTask
-task_seen t = record { registration = t.registration; closure = t.closure; number = t.number }
-
 abbrev pub answer_seen : HostAnswer → model.HostAnswer
-answer_seen a = record { due = a.due.0; task = task_seen a.task }
+answer_seen a = record { due = a.due.0; task = host_task a.task }
 
 abbrev pub answers_of : List HostAnswer → List model.HostAnswer
 answers_of answers = map answer_seen answers
@@ -90,6 +73,6 @@ arrivals_of entries = map (λ (entry : (Micros × ℕ) × read.Arrival). arrival
 
 abbrev pub taken_seen : code.Taken → Taken
 taken_seen (taken.Arrival a) = TakenArrival (arrival_of a)
-taken_seen (taken.HostAnswer t) = TakenAnswer (task_seen t)
+taken_seen (taken.HostAnswer t) = TakenAnswer (host_task t)
 taken_seen (taken.Completion c) = TakenCompletion (completion_seen c)
 taken_seen (taken.IdleTimeout handle r) = TakenIdleTimeout handle r

@@ -6,7 +6,8 @@ ghost use Rattle.page_model.specs.State.{Completing};
 ghost use Rattle.page_model.specs.Parallel.{first_item_of};
 ghost use Rattle.parallel_items.specs.InParallel.{Waiting};
 ghost use Rattle.parallel_items.specs.Items.{answer_item, answer_items, due_of, earlier, TakenAnswer, taken_of, left_of};
-ghost use Rattle.parallel_items.specs.Seen.{task_seen, answer_seen, answers_of};
+ghost use Rattle.parallel_items.specs.Seen.{answer_seen, answers_of};
+ghost use Rattle.page_tasks.specs.Seen.{host_task};
 
 use crate::{HostAnswer, HostTask, MemoryFault};
 use page_base::Micros;
@@ -82,7 +83,7 @@ impl HostAnswers {
     }
 
     pub(crate) fn pending(&self, registration: u32) -> Option<HostTask>
-        ensures { option_map task_seen result ≡ option_map (λ a. a.task) (find (λ a. a.task.registration == registration) self.now) }
+        ensures { option_map host_task result ≡ option_map (λ a. a.task) (find (λ a. a.task.registration == registration) self.now) }
     {
         let answer = asked_by(&self.answers, registration)?;
         Some(answer.task)
@@ -105,7 +106,7 @@ impl HostAnswers {
     // Takes the first of those that are due earliest.
     pub(crate) fn take_first(&mut self) -> Option<HostTask>
         ensures taken { (cs : List Completing) →
-            option_map (λ t. TakenAnswer (task_seen t)) result ≡ taken_of (first_item_of (answer_items self.old)) cs }
+            option_map (λ t. TakenAnswer (host_task t)) result ≡ taken_of (first_item_of (answer_items self.old)) cs }
         ensures some { is_some result ≡ is_there (first_item_of (answer_items self.old)) }
         ensures left { (w : Waiting) → left_of (first_item_of (answer_items self.old)) (record w { host_answers = self.old })
             ≡ record w { host_answers = self.new } }

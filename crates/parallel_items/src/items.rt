@@ -10,7 +10,8 @@ ghost use Rattle.timer_map.specs.Seen.{seen_armed};
 ghost use Rattle.parallel_items.specs.InParallel.{only_arrivals};
 ghost use Rattle.parallel_items.specs.Steps.{timer_started, delay_started, id_cleared, owner_of, is_delayed as is_delay, answer_asked, pending_answer as pending_of, answer_given_up, idle_timeout_started, arrival_to_come};
 ghost use Rattle.parallel_items.specs.Items.{first_waiting, due_of, answer_items, timer_items, idle_items, TakenCompletion, taken_of, left_of, Takes, nothing_waits};
-ghost use Rattle.parallel_items.specs.Seen.{completion_seen, task_seen, answer_seen, taken_seen};
+ghost use Rattle.parallel_items.specs.Seen.{completion_seen, answer_seen, taken_seen};
+ghost use Rattle.page_tasks.specs.Seen.{host_task};
 
 use crate::answers::HostAnswers;
 use crate::arrivals::Arrivals;
@@ -212,7 +213,7 @@ impl ParallelItems {
 
     /// What the pending answer of a registration was asked, none exactly where none is pending. Takes no memory.
     pub fn pending_answer(&self, registration: u32) -> Option<HostTask>
-        ensures { option_map task_seen result ≡ pending_of registration self.now.waiting }
+        ensures { option_map host_task result ≡ pending_of registration self.now.waiting }
     {
         self.answers.pending(registration)
     }

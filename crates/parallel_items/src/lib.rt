@@ -18,11 +18,12 @@ mod taken;
 mod tests;
 
 pub use arrivals_text::Arrival;
-pub use completion::{Completion, TimerTask};
+pub use completion::Completion;
 pub use fault::MemoryFault;
 pub use items::ParallelItems;
 pub use laws::{calls_are_steps_of_a_page, items_are_those_of_a_page, taking_is_a_step_of_a_page};
 pub use page_base::Micros;
+pub use page_tasks::{HostTask, TimerTask};
 pub use post_task::PrioSource;
-pub use taken::{HostAnswer, HostTask, Taken};
+pub use taken::{HostAnswer, Taken};
 pub use timer_map::Armed;

@@ -3,14 +3,7 @@
 use crate::Completion;
 use arrivals_text::Arrival;
 use page_base::Micros;
-
-/// A host closure that was asked, by a registration, for its answer on a number.
-#[derive(Clone, Copy, Debug, PartialEq, Eq)]
-pub struct HostTask {
-    pub registration: u32,
-    pub closure: u32,
-    pub number: i64,
-}
+use page_tasks::HostTask;
 
 /// An answer of a host closure that is pending, and when it is due.
 #[derive(Clone, Copy, Debug, PartialEq, Eq)]
