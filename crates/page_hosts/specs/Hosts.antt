@@ -1,5 +1,6 @@
 -- The host closures of a page, as they are told. Ours: what a page knows of the Rust closures that its script may ask
-use Rattle.std.specs.Prelude.{◌≡◌, ◌≢◌, ◌≤◌, ◌^◌, ℕ, ℤ, pos, negsuc, Bool, true, false, IsTrue, List, length, Option, Some, None, Result, slice_get, slice_set}
+use Rattle.std.specs.Prelude.{◌≡◌, ◌≢◌, ◌≤◌, ◌^◌, ℕ, ℤ, pos, negsuc, Bool, true, false, IsTrue}
+use Rattle.std.specs.Prelude.{List, length, Option, Some, None, Result, slice_get, slice_set}
 use Rattle.std.specs.List.{list_all}
 use Rattle.std.specs.Option.{option_map_or}
 use Rattle.page_types.specs.declared.HostMark.{HostMark}

@@ -24,7 +24,9 @@ module _ (p : Page) where
 
   -- the task of a host answer fires its closure
   abbrev pub AnsweredIs : Type 0
-  AnsweredIs = (t : HostTask) (answer : Result ℤ ℤ) → (answer_host t answer p).hosts ≡ fire_at t.closure (slice_get p.hosts t.closure) p.hosts
+  AnsweredIs =
+      (t : HostTask) (answer : Result ℤ ℤ)
+      → (answer_host t answer p).hosts ≡ fire_at t.closure (slice_get p.hosts t.closure) p.hosts
 
   -- what was asked is dropped
   abbrev pub DroppedIs : Type 0
