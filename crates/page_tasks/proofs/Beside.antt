@@ -1,13 +1,11 @@
 -- The lists of the task sources and those of the scheduler beside each other in one pool.
-use Rattle.std.proofs.Common.{◌≡◌, ◌≢◌, ℕ, ◌<◌, ◌≤◌, List, [], ◌∷◌, length, refl, sym, ◌∙◌, ap, subst, arith}
+use Rattle.std.proofs.Common.{◌≡◌, ◌≢◌, ℕ, ◌<◌, ◌≤◌, length, refl, ◌∙◌, arith}
 use mathlib.Core.Path.{fun_ext}
 use Rattle.page_types.specs.declared.Source.{Source}
 use Rattle.page_types.specs.declared.Source.TheVariants.{User, Net, Dom, Timer, Render, Sched, Idle}
 use Rattle.task_pool.specs.Lists.{Lists, list_of}
 use Rattle.task_queues.specs.declared.queues.Queues.{Queues}
 use Rattle.task_queues.specs.BySource.{list_number, tasks_of, StandIn, IsApart}
-use Rattle.post_task.specs.Waiting.{Waiting}
-use Rattle.post_task.specs.declared.level.Level.{Level}
 use Rattle.post_task.specs.Levels.{Sched as SchedLevels, Queue, all_queues, Lone, waiting, Kept}
 use Rattle.post_task.proofs.Best.{InQueues}
 use Rattle.post_task.proofs.Tasks.{lone_in}

@@ -1,6 +1,6 @@
 -- The scheduler task that is next, and the numbers of first tasks, as a page of the model has them.
-use Rattle.std.proofs.Common.{◌≡◌, ◌≢◌, ℕ, ◌+◌, ◌*◌, Bool, true, false, cond, ◌&&◌, ◌||◌, nat_lt, ◌==◌, List, [], ◌∷◌, map, Option, None, Some, refl, sym, ◌∙◌, ap, subst, inl, inr}
-use Rattle.std.specs.Prelude.{option_map, unwrap_or, MatchOption, is_some, not}
+use Rattle.std.proofs.Common.{◌≡◌, ◌≢◌, ℕ, ◌+◌, ◌*◌, Bool, true, false, cond, ◌&&◌, ◌||◌, nat_lt, ◌==◌, List, [], ◌∷◌, map, Option, None, Some, refl, sym, ◌∙◌, ap, inl, inr}
+use Rattle.std.specs.Prelude.{option_map, unwrap_or, is_some, not}
 use Rattle.std.specs.List.{list_all}
 use Rattle.page_parts.specs.Words.{is_empty, is_there}
 use Rattle.page_model.specs.PageTime.{first_task}
@@ -11,7 +11,7 @@ use Rattle.page_types.specs.declared.Priority.TheVariants.{UserVisible}
 use Rattle.page_types.specs.declared.Source.{Source}
 use Rattle.page_types.specs.declared.Source.TheVariants.{User, Net, Dom, Timer, Render, Sched, Idle}
 use Rattle.page_parts.specs.Sources.{default_list}
-use Rattle.page_parts.specs.TaskSignals.{rank, priority_of}
+use Rattle.page_parts.specs.TaskSignals.{rank}
 use Rattle.page_model.specs.State as Model
 use Rattle.page_model.specs.State.{Page}
 use Rattle.page_model.specs.SchedulerTasks as model
@@ -25,7 +25,7 @@ use Rattle.post_task.specs.declared.level.Level.{Level}
 use Rattle.post_task.specs.declared.level.PrioSource.{PrioSource}
 use Rattle.post_task.specs.declared.level.PrioSource.TheVariants.{Fixed, Signal}
 use Rattle.post_task.specs.Waiting.{Waiting, Among, IsFirst, IsSelected, effective}
-use Rattle.post_task.specs.Levels.{priority_in, waiting}
+use Rattle.post_task.specs.Levels.{priority_in}
 use Rattle.post_task.specs.InOrder.{first_from, first_by, precedes, in_order}
 use Rattle.post_task.proofs.InOrder.{first_of_list, from_order}
 use Rattle.page_fields.proofs.FieldLemmas.{first_number_is}

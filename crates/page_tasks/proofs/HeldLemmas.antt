@@ -1,5 +1,5 @@
 -- The lists of the pool hold the queued tasks and nothing else.
-use Rattle.std.proofs.Common.{◌≡◌, ◌≢◌, ◌⊎◌, ℕ, zero, suc, ◌+◌, ◌<◌, ◌≤◌, Bool, true, false, cond, nat_lt, List, [], ◌∷◌, ◌++◌, map, length, filter, get_or, Option, None, Some, eqb, IsTrue, refl, sym, ◌∙◌, ap, subst, inl, inr, arith, length-append}
+use Rattle.std.proofs.Common.{◌≡◌, ◌≢◌, ◌⊎◌, ℕ, suc, ◌+◌, ◌<◌, Bool, true, false, cond, nat_lt, List, [], ◌∷◌, ◌++◌, map, length, filter, get_or, Option, eqb, IsTrue, refl, sym, ◌∙◌, ap, subst, inl, inr, arith, length-append}
 use Rattle.std.specs.List.{AllByRecursion}
 use Rattle.std.proofs.Math.ListN.{set, length-set}
 use Rattle.std.proofs.lemmas.List.{get_or-set_same, get_or-set_other}
@@ -7,12 +7,12 @@ use Rattle.std.proofs.lemmas.Bool.{eqb-true}
 use Rattle.std.proofs.lemmas.Bool.Decides.{nat_tests}
 use Rattle.page_types.specs.declared.Source.{Source}
 use Rattle.page_types.specs.declared.Source.TheVariants.{User, Net, Dom, Timer, Render, Sched, Idle}
-use Rattle.page_parts.specs.Sources.{default_list, same_source, source_number}
+use Rattle.page_parts.specs.Sources.{default_list, same_source}
 use Rattle.page_model.specs.State.{Task, SchedTask}
 use Rattle.task_pool.specs.Lists.{Entry, Lists, list_of, all_of, count}
 use Rattle.task_pool.proofs.Places.{length_set}
 use Rattle.task_queues.specs.declared.queues.Queues.{Queues}
-use Rattle.task_queues.specs.BySource.{list_number, tasks_of, StandIn, IsApart}
+use Rattle.task_queues.specs.BySource.{list_number, tasks_of, IsApart}
 use Rattle.task_queues.specs.OneList.{SourcedTask, BySource, sourced, is_of, with_task, in_order as by_number, of_each, merged}
 use Rattle.post_task.specs.Waiting.{Waiting, Among}
 use Rattle.post_task.specs.Levels.{Sched as SchedLevels, Queue, all_queues, Lone, in_queue, of_queue, waiting_in, waiting, AreKept}
@@ -20,13 +20,11 @@ use Rattle.post_task.specs.InOrder.{in_order, put_in}
 use Rattle.post_task.proofs.Best.{InQueues, among_queue}
 use Rattle.post_task.proofs.InOrder.{to_order, from_order}
 use Rattle.page_fields.specs.Fields.{task_of}
-use Rattle.page_tasks.specs.declared.page_task.TaskSteps.{TaskSteps}
 use Rattle.page_tasks.specs.declared.page_task.PageTask.{PageTask}
 use Rattle.page_tasks.specs.declared.page_task.PageTask.TheVariants.{OfSource, OfScheduler}
 use Rattle.page_tasks.specs.declared.asked.Asked.{Asked}
 use Rattle.task_pool.specs.declared.pool.Ticket.{Ticket}
-use Rattle.page_tasks.specs.Seen.{steps_in, has_steps, registration_in}
-use Rattle.page_tasks.specs.Queued.{Queued}
+use Rattle.page_tasks.specs.Seen.{steps_in, has_steps}
 use Rattle.page_tasks.specs.Standing.{seen_in, tasks_in, sched_task_in, sched_tasks_in, IsStanding}
 use Rattle.page_tasks.specs.Held.{IsIn, IsTaskOf, IsSchedTaskOf, IsQueued, StandsIn, Holds}
 use Rattle.page_tasks.proofs.Beside.{list_within}

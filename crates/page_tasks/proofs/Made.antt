@@ -1,11 +1,10 @@
 -- Nothing is queued at first.
-use Rattle.std.proofs.Common.{◌≡◌, ◌≢◌, ℕ, ◌<◌, ◌≤◌, Bool, true, false, cond, List, [], ◌∷◌, length, Option, None, Some, eqb, eq-eqb, refl, sym, ◌∙◌, ap, subst, arith}
-use Rattle.std.specs.Prelude.{option_map, filter_map, slice_index_or}
+use Rattle.std.proofs.Common.{◌≡◌, ℕ, ◌<◌, ◌≤◌, Bool, true, false, cond, List, [], ◌∷◌, length, Option, None, Some, eq-eqb, refl, sym, ◌∙◌, ap, subst, arith}
+use Rattle.std.specs.Prelude.{option_map, slice_index_or}
 use Rattle.std.specs.List.{find}
 use mathlib.Core.Path.{fun_ext}
 use Rattle.page_types.specs.declared.Source.{Source}
 use Rattle.page_types.specs.declared.Source.TheVariants.{User, Net, Dom, Timer, Render, Sched, Idle}
-use Rattle.page_types.specs.declared.Priority.{Priority}
 use Rattle.task_pool.specs.Lists.{Entry, Lists, list_of}
 use Rattle.task_pool.specs.declared.pool.Ticket.{Ticket}
 use Rattle.task_queues.specs.declared.queues.Queues.{Queues}
@@ -18,10 +17,9 @@ use Rattle.post_task.specs.declared.level.PrioSource.TheVariants.{Fixed, Signal}
 use Rattle.post_task.specs.Waiting.{Waiting, same_source}
 use Rattle.post_task.specs.Levels.{Sched as SchedLevels, all_queues, has_source, Lone, waiting, priority_in, Kept}
 use Rattle.post_task.proofs.Moves.{still_kept}
-use Rattle.page_tasks.specs.declared.asked.Asked.{Asked}
 use Rattle.page_tasks.specs.declared.page_task.PageTask.{PageTask}
-use Rattle.page_tasks.specs.Queued.{SignalPriority, Queued, none_queued}
-use Rattle.page_tasks.specs.Standing.{seen_in, priorities_in, priority_by, tasks_in, sched_tasks_in, AreApart, AreTasks, AreScheduled, AreOnce, IsStanding}
+use Rattle.page_tasks.specs.Queued.{SignalPriority, none_queued}
+use Rattle.page_tasks.specs.Standing.{seen_in, priorities_in, priority_by, tasks_in, sched_tasks_in, AreTasks, AreScheduled, AreOnce, IsStanding}
 use Rattle.page_tasks.proofs.Beside.{list_within}
 
 abbrev no_lists : BySource PageTask

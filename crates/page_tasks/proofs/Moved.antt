@@ -1,6 +1,6 @@
 -- A signal's priority changes, or room is made for its tasks.
-use Rattle.std.proofs.Common.{◌≡◌, ◌≢◌, ◌⊎◌, ℕ, ◌<◌, ◌≤◌, Bool, true, false, cond, List, [], ◌∷◌, map, length, Option, None, Some, eqb, refl, sym, ◌∙◌, ap, subst, inl, inr, arith}
-use Rattle.std.specs.Prelude.{option_map, IsSome, is_some}
+use Rattle.std.proofs.Common.{◌≡◌, ◌≢◌, ℕ, Bool, true, false, cond, List, [], ◌∷◌, map, Option, None, Some, eqb, refl, sym, ◌∙◌, ap, subst, inl, inr, arith}
+use Rattle.std.specs.Prelude.{option_map, IsSome}
 use Rattle.std.specs.List.{AllByRecursion, find}
 use Rattle.std.proofs.lemmas.Bool.{eqb-true}
 use Rattle.page_types.specs.declared.Priority.{Priority}
@@ -11,21 +11,19 @@ use Rattle.task_queues.specs.declared.queues.Queues.{Queues}
 use Rattle.task_queues.specs.BySource.{tasks_of}
 use Rattle.task_queues.specs.OneList.{SourcedTask, BySource, merged}
 use Rattle.post_task.specs.declared.level.Level.{Level}
-use Rattle.post_task.specs.declared.level.PrioSource.{PrioSource}
-use Rattle.post_task.specs.declared.level.PrioSource.TheVariants.{Fixed, Signal}
-use Rattle.post_task.specs.Waiting.{Waiting, Among, moved, same_source}
-use Rattle.post_task.specs.Levels.{Sched as SchedLevels, all_queues, Lone, waiting, has_source, priority_in, moved_level, SameBut, Kept}
+use Rattle.post_task.specs.declared.level.PrioSource.TheVariants.{Signal}
+use Rattle.post_task.specs.Waiting.{Among, moved, same_source}
+use Rattle.post_task.specs.Levels.{Sched as SchedLevels, waiting, has_source, priority_in, moved_level, SameBut}
 use Rattle.post_task.specs.InOrder.{in_order, AreLater, OrdersRise}
 use Rattle.post_task.proofs.InOrder.{moved_in_place}
 use Rattle.post_task.proofs.Moves.{room_moved, other_moved}
 use Rattle.post_task.proofs.Places.{none_moved, same_source-true}
-use Rattle.post_task.proofs.Stays.{lone_still}
 use Rattle.page_tasks.specs.declared.asked.Asked.{Asked}
 use Rattle.page_tasks.specs.declared.page_task.PageTask.{PageTask}
 use Rattle.page_tasks.specs.Seen.{registration_in}
-use Rattle.page_tasks.specs.Queued.{Queued, SignalPriority, priority_for, IsMoved, HasRoomFor}
-use Rattle.page_tasks.specs.Standing.{seen_in, tasks_in, sched_task_in, sched_tasks_in, priorities_in, IsKnown, WaitsIn, AreApart, AreScheduled, AreOnce, AreTasks, IsStanding}
-use Rattle.page_tasks.proofs.Beside.{same_tasks, sched_changed}
+use Rattle.page_tasks.specs.Queued.{Queued, priority_for, IsMoved, HasRoomFor}
+use Rattle.page_tasks.specs.Standing.{seen_in, tasks_in, sched_task_in, sched_tasks_in, priorities_in, IsKnown, AreApart, AreScheduled, AreOnce, AreTasks, IsStanding}
+use Rattle.page_tasks.proofs.Beside.{same_tasks}
 use Rattle.page_tasks.proofs.Priorities.{priority_is}
 use Rattle.page_tasks.proofs.Scheduled.{Waits, turned}
 

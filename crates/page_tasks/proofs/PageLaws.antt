@@ -1,15 +1,15 @@
 -- Changes of the queued tasks as changes of a page of the model.
-use Rattle.std.proofs.Common.{◌≡◌, ℕ, suc, Bool, true, false, cond, List, [], ◌∷◌, map, Option, Some, None, eqb, eq-eqb, refl, sym, ◌∙◌, ap, subst}
-use Rattle.std.specs.Prelude.{option_map, unwrap_or}
+use Rattle.std.proofs.Common.{◌≡◌, ℕ, suc, Bool, true, false, cond, List, [], ◌∷◌, map, Option, Some, None, eqb, refl, sym, ◌∙◌, ap, subst}
+use Rattle.std.specs.Prelude.{option_map}
 use Rattle.std.specs.List.{find}
 use Rattle.std.proofs.lemmas.Bool.{eqb-true}
 use Rattle.page_types.specs.declared.Priority.{Priority}
 use Rattle.page_parts.specs.Words.{and_last, without}
 use Rattle.page_parts.specs.TaskSignals.{PrioRecord, Prios, priority_of, begun}
 use Rattle.page_model.specs.State.{Task, SchedTask, Page}
-use Rattle.page_tasks.specs.Queued.{Queued, SignalPriority, priority_for, IsOf, IsMoved, HasRoomFor}
+use Rattle.page_tasks.specs.Queued.{Queued, SignalPriority, priority_for, IsOf}
 use Rattle.page_tasks.specs.PageLaws.{QueuedIs, TakenIs, EnqueuedIs, LeftIs, BegunIs, RoomIs, SomePageIs, record_with}
-use Rattle.page_tasks.proofs.Scheduled.{inside, not_there}
+use Rattle.page_tasks.proofs.Scheduled.{not_there}
 
 pub queued_is : (q : Queued) (p : Page) → QueuedIs q p
 queued_is q p source steps spare is =

@@ -1,6 +1,6 @@
 -- The priorities that the scheduler's levels say.
-use Rattle.std.proofs.Common.{◌≡◌, ◌≢◌, ℕ, Bool, true, false, cond, List, [], ◌∷◌, map, Option, None, Some, eqb, refl, sym, ◌∙◌, ap, subst}
-use Rattle.std.specs.Prelude.{option_map, unwrap_or, IsSome, is_some}
+use Rattle.std.proofs.Common.{◌≡◌, ℕ, Bool, true, false, cond, List, [], ◌∷◌, Option, None, Some, eqb, refl, sym, ◌∙◌, ap, subst}
+use Rattle.std.specs.Prelude.{option_map, unwrap_or, IsSome}
 use Rattle.std.specs.List.{find}
 use Rattle.page_types.specs.declared.Priority.{Priority}
 use Rattle.page_types.specs.declared.Priority.TheVariants.{UserVisible}
@@ -8,9 +8,9 @@ use Rattle.post_task.specs.declared.level.Level.{Level}
 use Rattle.post_task.specs.declared.level.PrioSource.{PrioSource}
 use Rattle.post_task.specs.declared.level.PrioSource.TheVariants.{Fixed, Signal}
 use Rattle.post_task.specs.Waiting.{same_source}
-use Rattle.post_task.specs.Levels.{has_source, priority_in, HasRoom, SameBut}
+use Rattle.post_task.specs.Levels.{has_source, priority_in, HasRoom}
 use Rattle.page_tasks.specs.Queued.{SignalPriority, priority_for, HasPriority, Queued}
-use Rattle.page_tasks.specs.Standing.{priority_by, priorities_in}
+use Rattle.page_tasks.specs.Standing.{priorities_in}
 
 abbrev with_first : Option SignalPriority → List SignalPriority → List SignalPriority
 with_first None more = more

@@ -1,10 +1,10 @@
 -- The calls on the scheduler's queues, on the whole.
-use Rattle.std.proofs.Common.{◌≡◌, ◌≢◌, ◌⊎◌, ℕ, suc, ◌+◌, ◌<◌, ◌≤◌, Bool, true, false, cond, List, [], ◌∷◌, length, Option, None, Some, eqb, filter, refl, sym, ◌∙◌, ap, subst, inl, inr, arith}
+use Rattle.std.proofs.Common.{◌≡◌, ◌≢◌, ℕ, suc, ◌<◌, ◌≤◌, Bool, true, false, cond, List, [], ◌∷◌, length, Option, None, Some, eqb, filter, refl, sym, ◌∙◌, ap, subst, inl, inr, arith}
 use mathlib.Core.Path.{fun_ext}
 use Rattle.std.specs.Prelude.{OnSome, is_some, option_map}
 use Rattle.std.specs.List.{AllByRecursion, find}
 use Rattle.std.proofs.lemmas.Bool.{eqb-true}
-use Rattle.page_parts.specs.Words.{and_last, without}
+use Rattle.page_parts.specs.Words.{and_last}
 use Rattle.page_model.specs.State as Model
 use Rattle.cell_room.specs.declared.room.Cell.{Cell}
 use Rattle.task_pool.specs.Lists.{Lists, list_of, same_cell}
@@ -21,12 +21,11 @@ use Rattle.post_task.proofs.Waits.{among_inserted}
 use Rattle.page_tasks.specs.declared.asked.Asked.{Asked}
 use Rattle.page_tasks.specs.declared.page_task.PageTask.{PageTask}
 use Rattle.page_tasks.specs.Seen.{prio_source}
-use Rattle.page_tasks.specs.Queued.{SignalPriority, Queued, enqueued, with_spare, without_registration}
+use Rattle.page_tasks.specs.Queued.{enqueued, with_spare, without_registration}
 use Rattle.page_tasks.specs.Standing.{seen_in, tasks_in, sched_tasks_in, priorities_in, AreApart, AreTasks, AreScheduled, AreOnce, IsStanding}
 use Rattle.page_tasks.proofs.Beside.{same_tasks, sched_changed}
 use Rattle.page_tasks.proofs.Sources.{all_more}
-use Rattle.page_tasks.proofs.SourceCalls.{later}
-use Rattle.page_tasks.proofs.Scheduled.{new_one, IsPut, put_scheduled, put_seen, left_scheduled, left_seen, among_filter, nothing_left}
+use Rattle.page_tasks.proofs.Scheduled.{new_one, IsPut, put_scheduled, put_seen, left_scheduled, left_seen, among_filter}
 
 -- more numbers were given out
 pub tasks_later : (lists : BySource PageTask) (asked : List Asked) (m n : ℕ) → m ≤ n → AreTasks lists asked m → AreTasks lists asked n

@@ -1,12 +1,11 @@
 -- The scheduler tasks that wait, as calls change them.
-use Rattle.std.proofs.Common.{◌≡◌, ◌≢◌, ◌⊎◌, ℕ, suc, ◌+◌, ◌<◌, ◌≤◌, Bool, true, false, cond, not, List, [], ◌∷◌, ◌++◌, map, Option, None, Some, eqb, eq-eqb, refl, sym, ◌∙◌, ap, subst, inl, inr, arith}
+use Rattle.std.proofs.Common.{◌≡◌, ◌≢◌, ◌⊎◌, ℕ, suc, ◌+◌, ◌<◌, Bool, true, false, cond, not, List, [], ◌∷◌, ◌++◌, map, Option, None, Some, eqb, eq-eqb, refl, sym, ◌∙◌, ap, subst, inl, inr, arith}
 use Rattle.std.specs.Prelude.{unwrap_or}
 use Rattle.std.specs.List.{find, filter}
 use Rattle.std.specs.Option.{is_some}
 use Rattle.std.proofs.lemmas.Bool.{eqb-true}
 use Rattle.std.proofs.lemmas.Bool.Decides.{nat_tests}
 use Rattle.std.proofs.lemmas.List.{map-append}
-use Rattle.page_types.specs.declared.Priority.{Priority}
 use Rattle.page_types.specs.declared.Priority.TheVariants.{UserVisible}
 use Rattle.page_parts.specs.Words.{and_last, without, is_there}
 use Rattle.page_model.specs.State as Model
@@ -22,7 +21,7 @@ use Rattle.post_task.specs.InOrder.{in_order, AreLater, OrdersRise}
 use Rattle.post_task.proofs.InOrder.{enqueued_last, taken_out, removed_by_cell, to_order, from_order}
 use Rattle.post_task.proofs.Waits.{among_inserted}
 use Rattle.page_tasks.specs.declared.page_task.PageTask.{PageTask}
-use Rattle.page_tasks.specs.declared.page_task.PageTask.TheVariants.{OfSource, OfScheduler}
+use Rattle.page_tasks.specs.declared.page_task.PageTask.TheVariants.{OfScheduler}
 use Rattle.page_tasks.specs.Seen.{registration_in, prio_source}
 use Rattle.page_tasks.specs.Standing.{sched_task_in, sched_tasks_in, IsKnown, WaitsIn, AreScheduled}
 

@@ -1,11 +1,10 @@
 -- The calls on the task sources, on the whole.
-use Rattle.std.proofs.Common.{◌≡◌, ◌≢◌, ℕ, suc, ◌+◌, ◌<◌, ◌≤◌, Bool, true, false, not, List, [], ◌∷◌, ◌++◌, drop, length, Option, None, Some, eqb, filter, refl, sym, ◌∙◌, ap, subst, arith}
+use Rattle.std.proofs.Common.{◌≡◌, ◌≢◌, ℕ, suc, ◌+◌, ◌≤◌, not, List, [], ◌∷◌, ◌++◌, drop, length, Option, None, Some, eqb, filter, refl, sym, ◌∙◌, ap, subst, arith}
 use Rattle.std.specs.Prelude.{unwrap_or}
 use Rattle.std.specs.List.{AllByRecursion}
 use Rattle.std.specs.Option.{option_to_list, option_map}
 use Rattle.page_types.specs.declared.Source.{Source}
-use Rattle.page_types.specs.declared.Source.TheVariants.{Sched}
-use Rattle.page_parts.specs.Words.{and_last, without}
+use Rattle.page_parts.specs.Words.{and_last}
 use Rattle.page_model.specs.State as Model
 use Rattle.page_model.specs.PageTime.{first_task}
 use Rattle.page_fields.specs.Fields as Fields
@@ -16,7 +15,7 @@ use Rattle.task_queues.specs.declared.queues.Queues.{Queues}
 use Rattle.task_queues.specs.BySource.{tasks_of, StandIn, IsApart, Queued as IsQueued}
 use Rattle.task_queues.specs.OneList.{SourcedTask, BySource, sourced, merged, ListIs}
 use Rattle.post_task.specs.declared.level.Level.{Level}
-use Rattle.post_task.specs.Waiting.{Waiting, Among}
+use Rattle.post_task.specs.Waiting.{Waiting}
 use Rattle.post_task.specs.Levels.{Sched as SchedLevels, waiting}
 use Rattle.page_tasks.specs.declared.asked.Asked.{Asked}
 use Rattle.page_tasks.specs.declared.page_task.TaskSteps.{TaskSteps}
@@ -24,8 +23,8 @@ use Rattle.page_tasks.specs.declared.page_task.PageTask.{PageTask}
 use Rattle.page_tasks.specs.declared.page_task.PageTask.TheVariants.{OfSource}
 use Rattle.page_tasks.specs.Seen.{steps_of, steps_in}
 use Rattle.page_tasks.specs.Asking.{asked_by}
-use Rattle.page_tasks.specs.Queued.{Queued, queued, with_spare, without_number, taken}
-use Rattle.page_tasks.specs.Standing.{seen_in, tasks_in, sched_tasks_in, priorities_in, AreApart, AreTasks, AreScheduled, IsKnown, AreOnce, IsStanding}
+use Rattle.page_tasks.specs.Queued.{queued, with_spare, without_number, taken}
+use Rattle.page_tasks.specs.Standing.{seen_in, tasks_in, sched_tasks_in, AreTasks, AreScheduled, AreOnce, IsStanding}
 use Rattle.page_tasks.proofs.Beside.{same_waiting, source_changed}
 use Rattle.page_tasks.proofs.Sources.{all_last, all_without, queued_merged, queued_seen, queued_tasks, taken_merged, taken_seen, taken_tasks, first_by_list}
 

@@ -1,7 +1,7 @@
 -- The tasks of the task sources, as calls change them.
-use Rattle.std.proofs.Common.{◌≡◌, ◌≢◌, ◌⊎◌, ℕ, suc, ◌<◌, ◌≤◌, Bool, true, false, cond, not, List, [], ◌∷◌, ◌++◌, map, drop, Option, None, Some, eqb, eq-eqb, filter, IsTrue, refl, sym, ◌∙◌, ap, subst, inl, inr, arith}
+use Rattle.std.proofs.Common.{◌≡◌, ◌≢◌, ◌⊎◌, ℕ, suc, ◌<◌, Bool, true, false, cond, not, List, [], ◌∷◌, ◌++◌, map, drop, Option, None, Some, eqb, eq-eqb, filter, IsTrue, refl, sym, ◌∙◌, ap, subst, inl, inr, arith}
 use Rattle.std.specs.Prelude.{option_map, filter_map}
-use Rattle.std.specs.List.{AllByRecursion, find}
+use Rattle.std.specs.List.{AllByRecursion}
 use Rattle.std.specs.Option.{option_to_list}
 use Rattle.std.proofs.lemmas.Bool.{eqb-true}
 use Rattle.std.proofs.lemmas.List.{map-append}
@@ -14,7 +14,7 @@ use Rattle.page_model.specs.PageSignals.{host_task_of}
 use Rattle.page_model.specs.PageTime.{first_task}
 use Rattle.cell_room.specs.declared.room.Cell.{Cell}
 use Rattle.task_pool.specs.Lists.{Entry, first_entry}
-use Rattle.task_queues.specs.OneList.{SourcedTask, BySource, sourced, is_of, merged, IsOneList, AreBelow, ListIs}
+use Rattle.task_queues.specs.OneList.{SourcedTask, BySource, sourced, merged, IsOneList, AreBelow, ListIs}
 use Rattle.task_queues.proofs.OneListLemmas as one_list
 use Rattle.page_fields.specs.Fields as Fields
 use Rattle.page_fields.proofs.FieldLemmas as field
@@ -22,7 +22,7 @@ use Rattle.page_tasks.specs.declared.asked.Asked.{Asked}
 use Rattle.page_tasks.specs.declared.page_task.TaskSteps.{TaskSteps}
 use Rattle.page_tasks.specs.declared.page_task.TaskSteps.TheVariants as V
 use Rattle.page_tasks.specs.declared.page_task.PageTask.{PageTask}
-use Rattle.page_tasks.specs.declared.page_task.PageTask.TheVariants.{OfSource, OfScheduler}
+use Rattle.page_tasks.specs.declared.page_task.PageTask.TheVariants.{OfSource}
 use Rattle.page_tasks.specs.Coded.{source_at, source_at-number}
 use Rattle.page_tasks.specs.Seen.{steps_of, host_task, has_steps, steps_in}
 use Rattle.page_tasks.specs.Asking.{host_task_in, asked_by}

@@ -1,5 +1,5 @@
 -- The codes that the model of a page's queued tasks asks for. Ours
-use Rattle.std.specs.Prelude.{◌≡◌, ℕ, zero, suc, Bool, true, false, ℤ, List, refl}
+use Rattle.std.specs.Prelude.{◌≡◌, ℕ, zero, suc, Bool, ℤ, List, refl}
 use Rattle.std.specs.Coded.{Coded, code_by, coded×, coded⊎, coded_ℕ, coded_bool, coded_ℤ, coded_list}
 use mathlib.Core.Logic.{◌⊎◌, inl, inr}
 use Rattle.page_types.specs.Values.{Value}

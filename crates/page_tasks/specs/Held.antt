@@ -1,6 +1,5 @@
 -- What stands in the pool of a page's queued tasks. Ours: the standards do not say how queues are stored
 use Rattle.std.specs.Prelude.{◌≡◌, ◌⊎◌, ℕ, ◌+◌, List, [], ◌∷◌, length}
-use Rattle.page_types.specs.declared.Source.{Source}
 use Rattle.page_model.specs.State.{Task, SchedTask}
 use Rattle.task_pool.specs.Lists.{Entry, Lists, list_of, count}
 use Rattle.page_tasks.specs.declared.page_task.PageTask.{PageTask}

@@ -1,5 +1,5 @@
 -- How changes of the queued tasks are changes of a page of the model. Ours: how code that owns the tasks stands to the model
-use Rattle.std.specs.Prelude.{◌≡◌, ℕ, false, Bool, List, [], map, Option, Some, None}
+use Rattle.std.specs.Prelude.{◌≡◌, ℕ, false, Bool, [], map, Some, None}
 use Rattle.page_types.specs.declared.Source.{Source}
 use Rattle.page_types.specs.declared.Priority.{Priority}
 use Rattle.page_parts.specs.TaskSignals.{PrioRecord, priority_of, begun}

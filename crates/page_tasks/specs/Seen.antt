@@ -1,6 +1,5 @@
 -- The tasks of the code as those of the model's page. HTML, "Event loops: definitions"; Prioritized Task Scheduling
-use Rattle.std.specs.Prelude.{ℕ, Bool, true, false, Option, Some, None, ◌+◌}
-use Rattle.std.specs.Option.{option_map}
+use Rattle.std.specs.Prelude.{ℕ, Bool, true, false}
 use Rattle.page_values.specs.Seen.{seen}
 use Rattle.page_model.specs.State as Model
 use Rattle.post_task.specs.declared.level.PrioSource.{PrioSource}

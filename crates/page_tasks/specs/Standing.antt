@@ -1,6 +1,5 @@
 -- How the queued tasks stand in one pool. Ours: the standards do not say how queues are stored
-use Rattle.std.specs.Prelude.{◌≡◌, ◌≢◌, ℕ, suc, ◌≤◌, ◌<◌, List, [], ◌∷◌, map, Option, Some, None, IsTrue, filter_map, option_map, nat_eq}
-use Rattle.std.specs.HashMap.{HashMap, get}
+use Rattle.std.specs.Prelude.{◌≡◌, ◌≢◌, ℕ, suc, ◌≤◌, ◌<◌, List, [], map, Option, Some, None, IsTrue, filter_map, option_map}
 use Rattle.std.specs.List.{AllByRecursion}
 use Rattle.page_types.specs.declared.Source.{Source}
 use Rattle.page_types.specs.declared.Source.TheVariants.{Sched}

@@ -1,6 +1,5 @@
-use Rattle.std.proofs.Common.{◌≡◌, ℕ, true, false, ◌+◌, List, Option, None, Some, nat_eq, refl, sym, ◌∙◌, ap, subst, arith}
+use Rattle.std.proofs.Common.{◌≡◌, ℕ, ◌+◌, List, Option, None, Some, nat_eq, sym, ◌∙◌, ap}
 use Rattle.std.specs.HashMap.{get}
-use Rattle.std.specs.Prelude.{is_some}
 use Rattle.page_model.specs.State as Model
 use Rattle.page_parts.specs.Words.{is_there}
 use Rattle.task_pool.specs.declared.pool.Ticket.{Ticket}

@@ -1,6 +1,5 @@
-use Rattle.std.proofs.Common.{◌≡◌, ℕ, suc, ◌+◌, cond, List, Option, None, Some, Result, Ok, Err, IfOk, OnOk, OnErr, IsErr, eqb, nat_eq, refl, sym, ◌∙◌, ap, subst, arith}
+use Rattle.std.proofs.Common.{◌≡◌, ◌+◌, cond, Some, Result, Ok, Err, IfOk, OnOk, OnErr, IsErr, eqb, nat_eq, sym, ◌∙◌, ap, subst, arith}
 use Rattle.std.specs.HashMap.{get}
-use Rattle.task_pool.specs.Lists.{Lists}
 use Rattle.task_pool.specs.declared.pool.Ticket.{Ticket}
 use Rattle.post_task.specs.Waiting.{Inserted}
 use Rattle.post_task.specs.Levels.{waiting, task_in, HasRoom}
@@ -8,7 +7,6 @@ use Rattle.page_tasks.specs.declared.page_task.PageTask.{PageTask}
 use Rattle.page_tasks.specs.declared.page_task.PageTask.TheVariants.{OfScheduler}
 use Rattle.page_tasks.specs.Seen.{prio_source}
 use Rattle.page_tasks.specs.Queued.{Queued, enqueued, with_spare, sched_task_for}
-use Rattle.page_tasks.specs.Standing.{IsStanding}
 use Rattle.page_tasks.proofs.Priorities.{has_room, priority_there}
 use Rattle.page_tasks.proofs.Scheduled.{IsPut, no_ticket}
 use Rattle.page_tasks.proofs.SchedCalls.{IsSchedCall, still_standing, put_standing, put_as, same_tickets}

@@ -1,4 +1,4 @@
-use Rattle.std.proofs.Common.{◌≡◌, ℕ, Option, List, nat_eq, set, refl, sym, ◌∙◌, ap}
+use Rattle.std.proofs.Common.{ℕ, Option, List, nat_eq, set, sym, ◌∙◌, ap}
 use Rattle.std.specs.HashMap.{get}
 use Rattle.post_task.specs.Levels.{waiting}
 use Rattle.page_tasks.specs.Queued.{Queued, runnables}

@@ -1,4 +1,4 @@
-use Rattle.std.proofs.Common.{◌≡◌, ℕ, Option, None, List, get_or, ◌∙◌, ap}
+use Rattle.std.proofs.Common.{ℕ, Option, None, List, get_or, ◌∙◌, ap}
 use Rattle.std.specs.Prelude.{is_some}
 use Rattle.page_parts.specs.Words.{is_there}
 use Rattle.page_types.specs.declared.Source.TheVariants.{Render}

@@ -1,5 +1,4 @@
-use Rattle.std.proofs.Common.{◌≡◌, ℕ, Option, nat_eq, ap, ◌∙◌, refl}
-use Rattle.std.specs.Prelude.{is_some}
+use Rattle.std.proofs.Common.{nat_eq, ap, ◌∙◌, refl}
 use Rattle.std.specs.HashMap.{get}
 use Rattle.page_parts.specs.Words.{is_there}
 use Rattle.post_task.specs.Levels.{waiting}

@@ -1,15 +1,10 @@
-use Rattle.std.proofs.Common.{◌≡◌, ℕ, ◌≤◌, length, Option, List, nat_eq, refl, sym, ◌∙◌, ap, subst, arith}
+use Rattle.std.proofs.Common.{nat_eq, refl, sym, ◌∙◌, ap}
 use Rattle.std.specs.HashMap.{get}
-use Rattle.task_pool.specs.Lists.{Lists, list_of}
-use Rattle.task_queues.specs.declared.queues.Queues.{Queues}
-use Rattle.post_task.specs.declared.level.Level.{Level}
-use Rattle.post_task.specs.Levels.{Sched as SchedLevels, all_queues, Lone, Kept}
-use Rattle.post_task.proofs.Waits.{among_inserted}
-use Rattle.page_tasks.specs.declared.page_task.PageTask.{PageTask}
+use Rattle.post_task.specs.Levels.{Sched as SchedLevels}
 use Rattle.page_tasks.specs.Queued.{Queued}
-use Rattle.page_tasks.specs.Standing.{seen_in, AreApart, priorities_in}
+use Rattle.page_tasks.specs.Standing.{AreApart, priorities_in}
 use Rattle.page_tasks.proofs.Beside.{sched_changed}
-use Rattle.page_tasks.proofs.Moved.{made_room, room_is, moved_standing, moved_as, unmoved_standing, unmoved_as}
+use Rattle.page_tasks.proofs.Moved.{made_room, room_is, moved_standing, moved_as, unmoved_standing}
 use Rattle.page_tasks.proofs.page_tasks.PageTasks.make_room_for.Given.{Over}
 use Rattle.page_tasks.proofs.page_tasks.PageTasks.make_room_for.Goals as goal
 

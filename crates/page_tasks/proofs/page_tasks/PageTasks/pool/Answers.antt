@@ -1,4 +1,4 @@
-use Rattle.std.proofs.Common.{ℕ, nat_eq, subst}
+use Rattle.std.proofs.Common.{nat_eq, subst}
 use Rattle.std.specs.HashMap.{get}
 use Rattle.page_tasks.specs.Queued.{Queued}
 use Rattle.page_tasks.specs.Held.{Holds}

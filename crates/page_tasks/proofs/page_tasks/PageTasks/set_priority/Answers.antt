@@ -1,7 +1,7 @@
-use Rattle.std.proofs.Common.{◌≡◌, ℕ, Option, List, nat_eq, refl, sym, ◌∙◌, ap, subst, arith}
+use Rattle.std.proofs.Common.{ℕ, List, nat_eq, refl, sym, ◌∙◌, ap, subst, arith}
 use Rattle.std.specs.HashMap.{get}
 use Rattle.post_task.specs.declared.level.Level.{Level}
-use Rattle.post_task.specs.Levels.{all_queues, Lone, moved_level}
+use Rattle.post_task.specs.Levels.{all_queues, Lone}
 use Rattle.post_task.proofs.Stays.{lone_still}
 use Rattle.page_tasks.specs.Queued.{Queued}
 use Rattle.page_tasks.specs.Standing.{AreApart, priorities_in}

@@ -1,5 +1,4 @@
-use Rattle.std.proofs.Common.{◌≡◌, ℕ, not, ◌+◌, drop, List, Option, None, Some, MatchOption, eqb, filter, nat_eq, sym, ◌∙◌, ap, subst, arith}
-use Rattle.std.specs.Prelude.{OnSome}
+use Rattle.std.proofs.Common.{◌≡◌, ℕ, not, ◌+◌, drop, List, Option, Some, eqb, filter, nat_eq, sym, ◌∙◌, ap, subst}
 use Rattle.std.specs.Option.{option_map}
 use Rattle.std.specs.HashMap.{get}
 use Rattle.page_model.specs.PageTime.{first_task}
@@ -8,7 +7,6 @@ use Rattle.task_queues.specs.declared.queues.Queues.{Queues}
 use Rattle.task_queues.specs.BySource.{tasks_of, StandIn}
 use Rattle.page_tasks.specs.declared.asked.Asked.{Asked}
 use Rattle.page_tasks.specs.declared.page_task.PageTask.{PageTask}
-use Rattle.page_tasks.specs.declared.page_task.PageTask.TheVariants.{OfSource}
 use Rattle.page_tasks.specs.Queued.{Queued, taken, without_number, with_spare}
 use Rattle.page_tasks.specs.Standing.{seen_in, IsStanding}
 use Rattle.page_tasks.proofs.SourceCalls.{IsSourceCall, Gives, gives, no_first, the_first, taken_standing, taken_as}

@@ -1,8 +1,8 @@
-use Rattle.std.proofs.Common.{◌≡◌, ℕ, ◌+◌, List, Option, None, Some, MatchOption, nat_eq, refl, sym, ◌∙◌, ap, subst, arith}
+use Rattle.std.proofs.Common.{◌≡◌, ℕ, ◌+◌, Option, Some, nat_eq, refl, sym, ◌∙◌, ap}
 use Rattle.std.specs.HashMap.{get}
 use Rattle.std.specs.List.{filter}
 use Rattle.task_pool.specs.declared.pool.Ticket.{Ticket}
-use Rattle.post_task.specs.Waiting.{Waiting, lacks_cell}
+use Rattle.post_task.specs.Waiting.{lacks_cell}
 use Rattle.post_task.specs.Levels.{waiting, TakesFirst}
 use Rattle.page_tasks.specs.declared.page_task.PostedTask.{PostedTask}
 use Rattle.page_tasks.specs.declared.page_task.PageTask.{PageTask}
