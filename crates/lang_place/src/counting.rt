@@ -97,7 +97,11 @@ fn head_names(standing: Standing) -> usize
 }
 
 /// Adds a name to a set, unless it is there. An error comes only for want of memory.
-pub fn add_name(alloc: Global, globals: &mut HashSet<Vec<u8>>, name: &[u8]) -> Result<(), AllocError>
+pub fn add_name(
+    alloc: Global,
+    globals: &mut HashSet<Vec<u8>>,
+    name: &[u8],
+) -> Result<(), AllocError>
     ensures { OnOk result (Adds globals.old.keys globals.new.keys (name.now ∷ [])) }
 {
     let bytes = name.to_vec(alloc)?;

@@ -5,8 +5,8 @@ ghost use Rattle.page_types.specs.Counts.{Rose};
 ghost use Rattle.host_jobs.specs.ToldTable.{closures_of};
 ghost use Rattle.page_cli.specs.declared.answer.WhichFile.{WhichFile};
 ghost use Rattle.page_cli.specs.Statuses.{status_of};
-ghost use Rattle.page_cli.specs.Forms.{RunForm, form_of, name_of};
-ghost use Rattle.page_cli.specs.Names.{names_seen};
+ghost use Rattle.page_cli.specs.Forms.{form_of, name_of};
+ghost use Rattle.page_cli.specs.Names.{form_seen, names_seen};
 ghost use Rattle.page_cli.specs.Answering.{AnswersTold, IsRefusal};
 ghost use Rattle.page_cli.specs.Pictures.{AnswersForm, WroteAll};
 ghost use Rattle.page_cli.specs.Complaints.{complaint, PutsOrFails};
@@ -58,8 +58,8 @@ fn run_named<F: Folder, O: Sink>(alloc: Global, folder: &mut F, names: Names, ou
         (O.bytes out) (O.bytes result.out) }
     ensures refused { IsRefusal result.answer → O.bytes result.out ≡ O.bytes out }
     ensures read { (file : WhichFile) → result.answer ≡ Answer.ReadFault file →
-        Rose (F.faults folder.old (name_of file (RunForm (record { script = names.entry.script.now; arrivals = names.entry.arrivals.now }))))
-        (F.faults folder.new (name_of file (RunForm (record { script = names.entry.script.now; arrivals = names.entry.arrivals.now })))) }
+        Rose (F.faults folder.old (name_of file (form_seen (Asked.Run names.entry))))
+        (F.faults folder.new (name_of file (form_seen (Asked.Run names.entry)))) }
     ensures write { result.answer ≡ Answer.WriteFault → Rose (O.faults out) (O.faults result.out) }
     ensures usage { result.answer ≡ Answer.Usage → ⊥ }
 {

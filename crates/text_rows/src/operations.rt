@@ -1,7 +1,9 @@
 ghost use Rattle.std.specs.Prelude.{IsTrue};
 ghost use Rattle.page_values.specs.Texts.{is_text};
 
-use lang_ast::{Host, HostStep, Item, Named, Outcome, Program, Tree, argument_count, is_busy, operation_named};
+use lang_ast::{
+    Host, HostStep, Item, Named, Outcome, Program, Tree, argument_count, is_busy, operation_named,
+};
 use page_types::Op;
 use page_values::{Str, Value};
 use std::alloc::Global;
