@@ -1,6 +1,11 @@
 pub mod NameIndex
 pub mod Frames
 pub mod Steps
+pub mod SmallSteps
+pub mod ExprSteps
+pub mod StmtSteps
+pub mod NameSteps
+pub mod ValueSteps
 pub mod Ranks
 pub mod Loops
 pub mod Numbered

@@ -2,15 +2,18 @@
 #![tactic(auto)]
 
 mod adding;
-mod calling;
+
 mod catching;
 mod code;
 mod exit;
+mod expressions;
 mod gathering;
 mod machine;
 mod names;
 mod operators;
-mod run;
+mod receiving;
+mod stack;
+mod statements;
 mod values;
 mod variables;
 
