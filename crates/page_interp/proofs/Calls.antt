@@ -20,9 +20,9 @@ use Rattle.lang_ast.specs.Steps.{AreFew, EndIsNumbered}
 use Rattle.page_interp.specs.declared.exit.Exit.{Exit}
 use Rattle.page_interp.specs.declared.exit.Exit.TheVariants.{Throw, Return, Fuel, Host, OutOfMemory}
 use Rattle.page_interp.specs.declared.exit.Store.{Store}
-use Rattle.page_interp.specs.Runs.{gives, throws, returns, no_fuel, Left, ends, refused, no_memory, exit_left, more, Comes, Stands, IsDry, WhereSettled, Refuses, LeftIsNumbered, Settles, IsUnsettled, call_left, Scope, outside, inside, IsReady, Moment, moment_of, Runs, caller_of, around_of, call_given, func_of}
+use Rattle.page_interp.specs.Runs.{gives, throws, returns, no_fuel, Left, ends, refused, no_memory, exit_left, more, Comes, Stands, IsDry, WhereSettled, Refuses, LeftIsNumbered, Settles, IsUnsettled, call_left, Asks, Scope, outside, inside, IsReady, Moment, moment_of, Runs, caller_of, around_of, call_given, func_of}
 use Rattle.page_interp.proofs.Steps.{still, runs_at, runs_as, more_some, more_more, Within, stands_within, comes_after}
-use Rattle.page_interp.proofs.Loops.{Asks, Stepping, calls_left}
+use Rattle.page_interp.proofs.Loops.{Stepping, calls_left}
 use Rattle.page_interp.proofs.Parts.{ready_out}
 
 given_none : {T : Type 0} (call : Caller T) (o : Option Model.Value) (args : List Model.Value) (m : Machine T) → func_of o ≡ None → call_given call o args m ≡ Throws (FaultValue TypeError []) m

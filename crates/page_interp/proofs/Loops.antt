@@ -1,12 +1,12 @@
 -- What the machine's loops keep.
-use Rattle.std.proofs.Common.{◌≡◌, ℕ, suc, ◌+◌, ◌*◌, ◌^◌, ◌≤◌, ◌<◌, List, Option, arith}
+use Rattle.std.proofs.Common.{◌≡◌, ℕ, suc, ◌+◌, ◌*◌, ◌^◌, ◌≤◌, ◌<◌, List, arith}
 use Rattle.lang_meaning.specs.Machine as M
 use Rattle.lang_meaning.specs.Machine.{Machine, Done}
 use Rattle.lang_meaning.specs.Evaluation.{loop_turns}
-use Rattle.lang_meaning.specs.Asks.{Limited, limited, IsPassed}
+use Rattle.lang_meaning.specs.Asks.{Limited}
 use Rattle.lang_meaning.specs.HostSteps.{HostStep, StepValue, StepThrow, StepInvoke}
 use Rattle.lang_ast.specs.Steps.{AreFew, Falls}
-use Rattle.page_interp.specs.Runs.{Scope, IsReady, Moment, Leads, more, all_turns}
+use Rattle.page_interp.specs.Runs.{Scope, Moment, Leads, Asks, all_turns}
 
 module _ {T S : Type 0} where
   -- some turns are left of a loop, and no fewer than units of fuel
@@ -14,15 +14,6 @@ module _ {T S : Type 0} where
     pub turns : ℕ
     pub enough : fuel ≤ turns
     pub leads : (outer : List (List M.Variable)) → Leads w (all_turns test body) (a outer) (loop_turns (suc turns) test body) (b outer)
-
-  -- what comes of the step comes of the operation
-  pub record Asks (w : Scope T) (whole from : Machine (Limited T) → Done (Limited T)) (a b : Moment T S) : Type 0 where
-    pub asks : ℕ
-    pub comes : (left : Option ℕ) → whole (limited (more asks left) a.machine) ≡ from (limited left b.machine)
-    pub stands : IsPassed w.rules whole a.machine b.machine.host
-    pub fuel : b.machine.fuel ≤ a.machine.fuel
-    pub refusals : b.now.refusals ≡ a.now.refusals
-    pub ready : IsReady w b
 
   -- some steps are left, and no fewer than callbacks may come
   pub record Stepping (w : Scope T) (whole : Machine (Limited T) → Done (Limited T)) (from : ℕ → Machine (Limited T) → Done (Limited T)) (most : ℕ) (a b : List (List M.Variable) → Moment T S) : Type 0 where

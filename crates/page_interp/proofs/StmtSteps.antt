@@ -130,8 +130,8 @@ module _ {T : Type 0} where
   others_pushes others rest last p e b q a bq = record {
     same = λ d m. rw (q, a, bq) refl;
     sound = λ count h. let s = rw q at h in
-      (rw a (fits_front (in_expr (seen_expr p.now.0)) _ s.0),
-       (rw bq (fits_front (in_block (seen_block p.now.1.items)) _ (fits_back (in_expr (seen_expr p.now.0)) _ s.0)), fits_back (in_block (seen_block p.now.1.items)) _ (fits_back (in_expr (seen_expr p.now.0)) _ s.0), s.1));
+      let one = fits_front (in_expr (seen_expr p.now.0) ++ in_block (seen_block p.now.1.items)) _ s.0 in
+      (rw a (fits_front (in_expr (seen_expr p.now.0)) _ one), (rw bq (fits_back (in_expr (seen_expr p.now.0)) _ one), fits_back (in_expr (seen_expr p.now.0) ++ in_block (seen_block p.now.1.items)) _ s.0, s.1));
     size = rw (q, a) (omega arith);
     waits = rw (q, bq) (omega arith);
     fewer = rw (q, a, bq) (omega arith);

@@ -6,7 +6,9 @@ use Rattle.page_types.specs.Values as Model
 use Rattle.page_types.specs.Values.{UnitValue, BoolValue, ListValue, FaultValue, values_of}
 use Rattle.page_types.specs.Tree.{Program, Expr, Exprs, Block}
 use Rattle.page_types.specs.declared.Op.{Op}
-use Rattle.page_types.specs.declared.FaultName.TheVariants.{TypeError}
+use Rattle.page_types.specs.declared.FaultName.{FaultName}
+use Rattle.page_types.specs.declared.FaultName.TheVariants.{TypeError, RangeError}
+use Rattle.page_parts.specs.Kinds.{Func}
 use Rattle.page_values.specs.declared.Value.{Value}
 use Rattle.page_values.specs.Seen.{seen}
 use Rattle.page_values.specs.Written.{IsNumbered}
@@ -16,9 +18,10 @@ use Rattle.lang_ast.specs.Calls.{CallsFit}
 use Rattle.lang_ast.specs.Operations.{count_of}
 use Rattle.lang_ast.specs.Sizes.{expr_size, exprs_size, terms_size, factors_size, stmt_size, block_size, others_size, else_size}
 use Rattle.lang_ast.specs.Steps.{AllNumbered}
+use Rattle.lang_ast.specs.Hosts.{HostNow}
 use Rattle.lang_meaning.specs.Machine as M
 use Rattle.lang_meaning.specs.Machine.{Machine, Done, Gives, Throws, Returns, and_then, or_catch, finish, take_unit, assigned}
-use Rattle.lang_meaning.specs.Evaluation.{Answer, Around, eval, eval_or, eval_and, eval_all, eval_sum, eval_product, eval_places, exec, exec_block, exec_others, exec_else, own_body, tested, compared, sum_of, product_of, unary_of, item_at, limited, loop_turns, end_of_call, without_first}
+use Rattle.lang_meaning.specs.Evaluation.{Answer, Around, eval, eval_or, eval_and, eval_all, eval_sum, eval_product, eval_places, exec, exec_block, exec_others, exec_else, own_body, tested, compared, sum_of, product_of, unary_of, item_at, limited, loop_turns, end_of_call, without_first, Function, parameters_with, unit_variables, names_in}
 use Rattle.lang_meaning.specs.HostSteps.{HostRules, Ask, AskResume, steps_by, after_callback}
 use Rattle.lang_meaning.specs.Asks.{Limited, ask_limited}
 use Rattle.page_interp.specs.declared.exit.Exit.{Exit}
@@ -32,7 +35,7 @@ use Rattle.page_interp.specs.declared.stack.Waiting.TheVariants as waiting
 use Rattle.page_interp.specs.declared.stack.Purpose.{Purpose}
 use Rattle.page_interp.specs.declared.stack.Purpose.TheVariants as purpose
 use Rattle.page_interp.specs.declared.stack.Current.{Current}
-use Rattle.page_interp.specs.Runs.{variables_of, global_names, machine_of, count_of_functions, SomeIsNumbered, AreNumberedIn, Left, ends, refused, no_memory, exit_left, call_left, done, IsDry, LeftIsNumbered, caller_of, around_of, call_given}
+use Rattle.page_interp.specs.Runs.{variables_of, global_names, machine_of, count_of_functions, SomeIsNumbered, AreNumberedIn, Left, ends, refused, no_memory, exit_left, call_left, Is, IsDry, WhereSettled, LeftIsNumbered, caller_of, around_of, call_given, frame_names, Moment, moment_of, outside, IsReady, Asks, Runs}
 use Rattle.page_interp.specs.Sizes.{program_size}
 use Rattle.page_interp.specs.Variables.{named_in}
 use Rattle.std.specs.Borrow.{Bor}
@@ -361,12 +364,85 @@ pub record Moves {T : Type 0} (rules : HostRules T) (fs : List Frame) (f : Focus
   pub goes : (p : Program) (store : Store) (current : Current) → Holds p (place store current fs f) →
       Goes rules p (place store current fs f) (place store current fs' f')
 
--- how a run ends, by the way in which its last step is left
+-- this is left without a refusal of the host
+abbrev pub IsOwn : {S : Type 0} → Left S → Type 0
+IsOwn (ends e) = ⊤
+IsOwn (refused stop) = ⊥
+IsOwn no_memory = ⊤
+
+-- a step that does not ask the host is the last one of a run, which ends as the outermost call does
 pub record Halts {T S : Type 0} (rules : HostRules T) (p : Program) (a : Place) (x : Exit S) (store : Store) : Type 0 where
-  pub means : (ns : List ℕ) → HaveTurns a.store.fuel a.frames ns → (host : Limited T) → (e : _) → exit_left x ≡ ends e
-      → (e' : _) → call_left (exit_left x) ≡ ends e' → meaning_at rules p ns a host ≡ done e' (machine_of p host store [])
-  pub unrefused : (stop : S) → exit_left x ≡ refused stop → ⊥
+  pub means : (ns : List ℕ) → HaveTurns a.store.fuel a.frames ns → (host : Limited T) →
+      Is (meaning_at rules p ns a host) (call_left (exit_left x)) (machine_of p host store [])
+  pub own : IsOwn (exit_left x)
   pub fuel : store.fuel ≤ a.store.fuel
   pub dry : IsDry (exit_left x) store.fuel
   pub globals : AreNumberedIn (count_of_functions p) (variables_of (global_names p) store.globals.items)
   pub numbered : LeftIsNumbered (count_of_functions p) (exit_left x)
+  pub outermost : WhereSettled (exit_left x) (a.frames ≡ [])
+
+-- what is called by a number: a function of the script, or its own body; the names of its variables, the variables with these
+-- arguments, and its body
+abbrev pub call_names : Option Function → List (List ℕ)
+call_names None = []
+call_names (Some f) = frame_names f
+
+abbrev pub call_variables : Option Function → List Model.Value → List M.Variable
+call_variables None args = []
+call_variables (Some f) args = parameters_with f.parameters args ++ unit_variables (names_in f.body)
+
+abbrev pub call_body : Program → Option Function → Block
+call_body p None = own_body p.items
+call_body p (Some f) = f.body
+
+-- a body is next
+abbrev pub IsBody : Block → Focus → Type 0
+IsBody body (focus.Block ss) = seen_block ss.now ≡ body
+IsBody body (focus.Items items) = own_body (seen_items items.now) ≡ body
+IsBody body f = ⊥
+
+-- a value cannot be called where so many calls are open
+abbrev pub IsUncalled : (depth : ℕ) → Option Func → FaultName → Type 0
+IsUncalled depth None name = name ≡ TypeError
+IsUncalled depth (Some f) name = (name ≡ RangeError) × (256 ≤ depth)
+
+-- a function is called with these arguments: its body is next, with a unit less
+pub record Opens {T : Type 0} (rules : HostRules T) (p : Program) (function : ℕ) (args : List Model.Value) (a b : Place) : Type 0 where
+  pub means : (ns : List ℕ) (host : Limited T) →
+      after_all rules p a.frames ns (caller_of rules p (depth_of a.frames) function args (state_at p host a)) ≡
+      meaning_at rules p (0 ∷ ns) b host
+  pub frames : b.frames ≡ frame.Open a.current.names a.current.locals ∷ a.frames
+  pub fuel : a.store.fuel ≡ b.store.fuel + 1
+  pub holds : Holds p b
+  pub light : focus_weight b.focus ≤ 2 * program_size p
+
+-- What is known between two steps of a run, with the tickets that were open before it: what the host may rely on, too.
+abbrev pub moment_at : {T S : Type 0} → Program → HostNow T S → Place → Moment T S
+moment_at p h a = moment_of p h a.store (variables_of a.current.names.now a.current.locals.items ∷ saved a.frames)
+
+pub record Stood {T S : Type 0} (rules : HostRules T) (leaves : Ask → T → T → Type 0) (p : Program) (ts : List ℕ)
+    (h : HostNow T S) (a : Place) : Type 0 where
+  pub holds : Holds p a
+  pub ready : IsReady (outside rules leaves p) (moment_at p h a)
+  pub tickets : h.tickets ≡ tickets_in a.frames ts
+
+-- the same is left to do, after some asks of the host
+pub record Gets {T S : Type 0} (rules : HostRules T) (leaves : Ask → T → T → Type 0) (p : Program) (ns : List ℕ)
+    (h : HostNow T S) (a : Place) (h' : HostNow T S) (b : Place) : Type 0 where
+  pub numbers : List ℕ
+  pub enough : HaveTurns b.store.fuel b.frames numbers
+  pub asks : Asks (outside rules leaves p) (left_to_do rules p ns a) (left_to_do rules p numbers b) (moment_at p h a) (moment_at p h' b)
+
+-- a step of a run
+pub record Advances {T S : Type 0} (rules : HostRules T) (leaves : Ask → T → T → Type 0) (p : Program) (ts : List ℕ)
+    (h : HostNow T S) (a : Place) (h' : HostNow T S) (b : Place) : Type 0 where
+  pub means : (ns : List ℕ) → HaveTurns a.store.fuel a.frames ns → Gets rules leaves p ns h a h' b
+  pub stood : Stood rules leaves p ts h' b
+  pub fewer : steps_left p b < steps_left p a
+
+-- the last step of a run, which ends as the outermost call does
+pub record Finishes {T S : Type 0} (rules : HostRules T) (leaves : Ask → T → T → Type 0) (p : Program) (ts : List ℕ)
+    (h : HostNow T S) (a : Place) (x : Exit S) (h' : HostNow T S) (store : Store) : Type 0 where
+  pub runs : (ns : List ℕ) → HaveTurns a.store.fuel a.frames ns →
+      Runs (outside rules leaves p) (left_to_do rules p ns a) (moment_at p h a) (call_left (exit_left x)) (moment_of p h' store [])
+  pub tickets : WhereSettled (call_left (exit_left x)) (h.tickets ≡ ts)

@@ -228,6 +228,15 @@ module _ {T S : Type 0} where
     pub ready : IsReady w b
     pub numbered : LeftIsNumbered w.count l
 
+  -- what f does comes to what g does from the second moment on, after some asks of the host
+  pub record Asks (w : Scope T) (f g : Machine (Limited T) → Done (Limited T)) (a b : Moment T S) : Type 0 where
+    pub asks : ℕ
+    pub comes : (left : Option ℕ) → f (limited (more asks left) a.machine) ≡ g (limited left b.machine)
+    pub stands : IsPassed w.rules f a.machine b.machine.host
+    pub fuel : b.machine.fuel ≤ a.machine.fuel
+    pub refusals : b.now.refusals ≡ a.now.refusals
+    pub ready : IsReady w b
+
   -- What g comes to from the second moment on, f comes to from the first.
   pub record Leads (w : Scope T) (f : Machine (Limited T) → Done (Limited T)) (a : Moment T S)
       (g : Machine (Limited T) → Done (Limited T)) (b : Moment T S) : Type 0 where

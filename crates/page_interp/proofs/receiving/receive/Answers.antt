@@ -1,46 +1,31 @@
-use Rattle.std.proofs.Common.{rules, ◌≡◌, ◌∷◌, List, IfOk, IfErr, ℕ, ◌+◌, ◌-◌, ◌*◌, ◌<◌, ◌≤◌, length, ◌/◌, ◌%◌, Bool, true, false, nat_eq, nat_lt, [], ◌++◌, slice_index_or, slice_set, bit_and, bit_or, Fits, w8, w32, w64, Bor, MutBor}
-use Rattle.page_parts.specs.Kinds.{bool_in}
-use Rattle.page_values.specs.Seen.{seen}
-use Rattle.page_interp.specs.declared.stack.Frame.{Frame}
-use Rattle.page_interp.specs.declared.stack.Frame.TheVariants as frame
-use Rattle.page_interp.specs.Frames.{stacked, Moves, IsPicked}
-use Rattle.page_interp.specs.declared.exit.Exit.TheVariants as exit
-use Rattle.page_interp.specs.declared.stack.Focus.TheVariants as focus
-use Rattle.page_interp.specs.declared.stack.Waiting.TheVariants as waiting
+use Rattle.std.proofs.Common.{refl}
+use Rattle.page_interp.proofs.SmallSteps.{pushed_moves, answer_moves, pops_moves, swaps_moves}
+use Rattle.page_interp.proofs.ValueSteps.{left_swaps, right_pops, unary_pops, ignore_pops, if_picks, return_pops, throw_pops, stmts_pops, items_pops}
 use Rattle.page_interp.proofs.receiving.receive.Goals as goal
 
--- src/receiving.rt:198:1
 pub returns-in-Left-clause-ok : goal.returns-in-Left-clause-ok
-returns-in-Left-clause-ok g c = ?
+returns-in-Left-clause-ok g c = rw c.in-Left.is (pushed_moves _ _ _ _ _ _ c.wait.ensures.pushed c.wait.ensures.next (swaps_moves g.H.Host.rules _ (left_swaps _ _ _)))
 
--- src/receiving.rt:198:1
 pub returns-in-Right-clause-ok : goal.returns-in-Right-clause-ok
-returns-in-Right-clause-ok g c = ?
+returns-in-Right-clause-ok g c = rw c.in-Right.is (answer_moves c.come.result _ _ _ _ _ c.come.ensures.ok c.compare.ensures (λ f h. pops_moves g.H.Host.rules _ (right_pops _ _ _ f h)))
 
--- src/receiving.rt:198:1
 pub returns-in-Unary-clause-ok : goal.returns-in-Unary-clause-ok
-returns-in-Unary-clause-ok g c = ?
+returns-in-Unary-clause-ok g c = rw c.in-Unary.is (answer_moves c.come-in-Unary.result _ _ _ _ _ c.come-in-Unary.ensures.ok c.negate.ensures (λ f h. pops_moves g.H.Host.rules _ (unary_pops _ _ f h)))
 
--- src/receiving.rt:198:1
 pub returns-in-Ignore-clause-ok : goal.returns-in-Ignore-clause-ok
-returns-in-Ignore-clause-ok g c = ?
+returns-in-Ignore-clause-ok g c = rw c.in-Ignore.is (pops_moves g.H.Host.rules _ (ignore_pops _))
 
--- src/receiving.rt:198:1
 pub returns-in-If-clause-ok : goal.returns-in-If-clause-ok
-returns-in-If-clause-ok g c = ?
+returns-in-If-clause-ok g c = rw c.in-If.is (pops_moves g.H.Host.rules _ (if_picks _ _ _ _ _ _ refl c.pick.ensures))
 
--- src/receiving.rt:198:1
 pub returns-in-Return-clause-ok : goal.returns-in-Return-clause-ok
-returns-in-Return-clause-ok g c = ?
+returns-in-Return-clause-ok g c = rw c.in-Return.is (pops_moves g.H.Host.rules _ (return_pops _))
 
--- src/receiving.rt:198:1
 pub returns-in-Throw-clause-ok : goal.returns-in-Throw-clause-ok
-returns-in-Throw-clause-ok g c = ?
+returns-in-Throw-clause-ok g c = rw c.in-Throw.is (pops_moves g.H.Host.rules _ (throw_pops _))
 
--- src/receiving.rt:198:1
 pub returns-in-Stmts-clause-ok : goal.returns-in-Stmts-clause-ok
-returns-in-Stmts-clause-ok g c = ?
+returns-in-Stmts-clause-ok g c = rw c.in-Stmts.is (pops_moves g.H.Host.rules _ (stmts_pops _ _))
 
--- src/receiving.rt:189:1
 pub returns-clause-ok : goal.returns-clause-ok
-returns-clause-ok g c = ?
+returns-clause-ok g c = rw c.in-Items.is (pops_moves g.H.Host.rules _ (items_pops _ _))

@@ -1,16 +1,9 @@
-use Rattle.std.proofs.Common.{rules, ◌≡◌, IfOk, IfErr, IfSome, IfNone, ℕ, ◌+◌, ◌-◌, ◌*◌, ◌<◌, ◌≤◌, length, ◌/◌, ◌%◌, Bool, true, false, nat_eq, nat_lt, List, [], ◌∷◌, ◌++◌, slice_index_or, slice_set, bit_and, bit_or, Fits, w8, w32, w64, Bor, MutBor}
-use Rattle.page_types.specs.Tree.{no_stmts, with_stmt}
-use Rattle.lang_meaning.specs.Evaluation.{own_body}
-use Rattle.lang_ast.specs.Seen.{seen_stmt, seen_items}
-use Rattle.page_interp.specs.Frames.{stacked, Moves}
-use Rattle.page_interp.specs.declared.exit.Exit.TheVariants as exit
-use Rattle.page_interp.specs.declared.stack.Focus.TheVariants as focus
+use Rattle.page_interp.proofs.SmallSteps.{pushed_moves, pushes_moves, stays_moves, empty}
+use Rattle.page_interp.proofs.StmtSteps.{block_pushes, block_stays}
 use Rattle.page_interp.proofs.statements.from_block.Goals as goal
 
--- src/statements.rt:40:1
 pub returns-in-Some-clause-ok : goal.returns-in-Some-clause-ok
-returns-in-Some-clause-ok g c = ?
+returns-in-Some-clause-ok g c = pushed_moves _ _ _ _ _ _ c.within.ensures.pushed c.within.ensures.next (pushes_moves g.H.Host.rules _ (block_pushes _ _ _ c.in-Some.ensures.cases.0))
 
--- src/statements.rt:40:1
 pub returns-in-None-clause-ok : goal.returns-in-None-clause-ok
-returns-in-None-clause-ok g c = ?
+returns-in-None-clause-ok g c = stays_moves g.H.Host.rules _ (block_stays _ (empty _ c.in-None.ensures.cases))
