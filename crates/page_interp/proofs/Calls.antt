@@ -25,24 +25,24 @@ use Rattle.page_interp.proofs.Steps.{still, runs_at, runs_as, more_some, more_mo
 use Rattle.page_interp.proofs.Loops.{Stepping, calls_left}
 use Rattle.page_interp.proofs.Parts.{ready_out}
 
-given_none : {T : Type 0} (call : Caller T) (o : Option Model.Value) (args : List Model.Value) (m : Machine T) → func_of o ≡ None → call_given call o args m ≡ Throws (FaultValue TypeError []) m
+pub given_none : {T : Type 0} (call : Caller T) (o : Option Model.Value) (args : List Model.Value) (m : Machine T) → func_of o ≡ None → call_given call o args m ≡ Throws (FaultValue TypeError []) m
 given_none call None args m q = refl
 given_none call (Some v) args m q = rw q refl
 
-given_some : {T : Type 0} (call : Caller T) (o : Option Model.Value) (args : List Model.Value) (m : Machine T) (f : Func) → func_of o ≡ Some f → call_given call o args m ≡ call f.function (items_of f.bound ++ args) m
+pub given_some : {T : Type 0} (call : Caller T) (o : Option Model.Value) (args : List Model.Value) (m : Machine T) (f : Func) → func_of o ≡ Some f → call_given call o args m ≡ call f.function (items_of f.bound ++ args) m
 given_some call None args m f q = absurd (cc)
 given_some call (Some v) args m f q = rw q refl
 
 module _ {T : Type 0} (R : HostRules T) (p : Program) where
-  deep_call : (d f : ℕ) (args : List Model.Value) (m : Machine (Limited T)) → 256 ≤ d → caller_of R p d f args m ≡ Throws (FaultValue RangeError []) m
+  pub deep_call : (d f : ℕ) (args : List Model.Value) (m : Machine (Limited T)) → 256 ≤ d → caller_of R p d f args m ≡ Throws (FaultValue RangeError []) m
   unfolding caller_of
   deep_call d f args m h = let none : 256 - d ≡ 0 = omega arith in rw none refl
 
-  call_step : (d f : ℕ) (args : List Model.Value) (m : Machine (Limited T)) → d < 256 → caller_of R p d f args m ≡ M.take_unit m (λ m. body_of_call (around_of R p (d + 1)) (slice_get (functions_of p.items) f) args m)
+  pub call_step : (d f : ℕ) (args : List Model.Value) (m : Machine (Limited T)) → d < 256 → caller_of R p d f args m ≡ M.take_unit m (λ m. body_of_call (around_of R p (d + 1)) (slice_get (functions_of p.items) f) args m)
   unfolding caller_of around_of
   call_step d f args m h = let one : 256 - d ≡ suc (256 - (d + 1)) = omega arith in rw one refl
 
-  dry_call : (d f : ℕ) (args : List Model.Value) (m : Machine (Limited T)) → d < 256 → m.fuel ≡ 0 → caller_of R p d f args m ≡ OutOfFuel m
+  pub dry_call : (d f : ℕ) (args : List Model.Value) (m : Machine (Limited T)) → d < 256 → m.fuel ≡ 0 → caller_of R p d f args m ≡ OutOfFuel m
   dry_call d f args m h q = call_step d f args m h ∙ rw q refl
 
   -- a call of a function runs its body, with a unit less
@@ -76,7 +76,7 @@ end_stands R leaves f a told (ends no_fuel) x = x
 end_stands R leaves f a told (refused stop) x = x
 end_stands R leaves f a told no_memory x = x
 
-end_dry : {S : Type 0} (l : Left S) (fuel : ℕ) → IsDry l fuel → IsDry (call_left l) fuel
+pub end_dry : {S : Type 0} (l : Left S) (fuel : ℕ) → IsDry l fuel → IsDry (call_left l) fuel
 end_dry (ends (gives v)) fuel x = tt
 end_dry (ends (throws v)) fuel x = tt
 end_dry (ends (returns v)) fuel x = tt
@@ -100,7 +100,7 @@ end_refuses (ends no_fuel) a b last x = x
 end_refuses (refused stop) a b last x = x
 end_refuses no_memory a b last x = x
 
-end_numbered : {S : Type 0} (count : ℕ) (l : Left S) → LeftIsNumbered count l → LeftIsNumbered count (call_left l)
+pub end_numbered : {S : Type 0} (count : ℕ) (l : Left S) → LeftIsNumbered count l → LeftIsNumbered count (call_left l)
 end_numbered count (ends (gives v)) x = tt
 end_numbered count (ends (throws v)) x = x
 end_numbered count (ends (returns v)) x = x
@@ -200,7 +200,7 @@ unsettled_left Fuel a b c last u q h = h ∙ q
 unsettled_left (Host stop) a b c last u q h = (rw q at h.0, h.1)
 unsettled_left OutOfMemory a b c last u q h = h ∙ q
 
-unsettled_tickets : {S : Type 0} (X : Type 0) (x : Exit S) → IsUnsettled x → WhereSettled (exit_left x) X
+pub unsettled_tickets : {S : Type 0} (X : Type 0) (x : Exit S) → IsUnsettled x → WhereSettled (exit_left x) X
 unsettled_tickets X (Throw v) u = absurd u
 unsettled_tickets X (Return v) u = absurd u
 unsettled_tickets X Fuel u = tt
@@ -212,19 +212,19 @@ module _ {T : Type 0} (R : HostRules T) (call : Caller (Limited T)) where
   pub steps_at : ℕ → HostStep → Machine (Limited T) → Done (Limited T)
   steps_at n step m = steps_by (ask_limited R) call n step m
 
-  answered_now : (n : ℕ) (v : Model.Value) (m : Machine (Limited T)) → steps_by (ask_limited R) call n (StepValue v) m ≡ Gives v m
+  pub answered_now : (n : ℕ) (v : Model.Value) (m : Machine (Limited T)) → steps_by (ask_limited R) call n (StepValue v) m ≡ Gives v m
   answered_now zero v m = refl
   answered_now (suc n) v m = refl
 
-  thrown_now : (n : ℕ) (v : Model.Value) (m : Machine (Limited T)) → steps_by (ask_limited R) call n (StepThrow v) m ≡ Throws v m
+  pub thrown_now : (n : ℕ) (v : Model.Value) (m : Machine (Limited T)) → steps_by (ask_limited R) call n (StepThrow v) m ≡ Throws v m
   thrown_now zero v m = refl
   thrown_now (suc n) v m = refl
 
   -- what follows a callback
-  next_of : ℕ → ℕ → CallbackEnd → Machine (Limited T) → Done (Limited T)
+  pub next_of : ℕ → ℕ → CallbackEnd → Machine (Limited T) → Done (Limited T)
   next_of n t o m = ask_limited R (AskResume t o) m (steps_by (ask_limited R) call n)
 
-  invoked : (n k : ℕ) (f : Model.Value) (args : List Model.Value) (t : ℕ) (m : Machine (Limited T)) → n ≡ suc k → steps_by (ask_limited R) call n (StepInvoke f args t) m ≡ after_callback (next_of k) t (call_given call (Some f) args m)
+  pub invoked : (n k : ℕ) (f : Model.Value) (args : List Model.Value) (t : ℕ) (m : Machine (Limited T)) → n ≡ suc k → steps_by (ask_limited R) call n (StepInvoke f args t) m ≡ after_callback (next_of k) t (call_given call (Some f) args m)
   unfolding next_of
   invoked n k f args t m q = rw q refl
 
@@ -232,7 +232,7 @@ pub one_more : (most n turns : ℕ) → most ≤ turns → n < most → (turns �
 one_more most n turns h q = (omega arith, omega arith)
 
 -- an ask, where so many are left
-asked_once : {T : Type 0} (R : HostRules T) (ask : Ask) (m : Machine T) (step : HostStep) (host : T) (next : HostStep → Machine (Limited T) → Done (Limited T)) → on_ask R ask m.host ≡ record { step = step; host = host }
+pub asked_once : {T : Type 0} (R : HostRules T) (ask : Ask) (m : Machine T) (step : HostStep) (host : T) (next : HostStep → Machine (Limited T) → Done (Limited T)) → on_ask R ask m.host ≡ record { step = step; host = host }
     → (left : Option ℕ) → ask_limited R ask (limited (more 1 left) m) next ≡ next step (limited left (record m { host = host }))
 asked_once R ask m step host next q None = rw q refl
 asked_once R ask m step host next q (Some n) = rw q refl

@@ -4,6 +4,9 @@ pub mod Steps
 pub mod SmallSteps
 pub mod ExprSteps
 pub mod StmtSteps
+pub mod FrameSteps
+pub mod OpenSteps
+pub mod AskSteps
 pub mod NameSteps
 pub mod ValueSteps
 pub mod Ranks

@@ -63,7 +63,7 @@ below a b c d e h = omega arith
 pub under : (a c d e : ℕ) → a < c → e + (a + d) < e + (c + d)
 under a c d e h = omega arith
 
-popped : (a w d e : ℕ) → a < 1 + w → e + (a + d) < e + (1 + (w + d))
+pub popped : (a w d e : ℕ) → a < 1 + w → e + (a + d) < e + (1 + (w + d))
 popped a w d e h = omega arith
 
 swapped : (a b w d e : ℕ) → a + b < 1 + w → e + (a + (b + d)) < e + (1 + (w + d))

@@ -89,12 +89,12 @@ module _ {T : Type 0} where
     pub asks : ℕ
     pub stops : (n : ℕ) (s : Machine (Limited T)) → f (limited (Some n) b) ≡ OutOfFuel s → StopsAs (g (limited (more asks (Some n)) a)) s
 
-  reaches_within : {f g : Machine (Limited T) → Done (Limited T)} {a b : Machine T} (i : Within f b g a) (n : ℕ) (ask : Ask) (before : T) → Reaches f b n ask before → Reaches g a (i.asks + n) ask before
+  pub reaches_within : {f g : Machine (Limited T) → Done (Limited T)} {a b : Machine T} (i : Within f b g a) (n : ℕ) (ask : Ask) (before : T) → Reaches f b n ask before → Reaches g a (i.asks + n) ask before
   reaches_within {g = g} {a = a} i n ask before r =
       let s = i.stops n r.state r.stops in
       record { state = s.state; stops = subst (λ k. g (limited k a) ≡ OutOfFuel s.state) (more_some i.asks n) s.stops; host = s.host ∙ r.host }
 
-  passed_within : {R : HostRules T} {f g : Machine (Limited T) → Done (Limited T)} {a b : Machine T} (told : T) → Within f b g a → IsPassed R g a b.host → IsPassed R f b told → IsPassed R g a told
+  pub passed_within : {R : HostRules T} {f g : Machine (Limited T) → Done (Limited T)} {a b : Machine T} (told : T) → Within f b g a → IsPassed R g a b.host → IsPassed R f b told → IsPassed R g a told
   passed_within {R = R} {g = g} {a = a} told i p (unasked e) = subst (λ t. IsPassed R g a t) (sym e) p
   passed_within told i p (after_ask n ask before r e) = after_ask (i.asks + n) ask before (reaches_within i n ask before r) e
 
@@ -222,7 +222,7 @@ module _ {T U : Type 0} where
   pub runs_answer : {w : Scope T} {a : Moment T U} (l : Left U) (r : Answer) → IsReady w a → AnswerIsNumbered w.count r → Answers l r → Runs w (answered r) a l a
   runs_answer {w = w} {a = a} l r k n h = record { meaning = answer_meaning l r a.machine h; stands = answer_stands w.rules w.leaves l r a.machine h; fuel = still a.machine.fuel; dry = answer_dry l r a.machine.fuel h; tickets = settled_same l a.now.tickets; refusals = refusals_same l r a.now.refusals a.now.last_stop h; ready = k; numbered = numbered_answer w.count l r h n }
 
-assigned_machine : {T : Type 0} (b : Bool) (told : T) (fuel : ℕ) (globals globals' locals locals' : List M.Variable) (outer : List (List M.Variable)) (x : List ℕ) (v : Model.Value)
+pub assigned_machine : {T : Type 0} (b : Bool) (told : T) (fuel : ℕ) (globals globals' locals locals' : List M.Variable) (outer : List (List M.Variable)) (x : List ℕ) (v : Model.Value)
     → locals' ≡ cond b (with_value_in locals x v) locals → globals' ≡ cond b globals (with_value_in globals x v)
     → ◌≡◌ {A = Machine T} (cond b (record { globals = globals; open_calls = with_value_in locals x v ∷ outer; fuel = fuel; host = told }) (record { globals = with_value_in globals x v; open_calls = locals ∷ outer; fuel = fuel; host = told }))
     (record { globals = globals'; open_calls = locals' ∷ outer; fuel = fuel; host = told })

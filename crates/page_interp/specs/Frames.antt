@@ -10,6 +10,7 @@ use Rattle.page_types.specs.declared.FaultName.{FaultName}
 use Rattle.page_types.specs.declared.FaultName.TheVariants.{TypeError, RangeError}
 use Rattle.page_parts.specs.Kinds.{Func}
 use Rattle.page_values.specs.declared.Value.{Value}
+use Rattle.page_values.specs.declared.Value.TheVariants as value
 use Rattle.page_values.specs.Seen.{seen}
 use Rattle.page_values.specs.Written.{IsNumbered}
 use Rattle.lang_ast.specs.Seen.{seen_expr, seen_exprs, seen_terms, seen_factors, seen_stmt, seen_block, seen_others, seen_else, seen_items}
@@ -17,14 +18,15 @@ use Rattle.lang_ast.specs.Names.{in_expr, in_exprs, in_terms, in_factors, in_stm
 use Rattle.lang_ast.specs.Calls.{CallsFit}
 use Rattle.lang_ast.specs.Operations.{count_of}
 use Rattle.lang_ast.specs.Sizes.{expr_size, exprs_size, terms_size, factors_size, stmt_size, block_size, others_size, else_size}
-use Rattle.lang_ast.specs.Steps.{AllNumbered}
+use Rattle.lang_ast.specs.Steps.{AllNumbered, AreFew, StepIsNumbered, tickets_after}
 use Rattle.lang_ast.specs.Hosts.{HostNow}
 use Rattle.lang_meaning.specs.Machine as M
 use Rattle.lang_meaning.specs.Machine.{Machine, Done, Gives, Throws, Returns, and_then, or_catch, finish, take_unit, assigned}
 use Rattle.lang_meaning.specs.Evaluation.{Answer, Around, eval, eval_or, eval_and, eval_all, eval_sum, eval_product, eval_places, exec, exec_block, exec_others, exec_else, own_body, tested, compared, sum_of, product_of, unary_of, item_at, limited, loop_turns, end_of_call, without_first, Function, parameters_with, unit_variables, names_in}
-use Rattle.lang_meaning.specs.HostSteps.{HostRules, Ask, AskResume, steps_by, after_callback}
+use Rattle.lang_meaning.specs.HostSteps.{HostRules, HostStep, StepValue, StepThrow, StepInvoke, Ask, AskResume, CallbackEnd, steps_by, after_callback}
 use Rattle.lang_meaning.specs.Asks.{Limited, ask_limited}
 use Rattle.page_interp.specs.declared.exit.Exit.{Exit}
+use Rattle.page_interp.specs.declared.exit.Exit.TheVariants as exit
 use Rattle.page_interp.specs.declared.exit.Store.{Store}
 use Rattle.page_interp.specs.declared.stack.Focus.{Focus}
 use Rattle.page_interp.specs.declared.stack.Focus.TheVariants as focus
@@ -406,6 +408,14 @@ abbrev pub IsUncalled : (depth : ℕ) → Option Func → FaultName → Type 0
 IsUncalled depth None name = name ≡ TypeError
 IsUncalled depth (Some f) name = (name ≡ RangeError) × (256 ≤ depth)
 
+-- no unit of fuel is left, or no memory
+abbrev pub IsWant : {S : Type 0} → ℕ → Exit S → Type 0
+IsWant fuel (exit.Throw v) = ⊥
+IsWant fuel (exit.Return v) = ⊥
+IsWant fuel exit.Fuel = fuel ≡ 0
+IsWant fuel (exit.Host stop) = ⊥
+IsWant fuel exit.OutOfMemory = ⊤
+
 -- a function is called with these arguments: its body is next, with a unit less
 pub record Opens {T : Type 0} (rules : HostRules T) (p : Program) (function : ℕ) (args : List Model.Value) (a b : Place) : Type 0 where
   pub means : (ns : List ℕ) (host : Limited T) →
@@ -426,23 +436,76 @@ pub record Stood {T S : Type 0} (rules : HostRules T) (leaves : Ask → T → T 
   pub ready : IsReady (outside rules leaves p) (moment_at p h a)
   pub tickets : h.tickets ≡ tickets_in a.frames ts
 
--- the same is left to do, after some asks of the host
+-- what is left to do where f begins
+abbrev pub begun : {T : Type 0} → HostRules T → Program → List ℕ → List Frame → (Around (Limited T) → Machine (Limited T) → Done (Limited T))
+    → Machine (Limited T) → Done (Limited T)
+begun rules p ns fs f m = after_all rules p fs ns (f (around_of rules p (depth_of fs)) m)
+
+-- what f begins is left to do, after some asks of the host
 pub record Gets {T S : Type 0} (rules : HostRules T) (leaves : Ask → T → T → Type 0) (p : Program) (ns : List ℕ)
-    (h : HostNow T S) (a : Place) (h' : HostNow T S) (b : Place) : Type 0 where
+    (f : Around (Limited T) → Machine (Limited T) → Done (Limited T)) (h : HostNow T S) (a : Place) (h' : HostNow T S) (b : Place)
+    : Type 0 where
   pub numbers : List ℕ
   pub enough : HaveTurns b.store.fuel b.frames numbers
-  pub asks : Asks (outside rules leaves p) (left_to_do rules p ns a) (left_to_do rules p numbers b) (moment_at p h a) (moment_at p h' b)
+  pub asks : Asks (outside rules leaves p) (begun rules p ns a.frames f) (left_to_do rules p numbers b) (moment_at p h a) (moment_at p h' b)
 
--- a step of a run
+-- A run goes on from where f begins, which counts for so many steps.
 pub record Advances {T S : Type 0} (rules : HostRules T) (leaves : Ask → T → T → Type 0) (p : Program) (ts : List ℕ)
+    (f : Around (Limited T) → Machine (Limited T) → Done (Limited T)) (weight : ℕ)
     (h : HostNow T S) (a : Place) (h' : HostNow T S) (b : Place) : Type 0 where
-  pub means : (ns : List ℕ) → HaveTurns a.store.fuel a.frames ns → Gets rules leaves p ns h a h' b
+  pub means : (ns : List ℕ) → HaveTurns a.store.fuel a.frames ns → Gets rules leaves p ns f h a h' b
   pub stood : Stood rules leaves p ts h' b
-  pub fewer : steps_left p b < steps_left p a
+  pub fewer : steps_left p b < a.store.fuel * (2 * program_size p + 8) + (weight + frames_weight a.frames)
 
--- the last step of a run, which ends as the outermost call does
+-- A run ends from where f begins, as the outermost call does.
 pub record Finishes {T S : Type 0} (rules : HostRules T) (leaves : Ask → T → T → Type 0) (p : Program) (ts : List ℕ)
+    (f : Around (Limited T) → Machine (Limited T) → Done (Limited T))
     (h : HostNow T S) (a : Place) (x : Exit S) (h' : HostNow T S) (store : Store) : Type 0 where
   pub runs : (ns : List ℕ) → HaveTurns a.store.fuel a.frames ns →
-      Runs (outside rules leaves p) (left_to_do rules p ns a) (moment_at p h a) (call_left (exit_left x)) (moment_of p h' store [])
+      Runs (outside rules leaves p) (begun rules p ns a.frames f) (moment_at p h a) (call_left (exit_left x)) (moment_of p h' store [])
   pub tickets : WhereSettled (call_left (exit_left x)) (h.tickets ≡ ts)
+
+-- what comes of a part of a run that begins with f: what is next, or how the run ends
+abbrev pub Leaves : {T S : Type 0} → HostRules T → (Ask → T → T → Type 0) → Program → List ℕ
+    → (Around (Limited T) → Machine (Limited T) → Done (Limited T)) → ℕ → HostNow T S → Place → Result Focus (Exit S)
+    → HostNow T S → Store → Current → List Frame → Type 0
+Leaves rules leaves p ts f weight h a (Ok g) h' store current fs = Advances rules leaves p ts f weight h a h' (place store current fs g)
+Leaves rules leaves p ts f weight h a (Err x) h' store current fs = Finishes rules leaves p ts f h a x h' store
+
+-- the same of a step from what is next
+abbrev pub Steps : {T S : Type 0} → HostRules T → (Ask → T → T → Type 0) → Program → HostNow T S → Place → Result Focus (Exit S)
+    → HostNow T S → Store → Current → List Frame → Type 0
+Steps rules leaves p h a result h' store current fs =
+    (ts : List ℕ) → Stood rules leaves p ts h a →
+    Leaves rules leaves p ts (λ d. does d a.focus) (focus_weight a.focus) h a result h' store current fs
+
+-- how many callbacks may still come under the ticket of a step of the host
+abbrev pub calls_left : (ℕ → ℕ) → HostStep → ℕ
+calls_left left (StepValue v) = 0
+calls_left left (StepThrow v) = 0
+calls_left left (StepInvoke f args ticket) = left ticket + 1
+
+-- where a run stands that needs nothing more of what is next
+abbrev pub waiting_at : Store → Current → List Frame → Place
+waiting_at store current fs = place store current fs (focus.Value value.Unit)
+
+-- what is known where a host has answered with this step
+pub record Answering {T S : Type 0} (rules : HostRules T) (leaves : Ask → T → T → Type 0) (p : Program) (ts : List ℕ) (left : ℕ → ℕ)
+    (h : HostNow T S) (a : Place) (step : HostStep) : Type 0 where
+  pub holds : Holds p a
+  pub ready : IsReady (outside rules leaves p) (moment_at p h a)
+  pub tickets : h.tickets ≡ tickets_after step (tickets_in a.frames ts)
+  pub few : AreFew left step
+  pub numbered : StepIsNumbered (count_of_functions p) step
+
+-- so many steps of the host are enough
+abbrev pub MayCome : ℕ → (ℕ → ℕ) → HostStep → ℕ → Type 0
+MayCome fuel left step n = fuel * (2 ^ 64) + calls_left left step ≤ n
+
+-- the steps of a host from one on, with at most so many callbacks
+abbrev pub steps_on : {T : Type 0} → HostRules T → ℕ → HostStep → Around (Limited T) → Machine (Limited T) → Done (Limited T)
+steps_on rules n step d m = steps_by (ask_limited rules) d.call n step m
+
+-- the host is resumed after a callback that ended so
+abbrev pub resumes : {T : Type 0} → HostRules T → ℕ → ℕ → CallbackEnd → Around (Limited T) → Machine (Limited T) → Done (Limited T)
+resumes rules n ticket end d m = ask_limited rules (AskResume ticket end) m (steps_by (ask_limited rules) d.call n)

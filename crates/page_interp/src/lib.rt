@@ -3,6 +3,7 @@
 
 mod adding;
 
+mod asking;
 mod catching;
 mod code;
 mod exit;
@@ -10,6 +11,7 @@ mod expressions;
 mod gathering;
 mod machine;
 mod names;
+mod opening;
 mod operators;
 mod receiving;
 mod stack;

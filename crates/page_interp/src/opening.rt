@@ -1,6 +1,6 @@
 //! Calls: what may be called, and how a call opens and closes.
 
-ghost use Rattle.std.specs.Prelude.{◌≡◌, ◌+◌, ◌<◌, ◌≤◌, ◌++◌, List, IfOk, IfErr, map};
+ghost use Rattle.std.specs.Prelude.{◌≡◌, ◌<◌, ◌≤◌, Some, IfOk, IfErr, map};
 ghost use Rattle.std.specs.Option.{option_map};
 ghost use Rattle.page_values.specs.Seen.{seen};
 ghost use Rattle.lang_ast.specs.Calls.{CallsFit};
@@ -8,11 +8,9 @@ ghost use Rattle.lang_ast.specs.Names.{in_block};
 ghost use Rattle.lang_ast.specs.Steps.{AllNumbered};
 ghost use Rattle.page_interp.specs.Clauses.{script};
 ghost use Rattle.page_interp.specs.CodeNames.{function_at};
-ghost use Rattle.page_interp.specs.Frames.{stacked, place, depth_of, Holds, Goes, Halts, Opens, IsUncalled, IsBody, call_names, call_variables, call_body};
-ghost use Rattle.page_interp.specs.Runs.{func_of, func_seen, variables_of, count_of_functions, exit_left, ends, no_fuel};
-ghost use Rattle.page_interp.specs.declared.exit.Exit.TheVariants as exit;
+ghost use Rattle.page_interp.specs.Frames.{stacked, place, Holds, Opens, IsWant, IsUncalled, IsBody, call_names, call_variables, call_body};
+ghost use Rattle.page_interp.specs.Runs.{func_of, func_seen, variables_of, count_of_functions};
 ghost use Rattle.page_interp.specs.declared.stack.Focus.{Focus};
-ghost use Rattle.page_interp.specs.declared.stack.Focus.TheVariants as focus;
 
 use crate::code::Code;
 use crate::exit::{Exit, Store};
@@ -21,7 +19,7 @@ use crate::stack::{Current, Focus, Frame, push};
 use crate::values::{callee, joined};
 use crate::variables::locals_for;
 use lang_ast::Host;
-use page_values::{FaultName, Func, MemoryFault, Value, fault};
+use page_values::{FaultName, Func, MemoryFault, Value};
 
 /// How many calls may be open at once.
 const OPEN_CALLS: u64 = 256;
@@ -88,8 +86,7 @@ pub fn open<'c, H: Host>(
         AllNumbered (count_of_functions (script code.now)) (map seen args.items) →
         Opens H.rules (script code.now) function (map seen args.items)
         (place store.old current.old (stacked stack.old.items) g) (place store.new current.new (stacked stack.new.items) f)) }
-    ensures dry { IfErr result (λ x. exit_left x ≡ ends no_fuel → store.old.fuel ≡ 0) }
-    ensures err { IfErr result IsDryOrFull }
+    ensures err { IfErr result (IsWant store.old.fuel) }
     ensures globals { store.new.globals ≡ store.old.globals }
     ensures fuel { store.new.fuel ≤ store.old.fuel }
 {
