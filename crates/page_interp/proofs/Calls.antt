@@ -221,7 +221,7 @@ module _ {T : Type 0} (R : HostRules T) (call : Caller (Limited T)) where
   thrown_now (suc n) v m = refl
 
   -- what follows a callback
-  pub next_of : ℕ → ℕ → CallbackEnd → Machine (Limited T) → Done (Limited T)
+  unfoldable pub next_of : ℕ → ℕ → CallbackEnd → Machine (Limited T) → Done (Limited T)
   next_of n t o m = ask_limited R (AskResume t o) m (steps_by (ask_limited R) call n)
 
   pub invoked : (n k : ℕ) (f : Model.Value) (args : List Model.Value) (t : ℕ) (m : Machine (Limited T)) → n ≡ suc k → steps_by (ask_limited R) call n (StepInvoke f args t) m ≡ after_callback (next_of k) t (call_given call (Some f) args m)

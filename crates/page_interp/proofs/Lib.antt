@@ -7,6 +7,7 @@ pub mod StmtSteps
 pub mod FrameSteps
 pub mod OpenSteps
 pub mod AskSteps
+pub mod HostTurns
 pub mod NameSteps
 pub mod ValueSteps
 pub mod Ranks

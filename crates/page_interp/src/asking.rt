@@ -1,6 +1,6 @@
 //! Operations of the host, with the callbacks that it asks for.
 
-ghost use Rattle.std.specs.Prelude.{◌≡◌, ℕ, List, ◌∷◌, ◌+◌, ◌*◌, ◌^◌, ◌≤◌, length, map};
+ghost use Rattle.std.specs.Prelude.{◌≡◌, ℕ, List, ◌∷◌, ◌+◌, ◌*◌, ◌^◌, ◌≤◌, IfErr, length, map};
 ghost use Rattle.page_values.specs.Seen.{seen};
 ghost use Rattle.lang_ast.specs.Operations.{count_of};
 ghost use Rattle.lang_ast.specs.Steps.{AllNumbered, EndIsNumbered, room_taken, seen_outcome, seen_step};
@@ -8,7 +8,7 @@ ghost use Rattle.lang_meaning.specs.Asks.{ask_limited};
 ghost use Rattle.lang_meaning.specs.HostSteps.{asked_by, is_busy};
 ghost use Rattle.page_interp.specs.Clauses.{script};
 ghost use Rattle.page_interp.specs.Frames.{stacked, place, waiting_at, tickets_in, moment_at, Holds, Answering, MayCome, Leaves, Steps, Stood, steps_on, resumes};
-ghost use Rattle.page_interp.specs.Runs.{IsReady, outside, count_of_functions};
+ghost use Rattle.page_interp.specs.Runs.{IsReady, IsUnsettled, outside, count_of_functions};
 ghost use Rattle.page_interp.specs.declared.stack.Focus.TheVariants as focus;
 
 use crate::code::Code;
@@ -21,7 +21,6 @@ use page_values::{Value, fault};
 
 /// What the host answered: its value or throw is next, or the body of a callback. A callback that throws before its call
 /// opens is answered at once.
-#[tactic(none)]
 fn answer<'c, H: Host>(
     code: &'c Code,
     host: &mut H,
@@ -32,7 +31,8 @@ fn answer<'c, H: Host>(
 ) -> Result<Focus<'c>, Exit<H::Stop>>
     requires answering { (ts : List ℕ) × Answering H.rules H.leaves (script code.now) ts (H.left (H.now host.old).told)
         (H.now host.old) (waiting_at store.old current.old (stacked stack.old.items)) (seen_step first) }
-    ensures { (ts : List ℕ) (n : ℕ) → Answering H.rules H.leaves (script code.now) ts (H.left (H.now host.old).told)
+    ensures unsettled { IfErr result IsUnsettled }
+    ensures leaves { (ts : List ℕ) (n : ℕ) → Answering H.rules H.leaves (script code.now) ts (H.left (H.now host.old).told)
         (H.now host.old) (waiting_at store.old current.old (stacked stack.old.items)) (seen_step first) →
         MayCome store.old.fuel (H.left (H.now host.old).told) (seen_step first) n →
         Leaves H.rules H.leaves (script code.now) ts (steps_on H.rules n (seen_step first)) 2
@@ -67,7 +67,6 @@ fn answer<'c, H: Host>(
 }
 
 /// The host goes on after a callback.
-#[tactic(none)]
 pub fn resume<'c, H: Host>(
     code: &'c Code,
     host: &mut H,
@@ -82,7 +81,8 @@ pub fn resume<'c, H: Host>(
         (moment_at (script code.now) (H.now host.old) (waiting_at store.old current.old (stacked stack.old.items))) }
     requires tickets { (ts : List ℕ) × ((H.now host.old).tickets ≡ ticket ∷ tickets_in (stacked stack.old.items) ts) }
     requires numbered { EndIsNumbered (count_of_functions (script code.now)) (seen_outcome outcome) }
-    ensures { (ts : List ℕ) (n : ℕ) → (H.now host.old).tickets ≡ ticket ∷ tickets_in (stacked stack.old.items) ts →
+    ensures unsettled { IfErr result IsUnsettled }
+    ensures leaves { (ts : List ℕ) (n : ℕ) → (H.now host.old).tickets ≡ ticket ∷ tickets_in (stacked stack.old.items) ts →
         (store.old.fuel + 1) * (2 ^ 64) ≤ n →
         Leaves H.rules H.leaves (script code.now) ts (resumes H.rules n ticket (seen_outcome outcome)) 2
         (H.now host.old) (waiting_at store.old current.old (stacked stack.old.items)) result
@@ -95,7 +95,6 @@ pub fn resume<'c, H: Host>(
 }
 
 /// The host is asked for an operation.
-#[tactic(none)]
 fn ask_host<'c, H: Host>(
     code: &'c Code,
     host: &mut H,
@@ -110,7 +109,8 @@ fn ask_host<'c, H: Host>(
     requires count { length args.items ≡ count_of op }
     requires args { AllNumbered (count_of_functions (script code.now)) (map seen args.items) }
     requires room { store.old.fuel + room_taken (is_busy op) ≤ (H.now host.old).room }
-    ensures { (ts : List ℕ) → Stood H.rules H.leaves (script code.now) ts (H.now host.old)
+    ensures unsettled { IfErr result IsUnsettled }
+    ensures leaves { (ts : List ℕ) → Stood H.rules H.leaves (script code.now) ts (H.now host.old)
         (waiting_at store.old current.old (stacked stack.old.items)) →
         Leaves H.rules H.leaves (script code.now) ts (λ d. asked_by (ask_limited H.rules) d.call op (map seen args.items)) 2
         (H.now host.old) (waiting_at store.old current.old (stacked stack.old.items)) result
@@ -123,7 +123,6 @@ fn ask_host<'c, H: Host>(
 }
 
 /// An operation. A unit of fuel is taken for `busy` before the host is asked.
-#[tactic(none)]
 pub fn ask<'c, H: Host>(
     code: &'c Code,
     host: &mut H,
