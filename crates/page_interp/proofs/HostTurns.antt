@@ -247,6 +247,11 @@ module _ {T S : Type 0} (rules : HostRules T) (leaves : Ask → T → T → Type
   pub stood_waiting : (h : HostNow T S) (f : Focus) → Stood rules leaves p ts h (place store current fs f) → Stood rules leaves p ts h (waiting_at store current fs)
   stood_waiting h f k = record { holds = record { depth = k.holds.depth; few = k.holds.few; globals = k.holds.globals; held = k.holds.held; frames = k.holds.frames; focus = tt; size = omega arith }; ready = k.ready; tickets = k.tickets }
 
+  pub less_waiting : (h : HostNow T S) (f : Focus) (k : ℕ) → store.fuel ≡ suc k → Stood rules leaves p ts h (place store current fs f) → Stood rules leaves p ts h (waiting_at (record store { fuel = k }) current fs)
+  unfolding moment_of
+  less_waiting h f k q st = record { holds = record { depth = st.holds.depth; few = st.holds.few; globals = st.holds.globals; held = st.holds.held; frames = st.holds.frames; focus = tt; size = omega arith };
+    ready = record { functions = st.ready.functions; room = let r = st.ready.room in omega (arith, r, q); globals = st.ready.globals; held = tt }; tickets = st.tickets }
+
   -- the host has answered
   pub answers_now : (h h1 : HostNow T S) (step : HostStep) (taken : ℕ) → Holds p (waiting_at store current fs) → IsReady (outside rules leaves p) (moment_at p h (waiting_at store current fs))
       → h1.functions ≡ h.functions → h.room ≤ h1.room + taken → store.fuel + taken ≤ h.room → h1.tickets ≡ tickets_after step (tickets_in fs ts) → AreFew left step → StepIsNumbered h.functions step

@@ -37,9 +37,9 @@ use Rattle.page_interp.specs.declared.stack.Waiting.TheVariants as waiting
 use Rattle.page_interp.specs.declared.stack.Purpose.{Purpose}
 use Rattle.page_interp.specs.declared.stack.Purpose.TheVariants as purpose
 use Rattle.page_interp.specs.declared.stack.Current.{Current}
-use Rattle.page_interp.specs.Runs.{variables_of, global_names, machine_of, count_of_functions, SomeIsNumbered, AreNumberedIn, Left, ends, refused, no_memory, exit_left, call_left, Is, IsDry, WhereSettled, LeftIsNumbered, caller_of, around_of, call_given, frame_names, Moment, moment_of, outside, IsReady, Asks, Runs}
+use Rattle.page_interp.specs.Runs.{variables_of, global_names, machine_of, count_of_functions, SomeIsNumbered, AreNumberedIn, Left, ends, refused, no_memory, exit_left, call_left, Is, IsDry, WhereSettled, LeftIsNumbered, caller_of, around_of, call_given, func_of, frame_names, Moment, moment_of, outside, IsReady, Asks, Runs}
 use Rattle.page_interp.specs.Sizes.{program_size}
-use Rattle.page_interp.specs.Variables.{named_in}
+use Rattle.page_interp.specs.Variables.{named_in, SetsLocal, SetsGlobal}
 use Rattle.std.specs.Borrow.{Bor}
 use Rattle.lang_meaning.specs.OpNames.{op_named}
 use Rattle.lang_ast.specs.declared.program.Program as Code
@@ -509,3 +509,16 @@ steps_on rules n step d m = steps_by (ask_limited rules) d.call n step m
 -- the host is resumed after a callback that ended so
 abbrev pub resumes : {T : Type 0} → HostRules T → ℕ → ℕ → CallbackEnd → Around (Limited T) → Machine (Limited T) → Done (Limited T)
 resumes rules n ticket end d m = ask_limited rules (AskResume ticket end) m (steps_by (ask_limited rules) d.call n)
+
+-- a variable has taken a value: a local one, or else a global one
+pub record IsSet (script : Code.Program) (store : Store) (current : Current) (name : List ℕ) (v : Value) (store' : Store) (current' : Current)
+    : Type 0 where
+  pub names : current'.names ≡ current.names
+  pub depth : current'.depth ≡ current.depth
+  pub locals : SetsLocal current.names.now current.locals name v current'.locals
+  pub globals : SetsGlobal script current.names.now current.locals store name v store'
+  pub fuel : store'.fuel ≡ store.fuel
+
+-- a value that can be called where so many calls are open
+abbrev pub IsCallable : ℕ → Option Model.Value → Type 0
+IsCallable depth o = (depth < 256) × ((f : Func) × (func_of o ≡ Some f))

@@ -1,6 +1,6 @@
 //! The frames of a run: what is to be done next, and what waits for its value.
 
-ghost use Rattle.std.specs.Prelude.{◌≡◌, ◌∷◌, IfOk, IfErr};
+ghost use Rattle.std.specs.Prelude.{◌≡◌, [], ◌∷◌, IfOk, IfErr, IfSome, IfNone};
 ghost use Rattle.page_interp.specs.Frames.{stacked};
 ghost use Rattle.page_interp.specs.declared.exit.Exit.TheVariants as exit;
 ghost use Rattle.page_interp.specs.declared.stack.Focus.TheVariants as focus;
@@ -115,6 +115,15 @@ pub fn push<'c, S: Drop>(stack: &mut Vec<Frame<'c>>, frame: Frame<'c>) -> Result
         Ok(()) => Ok(()),
         Err(_) => Err(Exit::OutOfMemory),
     }
+}
+
+/// The frame on top, which goes.
+pub fn pop<'c>(stack: &mut Vec<Frame<'c>>) -> Option<Frame<'c>>
+    ensures some { IfSome result (λ frame. stacked stack.old.items ≡ frame ∷ stacked stack.new.items) }
+    ensures none { IfNone result (stacked stack.old.items ≡ []) }
+    ensures empty { IfNone result (stacked stack.new.items ≡ []) }
+{
+    stack.pop()
 }
 
 /// The expression is next, and something waits for its value.
