@@ -8,6 +8,7 @@ pub mod FrameSteps
 pub mod OpenSteps
 pub mod AskSteps
 pub mod HostTurns
+pub mod RunSteps
 pub mod NameSteps
 pub mod ValueSteps
 pub mod Ranks

@@ -37,15 +37,15 @@ body_of body (focus.Block ss) h = record { same = λ d m. rw h refl; sound = λ 
 body_of body (focus.Items items) h = record { same = λ d m. rw h refl; sound = λ count k. rw h k; size = rw h refl; weight = rw h refl }
 body_of body f h = absurd h
 
-variables_numbered : (count : ℕ) (o : Option Function) (args : List Model.Value) → AllNumbered count args → AreNumberedIn count (call_variables o args)
+pub variables_numbered : (count : ℕ) (o : Option Function) (args : List Model.Value) → AllNumbered count args → AreNumberedIn count (call_variables o args)
 variables_numbered count None args h = tt
 variables_numbered count (Some f) args h = both_numbered count (parameters_with f.parameters args) (unit_variables (names_in f.body)) (frame_numbered count f.parameters args h) (units_numbered count (names_in f.body))
 
-body_small : (p : Program) (function : ℕ) (o : Option Function) → slice_get (functions_of p.items) function ≡ o → block_size (call_body p o) ≤ program_size p
+pub body_small : (p : Program) (function : ℕ) (o : Option Function) → slice_get (functions_of p.items) function ≡ o → block_size (call_body p o) ≤ program_size p
 body_small p function None q = omega arith
 body_small p function (Some f) q = in_program p function f q
 
-call_opens : {T : Type 0} (rules : HostRules T) (p : Program) (d function : ℕ) (args : List Model.Value) (o : Option Function) (k : ℕ) → d < 256 → slice_get (functions_of p.items) function ≡ o → (m : Machine (Limited T)) → m.fuel ≡ suc k
+pub call_opens : {T : Type 0} (rules : HostRules T) (p : Program) (d function : ℕ) (args : List Model.Value) (o : Option Function) (k : ℕ) → d < 256 → slice_get (functions_of p.items) function ≡ o → (m : Machine (Limited T)) → m.fuel ≡ suc k
     → caller_of rules p d function args m ≡ end_of_call (exec_block (around_of rules p (d + 1)) (call_body p o) (opened (call_variables o args) (record m { fuel = k })))
 call_opens rules p d function args None k lt q m e = in_own_body rules p d function args k lt q m e
 call_opens rules p d function args (Some f) k lt q m e = in_function rules p d function args f k lt q m e

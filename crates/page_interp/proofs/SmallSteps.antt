@@ -1,6 +1,7 @@
 -- Small steps keep what is left to do, around any host.
-use Rattle.std.proofs.Common.{◌≡◌, ℕ, zero, suc, ◌+◌, ◌*◌, ◌<◌, ◌≤◌, List, [], ◌∷◌, ◌++◌, map, length, Option, Some, None, Result, Ok, Err, IfOk, true, false, Vec, Global, refl, sym, ap, ◌∙◌, arith}
-use Rattle.std.specs.Prelude.{Box}
+use Rattle.std.proofs.Common.{◌≡◌, ℕ, zero, suc, ◌+◌, ◌*◌, ◌<◌, ◌≤◌, List, [], ◌∷◌, ◌++◌, map, length, Option, Some, None, Result, Ok, Err, IfOk, IfSome, IfNone, true, false, Vec, Global, refl, sym, ap, ◌∙◌, arith}
+use Rattle.std.specs.Prelude.{MatchOption, vec_len}
+use Rattle.std.specs.Option.{option_to_list}
 use Rattle.std.proofs.lemmas.List.{reverse-append}
 use Rattle.std.specs.Borrow.{Bor}
 use Rattle.std.specs.Option.{option_map}
@@ -195,3 +196,22 @@ module _ {T : Type 0} (rules : HostRules T) (p : Program) (store : Store) (curre
 pub empty : {X : Type 0} (xs : List X) → length xs ≡ 0 → xs ≡ []
 empty [] q = refl
 empty (x ∷ xs) q = absurd (omega arith)
+
+pub stacked_pop : (result : Option Frame) (xs ys : List Frame) → xs ≡ ys ++ option_to_list result → IfSome result (λ f. stacked xs ≡ f ∷ stacked ys)
+stacked_pop None xs ys q = tt
+stacked_pop (Some f) xs ys q = stacked_push ys xs f q
+
+pub stacked_empty : (xs : List Frame) → xs ≡ [] → stacked xs ≡ []
+unfolding stacked
+stacked_empty xs q = rw q refl
+
+no_items : (v : Vec Frame Global) → vec_len v ≡ 0 → v.items ≡ []
+no_items v q = let k = v.ok.0 in empty v.items (omega (arith, k, q))
+
+pub stacked_none : (result : Option Frame) (v : Vec Frame Global) (P : Frame → Type 0) (Q : Type 0) → MatchOption result ((vec_len v ≡ 0) × Q) P → IfNone result (stacked v.items ≡ [])
+stacked_none None v P Q q = stacked_empty v.items (no_items v q.0)
+stacked_none (Some f) v P Q q = tt
+
+pub stacked_rest : (result : Option Frame) (v : Vec Frame Global) (P : Frame → Type 0) (Q : Type 0) → MatchOption result (Q × (vec_len v ≡ 0)) P → IfNone result (stacked v.items ≡ [])
+stacked_rest None v P Q q = stacked_empty v.items (no_items v q.1)
+stacked_rest (Some f) v P Q q = tt

@@ -4,6 +4,7 @@
 mod adding;
 
 mod asking;
+mod calling;
 mod catching;
 mod code;
 mod exit;
@@ -16,6 +17,8 @@ mod operators;
 mod receiving;
 mod stack;
 mod statements;
+mod stepping;
+
 mod values;
 mod variables;
 

@@ -1,6 +1,6 @@
 //! The steps of a run, until the outermost call ends.
 
-ghost use Rattle.std.specs.Prelude.{◌≡◌, [], ◌∷◌, ◌+◌, ◌<◌, ◌≤◌, List, ℕ, Some, IfOk, IfErr, map};
+ghost use Rattle.std.specs.Prelude.{◌≡◌, [], ◌∷◌, ◌+◌, ◌<◌, ◌≤◌, List, ℕ, true, Some, IfOk, IfErr, map};
 ghost use Rattle.std.specs.Option.{option_map};
 ghost use Rattle.page_types.specs.Tree.{Program};
 ghost use Rattle.page_parts.specs.Kinds.{bool_in};
@@ -41,6 +41,7 @@ fn close<'c>(current: &mut Current<'c>, names: &'c Names, locals: Vec<Value>)
 }
 
 /// A variable takes a value.
+
 fn set<'c>(code: &Code, store: &mut Store, current: &mut Current<'c>, name: &Named, value: Value)
     ensures { IsSet code.now store.old current.old name.now.name value store.new current.new }
 {
@@ -48,6 +49,8 @@ fn set<'c>(code: &Code, store: &mut Store, current: &mut Current<'c>, name: &Nam
 }
 
 /// The condition of a loop: its block is next, with a unit less.
+
+
 fn into_test<'c, H: Host>(
     alloc: Global,
     store: &mut Store,
@@ -80,6 +83,7 @@ fn into_test<'c, H: Host>(
 }
 
 /// A call of what a name stood for.
+
 fn call<'c, H: Host>(
     code: &'c Code,
     store: &mut Store,
@@ -110,6 +114,7 @@ fn call<'c, H: Host>(
 }
 
 /// A value comes back to the frame on top.
+
 fn from_value<'c, H: Host>(
     code: &'c Code,
     host: &mut H,
@@ -149,6 +154,7 @@ fn from_value<'c, H: Host>(
 }
 
 /// A throw unwinds the frame on top, where no `try` catches it.
+
 fn from_throw<'c, H: Host>(
     code: &'c Code,
     host: &mut H,
@@ -184,6 +190,7 @@ fn from_throw<'c, H: Host>(
 }
 
 /// A value returns from the innermost call.
+
 fn from_return<'c, H: Host>(
     code: &'c Code,
     host: &mut H,
@@ -216,6 +223,9 @@ fn from_return<'c, H: Host>(
 }
 
 /// One step. An `Err` tells how the outermost call ends.
+
+
+#[tactic(none)]
 fn step<'c, H: Host>(
     code: &'c Code,
     host: &mut H,
@@ -225,7 +235,7 @@ fn step<'c, H: Host>(
     focus: Focus<'c>,
 ) -> Result<Focus<'c>, Exit<H::Stop>>
     requires stood { (ts : List ℕ) × Stood H.rules H.leaves (script code.now) ts (H.now host.old)
-        (place store.old current.old (stacked stack.old.items) focus.entry) }
+        (place store.old current.old (stacked stack.old.items) focus) }
     ensures { Steps H.rules H.leaves (script code.now) (H.now host.old)
         (place store.old current.old (stacked stack.old.items) focus.entry) result
         (H.now host.new) store.new current.new (stacked stack.new.items) }
@@ -248,6 +258,9 @@ fn step<'c, H: Host>(
 }
 
 /// All steps of a call whose body is next: how it ends.
+
+
+#[tactic(none)]
 fn run<'c, H: Host>(
     code: &'c Code,
     host: &mut H,
@@ -256,7 +269,7 @@ fn run<'c, H: Host>(
     first: Focus<'c>,
 ) -> Exit<H::Stop>
     requires stood { (ts : List ℕ) × Stood H.rules H.leaves (script code.now) ts (H.now host.old)
-        (place store.old current.entry [] first.entry) }
+        (place store.old current [] first) }
     ensures { (ts : List ℕ) →
         Stood H.rules H.leaves (script code.now) ts (H.now host.old) (place store.old current.entry [] first.entry) →
         Finishes H.rules H.leaves (script code.now) ts (λ d. does d first.entry) (H.now host.old)
@@ -264,7 +277,7 @@ fn run<'c, H: Host>(
 {
     let mut stack = Vec::new(code.alloc());
     let mut focus = first;
-    loop {
+    'steps: loop {
         focus = match step(code, host, store, &mut current, &mut stack, focus) {
             Ok(next) => next,
             Err(exit) => return exit,
@@ -273,6 +286,9 @@ fn run<'c, H: Host>(
 }
 
 /// A call of a function by its number, with all its arguments, where no call is open.
+
+
+#[tactic(none)]
 pub fn run_function<H: Host>(
     code: &Code,
     host: &mut H,
