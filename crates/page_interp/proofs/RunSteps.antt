@@ -38,7 +38,7 @@ use Rattle.page_interp.specs.Sizes.{program_size}
 use Rattle.page_interp.specs.Frames.{does, first, goes_on, resumes, waiting_at, Leaves, IsBody, call_body, call_variables, FocusIsSound, focus_size, depth_of, saved, after_all, begun, left_to_do, meaning_at, state_at, moment_at, HaveTurns, focus_weight, frames_weight, steps_left, place, Place, Holds, Goes, Moves, Halts, IsWant, Opens, IsUncalled, IsCallable, Stood, Gets, Advances, Finishes, Steps}
 use Rattle.page_interp.proofs.Steps.{still}
 use Rattle.page_interp.proofs.Calls.{given_none, given_some, deep_call, dry_call}
-use Rattle.page_interp.proofs.FrameSteps.{after_dry, turns_less}
+use Rattle.page_interp.proofs.FrameSteps.{after_dry, turns_less, test_true}
 use Rattle.page_interp.proofs.AskSteps.{asks_trans, asks_same, asks_runs, never_settled, goes_advances, halts_finishes, memory_finishes, dry_finishes}
 use Rattle.page_interp.proofs.OpenSteps.{call_opens as call_opens_at, variables_numbered, body_small}
 use Rattle.page_interp.proofs.Bodies.{bound_numbered}
@@ -281,3 +281,9 @@ steps_ok (Err y) x P q h = tt
 pub fewer_left : {T S : Type 0} (rules : HostRules T) (leaves : Ask → T → T → Type 0) (p : Program) (ts : List ℕ) (h h1 : HostNow T S) (b c : Place) → Advances rules leaves p ts (λ d. does d b.focus) (focus_weight b.focus) h b h1 c → steps_left p c < steps_left p b
 unfolding steps_left
 fewer_left rules leaves p ts h h1 b c a = a.fewer
+
+pub test_enters : {T S : Type 0} (rules : HostRules T) (result : Result Focus (Exit S)) (store store1 : Store) (fs fs1 : List Frame) (e : Bor Expr) (b : Bor (List Stmt)) (v : Value) (k : ℕ) → bool_in (seen v) ≡ Some true → store.fuel ≡ suc k → store1 ≡ record store { fuel = k }
+    → IfOk result (λ _. fs1 ≡ frame.Turn e b ∷ fs) → IfOk result (λ x. x ≡ focus.Block b)
+    → IfOk result (λ f. (p : Program) (current : Current) → Holds p (place store current (frame.Test e b ∷ fs) (focus.Value v)) → Goes rules p (place store current (frame.Test e b ∷ fs) (focus.Value v)) (place store1 current fs1 f))
+test_enters rules (Ok x) store store1 fs fs1 e b v k q u l pu ne = λ p current h. rw (pu, ne) (test_true rules p store current fs store1 e b v k q u l h)
+test_enters rules (Err x) store store1 fs fs1 e b v k q u l pu ne = tt

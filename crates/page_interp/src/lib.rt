@@ -2,10 +2,8 @@
 #![tactic(auto)]
 
 mod adding;
-
 mod asking;
 mod calling;
-mod catching;
 mod code;
 mod exit;
 mod expressions;
@@ -18,7 +16,6 @@ mod receiving;
 mod stack;
 mod statements;
 mod stepping;
-
 mod values;
 mod variables;
 

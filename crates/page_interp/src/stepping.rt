@@ -41,7 +41,6 @@ fn close<'c>(current: &mut Current<'c>, names: &'c Names, locals: Vec<Value>)
 }
 
 /// A variable takes a value.
-
 fn set<'c>(code: &Code, store: &mut Store, current: &mut Current<'c>, name: &Named, value: Value)
     ensures { IsSet code.now store.old current.old name.now.name value store.new current.new }
 {
@@ -49,8 +48,6 @@ fn set<'c>(code: &Code, store: &mut Store, current: &mut Current<'c>, name: &Nam
 }
 
 /// The condition of a loop: its block is next, with a unit less.
-
-
 fn into_test<'c, H: Host>(
     alloc: Global,
     store: &mut Store,
@@ -83,7 +80,6 @@ fn into_test<'c, H: Host>(
 }
 
 /// A call of what a name stood for.
-
 fn call<'c, H: Host>(
     code: &'c Code,
     store: &mut Store,
@@ -114,7 +110,6 @@ fn call<'c, H: Host>(
 }
 
 /// A value comes back to the frame on top.
-
 fn from_value<'c, H: Host>(
     code: &'c Code,
     host: &mut H,
@@ -154,7 +149,6 @@ fn from_value<'c, H: Host>(
 }
 
 /// A throw unwinds the frame on top, where no `try` catches it.
-
 fn from_throw<'c, H: Host>(
     code: &'c Code,
     host: &mut H,
@@ -190,7 +184,6 @@ fn from_throw<'c, H: Host>(
 }
 
 /// A value returns from the innermost call.
-
 fn from_return<'c, H: Host>(
     code: &'c Code,
     host: &mut H,
@@ -223,9 +216,6 @@ fn from_return<'c, H: Host>(
 }
 
 /// One step. An `Err` tells how the outermost call ends.
-
-
-#[tactic(none)]
 fn step<'c, H: Host>(
     code: &'c Code,
     host: &mut H,
@@ -258,9 +248,6 @@ fn step<'c, H: Host>(
 }
 
 /// All steps of a call whose body is next: how it ends.
-
-
-#[tactic(none)]
 fn run<'c, H: Host>(
     code: &'c Code,
     host: &mut H,
@@ -286,9 +273,6 @@ fn run<'c, H: Host>(
 }
 
 /// A call of a function by its number, with all its arguments, where no call is open.
-
-
-#[tactic(none)]
 pub fn run_function<H: Host>(
     code: &Code,
     host: &mut H,

@@ -50,5 +50,5 @@ returns-in-Throw g c = rw c.in-Throw.is c.from_throw.ensures
 pub from_return-requires : goal.from_return-requires
 from_return-requires g c = record { stood = rw c.in-Return.is at c.requires.stood }
 
-pub returns : goal.returns
-returns g c = rw c.in-Return.is c.from_return.ensures
+pub returns-in-Return : goal.returns-in-Return
+returns-in-Return g c = rw c.in-Return.is c.from_return.ensures
