@@ -1,24 +1,15 @@
 -- How a run goes on where the host is asked.
-use Rattle.std.proofs.Common.{◌≡◌, ℕ, zero, suc, ◌+◌, ◌-◌, ◌*◌, ◌^◌, ◌<◌, ◌≤◌, List, [], ◌∷◌, ◌++◌, map, Option, Some, None, Result, Ok, Err, IfErr, Vec, Global, refl, sym, ap, ◌∙◌, subst, arith}
-use Rattle.std.specs.Option.{option_map}
+use Rattle.std.proofs.Common.{◌≡◌, ℕ, ◌+◌, ◌-◌, ◌*◌, ◌^◌, ◌<◌, ◌≤◌, List, [], ◌∷◌, ◌++◌, Option, Some, Result, Ok, Err, IfErr, refl, sym, ap, ◌∙◌, arith}
 use Rattle.page_types.specs.Counts.{Rose}
-use Rattle.page_types.specs.declared.FaultName.{FaultName}
-use Rattle.page_types.specs.declared.FaultName.TheVariants.{TypeError, RangeError}
-use Rattle.page_types.specs.declared.Op.{Op}
 use Rattle.page_types.specs.Values as Model
-use Rattle.page_types.specs.Values.{FaultValue, items_of}
 use Rattle.page_types.specs.Tree.{Program}
-use Rattle.page_parts.specs.Kinds.{Func}
-use Rattle.page_values.specs.declared.Value.{Value}
 use Rattle.page_values.specs.declared.Value.TheVariants as value
-use Rattle.page_values.specs.Seen.{seen}
 use Rattle.lang_ast.specs.Hosts.{HostNow}
-use Rattle.lang_ast.specs.Steps.{AreFew, Falls, StepIsNumbered, tickets_after, AllNumbered}
 use Rattle.lang_meaning.specs.Machine as M
-use Rattle.lang_meaning.specs.Machine.{Machine, Done, Gives, Throws, Returns, OutOfFuel, Caller}
-use Rattle.lang_meaning.specs.Evaluation.{Around, without_first}
-use Rattle.lang_meaning.specs.HostSteps.{HostStep, StepValue, StepThrow, StepInvoke, CallbackEnd, CallbackValue, CallbackThrow, HostRules, Ask, AskOp, AskResume, on_ask, with_host, asked_by, steps_by, after_callback, is_busy}
-use Rattle.lang_meaning.specs.Asks.{Limited, limited, limited_host, stopped_at, ask_limited, limited_operations, Reaches, IsPassed, unasked, after_ask, IsRefused}
+use Rattle.lang_meaning.specs.Machine.{Machine, Done, OutOfFuel}
+use Rattle.lang_meaning.specs.Evaluation.{Around}
+use Rattle.lang_meaning.specs.HostSteps.{HostStep, HostRules, Ask, on_ask}
+use Rattle.lang_meaning.specs.Asks.{Limited, limited, limited_host, stopped_at, ask_limited, unasked, after_ask}
 use Rattle.page_interp.specs.declared.exit.Exit.{Exit}
 use Rattle.page_interp.specs.declared.exit.Exit.TheVariants as exit
 use Rattle.page_interp.specs.declared.exit.Store.{Store}
@@ -27,12 +18,11 @@ use Rattle.page_interp.specs.declared.stack.Focus.{Focus}
 use Rattle.page_interp.specs.declared.stack.Focus.TheVariants as focus
 use Rattle.page_interp.specs.declared.stack.Frame.{Frame}
 use Rattle.page_interp.specs.declared.stack.Frame.TheVariants as frame
-use Rattle.page_interp.specs.Runs.{Left, ends, refused, no_memory, gives, throws, returns, no_fuel, done, Is, Comes, Ends, Stands, IsDry, WhereSettled, Refuses, LeftIsNumbered, IsUnsettled, exit_left, call_left, more, Scope, outside, IsReady, Moment, moment_of, Runs, Asks, variables_of, global_names, machine_of, count_of_functions, AreNumberedIn, caller_of, around_of, call_given, func_of}
-use Rattle.page_interp.specs.Sizes.{program_size}
-use Rattle.page_interp.specs.Frames.{does, depth_of, saved, tickets_in, first, then_frame, goes_on, after_all, begun, left_to_do, meaning_at, state_at, moment_at, HaveTurns, focus_weight, frames_weight, steps_left, place, waiting_at, Place, Holds, Goes, Halts, IsOwn, IsWant, Opens, IsUncalled, Stood, Gets, Advances, Finishes, Leaves, calls_left, Answering, MayCome, steps_on, resumes}
+use Rattle.page_interp.specs.Runs.{Left, ends, refused, no_memory, gives, throws, returns, no_fuel, Is, Comes, Stands, WhereSettled, Refuses, IsUnsettled, exit_left, call_left, more, Scope, outside, IsReady, Moment, moment_of, Runs, Asks, around_of}
+use Rattle.page_interp.specs.Frames.{does, depth_of, tickets_in, after_all, begun, meaning_at, state_at, moment_at, focus_weight, steps_left, Place, Goes, Halts, IsOwn, Stood, Advances, Finishes, Leaves}
 use Rattle.page_interp.proofs.Steps.{still, more_more, passed_within, comes_after, stands_within, refuses_trans, settled_same}
-use Rattle.page_interp.proofs.Calls.{given_none, given_some, deep_call, dry_call, end_dry, end_numbered, answered_now, thrown_now, next_of, invoked, asked_once}
-use Rattle.page_interp.proofs.FrameSteps.{after_dry, turns_less}
+use Rattle.page_interp.proofs.Calls.{end_dry, end_numbered, asked_once}
+use Rattle.page_interp.proofs.FrameSteps.{after_dry}
 
 settled_both : {S : Type 0} (l : Left S) (x y z : List ℕ) → WhereSettled l (y ≡ x) → WhereSettled l (z ≡ y) → WhereSettled l (z ≡ x)
 settled_both (ends (gives v)) x y z p q = q ∙ p
@@ -135,8 +125,16 @@ module _ {T S : Type 0} (rules : HostRules T) (leaves : Ask → T → T → Type
       → Finishes rules leaves p ts f h a exit.OutOfMemory h store
   unfolding moment_of
   memory_finishes f h a store k g l = record {
-    runs = λ ns t. record { meaning = tt; stands = unasked refl; fuel = l; dry = tt; tickets = tt; refusals = refl;
-      ready = record { functions = k.functions; room = let r = k.room in omega (arith, r, l); globals = rw g k.globals; held = tt }; numbered = tt };
+    runs = λ ns t. record {
+      meaning = tt;
+      stands = unasked refl;
+      fuel = l;
+      dry = tt;
+      tickets = tt;
+      refusals = refl;
+      ready = record { functions = k.functions; room = let r = k.room in omega (arith, r, l); globals = rw g k.globals; held = tt };
+      numbered = tt;
+    };
     tickets = tt;
   }
 
@@ -147,8 +145,14 @@ module _ {T S : Type 0} (rules : HostRules T) (leaves : Ask → T → T → Type
   dry_finishes f h a store k g l z dry = record {
     runs = λ ns t. let none : store.fuel ≡ a.store.fuel = omega (arith, l, z) in record {
       meaning = record { asks = 0; ends = λ left. ap (after_all rules p a.frames ns) (dry (limited_host left h.told)) ∙ after_dry rules p a.frames ns _ _ _ (limited_host left h.told) ∙ rw (g, none) refl };
-      stands = unasked refl; fuel = l; dry = omega (arith, l, z); tickets = tt; refusals = refl;
-      ready = record { functions = k.functions; room = let r = k.room in omega (arith, r, l); globals = rw g k.globals; held = tt }; numbered = tt };
+      stands = unasked refl;
+      fuel = l;
+      dry = omega (arith, l, z);
+      tickets = tt;
+      refusals = refl;
+      ready = record { functions = k.functions; room = let r = k.room in omega (arith, r, l); globals = rw g k.globals; held = tt };
+      numbered = tt;
+    };
     tickets = tt;
   }
 
@@ -158,10 +162,16 @@ module _ {T S : Type 0} (rules : HostRules T) (leaves : Ask → T → T → Type
       → Finishes rules leaves p ts (λ d m. ask_limited rules ask m (next d)) h a (exit.Host stop) h1 a.store
   unfolding moment_of
   refused_finishes ask next h h1 a stop r q l k = record {
-    runs = λ ns t. record { meaning = tt;
+    runs = λ ns t. record {
+      meaning = tt;
       stands = record { n = 0; ask = ask; before = h.told; reached = record { state = _; stops = after_dry rules p a.frames ns _ _ _ (stopped_at ask h.told); host = refl }; left = l };
-      fuel = still a.store.fuel; dry = tt; tickets = tt; refusals = (r, q);
-      ready = record { functions = k.functions; room = k.room; globals = k.globals; held = tt }; numbered = tt };
+      fuel = still a.store.fuel;
+      dry = tt;
+      tickets = tt;
+      refusals = (r, q);
+      ready = record { functions = k.functions; room = k.room; globals = k.globals; held = tt };
+      numbered = tt;
+    };
     tickets = tt;
   }
 

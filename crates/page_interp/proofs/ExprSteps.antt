@@ -1,50 +1,35 @@
 -- Steps from expressions.
-use Rattle.std.proofs.Common.{◌≡◌, ℕ, zero, suc, ◌+◌, ◌*◌, ◌<◌, ◌≤◌, List, [], ◌∷◌, ◌++◌, map, length, Option, Some, None, Ok, Err, true, false, Vec, Global, refl, sym, ap, ◌∙◌, arith}
+use Rattle.std.proofs.Common.{◌≡◌, ℕ, ◌+◌, ◌*◌, ◌<◌, ◌≤◌, List, [], ◌∷◌, ◌++◌, map, Option, Ok, true, false, Vec, Global, refl, ◌∙◌, arith}
 use Rattle.std.specs.Prelude.{Box, ℤ}
 use Rattle.std.specs.Borrow.{Bor}
-use Rattle.std.specs.Option.{option_map}
 use Rattle.page_types.specs.declared.SumSign.{SumSign}
 use Rattle.page_types.specs.declared.ProductSign.{ProductSign}
 use Rattle.page_types.specs.declared.CompareSign.{CompareSign}
 use Rattle.page_types.specs.declared.UnarySign.{UnarySign}
 use Rattle.page_types.specs.declared.Op.{Op}
-use Rattle.page_types.specs.declared.FaultName.TheVariants.{TypeError}
 use Rattle.page_types.specs.Values as Model
 use Rattle.page_types.specs.Values.{TextValue, ListValue, values_of}
-use Rattle.page_parts.specs.Kinds.{bool_in}
 use Rattle.page_values.specs.declared.Value.{Value}
 use Rattle.page_values.specs.declared.Value.TheVariants as value
 use Rattle.page_values.specs.Seen.{seen}
-use Rattle.page_values.specs.Written.{IsNumbered}
-use Rattle.lang_ast.specs.declared.tree.Named.{Named}
 use Rattle.lang_ast.specs.declared.tree.Expr.{Expr}
 use Rattle.lang_ast.specs.declared.tree.Expr as E
-use Rattle.lang_ast.specs.declared.tree.Stmt.{Stmt}
 use Rattle.lang_ast.specs.declared.tree.Stmt as S
-use Rattle.lang_ast.specs.declared.tree.Item.{Item}
-use Rattle.lang_ast.specs.Calls.{CallsFit}
-use Rattle.lang_ast.specs.Names.{in_expr, in_exprs, in_terms, in_factors, in_stmt, in_block, in_others, in_else, count_exprs}
-use Rattle.lang_ast.specs.Seen.{seen_expr, seen_exprs, seen_terms, seen_factors, seen_stmt, seen_block, seen_others, seen_else, seen_items}
-use Rattle.lang_ast.proofs.Fits.{fits_front, fits_back, fits_both}
-use Rattle.lang_ast.proofs.Trees.{seen-Or, seen-And, seen-Compare, seen-Sum, seen-Product, seen-Unary, seen-Post, seen-Number, seen-Text, seen-True, seen-False, seen-Unit, seen-Name, seen-Call, seen-Paren, seen-List, seen-Var, seen-Assign, seen-Expr, seen-If, seen-While, seen-Return, seen-Throw, seen-Try}
-use Rattle.lang_meaning.specs.Machine.{Machine, Done, and_then}
-use Rattle.lang_meaning.specs.Evaluation.{Around, own_body, answered, sum_answer, product_answer, compare_answer, unary_answer, item_answer, limited_value}
-use Rattle.lang_meaning.specs.HostSteps.{HostRules}
-use Rattle.lang_meaning.specs.Asks.{Limited}
+use Rattle.lang_ast.specs.Names.{in_expr}
+use Rattle.lang_ast.specs.Seen.{seen_expr}
+use Rattle.lang_ast.proofs.Fits.{fits_front, fits_back}
+use Rattle.lang_ast.proofs.Trees.{seen-Or, seen-And, seen-Compare, seen-Sum, seen-Product, seen-Unary, seen-Post, seen-Number, seen-Text, seen-True, seen-False, seen-Unit, seen-Paren, seen-List}
+use Rattle.lang_meaning.specs.Evaluation.{limited_value}
 use Rattle.page_interp.specs.declared.stack.Focus.{Focus}
 use Rattle.page_interp.specs.declared.stack.Focus.TheVariants as focus
-use Rattle.page_interp.specs.declared.stack.Frame.{Frame}
 use Rattle.page_interp.specs.declared.stack.Frame.TheVariants as frame
-use Rattle.page_interp.specs.declared.stack.Waiting.{Waiting}
 use Rattle.page_interp.specs.declared.stack.Waiting.TheVariants as waiting
 use Rattle.page_interp.specs.declared.stack.Purpose.{Purpose}
 use Rattle.page_interp.specs.declared.stack.Purpose.TheVariants as purpose
-use Rattle.page_interp.specs.Runs.{AnswerIsNumbered, SomeIsNumbered}
-use Rattle.page_interp.specs.Frames.{does, continues, focus_size, waiting_size, focus_weight, waiting_weight, FocusIsSound, WaitingIsSound, HasArguments, IsAnswer, IsPicked, after_all, meaning_at, steps_left, Moves}
-use Rattle.page_interp.proofs.Steps.{still}
-use Rattle.page_interp.proofs.Numbered.{sum_numbered, product_numbered, compare_numbered, unary_numbered, item_numbered, limited_numbered, list_numbered, all_append}
-use Rattle.page_interp.proofs.SmallSteps.{Pushes, Stays, Pops, Swaps, answer_stays, answer_pops, answer_swaps}
-use Rattle.page_interp.proofs.Fitting.{or_fits, and_fits, compare_fits, sum_fits, product_fits, unary_fits, post_fits, call_fits, paren_fits, list_fits, var_fits, assign_fits, expr_fits, if_fits, while_fits, turn_fits, return_fits, throw_fits, try_fits}
+use Rattle.page_interp.specs.Frames.{HasArguments, IsAnswer}
+use Rattle.page_interp.proofs.Numbered.{limited_numbered, list_numbered}
+use Rattle.page_interp.proofs.SmallSteps.{Pushes, Stays, answer_stays}
+use Rattle.page_interp.proofs.Fitting.{or_fits, and_fits, compare_fits, sum_fits, product_fits, unary_fits, post_fits, paren_fits, list_fits}
 
 counted : (count : ℕ) (purpose : Purpose) (n k : ℕ) → n ≡ k → HasArguments count purpose n → HasArguments count purpose k
 counted count purpose n k q h = rw q at h

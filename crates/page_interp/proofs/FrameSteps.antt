@@ -1,34 +1,21 @@
 -- Steps of a value, a throw or a return that comes back to a frame.
-use Rattle.std.proofs.Common.{◌≡◌, ℕ, zero, suc, ◌+◌, ◌*◌, ◌<◌, ◌≤◌, List, [], ◌∷◌, ◌++◌, map, length, Option, Some, None, Ok, Err, true, false, Vec, Global, refl, sym, ap, ◌∙◌, arith}
-use Rattle.std.specs.Prelude.{Box, ℤ}
+use Rattle.std.proofs.Common.{◌≡◌, ℕ, suc, ◌+◌, ◌*◌, ◌<◌, ◌≤◌, List, [], ◌∷◌, ◌++◌, Some, None, true, false, Vec, Global, refl, sym, ap, ◌∙◌, arith}
+use Rattle.std.specs.Prelude.{ℤ}
 use Rattle.std.specs.Borrow.{Bor}
-use Rattle.std.specs.Option.{option_map}
-use Rattle.page_types.specs.declared.SumSign.{SumSign}
-use Rattle.page_types.specs.declared.ProductSign.{ProductSign}
-use Rattle.page_types.specs.declared.CompareSign.{CompareSign}
-use Rattle.page_types.specs.declared.UnarySign.{UnarySign}
-use Rattle.page_types.specs.declared.Op.{Op}
 use Rattle.page_types.specs.declared.FaultName.TheVariants.{TypeError}
 use Rattle.page_types.specs.Values as Model
-use Rattle.page_types.specs.Values.{TextValue, ListValue, values_of}
 use Rattle.page_parts.specs.Kinds.{bool_in}
 use Rattle.page_values.specs.declared.Value.{Value}
 use Rattle.page_values.specs.declared.Value.TheVariants as value
 use Rattle.page_values.specs.Seen.{seen}
-use Rattle.page_values.specs.Written.{IsNumbered}
 use Rattle.lang_ast.specs.declared.tree.Named.{Named}
 use Rattle.lang_ast.specs.declared.tree.Expr.{Expr}
 use Rattle.lang_ast.specs.declared.tree.Expr as E
 use Rattle.lang_ast.specs.declared.tree.Stmt.{Stmt}
 use Rattle.lang_ast.specs.declared.tree.Stmt as S
-use Rattle.lang_ast.specs.declared.tree.Item.{Item}
-use Rattle.lang_ast.specs.Calls.{CallsFit}
-use Rattle.lang_ast.specs.Names.{in_expr, in_exprs, in_terms, in_factors, in_stmt, in_block, in_others, in_else, count_exprs}
-use Rattle.lang_ast.specs.Seen.{seen_expr, seen_exprs, seen_terms, seen_factors, seen_stmt, seen_block, seen_others, seen_else, seen_items}
-use Rattle.lang_ast.proofs.Fits.{fits_front, fits_back, fits_both}
-use Rattle.lang_ast.proofs.Trees.{seen-Or, seen-And, seen-Compare, seen-Sum, seen-Product, seen-Unary, seen-Post, seen-Number, seen-Text, seen-True, seen-False, seen-Unit, seen-Name, seen-Call, seen-Paren, seen-List, seen-Var, seen-Assign, seen-Expr, seen-If, seen-While, seen-Return, seen-Throw, seen-Try}
-use Rattle.lang_meaning.specs.Machine.{Machine, Done, and_then}
-use Rattle.lang_meaning.specs.Evaluation.{Around, own_body, answered, sum_answer, product_answer, compare_answer, unary_answer, item_answer, limited_value}
+use Rattle.lang_ast.specs.Seen.{seen_expr, seen_exprs, seen_terms, seen_factors, seen_block}
+use Rattle.lang_meaning.specs.Machine.{Machine}
+use Rattle.lang_meaning.specs.Evaluation.{Around}
 use Rattle.lang_meaning.specs.HostSteps.{HostRules}
 use Rattle.lang_meaning.specs.Asks.{Limited}
 use Rattle.page_interp.specs.declared.stack.Focus.{Focus}
@@ -37,36 +24,28 @@ use Rattle.page_interp.specs.declared.stack.Frame.{Frame}
 use Rattle.page_interp.specs.declared.stack.Frame.TheVariants as frame
 use Rattle.page_interp.specs.declared.stack.Waiting.{Waiting}
 use Rattle.page_interp.specs.declared.stack.Waiting.TheVariants as waiting
-use Rattle.page_interp.specs.declared.stack.Purpose.{Purpose}
 use Rattle.page_interp.specs.declared.stack.Purpose.TheVariants as purpose
-use Rattle.page_interp.specs.Runs.{AnswerIsNumbered, SomeIsNumbered}
-use Rattle.page_interp.specs.Frames.{does, continues, focus_size, waiting_size, focus_weight, waiting_weight, FocusIsSound, WaitingIsSound, HasArguments, IsAnswer, IsPicked, after_all, meaning_at, steps_left, Moves}
+use Rattle.page_interp.specs.Frames.{does, focus_size, focus_weight, waiting_weight, FocusIsSound, after_all, meaning_at, steps_left}
 use Rattle.page_interp.proofs.Steps.{still}
-use Rattle.page_interp.proofs.Numbered.{sum_numbered, product_numbered, compare_numbered, unary_numbered, item_numbered, limited_numbered, list_numbered, all_append}
-use Rattle.page_interp.proofs.SmallSteps.{Pushes, Stays, Pops, Swaps, answer_stays, answer_pops, answer_swaps}
-use Rattle.page_interp.proofs.Fitting.{or_fits, and_fits, compare_fits, sum_fits, product_fits, unary_fits, post_fits, call_fits, paren_fits, list_fits, var_fits, assign_fits, expr_fits, if_fits, while_fits, turn_fits, return_fits, throw_fits, try_fits}
-use Rattle.page_types.specs.Tree.{Program, Block, no_stmts, with_stmt, Exprs, no_exprs, with_expr, SumParts, no_terms, with_term, ProductParts, no_factors, with_factor}
+use Rattle.page_types.specs.Tree.{Program, Block, Exprs, no_exprs, with_expr, SumParts, no_terms, with_term, ProductParts, no_factors, with_factor}
 use Rattle.page_interp.specs.Frames.{HaveTurns}
 use Rattle.page_interp.specs.Sizes.{program_size}
 use Rattle.std.proofs.Common.{◌^◌}
-use Rattle.lang_ast.specs.Sizes.{expr_size, exprs_size, terms_size, factors_size, block_size, stmt_size}
+use Rattle.lang_ast.specs.Sizes.{expr_size, exprs_size, terms_size, factors_size, block_size}
 use Rattle.page_interp.specs.declared.exit.Store.{Store}
 use Rattle.page_interp.specs.declared.stack.Current.{Current}
 use Rattle.page_interp.specs.Frames.{Holds, Goes, place}
-use Rattle.page_interp.proofs.SmallSteps.{below, within}
-
+use Rattle.page_interp.proofs.SmallSteps.{within}
 use Rattle.std.proofs.Common.{◌-◌, cond}
 use Rattle.page_parts.specs.Words.{is_there}
 use Rattle.lang_meaning.specs.Machine as M
-use Rattle.lang_meaning.specs.Machine.{OutOfFuel, value_in, with_value_in, finish, assigned, take_unit}
-use Rattle.lang_meaning.specs.Evaluation.{exec_block, eval, loop_turns, without_first, end_of_call}
-use Rattle.page_interp.specs.declared.exit.Exit.{Exit}
+use Rattle.lang_meaning.specs.Machine.{OutOfFuel, value_in, with_value_in, finish, assigned}
+use Rattle.lang_meaning.specs.Evaluation.{exec_block, eval, loop_turns, without_first}
 use Rattle.page_interp.specs.declared.exit.Exit.TheVariants as exit
-use Rattle.page_interp.specs.Runs.{variables_of, global_names, count_of_functions, machine_of, AreNumberedIn, around_of, ends, no_fuel}
-use Rattle.page_interp.specs.Frames.{depth_of, saved, first, tickets_in, then_frame, frame_weight, frames_weight, frame_size, state_at, Halts, IsWant}
+use Rattle.page_interp.specs.Runs.{variables_of, global_names, count_of_functions, machine_of, around_of, ends}
+use Rattle.page_interp.specs.Frames.{depth_of, saved, first, tickets_in, then_frame, frame_weight, frames_weight, state_at}
 use Rattle.page_interp.proofs.Steps.{assigned_machine}
 use Rattle.page_interp.proofs.Numbered.{write_numbered, cond_numbered}
-use Rattle.page_interp.proofs.SmallSteps.{under, popped}
 
 -- no unit is left: the run ends through all frames
 pub after_dry : {T : Type 0} (rules : HostRules T) (p : Program) (fs : List Frame) (ns : List ℕ) (globals locals : List M.Variable) (fuel : ℕ) (host : Limited T)
@@ -139,10 +118,14 @@ module _ {T : Type 0} (rules : HostRules T) (p : Program) (store : Store) (curre
       → Holds p (place store current (fr ∷ fs) f0) → Goes rules p (place store current (fr ∷ fs) f0) (place store current fs f)
   unfolding meaning_at steps_left
   drop_goes fr f0 f e1 e2 e3 same sound size weight h = record {
-    means = λ ns k. record { numbers = without_first ns; enough = k.1; same = λ host.
-        ap (λ n. after_all rules p fs (without_first ns) (then_frame rules (around_of rules p (depth_of fs)) (first ns) fr (does (around_of rules p n) f0 (state_at p host (place store current (fr ∷ fs) f0))))) e2
-        ∙ ap (after_all rules p fs (without_first ns)) (same (around_of rules p (depth_of fs)) (first ns) (state_at p host (place store current (fr ∷ fs) f0)))
-        ∙ ap (λ outer. after_all rules p fs (without_first ns) (does (around_of rules p (depth_of fs)) f (machine_of p host store (variables_of current.names.now current.locals.items ∷ outer)))) e1 };
+    means = λ ns k. record {
+      numbers = without_first ns;
+      enough = k.1;
+      same = λ host.
+          ap (λ n. after_all rules p fs (without_first ns) (then_frame rules (around_of rules p (depth_of fs)) (first ns) fr (does (around_of rules p n) f0 (state_at p host (place store current (fr ∷ fs) f0))))) e2
+          ∙ ap (after_all rules p fs (without_first ns)) (same (around_of rules p (depth_of fs)) (first ns) (state_at p host (place store current (fr ∷ fs) f0)))
+          ∙ ap (λ outer. after_all rules p fs (without_first ns) (does (around_of rules p (depth_of fs)) f (machine_of p host store (variables_of current.names.now current.locals.items ∷ outer)))) e1;
+    };
     holds = record { depth = h.depth ∙ e2; few = h.few; globals = h.globals; held = h.held; frames = h.frames.2; focus = sound h.focus; size = within _ _ _ size h.size };
     fuel = still store.fuel;
     tickets = λ ts. sym (e3 ts);
@@ -160,7 +143,6 @@ module _ {T : Type 0} (rules : HostRules T) (p : Program) (store : Store) (curre
   pass_throw (frame.Try x b) v k h = absurd k
   pass_throw (frame.Open names ls) v k h = absurd k
   pass_throw (frame.Host t) v k h = absurd k
-
 
   pub pass_return : (fr : Frame) (v : Value) → PassesReturn fr → Holds p (place store current (fr ∷ fs) (focus.Return v)) → Goes rules p (place store current (fr ∷ fs) (focus.Return v)) (place store current fs (focus.Return v))
   pass_return (frame.Wait w) v k h = drop_goes (frame.Wait w) (focus.Return v) (focus.Return v) refl refl (λ ts. refl) (λ d n m. refl) (λ s. s) (omega arith) (let w = some_weight w in omega (arith, w)) h
@@ -193,7 +175,7 @@ module _ {T : Type 0} (rules : HostRules T) (p : Program) (store : Store) (curre
   unfolding meaning_at steps_left
   turn_goes e e1 b b1 v q r h = record {
     means = λ ns t. let n = t.0 in let z : first ns ≡ suc (first ns - 1) = omega (arith, n) in
-      record { numbers = (first ns - 1) ∷ without_first ns; enough = (omega (arith, n), t.1); same = λ host. rw (q, r) (ap (λ n. after_all rules p fs (without_first ns) (loop_turns n (eval (around_of rules p (depth_of fs)) (seen_expr e.now)) (exec_block (around_of rules p (depth_of fs)) (seen_block b.now)) (state_at p host (place store current (frame.Turn e b ∷ fs) (focus.Value v))))) z) };
+        record { numbers = (first ns - 1) ∷ without_first ns; enough = (omega (arith, n), t.1); same = λ host. rw (q, r) (ap (λ n. after_all rules p fs (without_first ns) (loop_turns n (eval (around_of rules p (depth_of fs)) (seen_expr e.now)) (exec_block (around_of rules p (depth_of fs)) (seen_block b.now)) (state_at p host (place store current (frame.Turn e b ∷ fs) (focus.Value v))))) z) };
     holds = record { depth = h.depth; few = h.few; globals = h.globals; held = h.held; frames = rw (q, r) h.frames; focus = rw q h.frames.0.0; size = let z = h.frames.1 in rw q (omega (arith, z)) };
     fuel = still store.fuel;
     tickets = λ ts. refl;
@@ -249,9 +231,15 @@ module _ {T : Type 0} (rules : HostRules T) (p : Program) (store : Store) (curre
   unfolding meaning_at steps_left
   assign_goes store1 current1 x v n d q r f h = record {
     means = λ ns k. record { numbers = without_first ns; enough = rw f k.1; same = λ host. ap (λ m. after_all rules p fs (without_first ns) (finish m)) (assigned_state store1 current1 x.now.name (seen v) (saved fs) n q r f host) };
-    holds = record { depth = d ∙ h.depth; few = rw d h.few; globals = rw r (cond_numbered _ (is_there (value_in (variables_of current.names.now current.locals.items) x.now.name)) _ _ h.globals (write_numbered _ _ x.now.name (seen v) h.focus h.globals));
+    holds = record {
+      depth = d ∙ h.depth;
+      few = rw d h.few;
+      globals = rw r (cond_numbered _ (is_there (value_in (variables_of current.names.now current.locals.items) x.now.name)) _ _ h.globals (write_numbered _ _ x.now.name (seen v) h.focus h.globals));
       held = rw (n, q) (cond_numbered _ (is_there (value_in (variables_of current.names.now current.locals.items) x.now.name)) _ _ (write_numbered _ (variables_of current.names.now current.locals.items) x.now.name (seen v) h.focus h.held) h.held);
-      frames = h.frames.2; focus = tt; size = h.size };
+      frames = h.frames.2;
+      focus = tt;
+      size = h.size;
+    };
     fuel = rw f (still store.fuel);
     tickets = λ ts. refl;
     fewer = rw f (omega arith);
@@ -264,9 +252,15 @@ module _ {T : Type 0} (rules : HostRules T) (p : Program) (store : Store) (curre
   unfolding meaning_at steps_left
   catch_goes store1 current1 x b v n d q r f h = record {
     means = λ ns k. record { numbers = without_first ns; enough = rw f k.1; same = λ host. ap (λ m. after_all rules p fs (without_first ns) (exec_block (around_of rules p (depth_of fs)) (seen_block b.now) m)) (assigned_state store1 current1 x.now.name (seen v) (saved fs) n q r f host) };
-    holds = record { depth = d ∙ h.depth; few = rw d h.few; globals = rw r (cond_numbered _ (is_there (value_in (variables_of current.names.now current.locals.items) x.now.name)) _ _ h.globals (write_numbered _ _ x.now.name (seen v) h.focus h.globals));
+    holds = record {
+      depth = d ∙ h.depth;
+      few = rw d h.few;
+      globals = rw r (cond_numbered _ (is_there (value_in (variables_of current.names.now current.locals.items) x.now.name)) _ _ h.globals (write_numbered _ _ x.now.name (seen v) h.focus h.globals));
       held = rw (n, q) (cond_numbered _ (is_there (value_in (variables_of current.names.now current.locals.items) x.now.name)) _ _ (write_numbered _ (variables_of current.names.now current.locals.items) x.now.name (seen v) h.focus h.held) h.held);
-      frames = h.frames.2; focus = h.frames.0; size = h.frames.1 };
+      frames = h.frames.2;
+      focus = h.frames.0;
+      size = h.frames.1;
+    };
     fuel = rw f (still store.fuel);
     tickets = λ ts. refl;
     fewer = rw f (omega arith);

@@ -1,9 +1,7 @@
 -- What a host answers, and the callbacks that it asks for.
-use Rattle.std.proofs.Common.{◌≡◌, ℕ, zero, suc, ◌+◌, ◌-◌, ◌*◌, ◌^◌, ◌<◌, ◌≤◌, List, [], ◌∷◌, ◌++◌, map, Option, Some, None, Result, Ok, Err, IfErr, Vec, Global, refl, sym, ap, ◌∙◌, subst, arith}
-use Rattle.std.specs.Option.{option_map}
+use Rattle.std.proofs.Common.{◌≡◌, ℕ, suc, ◌+◌, ◌-◌, ◌*◌, ◌^◌, ◌<◌, ◌≤◌, List, [], ◌∷◌, ◌++◌, map, Option, Some, None, Result, Ok, Err, IfErr, Vec, Global, refl, sym, ap, ◌∙◌, subst, arith}
 use Rattle.page_types.specs.Counts.{Rose}
 use Rattle.page_types.specs.declared.FaultName.{FaultName}
-use Rattle.page_types.specs.declared.FaultName.TheVariants.{TypeError, RangeError}
 use Rattle.page_types.specs.declared.Op.{Op}
 use Rattle.page_types.specs.Values as Model
 use Rattle.page_types.specs.Values.{FaultValue, items_of}
@@ -15,10 +13,9 @@ use Rattle.page_values.specs.Seen.{seen}
 use Rattle.lang_ast.specs.Hosts.{HostNow}
 use Rattle.lang_ast.specs.Steps.{AreFew, Falls, StepIsNumbered, tickets_after, AllNumbered}
 use Rattle.lang_meaning.specs.Machine as M
-use Rattle.lang_meaning.specs.Machine.{Machine, Done, Gives, Throws, Returns, OutOfFuel, Caller}
-use Rattle.lang_meaning.specs.Evaluation.{Around, without_first}
-use Rattle.lang_meaning.specs.HostSteps.{HostStep, StepValue, StepThrow, StepInvoke, CallbackEnd, CallbackValue, CallbackThrow, HostRules, Ask, AskOp, AskResume, on_ask, with_host, asked_by, steps_by, after_callback, is_busy}
-use Rattle.lang_meaning.specs.Asks.{Limited, limited, limited_host, stopped_at, ask_limited, limited_operations, Reaches, IsPassed, unasked, after_ask, IsRefused}
+use Rattle.lang_meaning.specs.Machine.{Machine, Throws}
+use Rattle.lang_meaning.specs.HostSteps.{HostStep, StepValue, StepThrow, StepInvoke, CallbackEnd, CallbackThrow, HostRules, Ask, AskOp, AskResume, on_ask, asked_by, steps_by, after_callback, is_busy}
+use Rattle.lang_meaning.specs.Asks.{Limited, limited, limited_host, ask_limited, unasked}
 use Rattle.page_interp.specs.declared.exit.Exit.{Exit}
 use Rattle.page_interp.specs.declared.exit.Exit.TheVariants as exit
 use Rattle.page_interp.specs.declared.exit.Store.{Store}
@@ -27,16 +24,12 @@ use Rattle.page_interp.specs.declared.stack.Focus.{Focus}
 use Rattle.page_interp.specs.declared.stack.Focus.TheVariants as focus
 use Rattle.page_interp.specs.declared.stack.Frame.{Frame}
 use Rattle.page_interp.specs.declared.stack.Frame.TheVariants as frame
-use Rattle.page_interp.specs.Runs.{Left, ends, refused, no_memory, gives, throws, returns, no_fuel, done, Is, Comes, Ends, Stands, IsDry, WhereSettled, Refuses, LeftIsNumbered, IsUnsettled, exit_left, call_left, more, Scope, outside, IsReady, Moment, moment_of, Runs, Asks, variables_of, global_names, machine_of, count_of_functions, AreNumberedIn, caller_of, around_of, call_given, func_of}
+use Rattle.page_interp.specs.Runs.{throws, done, IsUnsettled, more, outside, IsReady, moment_of, Asks, count_of_functions, caller_of, around_of, call_given, func_of}
 use Rattle.page_interp.specs.Sizes.{program_size}
-use Rattle.page_interp.specs.Frames.{does, depth_of, saved, tickets_in, first, then_frame, goes_on, after_all, begun, left_to_do, meaning_at, state_at, moment_at, HaveTurns, focus_weight, frames_weight, steps_left, place, waiting_at, Place, Holds, Goes, Halts, IsOwn, IsWant, Opens, IsUncalled, Stood, Gets, Advances, Finishes, Leaves, calls_left, Answering, MayCome, steps_on, resumes}
-use Rattle.page_interp.proofs.Steps.{still, more_more, passed_within, comes_after, stands_within, refuses_trans, settled_same}
-use Rattle.page_interp.proofs.Calls.{given_none, given_some, deep_call, dry_call, end_dry, end_numbered, answered_now, thrown_now, next_of, invoked, asked_once}
-use Rattle.page_interp.proofs.FrameSteps.{after_dry, turns_less}
-
-use Rattle.page_interp.specs.Runs.{func_seen}
-use Rattle.page_values.specs.declared.Func.{Func as HeldFunc}
-use Rattle.lang_ast.specs.Steps.{EndIsNumbered}
+use Rattle.page_interp.specs.Frames.{does, depth_of, tickets_in, first, after_all, begun, meaning_at, state_at, moment_at, focus_weight, frames_weight, steps_left, place, waiting_at, Place, Holds, IsWant, Opens, IsUncalled, Stood, Advances, Finishes, Leaves, calls_left, Answering, MayCome, steps_on, resumes}
+use Rattle.page_interp.proofs.Steps.{still}
+use Rattle.page_interp.proofs.Calls.{given_none, given_some, deep_call, dry_call, answered_now, thrown_now, next_of, invoked}
+use Rattle.page_interp.proofs.FrameSteps.{turns_less}
 use Rattle.page_interp.proofs.AskSteps.{asks_same, asks_trans, asks_once, leaves_trans, memory_finishes, dry_finishes, refused_finishes, asks_runs, never_settled}
 use Rattle.std.proofs.Common.{true, false}
 use Rattle.page_interp.proofs.Bodies.{bound_numbered}
@@ -102,20 +95,20 @@ module _ {T S : Type 0} (rules : HostRules T) (leaves : Ask → T → T → Type
       numbered = rw b.ready.functions at numbered;
     };
     further = λ ts n k e.
-      let b = inv.kept ts k in
-      let x = inv.further ts n k e in
-      let z = enough_left a.store.fuel x.number (left h.told) t (rw q at x.enough) in
-      let d : a.current.depth ≡ depth_of a.frames = b.holds.depth in
-      let ready : IsReady (outside rules leaves p) (moment_at p h1 a) = record { functions = f ∙ b.ready.functions; room = let z = b.ready.room in omega (arith, z, room); globals = b.ready.globals; held = tt } in
-      record {
-        number = x.number - 1;
-        enough = fewer_left a.store.fuel (x.number - 1) (left h.told t) (left h1.told) step1 z.1 falls;
-        asks = λ ns. asks_trans (x.asks ns) (asks_trans
-          (asks_same (λ left. ap (λ s. begun rules p ns a.frames (steps_on rules x.number s) (limited left (state_at p h.told a))) q
-            ∙ ap (after_all rules p a.frames ns) (invoked rules (caller_of rules p (depth_of a.frames)) x.number (x.number - 1) v args t (limited left (state_at p h.told a)) z.0
+        let b = inv.kept ts k in
+        let x = inv.further ts n k e in
+        let z = enough_left a.store.fuel x.number (left h.told) t (rw q at x.enough) in
+        let d : a.current.depth ≡ depth_of a.frames = b.holds.depth in
+        let ready : IsReady (outside rules leaves p) (moment_at p h1 a) = record { functions = f ∙ b.ready.functions; room = let z = b.ready.room in omega (arith, z, room); globals = b.ready.globals; held = tt } in
+        record {
+          number = x.number - 1;
+          enough = fewer_left a.store.fuel (x.number - 1) (left h.told t) (left h1.told) step1 z.1 falls;
+          asks = λ ns. asks_trans (x.asks ns) (asks_trans
+              (asks_same (λ left. ap (λ s. begun rules p ns a.frames (steps_on rules x.number s) (limited left (state_at p h.told a))) q
+              ∙ ap (after_all rules p a.frames ns) (invoked rules (caller_of rules p (depth_of a.frames)) x.number (x.number - 1) v args t (limited left (state_at p h.told a)) z.0
               ∙ ap (after_callback (next_of rules (caller_of rules p (depth_of a.frames)) (x.number - 1)) t) (uncalled rules p (depth_of a.frames) v args o name fo (subst (λ d. IsUncalled d o name) d u) (limited left (state_at p h.told a))))) b.ready)
-          (asks_once rules leaves p ts (AskResume t (CallbackThrow (FaultValue name []))) (λ d step. steps_by (ask_limited rules) d.call (x.number - 1) step) step1 h h1 a ns on r ready));
-      };
+              (asks_once rules leaves p ts (AskResume t (CallbackThrow (FaultValue name []))) (λ d step. steps_by (ask_limited rules) d.call (x.number - 1) step) step1 h h1 a ns on r ready));
+        };
   }
 
 opened_enough : (fuel less l k : ℕ) → fuel ≡ less + 1 → fuel * (2 ^ 64) + l ≤ k → (less + 1) * (2 ^ 64) ≤ k
@@ -164,9 +157,9 @@ module _ {T S : Type 0} (rules : HostRules T) (leaves : Ask → T → T → Type
           asks = record {
             asks = 0;
             comes = λ left. ap (λ s. begun rules p ns fs (steps_on rules n s) (limited left (state_at p h.told (waiting_at store current fs)))) q
-              ∙ ap (after_all rules p fs ns) (invoked rules (caller_of rules p (depth_of fs)) n (n - 1) v args t (limited left (state_at p h.told (waiting_at store current fs))) z.0
+                ∙ ap (after_all rules p fs ns) (invoked rules (caller_of rules p (depth_of fs)) n (n - 1) v args t (limited left (state_at p h.told (waiting_at store current fs))) z.0
                 ∙ ap (after_callback (next_of rules (caller_of rules p (depth_of fs)) (n - 1)) t) (given_some (caller_of rules p (depth_of fs)) (Some v) args _ called fo ∙ ap (λ vs. caller_of rules p (depth_of fs) called.function vs (limited left (state_at p h.told (waiting_at store current fs)))) (sym al)))
-              ∙ o.means ((n - 1) ∷ ns) (limited_host left h.told);
+                ∙ o.means ((n - 1) ∷ ns) (limited_host left h.told);
             stands = unasked refl;
             fuel = let f = o.fuel in omega (arith, f);
             refusals = refl;
@@ -191,8 +184,8 @@ module _ {T S : Type 0} (rules : HostRules T) (leaves : Ask → T → T → Type
       let deep : depth_of fs < 256 = let d = k.holds.depth in omega (arith, d, lt) in
       dry_finishes rules leaves p ts (steps_on rules n step) h (waiting_at store current fs) store1 k.ready g l w
       (λ host. ap (λ s. steps_on rules n s (around_of rules p (depth_of fs)) (state_at p host (waiting_at store current fs))) q
-        ∙ invoked rules (caller_of rules p (depth_of fs)) n (n - 1) v args t (state_at p host (waiting_at store current fs)) z.0
-        ∙ ap (after_callback (next_of rules (caller_of rules p (depth_of fs)) (n - 1)) t) (given_some (caller_of rules p (depth_of fs)) (Some v) args _ called fo ∙ dry_call rules p (depth_of fs) called.function (items_of called.bound ++ args) _ deep w))
+      ∙ invoked rules (caller_of rules p (depth_of fs)) n (n - 1) v args t (state_at p host (waiting_at store current fs)) z.0
+      ∙ ap (after_callback (next_of rules (caller_of rules p (depth_of fs)) (n - 1)) t) (given_some (caller_of rules p (depth_of fs)) (Some v) args _ called fo ∙ dry_call rules p (depth_of fs) called.function (items_of called.bound ++ args) _ deep w))
   open_fails h step v args t called n exit.OutOfMemory store1 q k e fo lt w g l = push_fails h step n store1 k g l
   open_fails h step v args t called n (exit.Throw d) store1 q k e fo lt w g l = absurd w
   open_fails h step v args t called n (exit.Return d) store1 q k e fo lt w g l = absurd w
@@ -238,8 +231,8 @@ module _ {T S : Type 0} (rules : HostRules T) (leaves : Ask → T → T → Type
       let ready : IsReady (outside rules leaves p) (moment_at p h1 (waiting_at store current fs)) = record { functions = f ∙ k.ready.functions; room = let y = k.ready.room in omega (arith, y, room); globals = k.ready.globals; held = tt } in
       leaves_trans rules leaves p ts (steps_on rules n step) (λ d m. ask_limited rules (AskResume t (CallbackThrow (FaultValue name []))) m (steps_by (ask_limited rules) d.call (n - 1))) 2 h h (waiting_at store current fs) (Err (exit.Host stop)) h1 store current fs
       (λ ns. asks_same (λ left. ap (λ s. begun rules p ns fs (steps_on rules n s) (limited left (state_at p h.told (waiting_at store current fs)))) q
-            ∙ ap (after_all rules p fs ns) (invoked rules (caller_of rules p (depth_of fs)) n (n - 1) v args t (limited left (state_at p h.told (waiting_at store current fs))) z.0
-              ∙ ap (after_callback (next_of rules (caller_of rules p (depth_of fs)) (n - 1)) t) (uncalled rules p (depth_of fs) v args o name fo (subst (λ d. IsUncalled d o name) d u) (limited left (state_at p h.told (waiting_at store current fs)))))) k.ready)
+      ∙ ap (after_all rules p fs ns) (invoked rules (caller_of rules p (depth_of fs)) n (n - 1) v args t (limited left (state_at p h.told (waiting_at store current fs))) z.0
+      ∙ ap (after_callback (next_of rules (caller_of rules p (depth_of fs)) (n - 1)) t) (uncalled rules p (depth_of fs) v args o name fo (subst (λ d. IsUncalled d o name) d u) (limited left (state_at p h.told (waiting_at store current fs)))))) k.ready)
       tt
       (refused_finishes rules leaves p ts (AskResume t (CallbackThrow (FaultValue name []))) (λ d step. steps_by (ask_limited rules) d.call (n - 1) step) h h1 (waiting_at store current fs) stop r l lv ready)
 
@@ -249,8 +242,11 @@ module _ {T S : Type 0} (rules : HostRules T) (leaves : Ask → T → T → Type
 
   pub less_waiting : (h : HostNow T S) (f : Focus) (k : ℕ) → store.fuel ≡ suc k → Stood rules leaves p ts h (place store current fs f) → Stood rules leaves p ts h (waiting_at (record store { fuel = k }) current fs)
   unfolding moment_of
-  less_waiting h f k q st = record { holds = record { depth = st.holds.depth; few = st.holds.few; globals = st.holds.globals; held = st.holds.held; frames = st.holds.frames; focus = tt; size = omega arith };
-    ready = record { functions = st.ready.functions; room = let r = st.ready.room in omega (arith, r, q); globals = st.ready.globals; held = tt }; tickets = st.tickets }
+  less_waiting h f k q st = record {
+    holds = record { depth = st.holds.depth; few = st.holds.few; globals = st.holds.globals; held = st.holds.held; frames = st.holds.frames; focus = tt; size = omega arith };
+    ready = record { functions = st.ready.functions; room = let r = st.ready.room in omega (arith, r, q); globals = st.ready.globals; held = tt };
+    tickets = st.tickets;
+  }
 
   -- the host has answered
   pub answers_now : (h h1 : HostNow T S) (step : HostStep) (taken : ℕ) → Holds p (waiting_at store current fs) → IsReady (outside rules leaves p) (moment_at p h (waiting_at store current fs))
@@ -291,7 +287,7 @@ module _ {T S : Type 0} (rules : HostRules T) (leaves : Ask → T → T → Type
   op_leaves h h1 step op vs result h' store1 current1 fs1 on r k0 k u y =
       leaves_trans rules leaves p ts (λ d. asked_by (ask_limited rules) d.call op vs) (steps_on rules (store.fuel * (2 ^ 64) + (2 ^ 64)) step) 2 h h1 (waiting_at store current fs) result h' store1 current1 fs1
       (λ ns. asks_trans (asks_same (λ left. refl) k0)
-        (asks_once rules leaves p ts (AskOp op vs) (λ d step. steps_by (ask_limited rules) d.call (store.fuel * (2 ^ 64) + (2 ^ 64)) step) step h h1 (waiting_at store current fs) ns on r k)) u y
+      (asks_once rules leaves p ts (AskOp op vs) (λ d step. steps_by (ask_limited rules) d.call (store.fuel * (2 ^ 64) + (2 ^ 64)) step) step h h1 (waiting_at store current fs) ns on r k)) u y
 
   pub op_refused : (h h1 : HostNow T S) (op : Op) (vs : List Model.Value) (stop : S) → Rose h.refusals h1.refusals → h1.last_stop ≡ Some stop → leaves (AskOp op vs) h.told h1.told
       → IsReady (outside rules leaves p) (moment_at p h (waiting_at store current fs)) → IsReady (outside rules leaves p) (moment_at p h1 (waiting_at store current fs))
@@ -310,9 +306,13 @@ module _ {T S : Type 0} (rules : HostRules T) (leaves : Ask → T → T → Type
   unfolding around_of
   plain_leaves h op vs (Ok f) h' store1 current1 fs1 b k u y = record {
     means = λ ns t. let m = y.means ns t in record { numbers = m.numbers; enough = m.enough; asks = asks_trans (asks_same (λ left. ap (after_all rules p fs ns) (rw b refl)) k.ready) m.asks };
-    stood = y.stood; fewer = y.fewer }
+    stood = y.stood;
+    fewer = y.fewer;
+  }
   plain_leaves h op vs (Err x) h' store1 current1 fs1 b k u y = record {
-    runs = λ ns t. asks_runs (asks_same (λ left. ap (after_all rules p fs ns) (rw b refl)) k.ready) (y.runs ns t) (never_settled _ x u); tickets = never_settled _ x u }
+    runs = λ ns t. asks_runs (asks_same (λ left. ap (after_all rules p fs ns) (rw b refl)) k.ready) (y.runs ns t) (never_settled _ x u);
+    tickets = never_settled _ x u;
+  }
 
   unit_asks : (h : HostNow T S) (op : Op) (vs : Vec Value Global) (k : ℕ) (ns : List ℕ) → is_busy op ≡ true → store.fuel ≡ suc k → Stood rules leaves p ts h (place store current fs (focus.Ask op vs))
       → Asks (outside rules leaves p) (begun rules p ns fs (λ d. does d (focus.Ask op vs))) (begun rules p ns fs (λ d. asked_by (ask_limited rules) d.call op (map seen vs.items))) (moment_at p h (place store current fs (focus.Ask op vs))) (moment_at p h (waiting_at (record store { fuel = k }) current fs))
@@ -334,9 +334,13 @@ module _ {T S : Type 0} (rules : HostRules T) (leaves : Ask → T → T → Type
   unfolding around_of moment_of
   busy_leaves h op vs less k (Ok f) h' store1 current1 fs1 b q l st u y = let z = rw l at y in record {
     means = λ ns t. let m = z.means ns (turns_less fs ns store.fuel k (omega (arith, q)) t) in record { numbers = m.numbers; enough = m.enough; asks = asks_trans (unit_asks h op vs k ns b q st) m.asks };
-    stood = z.stood; fewer = less_fewer (steps_left p (place store1 current1 fs1 f)) store.fuel k (program_size p) (frames_weight fs) q z.fewer }
+    stood = z.stood;
+    fewer = less_fewer (steps_left p (place store1 current1 fs1 f)) store.fuel k (program_size p) (frames_weight fs) q z.fewer;
+  }
   busy_leaves h op vs less k (Err x) h' store1 current1 fs1 b q l st u y = let z = rw l at y in record {
-    runs = λ ns t. asks_runs (unit_asks h op vs k ns b q st) (z.runs ns (turns_less fs ns store.fuel k (omega (arith, q)) t)) (never_settled _ x u); tickets = never_settled _ x u }
+    runs = λ ns t. asks_runs (unit_asks h op vs k ns b q st) (z.runs ns (turns_less fs ns store.fuel k (omega (arith, q)) t)) (never_settled _ x u);
+    tickets = never_settled _ x u;
+  }
 
   pub busy_dry : (h : HostNow T S) (op : Op) (vs : Vec Value Global) → is_busy op ≡ true → store.fuel ≡ 0 → Stood rules leaves p ts h (place store current fs (focus.Ask op vs))
       → Finishes rules leaves p ts (λ d. does d (focus.Ask op vs)) h (place store current fs (focus.Ask op vs)) exit.Fuel h store

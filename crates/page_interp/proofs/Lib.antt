@@ -12,9 +12,7 @@ pub mod RunSteps
 pub mod NameSteps
 pub mod ValueSteps
 pub mod Ranks
-pub mod Loops
 pub mod Numbered
-pub mod Parts
 pub mod Calls
 pub mod Fitting
 pub mod Bodies

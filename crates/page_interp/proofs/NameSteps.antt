@@ -1,28 +1,24 @@
 -- Steps from a name, and from a call by name.
-use Rattle.std.proofs.Common.{◌≡◌, ℕ, zero, suc, ◌+◌, ◌<◌, ◌≤◌, List, [], ◌∷◌, map, length, Option, Some, None, Result, Ok, Err, IfOk, Vec, Global, refl, sym, ap, ◌∙◌, arith}
+use Rattle.std.proofs.Common.{◌≡◌, ℕ, ◌+◌, ◌<◌, ◌≤◌, List, [], ◌∷◌, Option, Some, None, Result, Ok, Err, IfOk, Vec, Global, refl, sym, ap, ◌∙◌, arith}
 use Rattle.std.specs.Borrow.{Bor}
-use Rattle.std.specs.Option.{option_map}
 use Rattle.page_types.specs.declared.FaultName.{FaultName}
 use Rattle.page_types.specs.declared.FaultName.TheVariants.{TypeError}
 use Rattle.page_types.specs.declared.Op.{Op}
 use Rattle.page_types.specs.Values as Model
 use Rattle.page_values.specs.declared.Value.{Value}
-use Rattle.page_values.specs.Seen.{seen}
 use Rattle.lang_ast.specs.declared.program.Program.{Program}
 use Rattle.lang_ast.specs.SeenProgram.{seen_program}
 use Rattle.lang_ast.specs.declared.tree.Named.{Named}
 use Rattle.lang_ast.specs.declared.tree.Expr.{Expr}
 use Rattle.lang_ast.specs.declared.tree.Expr as E
-use Rattle.lang_ast.specs.Calls.{CallsFit, HasCount}
-use Rattle.lang_ast.specs.Operations.{count_of}
-use Rattle.lang_ast.specs.Names.{in_exprs, count_exprs}
-use Rattle.lang_ast.specs.Seen.{seen_expr, seen_exprs}
+use Rattle.lang_ast.specs.Calls.{HasCount}
+use Rattle.lang_ast.specs.Names.{count_exprs}
+use Rattle.lang_ast.specs.Seen.{seen_exprs}
 use Rattle.lang_ast.proofs.Trees.{seen-Name, seen-Call}
 use Rattle.lang_meaning.specs.OpNames.{op_named}
 use Rattle.lang_meaning.specs.Machine.{Machine, Done, Gives, given}
-use Rattle.lang_meaning.specs.Evaluation.{Answer, Around, need, answered, called, eval_all, named_value, functions_of, number_of, function_value}
+use Rattle.lang_meaning.specs.Evaluation.{Answer, Around, need, answered, called, eval_all, functions_of}
 use Rattle.lang_meaning.specs.HostSteps.{HostRules}
-use Rattle.lang_meaning.specs.Asks.{Limited}
 use Rattle.lang_meaning.specs.Machine as M
 use Rattle.lang_meaning.specs.Machine.{value_in, or_else}
 use Rattle.page_interp.specs.declared.exit.Exit.{Exit}
@@ -34,9 +30,9 @@ use Rattle.page_interp.specs.declared.stack.Frame.{Frame}
 use Rattle.page_interp.specs.declared.stack.Purpose.{Purpose}
 use Rattle.page_interp.specs.declared.stack.Purpose.TheVariants as purpose
 use Rattle.page_interp.specs.Answers.{Answers}
-use Rattle.page_interp.specs.Runs.{Left, SomeIsNumbered, count_of_functions, around_of, variables_of, global_names, call_given}
+use Rattle.page_interp.specs.Runs.{Left, SomeIsNumbered, count_of_functions, around_of, variables_of, call_given}
 use Rattle.page_interp.specs.Variables.{named_in, value_at, globals_of}
-use Rattle.page_interp.specs.Frames.{does, used_for, state_at, depth_of, after_all, meaning_at, steps_left, focus_weight, focus_size, FocusIsSound, HasArguments, IsAnswer, IsCalled, IsCall, Holds, Goes, place}
+use Rattle.page_interp.specs.Frames.{used_for, state_at, depth_of, after_all, meaning_at, steps_left, HasArguments, IsAnswer, IsCalled, IsCall, Holds, Goes, place}
 use Rattle.page_interp.proofs.Steps.{still}
 use Rattle.page_interp.proofs.Fitting.{call_fits}
 use Rattle.page_interp.proofs.Numbered.{need_numbered, or_numbered, read_numbered, function_numbered}
@@ -95,12 +91,22 @@ module _ {T : Type 0} (rules : HostRules T) (p : Program) (store : Store) (curre
       let fits = call_fits x.now n es q h.focus in
       let same : row.now ≡ es.items = ap (λ b. b.now) r ∙ a in
       record {
-        means = λ ns t. record { numbers = ns; enough = t; same = λ host. ap (after_all rules (seen_program p) fs ns)
-            (rw (q, seen-Call, same, e) (ap (λ next. eval_all (around_of rules (seen_program p) (depth_of fs)) (seen_exprs es.items) [] next (state_at (seen_program p) host (place store current fs (focus.Expr x))))
-            (used (around_of rules (seen_program p) (depth_of fs)) (op_named n.name) (named_in p store current.names.now current.locals n.name) purpose k))) };
-        holds = record { depth = h.depth; few = h.few; globals = h.globals; held = h.held; frames = h.frames;
+        means = λ ns t. record {
+          numbers = ns;
+          enough = t;
+          same = λ host. ap (after_all rules (seen_program p) fs ns)
+              (rw (q, seen-Call, same, e) (ap (λ next. eval_all (around_of rules (seen_program p) (depth_of fs)) (seen_exprs es.items) [] next (state_at (seen_program p) host (place store current fs (focus.Expr x))))
+              (used (around_of rules (seen_program p) (depth_of fs)) (op_named n.name) (named_in p store current.names.now current.locals n.name) purpose k)));
+        };
+        holds = record {
+          depth = h.depth;
+          few = h.few;
+          globals = h.globals;
+          held = h.held;
+          frames = h.frames;
           focus = (rw (same, e) (let z : 0 + count_exprs (seen_exprs es.items) ≡ count_exprs (seen_exprs es.items) = omega arith in rw z (arguments _ (op_named n.name) _ purpose _ k fits.0 (name_numbered p store current fs (focus.Expr x) n.name h))), rw e tt, rw same fits.1);
-          size = let s = h.size in let t = rw (q, seen-Call) at s in rw same (omega (arith, t)) };
+          size = let s = h.size in let t = rw (q, seen-Call) at s in rw same (omega (arith, t));
+        };
         fuel = still store.fuel;
         tickets = λ ts. refl;
         fewer = under _ _ _ _ (rw (q, seen-Call, same) (omega arith));

@@ -1,16 +1,15 @@
 -- How a call opens.
-use Rattle.std.proofs.Common.{◌≡◌, ℕ, zero, suc, ◌+◌, ◌-◌, ◌*◌, ◌<◌, ◌≤◌, List, [], ◌∷◌, ◌++◌, map, Option, Some, None, Vec, Global, refl, sym, ap, ◌∙◌, arith, slice_get}
+use Rattle.std.proofs.Common.{◌≡◌, ℕ, suc, ◌+◌, ◌-◌, ◌*◌, ◌<◌, ◌≤◌, List, [], ◌∷◌, ◌++◌, Option, Some, None, Vec, Global, refl, sym, ap, ◌∙◌, arith, slice_get}
 use Rattle.page_types.specs.Values as Model
 use Rattle.page_types.specs.Tree.{Program, Block}
 use Rattle.page_values.specs.declared.Value.{Value}
 use Rattle.lang_ast.specs.Calls.{CallsFit}
 use Rattle.lang_ast.specs.Names.{in_block}
-use Rattle.lang_ast.specs.Seen.{seen_block, seen_items}
 use Rattle.lang_ast.specs.Sizes.{block_size}
 use Rattle.lang_ast.specs.Steps.{AllNumbered}
 use Rattle.lang_meaning.specs.Machine as M
-use Rattle.lang_meaning.specs.Machine.{Machine, Done}
-use Rattle.lang_meaning.specs.Evaluation.{Around, Function, functions_of, own_body, exec_block, end_of_call, opened, parameters_with, unit_variables, names_in}
+use Rattle.lang_meaning.specs.Machine.{Machine}
+use Rattle.lang_meaning.specs.Evaluation.{Around, Function, functions_of, exec_block, end_of_call, opened, parameters_with, unit_variables, names_in}
 use Rattle.lang_meaning.specs.HostSteps.{HostRules}
 use Rattle.lang_meaning.specs.Asks.{Limited}
 use Rattle.page_interp.specs.declared.exit.Store.{Store}
@@ -21,7 +20,7 @@ use Rattle.page_interp.specs.declared.stack.Frame.{Frame}
 use Rattle.page_interp.specs.declared.stack.Frame.TheVariants as frame
 use Rattle.page_interp.specs.Runs.{variables_of, count_of_functions, AreNumberedIn, caller_of, around_of}
 use Rattle.page_interp.specs.Sizes.{program_size}
-use Rattle.page_interp.specs.Frames.{does, depth_of, saved, state_at, after_all, meaning_at, focus_size, focus_weight, FocusIsSound, IsBody, call_variables, call_body, Holds, Opens, place}
+use Rattle.page_interp.specs.Frames.{does, depth_of, state_at, after_all, meaning_at, focus_size, focus_weight, FocusIsSound, IsBody, call_variables, call_body, Holds, Opens, place}
 use Rattle.page_interp.proofs.Ranks.{in_program}
 use Rattle.page_interp.proofs.Numbered.{frame_numbered, units_numbered, both_numbered}
 use Rattle.page_interp.proofs.Calls.{in_function, in_own_body}

@@ -1,5 +1,5 @@
 -- Steps that do not ask the host, as steps of a run.
-use Rattle.std.proofs.Common.{◌≡◌, ℕ, zero, suc, ◌+◌, ◌-◌, ◌*◌, ◌<◌, ◌≤◌, List, [], ◌∷◌, ◌++◌, map, true, Option, Some, None, Result, Ok, Err, IfOk, IfErr, Vec, Global, refl, sym, ap, ◌∙◌, arith}
+use Rattle.std.proofs.Common.{◌≡◌, ℕ, suc, ◌+◌, ◌-◌, ◌*◌, ◌<◌, ◌≤◌, List, [], ◌∷◌, ◌++◌, map, true, Option, Some, None, Result, Ok, Err, IfOk, IfErr, Vec, Global, refl, sym, ap, ◌∙◌, arith}
 use Rattle.std.specs.Borrow.{Bor}
 use Rattle.std.specs.Option.{option_map}
 use Rattle.page_types.specs.declared.FaultName.{FaultName}
@@ -15,7 +15,7 @@ use Rattle.lang_ast.specs.declared.tree.Stmt.{Stmt}
 use Rattle.lang_ast.specs.Hosts.{HostNow}
 use Rattle.lang_ast.specs.Steps.{AllNumbered}
 use Rattle.lang_meaning.specs.Machine as M
-use Rattle.lang_meaning.specs.Machine.{Machine, Done, OutOfFuel}
+use Rattle.lang_meaning.specs.Machine.{Machine}
 use Rattle.std.proofs.Common.{subst}
 use Rattle.lang_meaning.specs.Evaluation.{Around, without_first, Function, functions_of, exec_block, end_of_call}
 use Rattle.std.proofs.Common.{slice_get, ◌^◌}
@@ -35,7 +35,7 @@ use Rattle.page_interp.specs.declared.stack.Frame.{Frame}
 use Rattle.page_interp.specs.declared.stack.Frame.TheVariants as frame
 use Rattle.page_interp.specs.Runs.{Left, ends, refused, no_memory, gives, throws, returns, no_fuel, WhereSettled, IsUnsettled, variables_of, machine_of, IsReady, Runs, outside, moment_of, exit_left, call_left, func_of, caller_of, around_of, call_given, count_of_functions}
 use Rattle.page_interp.specs.Sizes.{program_size}
-use Rattle.page_interp.specs.Frames.{does, first, goes_on, resumes, waiting_at, Leaves, IsBody, call_body, call_variables, FocusIsSound, focus_size, depth_of, saved, after_all, begun, left_to_do, meaning_at, state_at, moment_at, HaveTurns, focus_weight, frames_weight, steps_left, place, Place, Holds, Goes, Moves, Halts, IsWant, Opens, IsUncalled, IsCallable, Stood, Gets, Advances, Finishes, Steps}
+use Rattle.page_interp.specs.Frames.{does, first, goes_on, resumes, waiting_at, Leaves, IsBody, call_body, call_variables, FocusIsSound, focus_size, depth_of, after_all, meaning_at, state_at, HaveTurns, focus_weight, frames_weight, steps_left, place, Place, Holds, Goes, Moves, IsWant, Opens, IsUncalled, IsCallable, Stood, Gets, Advances, Finishes, Steps}
 use Rattle.page_interp.proofs.Steps.{still}
 use Rattle.page_interp.proofs.Calls.{given_none, given_some, deep_call, dry_call}
 use Rattle.page_interp.proofs.FrameSteps.{after_dry, turns_less, test_true}
@@ -174,8 +174,11 @@ module _ {T S : Type 0} (rules : HostRules T) (leaves : Ask → T → T → Type
       → Stood rules leaves p ts h (place store current (frame.Host t ∷ fs) f0) → Leaves rules leaves p ts (λ d. does d f0) (focus_weight f0) h (place store current (frame.Host t ∷ fs) f0) result h' store1 current1 fs1
   unfolding moment_of
   host_steps h f0 end (Ok f) h' store1 current1 fs1 ts w q u y st = record {
-    means = λ ns k. let m = (y (first ns) k.0).means (without_first ns) k.1 in record { numbers = m.numbers; enough = m.enough;
-      asks = asks_trans (asks_same (λ left. ap (after_all rules p fs (without_first ns)) (q (around_of rules p (depth_of fs)) (first ns) (limited left (state_at p h.told (place store current (frame.Host t ∷ fs) f0))))) st.ready) m.asks };
+    means = λ ns k. let m = (y (first ns) k.0).means (without_first ns) k.1 in record {
+      numbers = m.numbers;
+      enough = m.enough;
+      asks = asks_trans (asks_same (λ left. ap (after_all rules p fs (without_first ns)) (q (around_of rules p (depth_of fs)) (first ns) (limited left (state_at p h.told (place store current (frame.Host t ∷ fs) f0))))) st.ready) m.asks;
+    };
     stood = (y ((store.fuel + 1) * (2 ^ 64)) (still _)).stood;
     fewer = let z = (y ((store.fuel + 1) * (2 ^ 64)) (still _)).fewer in rw w (omega (arith, z));
   }
@@ -263,7 +266,7 @@ module _ {T S : Type 0} (rules : HostRules T) (leaves : Ask → T → T → Type
   first_runs current f x h1 store1 l q u e v b r s y = rw s (asks_runs (record {
     asks = 0;
     comes = λ left. call_opens_at rules p 0 function args o k (omega arith) q (machine_of p (limited_host left h.told) store []) u
-      ∙ rw e (rw (← v) (ap end_of_call (sym (body_does (around_of rules p 1) _ (call_body p o) f b))));
+        ∙ rw e (rw (← v) (ap end_of_call (sym (body_does (around_of rules p 1) _ (call_body p o) f b))));
     stands = unasked refl;
     fuel = rw e (omega (arith, u));
     refusals = refl;

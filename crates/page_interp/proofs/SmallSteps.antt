@@ -1,15 +1,13 @@
 -- Small steps keep what is left to do, around any host.
-use Rattle.std.proofs.Common.{◌≡◌, ℕ, zero, suc, ◌+◌, ◌*◌, ◌<◌, ◌≤◌, List, [], ◌∷◌, ◌++◌, map, length, Option, Some, None, Result, Ok, Err, IfOk, IfSome, IfNone, true, false, Vec, Global, refl, sym, ap, ◌∙◌, arith}
+use Rattle.std.proofs.Common.{◌≡◌, ℕ, ◌+◌, ◌*◌, ◌<◌, ◌≤◌, List, [], ◌∷◌, ◌++◌, length, Option, Some, None, Result, Ok, Err, IfOk, IfSome, IfNone, Vec, Global, refl, ap, ◌∙◌, arith}
 use Rattle.std.specs.Prelude.{MatchOption, vec_len}
 use Rattle.std.specs.Option.{option_to_list}
 use Rattle.std.proofs.lemmas.List.{reverse-append}
-use Rattle.std.specs.Borrow.{Bor}
-use Rattle.std.specs.Option.{option_map}
 use Rattle.page_types.specs.Values as Model
 use Rattle.page_values.specs.declared.Value.{Value}
 use Rattle.page_values.specs.Seen.{seen}
 use Rattle.page_values.specs.Written.{IsNumbered}
-use Rattle.lang_meaning.specs.Machine.{Machine, Done, and_then}
+use Rattle.lang_meaning.specs.Machine.{Machine, and_then}
 use Rattle.lang_meaning.specs.Evaluation.{Answer, Around, answered}
 use Rattle.lang_meaning.specs.HostSteps.{HostRules}
 use Rattle.lang_meaning.specs.Asks.{Limited}
@@ -76,47 +74,55 @@ within a b c h k = omega arith
 module _ {T : Type 0} (rules : HostRules T) where
   pub pushes_moves : {f0 : Focus} {w : Waiting} {f1 : Focus} (fs : List Frame) → Pushes T f0 w f1 → Moves rules fs f0 (frame.Wait w ∷ fs) f1
   unfolding meaning_at steps_left
-  pushes_moves fs r = record { goes = λ p store current h.
-    let s = r.sound _ h.focus in
-    record {
-      means = λ ns k. record { numbers = 0 ∷ ns; enough = (tt, k); same = λ host. ap (after_all rules p fs ns) (r.same _ _) };
-      holds = record { depth = h.depth; few = h.few; globals = h.globals; held = h.held; frames = (s.1, within _ _ _ r.waits h.size, h.frames); focus = s.0; size = within _ _ _ r.size h.size };
-      fuel = still store.fuel;
-      tickets = λ ts. refl;
-      fewer = below _ _ _ _ _ r.fewer;
-    } }
+  pushes_moves fs r = record {
+    goes = λ p store current h.
+        let s = r.sound _ h.focus in
+        record {
+          means = λ ns k. record { numbers = 0 ∷ ns; enough = (tt, k); same = λ host. ap (after_all rules p fs ns) (r.same _ _) };
+          holds = record { depth = h.depth; few = h.few; globals = h.globals; held = h.held; frames = (s.1, within _ _ _ r.waits h.size, h.frames); focus = s.0; size = within _ _ _ r.size h.size };
+          fuel = still store.fuel;
+          tickets = λ ts. refl;
+          fewer = below _ _ _ _ _ r.fewer;
+        };
+  }
 
   pub stays_moves : {f0 f1 : Focus} (fs : List Frame) → Stays T f0 f1 → Moves rules fs f0 fs f1
   unfolding meaning_at steps_left
-  stays_moves fs r = record { goes = λ p store current h. record {
+  stays_moves fs r = record {
+    goes = λ p store current h. record {
       means = λ ns k. record { numbers = ns; enough = k; same = λ host. ap (after_all rules p fs ns) (r.same _ _) };
       holds = record { depth = h.depth; few = h.few; globals = h.globals; held = h.held; frames = h.frames; focus = r.sound _ h.focus; size = within _ _ _ r.size h.size };
       fuel = still store.fuel;
       tickets = λ ts. refl;
       fewer = under _ _ _ _ r.fewer;
-    } }
+    };
+  }
 
   pub pops_moves : {w : Waiting} {v : Value} {f1 : Focus} (fs : List Frame) → Pops T w v f1 → Moves rules (frame.Wait w ∷ fs) (focus.Value v) fs f1
   unfolding meaning_at steps_left
-  pops_moves fs r = record { goes = λ p store current h. record {
+  pops_moves fs r = record {
+    goes = λ p store current h. record {
       means = λ ns k. record { numbers = _; enough = k.1; same = λ host. ap (after_all rules p fs _) (r.same _ _) };
       holds = record { depth = h.depth; few = h.few; globals = h.globals; held = h.held; frames = h.frames.2; focus = r.sound _ h.frames.0 h.focus; size = within _ _ _ r.size h.frames.1 };
       fuel = still store.fuel;
       tickets = λ ts. refl;
       fewer = popped _ _ _ _ r.fewer;
-    } }
+    };
+  }
 
   pub swaps_moves : {w : Waiting} {v : Value} {w1 : Waiting} {f1 : Focus} (fs : List Frame) → Swaps T w v w1 f1 → Moves rules (frame.Wait w ∷ fs) (focus.Value v) (frame.Wait w1 ∷ fs) f1
   unfolding meaning_at steps_left
-  swaps_moves fs r = record { goes = λ p store current h.
-    let s = r.sound _ h.frames.0 h.focus in
-    record {
-      means = λ ns k. record { numbers = ns; enough = (tt, k.1); same = λ host. ap (after_all rules p fs _) (r.same _ _) };
-      holds = record { depth = h.depth; few = h.few; globals = h.globals; held = h.held; frames = (s.1, within _ _ _ r.waits h.frames.1, h.frames.2); focus = s.0; size = within _ _ _ r.size h.frames.1 };
-      fuel = still store.fuel;
-      tickets = λ ts. refl;
-      fewer = swapped _ _ _ _ _ r.fewer;
-    } }
+  swaps_moves fs r = record {
+    goes = λ p store current h.
+        let s = r.sound _ h.frames.0 h.focus in
+        record {
+          means = λ ns k. record { numbers = ns; enough = (tt, k.1); same = λ host. ap (after_all rules p fs _) (r.same _ _) };
+          holds = record { depth = h.depth; few = h.few; globals = h.globals; held = h.held; frames = (s.1, within _ _ _ r.waits h.frames.1, h.frames.2); focus = s.0; size = within _ _ _ r.size h.frames.1 };
+          fuel = still store.fuel;
+          tickets = λ ts. refl;
+          fewer = swapped _ _ _ _ _ r.fewer;
+        };
+  }
 
 pub stacked_push : (fs fs' : List Frame) (f : Frame) → fs' ≡ fs ++ f ∷ [] → stacked fs' ≡ f ∷ stacked fs
 unfolding stacked

@@ -1,56 +1,33 @@
 -- Steps from statements.
-use Rattle.std.proofs.Common.{◌≡◌, ℕ, zero, suc, ◌+◌, ◌*◌, ◌<◌, ◌≤◌, List, [], ◌∷◌, ◌++◌, map, length, Option, Some, None, Ok, Err, true, false, Vec, Global, refl, sym, ap, ◌∙◌, arith}
-use Rattle.std.specs.Prelude.{Box, ℤ}
+use Rattle.std.proofs.Common.{◌≡◌, ℕ, ◌+◌, ◌*◌, ◌<◌, ◌≤◌, List, [], ◌∷◌, ◌++◌, Option, Some, None, Vec, Global, refl, ◌∙◌, arith}
+use Rattle.std.specs.Prelude.{ℤ}
 use Rattle.std.specs.Borrow.{Bor}
-use Rattle.std.specs.Option.{option_map}
-use Rattle.page_types.specs.declared.SumSign.{SumSign}
-use Rattle.page_types.specs.declared.ProductSign.{ProductSign}
-use Rattle.page_types.specs.declared.CompareSign.{CompareSign}
-use Rattle.page_types.specs.declared.UnarySign.{UnarySign}
-use Rattle.page_types.specs.declared.Op.{Op}
-use Rattle.page_types.specs.declared.FaultName.TheVariants.{TypeError}
 use Rattle.page_types.specs.Values as Model
-use Rattle.page_types.specs.Values.{TextValue, ListValue, values_of}
-use Rattle.page_parts.specs.Kinds.{bool_in}
 use Rattle.page_values.specs.declared.Value.{Value}
 use Rattle.page_values.specs.declared.Value.TheVariants as value
-use Rattle.page_values.specs.Seen.{seen}
-use Rattle.page_values.specs.Written.{IsNumbered}
 use Rattle.lang_ast.specs.declared.tree.Named.{Named}
 use Rattle.lang_ast.specs.declared.tree.Expr.{Expr}
 use Rattle.lang_ast.specs.declared.tree.Expr as E
 use Rattle.lang_ast.specs.declared.tree.Stmt.{Stmt}
 use Rattle.lang_ast.specs.declared.tree.Stmt as S
 use Rattle.lang_ast.specs.declared.tree.Item.{Item}
-use Rattle.lang_ast.specs.Calls.{CallsFit}
-use Rattle.lang_ast.specs.Names.{in_expr, in_exprs, in_terms, in_factors, in_stmt, in_block, in_others, in_else, count_exprs}
-use Rattle.lang_ast.specs.Seen.{seen_expr, seen_exprs, seen_terms, seen_factors, seen_stmt, seen_block, seen_others, seen_else, seen_items}
-use Rattle.lang_ast.proofs.Fits.{fits_front, fits_back, fits_both}
-use Rattle.lang_ast.proofs.Trees.{seen-Or, seen-And, seen-Compare, seen-Sum, seen-Product, seen-Unary, seen-Post, seen-Number, seen-Text, seen-True, seen-False, seen-Unit, seen-Name, seen-Call, seen-Paren, seen-List, seen-Var, seen-Assign, seen-Expr, seen-If, seen-While, seen-Return, seen-Throw, seen-Try}
-use Rattle.lang_meaning.specs.Machine.{Machine, Done, and_then}
-use Rattle.lang_meaning.specs.Evaluation.{Around, own_body, answered, sum_answer, product_answer, compare_answer, unary_answer, item_answer, limited_value}
+use Rattle.lang_ast.specs.Names.{in_expr, in_stmt, in_block, in_others}
+use Rattle.lang_ast.specs.Seen.{seen_expr, seen_stmt, seen_block, seen_others, seen_items}
+use Rattle.lang_ast.proofs.Fits.{fits_front, fits_back}
+use Rattle.lang_ast.proofs.Trees.{seen-Var, seen-Assign, seen-Expr, seen-If, seen-While, seen-Return, seen-Throw, seen-Try}
+use Rattle.lang_meaning.specs.Evaluation.{own_body}
 use Rattle.lang_meaning.specs.HostSteps.{HostRules}
-use Rattle.lang_meaning.specs.Asks.{Limited}
-use Rattle.page_interp.specs.declared.stack.Focus.{Focus}
 use Rattle.page_interp.specs.declared.stack.Focus.TheVariants as focus
 use Rattle.page_interp.specs.declared.stack.Frame.{Frame}
 use Rattle.page_interp.specs.declared.stack.Frame.TheVariants as frame
-use Rattle.page_interp.specs.declared.stack.Waiting.{Waiting}
 use Rattle.page_interp.specs.declared.stack.Waiting.TheVariants as waiting
-use Rattle.page_interp.specs.declared.stack.Purpose.{Purpose}
 use Rattle.page_interp.specs.declared.stack.Purpose.TheVariants as purpose
-use Rattle.page_interp.specs.Runs.{AnswerIsNumbered, SomeIsNumbered}
-use Rattle.page_interp.specs.Frames.{does, continues, focus_size, waiting_size, focus_weight, waiting_weight, FocusIsSound, WaitingIsSound, HasArguments, IsAnswer, IsPicked, after_all, meaning_at, steps_left, Moves}
+use Rattle.page_interp.specs.Frames.{meaning_at, steps_left, Moves}
 use Rattle.page_interp.proofs.Steps.{still}
-use Rattle.page_interp.proofs.Numbered.{sum_numbered, product_numbered, compare_numbered, unary_numbered, item_numbered, limited_numbered, list_numbered, all_append}
-use Rattle.page_interp.proofs.SmallSteps.{Pushes, Stays, Pops, Swaps, answer_stays, answer_pops, answer_swaps}
-use Rattle.page_interp.proofs.Fitting.{or_fits, and_fits, compare_fits, sum_fits, product_fits, unary_fits, post_fits, call_fits, paren_fits, list_fits, var_fits, assign_fits, expr_fits, if_fits, while_fits, turn_fits, return_fits, throw_fits, try_fits}
-use Rattle.page_types.specs.Tree.{Program, Block, no_stmts, with_stmt}
-use Rattle.lang_ast.specs.Sizes.{expr_size, block_size, stmt_size}
-use Rattle.page_interp.specs.declared.exit.Store.{Store}
-use Rattle.page_interp.specs.declared.stack.Current.{Current}
-use Rattle.page_interp.specs.Frames.{Holds, Goes, place}
-use Rattle.page_interp.proofs.SmallSteps.{below, within}
+use Rattle.page_interp.proofs.SmallSteps.{Pushes, Stays}
+use Rattle.page_interp.proofs.Fitting.{var_fits, assign_fits, expr_fits, if_fits, while_fits, turn_fits, return_fits, throw_fits, try_fits}
+use Rattle.page_types.specs.Tree.{Block, no_stmts, with_stmt}
+use Rattle.page_interp.proofs.SmallSteps.{below}
 
 module _ {T : Type 0} where
   pub ignore_pushes : (x : Bor Stmt) (e : Bor Expr) (f : Expr) → x.now ≡ S.Expr f → e.now ≡ f → Pushes T (focus.Stmt x) waiting.Ignore (focus.Expr e)
@@ -93,7 +70,7 @@ module _ {T : Type 0} where
   if_pushes x e f block others last b o l q a bq oq lq = record {
     same = λ d m. rw (q, seen-If, a, bq, oq, lq) refl;
     sound = λ count h. let s = if_fits x.now f block others last q h in
-      (rw a s.0, rw (bq, oq, lq) (s.1, fits_front (in_others (seen_others others.items)) _ s.2, fits_back (in_others (seen_others others.items)) _ s.2));
+        (rw a s.0, rw (bq, oq, lq) (s.1, fits_front (in_others (seen_others others.items)) _ s.2, fits_back (in_others (seen_others others.items)) _ s.2));
     size = rw (q, seen-If, a) (omega arith);
     waits = rw (q, seen-If, bq, oq, lq) (omega arith);
     fewer = rw (q, seen-If, a, bq, oq, lq) (omega arith);
@@ -130,8 +107,8 @@ module _ {T : Type 0} where
   others_pushes others rest last p e b q a bq = record {
     same = λ d m. rw (q, a, bq) refl;
     sound = λ count h. let s = rw q at h in
-      let one = fits_front (in_expr (seen_expr p.now.0) ++ in_block (seen_block p.now.1.items)) _ s.0 in
-      (rw a (fits_front (in_expr (seen_expr p.now.0)) _ one), (rw bq (fits_back (in_expr (seen_expr p.now.0)) _ one), fits_back (in_expr (seen_expr p.now.0) ++ in_block (seen_block p.now.1.items)) _ s.0, s.1));
+        let one = fits_front (in_expr (seen_expr p.now.0) ++ in_block (seen_block p.now.1.items)) _ s.0 in
+        (rw a (fits_front (in_expr (seen_expr p.now.0)) _ one), (rw bq (fits_back (in_expr (seen_expr p.now.0)) _ one), fits_back (in_expr (seen_expr p.now.0) ++ in_block (seen_block p.now.1.items)) _ s.0, s.1));
     size = rw (q, a) (omega arith);
     waits = rw (q, bq) (omega arith);
     fewer = rw (q, a, bq) (omega arith);
@@ -156,46 +133,68 @@ module _ {T : Type 0} where
 module _ {T : Type 0} (rules : HostRules T) (fs : List Frame) where
   pub var_moves : (x : Bor Stmt) (n : Bor Named) (e : Bor Expr) (name : Named) (f : Expr) → x.now ≡ S.Var name f → n.now ≡ name → e.now ≡ f → Moves rules fs (focus.Stmt x) (frame.Assign n ∷ fs) (focus.Expr e)
   unfolding meaning_at steps_left
-  var_moves x n e name f q a b = record { goes = λ p store current h. record {
+  var_moves x n e name f q a b = record {
+    goes = λ p store current h. record {
       means = λ ns k. record { numbers = 0 ∷ ns; enough = (tt, k); same = λ host. rw (q, seen-Var, a, b) refl };
       holds = record { depth = h.depth; few = h.few; globals = h.globals; held = h.held; frames = (tt, omega arith, h.frames); focus = rw b (var_fits x.now name f q h.focus); size = let s = h.size in let t = rw (q, seen-Var) at s in rw b (omega (arith, t)) };
       fuel = still store.fuel;
       tickets = λ ts. refl;
       fewer = below _ _ _ _ _ (rw (q, seen-Var, b) (omega arith));
-    } }
+    };
+  }
 
   pub assign_moves : (x : Bor Stmt) (n : Bor Named) (e : Bor Expr) (name : Named) (f : Expr) → x.now ≡ S.Assign name f → n.now ≡ name → e.now ≡ f → Moves rules fs (focus.Stmt x) (frame.Assign n ∷ fs) (focus.Expr e)
   unfolding meaning_at steps_left
-  assign_moves x n e name f q a b = record { goes = λ p store current h. record {
+  assign_moves x n e name f q a b = record {
+    goes = λ p store current h. record {
       means = λ ns k. record { numbers = 0 ∷ ns; enough = (tt, k); same = λ host. rw (q, seen-Assign, a, b) refl };
       holds = record { depth = h.depth; few = h.few; globals = h.globals; held = h.held; frames = (tt, omega arith, h.frames); focus = rw b (assign_fits x.now name f q h.focus); size = let s = h.size in let t = rw (q, seen-Assign) at s in rw b (omega (arith, t)) };
       fuel = still store.fuel;
       tickets = λ ts. refl;
       fewer = below _ _ _ _ _ (rw (q, seen-Assign, b) (omega arith));
-    } }
+    };
+  }
 
   pub while_moves : (x : Bor Stmt) (e e1 : Bor Expr) (b : Bor (List Stmt)) (f : Expr) (block : Vec Stmt Global) → x.now ≡ S.While f block → e.now ≡ f → e1.now ≡ f → b.now ≡ block.items → Moves rules fs (focus.Stmt x) (frame.Test e b ∷ fs) (focus.Expr e1)
   unfolding meaning_at steps_left
-  while_moves x e e1 b f block q a a1 bq = record { goes = λ p store current h.
-    let s = turn_fits f block (while_fits x.now f block q h.focus) in
-    record {
-      means = λ ns k. record { numbers = store.fuel ∷ ns; enough = (still store.fuel, k); same = λ host. rw (q, seen-While, a, a1, bq) refl };
-      holds = record { depth = h.depth; few = h.few; globals = h.globals; held = h.held; frames = (rw (a, bq) (s.0, s.1), (let z = h.size in let t = rw (q, seen-While) at z in rw (a, bq) (omega (arith, t))), h.frames);
-        focus = rw a1 s.0; size = let z = h.size in let t = rw (q, seen-While) at z in rw a1 (omega (arith, t)) };
-      fuel = still store.fuel;
-      tickets = λ ts. refl;
-      fewer = below _ _ _ _ _ (rw (q, seen-While, a1) (omega arith));
-    } }
+  while_moves x e e1 b f block q a a1 bq = record {
+    goes = λ p store current h.
+        let s = turn_fits f block (while_fits x.now f block q h.focus) in
+        record {
+          means = λ ns k. record { numbers = store.fuel ∷ ns; enough = (still store.fuel, k); same = λ host. rw (q, seen-While, a, a1, bq) refl };
+          holds = record {
+            depth = h.depth;
+            few = h.few;
+            globals = h.globals;
+            held = h.held;
+            frames = (rw (a, bq) (s.0, s.1), (let z = h.size in let t = rw (q, seen-While) at z in rw (a, bq) (omega (arith, t))), h.frames);
+            focus = rw a1 s.0;
+            size = let z = h.size in let t = rw (q, seen-While) at z in rw a1 (omega (arith, t));
+          };
+          fuel = still store.fuel;
+          tickets = λ ts. refl;
+          fewer = below _ _ _ _ _ (rw (q, seen-While, a1) (omega arith));
+        };
+  }
 
   pub try_moves : (x : Bor Stmt) (b c : Bor (List Stmt)) (n : Bor Named) (block handler : Vec Stmt Global) (name : Named) → x.now ≡ S.Try block name handler → n.now ≡ name → b.now ≡ block.items → c.now ≡ handler.items → Moves rules fs (focus.Stmt x) (frame.Try n c ∷ fs) (focus.Block b)
   unfolding meaning_at steps_left
-  try_moves x b c n block handler name q a bq cq = record { goes = λ p store current h.
-    let s = try_fits x.now block name handler q h.focus in
-    record {
-      means = λ ns k. record { numbers = 0 ∷ ns; enough = (tt, k); same = λ host. rw (q, seen-Try, a, bq, cq) refl };
-      holds = record { depth = h.depth; few = h.few; globals = h.globals; held = h.held; frames = (rw cq s.1, (let z = h.size in let t = rw (q, seen-Try) at z in rw cq (omega (arith, t))), h.frames);
-        focus = rw bq s.0; size = let z = h.size in let t = rw (q, seen-Try) at z in rw bq (omega (arith, t)) };
-      fuel = still store.fuel;
-      tickets = λ ts. refl;
-      fewer = below _ _ _ _ _ (rw (q, seen-Try, bq, cq) (omega arith));
-    } }
+  try_moves x b c n block handler name q a bq cq = record {
+    goes = λ p store current h.
+        let s = try_fits x.now block name handler q h.focus in
+        record {
+          means = λ ns k. record { numbers = 0 ∷ ns; enough = (tt, k); same = λ host. rw (q, seen-Try, a, bq, cq) refl };
+          holds = record {
+            depth = h.depth;
+            few = h.few;
+            globals = h.globals;
+            held = h.held;
+            frames = (rw cq s.1, (let z = h.size in let t = rw (q, seen-Try) at z in rw cq (omega (arith, t))), h.frames);
+            focus = rw bq s.0;
+            size = let z = h.size in let t = rw (q, seen-Try) at z in rw bq (omega (arith, t));
+          };
+          fuel = still store.fuel;
+          tickets = λ ts. refl;
+          fewer = below _ _ _ _ _ (rw (q, seen-Try, bq, cq) (omega arith));
+        };
+  }

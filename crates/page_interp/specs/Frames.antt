@@ -1,10 +1,9 @@
 -- What stands on the machine's stack, and what it means by the meaning of the script.
-use Rattle.std.specs.Prelude.{◌≡◌, ℕ, zero, suc, ◌+◌, ◌*◌, ◌^◌, ◌<◌, ◌≤◌, Bool, true, false, List, [], ◌∷◌, ◌++◌, map, reverse, length, Option, Some, None, Result, Ok, Err, ⊤, Vec}
-use Rattle.std.specs.declared.alloc.Global.{Global}
+use Rattle.std.specs.Prelude.{◌≡◌, ℕ, ◌+◌, ◌*◌, ◌^◌, ◌<◌, ◌≤◌, Bool, true, false, List, [], ◌∷◌, ◌++◌, map, reverse, length, Option, Some, None, Result, Ok, Err, ⊤}
 use Rattle.std.specs.Option.{option_map}
 use Rattle.page_types.specs.Values as Model
-use Rattle.page_types.specs.Values.{UnitValue, BoolValue, ListValue, FaultValue, values_of}
-use Rattle.page_types.specs.Tree.{Program, Expr, Exprs, Block}
+use Rattle.page_types.specs.Values.{BoolValue, ListValue, FaultValue, values_of}
+use Rattle.page_types.specs.Tree.{Program, Expr, Block}
 use Rattle.page_types.specs.declared.Op.{Op}
 use Rattle.page_types.specs.declared.FaultName.{FaultName}
 use Rattle.page_types.specs.declared.FaultName.TheVariants.{TypeError, RangeError}

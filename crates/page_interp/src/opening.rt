@@ -50,7 +50,11 @@ pub fn callee_names<'c>(code: &'c Code, function: u32) -> &'c Names
 }
 
 /// The values of its variables where it is called with these arguments.
-pub fn callee_locals(code: &Code, function: u32, args: Vec<Value>) -> Result<Vec<Value>, MemoryFault>
+pub fn callee_locals(
+    code: &Code,
+    function: u32,
+    args: Vec<Value>,
+) -> Result<Vec<Value>, MemoryFault>
     ensures { IfOk result (λ locals. variables_of (call_names (function_at code.now function)) locals.items ≡
         call_variables (function_at code.now function) (map seen args.items)) }
 {

@@ -213,7 +213,12 @@ pub fn receive<'c, H: Host>(
         Waiting::Row(purpose, values, rest) => into_row::<H>(value, purpose, values, rest),
         Waiting::Ignore => Ok(Focus::Value(Value::Unit)),
         Waiting::If(block, others, last) => {
-            Ok(pick(alloc, &value, Focus::Block(block), Focus::Others(others, last)))
+            Ok(pick(
+                alloc,
+                &value,
+                Focus::Block(block),
+                Focus::Others(others, last),
+            ))
         }
         Waiting::Return => Ok(Focus::Return(value)),
         Waiting::Throw => Ok(Focus::Throw(value)),

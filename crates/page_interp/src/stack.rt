@@ -68,11 +68,7 @@ pub enum Waiting<'c> {
     /// A statement that is an expression.
     Ignore,
     /// The block of a condition, those after each `else if`, and the block after `else`.
-    If(
-        &'c [Stmt],
-        &'c [(Expr, Vec<Stmt>)],
-        &'c Option<Vec<Stmt>>,
-    ),
+    If(&'c [Stmt], &'c [(Expr, Vec<Stmt>)], &'c Option<Vec<Stmt>>),
     Return,
     Throw,
     /// The further statements of a block.

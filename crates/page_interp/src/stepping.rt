@@ -44,7 +44,14 @@ fn close<'c>(current: &mut Current<'c>, names: &'c Names, locals: Vec<Value>)
 fn set<'c>(code: &Code, store: &mut Store, current: &mut Current<'c>, name: &Named, value: Value)
     ensures { IsSet code.now store.old current.old name.now.name value store.new current.new }
 {
-    assign(code, store, current.names, &mut current.locals, &name.name, value);
+    assign(
+        code,
+        store,
+        current.names,
+        &mut current.locals,
+        &name.name,
+        value,
+    );
 }
 
 /// The condition of a loop: its block is next, with a unit less.
@@ -143,7 +150,15 @@ fn from_value<'c, H: Host>(
             Ok(Focus::Value(Value::Unit))
         }
         Some(Frame::Host(ticket)) => {
-            resume(code, host, store, current, stack, ticket, Outcome::Value(value))
+            resume(
+                code,
+                host,
+                store,
+                current,
+                stack,
+                ticket,
+                Outcome::Value(value),
+            )
         }
     }
 }
@@ -178,7 +193,15 @@ fn from_throw<'c, H: Host>(
             Ok(Focus::Throw(value))
         }
         Some(Frame::Host(ticket)) => {
-            resume(code, host, store, current, stack, ticket, Outcome::Throw(value))
+            resume(
+                code,
+                host,
+                store,
+                current,
+                stack,
+                ticket,
+                Outcome::Throw(value),
+            )
         }
     }
 }
@@ -210,7 +233,15 @@ fn from_return<'c, H: Host>(
             Ok(Focus::Value(value))
         }
         Some(Frame::Host(ticket)) => {
-            resume(code, host, store, current, stack, ticket, Outcome::Value(value))
+            resume(
+                code,
+                host,
+                store,
+                current,
+                stack,
+                ticket,
+                Outcome::Value(value),
+            )
         }
     }
 }

@@ -1,6 +1,6 @@
 //! Work on values.
 
-ghost use Rattle.std.specs.Prelude.{◌≡◌, ◌++◌, ◌∷◌, [], Option, Some, None, Ok, IfOk, IfErr, OnErr, IfSome, IfNone, map};
+ghost use Rattle.std.specs.Prelude.{◌≡◌, ◌++◌, ◌∷◌, [], Option, Some, None, Ok, IfOk, IfErr, IfSome, IfNone, map};
 ghost use Rattle.std.specs.Option.{option_map};
 ghost use Rattle.page_types.specs.Values as Model;
 ghost use Rattle.page_types.specs.Values.{items_of, ListValue, TextValue, FaultValue};
@@ -9,12 +9,10 @@ ghost use Rattle.lang_meaning.specs.Evaluation.{limited_value, need};
 ghost use Rattle.page_values.specs.Made.{IsMade};
 ghost use Rattle.page_values.specs.Seen.{seen, seen_all};
 ghost use Rattle.page_interp.specs.Runs.{value_left, unit_left, exit_left, call_left, func_of, func_seen};
-ghost use Rattle.page_interp.specs.Answers.{Answers, MadeGives, type_error};
+ghost use Rattle.page_interp.specs.Answers.{Answers, MadeGives};
 
 use crate::exit::Exit;
-use page_values::{
-    FaultName, Func, Items, Str, Value, ValueFault, copy_text, fault, make_list,
-};
+use page_values::{FaultName, Func, Items, Str, Value, ValueFault, copy_text, fault, make_list};
 use std::alloc::{AllocError, Global};
 
 /// A value that was made, or RangeError where it is too heavy.

@@ -1,7 +1,7 @@
-use Rattle.std.proofs.Common.{refl, sym, ap, ◌∙◌, subst, Ok, Err, ◌∷◌, ◌≡◌, ◌-◌, map}
+use Rattle.std.proofs.Common.{refl, ap, Ok, Err, map}
 use Rattle.std.proofs.lemmas.Result.{err_from_is_err_and}
 use Rattle.page_values.specs.Seen.{seen}
-use Rattle.lang_ast.specs.Steps.{seen_step, AllNumbered}
+use Rattle.lang_ast.specs.Steps.{seen_step}
 use Rattle.lang_ast.specs.SeenProgram.{seen_program}
 use Rattle.page_interp.specs.Frames.{stacked, tickets_in}
 use Rattle.page_interp.specs.Runs.{func_seen}

@@ -1,11 +1,11 @@
-use Rattle.std.proofs.Common.{refl, sym, ap, ◌∙◌, arith, ◌-◌, ◌+◌, ◌*◌, ◌^◌, ◌≤◌, ◌≡◌, suc, map, true, false}
+use Rattle.std.proofs.Common.{ap, ◌∙◌, arith, ◌+◌, ◌*◌, ◌^◌, map}
 use Rattle.page_values.specs.Seen.{seen}
 use Rattle.lang_meaning.specs.HostSteps.{is_busy}
-use Rattle.lang_ast.specs.Steps.{seen_step, seen_outcome, room_taken, tickets_after}
+use Rattle.lang_ast.specs.Steps.{seen_step, room_taken, tickets_after}
 use Rattle.lang_ast.specs.SeenProgram.{seen_program}
-use Rattle.page_interp.specs.Frames.{stacked, waiting_at}
-use Rattle.page_interp.proofs.Calls.{room_for, functions_for}
-use Rattle.page_interp.proofs.HostTurns.{few_come, answers_now, ready_now, resume_leaves, refuses_resume, op_leaves, op_refused, plain_leaves, busy_leaves, busy_dry, stood_waiting, less_waiting}
+use Rattle.page_interp.specs.Frames.{stacked}
+use Rattle.page_interp.proofs.Calls.{functions_for}
+use Rattle.page_interp.proofs.HostTurns.{few_come, answers_now, ready_now, op_leaves, op_refused}
 use Rattle.page_interp.proofs.asking.ask_host.Goals as goal
 
 pub op-requires-clause-numbered : goal.op-requires-clause-numbered

@@ -1,6 +1,5 @@
 use Rattle.std.proofs.Common.{refl, arith, ◌-◌}
 use Rattle.lang_ast.specs.SeenProgram.{seen_program}
-use Rattle.page_interp.proofs.FrameSteps.{after_dry}
 use Rattle.page_interp.proofs.OpenSteps.{opens}
 use Rattle.page_interp.proofs.opening.open.Goals as goal
 

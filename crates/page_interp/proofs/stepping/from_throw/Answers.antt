@@ -1,14 +1,11 @@
-use Rattle.std.proofs.Common.{refl, arith, sym, ap, ◌∙◌, ◌≡◌, ◌∷◌}
+use Rattle.std.proofs.Common.{refl, arith}
 use Rattle.lang_ast.specs.SeenProgram.{seen_program}
 use Rattle.page_values.specs.Seen.{seen}
-use Rattle.lang_meaning.specs.HostSteps.{CallbackValue, CallbackThrow}
+use Rattle.lang_meaning.specs.HostSteps.{CallbackThrow}
 use Rattle.page_interp.specs.declared.stack.Focus.TheVariants as focus
 use Rattle.page_interp.specs.declared.stack.Frame.TheVariants as frame
-use Rattle.page_interp.specs.Frames.{stacked, place, tickets_in}
-use Rattle.page_interp.proofs.Steps.{still}
-use Rattle.page_interp.proofs.Calls.{functions_for}
-use Rattle.page_interp.proofs.FrameSteps.{pass_throw, pass_return, try_value, close_value, close_throw, close_return, assign_goes, catch_goes, turn_goes}
-use Rattle.page_interp.proofs.RunSteps.{steps_goes, steps_moves, step_goes, steps_pushed, value_ends, throw_ends, return_ends, steps_test, steps_call, host_popped, host_steps}
+use Rattle.page_interp.proofs.FrameSteps.{pass_throw, close_throw, catch_goes}
+use Rattle.page_interp.proofs.RunSteps.{step_goes, throw_ends, host_popped, host_steps}
 use Rattle.page_interp.proofs.stepping.from_throw.Goals as goal
 
 pub returns-in-None : goal.returns-in-None

@@ -1,11 +1,7 @@
-use Rattle.std.proofs.Common.{refl, arith, sym, ap, ◌∙◌, [], ◌-◌, map}
+use Rattle.std.proofs.Common.{refl, ◌∙◌, [], ◌-◌}
 use Rattle.lang_ast.specs.SeenProgram.{seen_program}
-use Rattle.page_values.specs.Seen.{seen}
-use Rattle.page_interp.specs.Frames.{stacked, place}
-use Rattle.page_interp.proofs.Steps.{still, no_memory_at}
-use Rattle.page_interp.proofs.Calls.{runs_dry}
-use Rattle.page_interp.proofs.SmallSteps.{stacked_empty}
-use Rattle.page_interp.proofs.RunSteps.{steps_goes, steps_moves, steps_call, underway_first, underway_more, underway_ends, fewer_left, first_stood, first_runs}
+use Rattle.page_interp.proofs.Steps.{still}
+use Rattle.page_interp.proofs.RunSteps.{steps_goes, steps_moves, steps_call}
 use Rattle.page_interp.proofs.stepping.step.Goals as goal
 
 pub returns-in-Expr : goal.returns-in-Expr
