@@ -1,28 +1,20 @@
 -- In a part of a resolved script each operation has as many arguments as it takes, and a part is smaller than the whole.
-use Rattle.std.proofs.Common.{◌≡◌, ℕ, zero, suc, ◌<◌, List, [], ◌∷◌, ◌++◌, get_or, length, map, Option, Some, None, Vec, Global, ap, refl, sym, ◌∙◌, arith}
+use Rattle.std.proofs.Common.{◌≡◌, ℕ, ◌<◌, List, [], ◌∷◌, ◌++◌, Option, Some, Vec, Global, ◌∙◌}
 use Rattle.std.specs.Prelude.{Box}
-use Rattle.std.proofs.lemmas.List.{length-map}
-use Rattle.page_types.specs.declared.Op.{Op}
 use Rattle.page_types.specs.declared.SumSign.{SumSign}
 use Rattle.page_types.specs.declared.ProductSign.{ProductSign}
 use Rattle.page_types.specs.declared.CompareSign.{CompareSign}
 use Rattle.page_types.specs.declared.UnarySign.{UnarySign}
-use Rattle.page_values.specs.declared.Value.{Value}
-use Rattle.page_values.specs.Seen.{seen}
 use Rattle.lang_meaning.specs.OpNames.{op_named}
-use Rattle.lang_meaning.specs.Evaluation.{own_body}
 use Rattle.lang_ast.specs.declared.tree.Named.{Named}
 use Rattle.lang_ast.specs.declared.tree.Expr.{Expr}
 use Rattle.lang_ast.specs.declared.tree.Expr as E
 use Rattle.lang_ast.specs.declared.tree.Stmt.{Stmt}
 use Rattle.lang_ast.specs.declared.tree.Stmt as S
-use Rattle.lang_ast.specs.declared.tree.Item.{Item}
 use Rattle.lang_ast.specs.declared.tree.Item.TheVariants as item
-use Rattle.lang_ast.specs.Seen.{seen_expr, seen_exprs, seen_terms, seen_factors, seen_stmt, seen_block, seen_others, seen_else, seen_items}
+use Rattle.lang_ast.specs.Seen.{seen_expr, seen_exprs, seen_terms, seen_factors, seen_stmt, seen_block, seen_others, seen_else}
 use Rattle.lang_ast.specs.Names.{Mention, in_expr, in_exprs, in_terms, in_factors, in_stmt, in_block, in_others, in_else, count_exprs}
-use Rattle.lang_ast.specs.Operations.{count_of}
 use Rattle.lang_ast.specs.Calls.{HasCount, CallsFit}
-use Rattle.lang_ast.specs.Sizes.{stmt_size, block_size}
 use Rattle.lang_ast.proofs.Fits.{fits_front, fits_back, fits_both}
 use Rattle.lang_ast.proofs.Trees.{seen-Or, seen-And, seen-Compare, seen-Sum, seen-Product, seen-Unary, seen-Post, seen-Call, seen-Paren, seen-List, seen-Var, seen-Assign, seen-Expr, seen-If, seen-While, seen-Return, seen-Throw, seen-Try}
 
@@ -93,66 +85,6 @@ try_fits x block n handler q h =
     let g = rw (q, seen-Try) at h in
     (fits_front (in_block (seen_block block.items)) _ g, (fits_back (in_block (seen_block block.items)) _ g).1)
 
-fits_at : {X : Type 0} (one : X → List Mention) (all : List X → List Mention) → ((x : X) (xs : List X) → all (x ∷ xs) ≡ one x ++ all xs) → (xs : List X) (i : ℕ) (d : X) → i < length xs → CallsFit (all xs) → CallsFit (one (get_or xs i d))
-fits_at one all step [] i d lt h = absurd (omega arith)
-fits_at one all step (x ∷ xs) zero d lt h = fits_front (one x) (all xs) (rw step at h)
-fits_at one all step (x ∷ xs) (suc i) d lt h = fits_at one all step xs i d (omega arith) (fits_back (one x) (all xs) (rw step at h))
-
-fit_at : {X : Type 0} (one : X → List Mention) (all : List X → List Mention) → ((x : X) (xs : List X) → all (x ∷ xs) ≡ one x ++ all xs) → (xs : List X) (i : ℕ) (x : X) → x ≡ get_or xs i x → i < length xs → CallsFit (all xs) → CallsFit (one x)
-fit_at one all step xs i x at lt h = rw at (fits_at one all step xs i x lt h)
-
-pub exprs_fit : (es : List Expr) (i : ℕ) (e : Expr) → e ≡ get_or es i e → i < length es → CallsFit (in_exprs (seen_exprs es)) → CallsFit (in_expr (seen_expr e))
-exprs_fit = fit_at (λ e. in_expr (seen_expr e)) (λ es. in_exprs (seen_exprs es)) (λ x xs. refl)
-
-pub terms_fit : (ts : List (SumSign × Expr)) (i : ℕ) (t : SumSign × Expr) → t ≡ get_or ts i t → i < length ts → CallsFit (in_terms (seen_terms ts)) → CallsFit (in_expr (seen_expr t.1))
-terms_fit = fit_at (λ t. in_expr (seen_expr t.1)) (λ ts. in_terms (seen_terms ts)) (λ x xs. refl)
-
-pub factors_fit : (ts : List (ProductSign × Expr)) (i : ℕ) (t : ProductSign × Expr) → t ≡ get_or ts i t → i < length ts → CallsFit (in_factors (seen_factors ts)) → CallsFit (in_expr (seen_expr t.1))
-factors_fit = fit_at (λ t. in_expr (seen_expr t.1)) (λ ts. in_factors (seen_factors ts)) (λ x xs. refl)
-
-pub block_fits : (ss : List Stmt) (i : ℕ) (s : Stmt) → s ≡ get_or ss i s → i < length ss → CallsFit (in_block (seen_block ss)) → CallsFit (in_stmt (seen_stmt s))
-block_fits = fit_at (λ s. in_stmt (seen_stmt s)) (λ ss. in_block (seen_block ss)) (λ x xs. refl)
-
-others_fit : (ps : List (Expr × Vec Stmt Global)) (i : ℕ) (p : Expr × Vec Stmt Global) → p ≡ get_or ps i p → i < length ps → CallsFit (in_others (seen_others ps)) → CallsFit (in_expr (seen_expr p.0) ++ in_block (seen_block p.1.items))
-others_fit = fit_at (λ p. in_expr (seen_expr p.0) ++ in_block (seen_block p.1.items)) (λ ps. in_others (seen_others ps)) (λ x xs. refl)
-
-pub other_fits : (ps : List (Expr × Vec Stmt Global)) (last : Option (Vec Stmt Global)) (i : ℕ) (p : Expr × Vec Stmt Global) → p ≡ get_or ps i p → i < length ps → CallsFit (in_others (seen_others ps) ++ in_else (seen_else last)) → CallsFit (in_expr (seen_expr p.0)) × CallsFit (in_block (seen_block p.1.items))
-other_fits ps last i p at lt h = both (in_expr (seen_expr p.0)) (in_block (seen_block p.1.items)) (others_fit ps i p at lt (fits_front (in_others (seen_others ps)) (in_else (seen_else last)) h))
-
-pub last_fits : (ps : List (Expr × Vec Stmt Global)) (last : Option (Vec Stmt Global)) (block : Vec Stmt Global) → last ≡ Some block → CallsFit (in_others (seen_others ps) ++ in_else (seen_else last)) → CallsFit (in_block (seen_block block.items))
-last_fits ps last block q h = rw q at (fits_back (in_others (seen_others ps)) (in_else (seen_else last)) h)
-
 -- the statements among items
 
-own_at : (items : List Item) (i : ℕ) (s : Stmt) (d : Item) → get_or items i d ≡ item.Stmt s → i < length items → CallsFit (in_block (own_body (seen_items items))) → CallsFit (in_stmt (seen_stmt s)) × (stmt_size (seen_stmt s) < block_size (own_body (seen_items items)))
-own_at [] i s d at lt h = absurd (omega arith)
-own_at (item.Fn f ∷ items) zero s d at lt h = cc
-own_at (item.Stmt r ∷ items) zero s d at lt h =
-    let same : r ≡ s = cc in
-    let fits = rw same at (fits_front (in_stmt (seen_stmt r)) (in_block (own_body (seen_items items))) h) in
-    (fits, rw (sym same) (omega arith))
-own_at (item.Fn f ∷ items) (suc i) s d at lt h = own_at items i s d at (omega arith) h
-own_at (item.Stmt r ∷ items) (suc i) s d at lt h =
-    let more = own_at items i s d at (omega arith) (fits_back (in_stmt (seen_stmt r)) (in_block (own_body (seen_items items))) h) in
-    let less = more.1 in
-    (more.0, omega (arith, less))
-
-pub items_fit : (items : List Item) (i : ℕ) (x : Item) (s : Stmt) → x ≡ get_or items i x → x ≡ item.Stmt s → i < length items → CallsFit (in_block (own_body (seen_items items))) → CallsFit (in_stmt (seen_stmt s)) × (stmt_size (seen_stmt s) < block_size (own_body (seen_items items)))
-items_fit items i x s at is lt h = own_at items i s x (sym at ∙ is) lt h
-
 -- counts
-
-count_seen : (es : List Expr) → count_exprs (seen_exprs es) ≡ length es
-count_seen [] = refl
-count_seen (e ∷ es) = ap suc (count_seen es)
-
-count_for : (o : Option Op) (op : Op) (n : ℕ) → o ≡ Some op → HasCount o n → n ≡ count_of op
-count_for None op n e h = cc
-count_for (Some p) op n e h = let same : p ≡ op = cc in rw same at h
-
-pub args_fit : (o : Option Op) (op : Op) (vs : List Value) (args : List Expr) → o ≡ Some op → HasCount o (count_exprs (seen_exprs args)) → length (map seen vs) ≡ length args → length vs ≡ count_of op
-args_fit o op vs args e h n =
-    let a = count_for o op (count_exprs (seen_exprs args)) e h in
-    let b = count_seen args in
-    let c = length-map vs seen in
-    omega (arith, a, b, c, n)

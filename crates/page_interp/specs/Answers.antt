@@ -1,7 +1,7 @@
 -- What the operators answer.
 use Rattle.std.specs.Prelude.{◌≡◌, ◌++◌, ℕ, List, [], cond, ℤ, ◌+ℤ◌, ◌-ℤ◌, ◌*ℤ◌, int_div, int_rem, Option, Some, None, Result, Ok, ⊤}
 use Rattle.page_types.specs.Values as Model
-use Rattle.page_types.specs.Values.{TextValue, FaultValue}
+use Rattle.page_types.specs.Values.{TextValue}
 use Rattle.page_types.specs.declared.FaultName.TheVariants.{TypeError, RangeError}
 use Rattle.page_parts.specs.Kinds.{text_in}
 use Rattle.page_values.specs.declared.Value.{Value}
@@ -13,7 +13,7 @@ use Rattle.page_types.specs.declared.ProductSign.{ProductSign}
 use Rattle.page_types.specs.declared.ProductSign.TheVariants.{Times, Divide, Remainder}
 use Rattle.lang_meaning.specs.Evaluation.{Answer, fits, divides, need, both_ints, int_answer, limited_value}
 use Rattle.page_interp.specs.declared.exit.Exit.{Exit}
-use Rattle.page_interp.specs.Runs.{Left, ends, throws, refused, no_memory, answer_left, exit_left}
+use Rattle.page_interp.specs.Runs.{Left, ends, refused, no_memory, answer_left, exit_left}
 
 -- this is left with the answer, or for want of memory
 abbrev pub Answers : {S : Type 0} → Left S → Answer → Type 0
@@ -30,10 +30,6 @@ abbrev pub int_product : ProductSign → ℤ → ℤ → Option ℤ
 int_product Times x y = cond (fits (x *ℤ y)) (Some (x *ℤ y)) None
 int_product Divide x y = cond (divides x y) (Some (int_div x y)) None
 int_product Remainder x y = cond (divides x y) (Some (int_rem x y)) None
-
--- a TypeError that the machine throws
-abbrev pub type_error : {S : Type 0} → Left S
-type_error = ends (throws (FaultValue TypeError []))
 
 -- a value that was made is left, or RangeError where it is too heavy
 abbrev pub MadeGives : {S : Type 0} → Result Value ValueFault → Left S → Type 0

@@ -1,17 +1,15 @@
 -- What the functions of the machine promise of a run, in short.
 use Rattle.std.specs.Prelude.{ℕ, List, [], ◌∷◌}
 use Rattle.page_types.specs.Tree.{Program}
-use Rattle.page_values.specs.declared.Value.{Value}
 use Rattle.lang_ast.specs.SeenProgram.{seen_program}
 use Rattle.lang_ast.specs.Hosts.{HostNow}
 use Rattle.lang_meaning.specs.Machine as M
 use Rattle.lang_meaning.specs.Machine.{Machine, Done, Caller}
-use Rattle.lang_meaning.specs.Evaluation.{Around}
 use Rattle.lang_meaning.specs.HostSteps.{HostRules, Ask}
 use Rattle.lang_meaning.specs.Asks.{Limited}
 use Rattle.lang_ast.specs.declared.program.Program as Code
 use Rattle.page_interp.specs.declared.exit.Store.{Store}
-use Rattle.page_interp.specs.Runs.{Left, Moment, moment_of, variables_of, inside, outside, caller_of, around_of, IsReady, Runs}
+use Rattle.page_interp.specs.Runs.{Left, moment_of, outside, caller_of, IsReady, Runs}
 
 -- the script of the machine's code
 abbrev pub script : Code.Program → Program
@@ -29,21 +27,6 @@ pub record Body (T : Type 0) : Type 1 where
 abbrev pub body : {T : Type 0} → HostRules T → (Ask → T → T → Type 0) → Code.Program → ℕ → List (List ℕ) → Body T
 body rules leaves code depth names =
     record { rules = rules; leaves = leaves; script = script code; depth = depth; names = names }
-
--- a moment in a body, with these values of the local variables, and calls that are open further out
-abbrev pub moment_in : {T S : Type 0} → Body T → HostNow T S → Store → List Value → List (List M.Variable) → Moment T S
-moment_in b h store values outer = moment_of b.script h store (variables_of b.names values ∷ outer)
-
--- the body can run on
-abbrev pub CanRun : {T S : Type 0} → Body T → HostNow T S → Store → List Value → Type 0
-CanRun b h store values = IsReady (inside b.rules b.leaves b.script) (moment_in b h store values [])
-
--- from the first of these moments to the second one the body runs with this meaning, whatever calls are open further out
-abbrev pub RunsIn : {T S : Type 0} → Body T → (Around (Limited T) → Machine (Limited T) → Done (Limited T))
-    → HostNow T S → Store → List Value → Left S → HostNow T S → Store → List Value → Type 0
-RunsIn b f h store values l h' store' values' =
-    (outer : List (List M.Variable)) → Runs (inside b.rules b.leaves b.script) (f (around_of b.rules b.script b.depth))
-    (moment_in b h store values outer) l (moment_in b h' store' values' outer)
 
 -- a function or an operation can be called
 abbrev pub CanCall : {T S : Type 0} → HostRules T → (Ask → T → T → Type 0) → Code.Program → HostNow T S → Store → Type 0

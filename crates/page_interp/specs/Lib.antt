@@ -9,3 +9,4 @@ pub mod CodeNames
 pub mod MachineNow
 pub mod Machines
 pub mod Clauses
+pub mod Frames

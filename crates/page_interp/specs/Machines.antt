@@ -19,7 +19,7 @@ use Rattle.page_interp.specs.declared.machine.Ran.TheVariants as ran
 use Rattle.page_interp.specs.declared.machine.Stopped.{Stopped}
 use Rattle.page_interp.specs.declared.machine.Stopped.TheVariants as stopped
 use Rattle.page_interp.specs.Runs as runs
-use Rattle.page_interp.specs.Runs.{Left, ends, refused, no_memory, gives, throws, no_fuel, Is, IsDry, WhereSettled, LeftIsNumbered, count_of_functions}
+use Rattle.page_interp.specs.Runs.{Left, ends, refused, no_memory, gives, throws, no_fuel, Is, WhereSettled, count_of_functions}
 
 -- the number of its functions
 abbrev pub functions_in : MachineNow → ℕ

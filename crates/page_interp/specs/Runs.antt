@@ -2,19 +2,18 @@
 use Rattle.std.specs.Prelude.{◌≡◌, ℕ, zero, suc, ◌-◌, ◌≤◌, Bool, true, false, List, [], ◌∷◌, ◌++◌, Option, Some, None, Result, Ok, Err, ⊤, length}
 use Rattle.page_types.specs.Counts.{Rose}
 use Rattle.page_types.specs.Values as Model
-use Rattle.page_types.specs.Values.{UnitValue, FaultValue, items_of}
-use Rattle.page_types.specs.Tree.{Program, Exprs}
+use Rattle.page_types.specs.Values.{UnitValue, FaultValue}
+use Rattle.page_types.specs.Tree.{Program}
 use Rattle.page_types.specs.declared.FaultName.TheVariants.{TypeError}
 use Rattle.page_parts.specs.Kinds.{Func, func_in}
 use Rattle.page_values.specs.declared.Value.{Value}
 use Rattle.page_values.specs.declared.Func.{Func as HeldFunc}
 use Rattle.page_values.specs.Seen.{seen}
 use Rattle.page_values.specs.Written.{IsNumbered}
-use Rattle.lang_ast.specs.Steps.{AllNumbered}
 use Rattle.lang_ast.specs.Hosts.{HostNow}
 use Rattle.lang_meaning.specs.Machine as M
 use Rattle.lang_meaning.specs.Machine.{Machine, Done, Gives, Throws, Returns, OutOfFuel, Caller, given, locals}
-use Rattle.lang_meaning.specs.Evaluation.{Around, around, calls, Answer, eval_all, call_of, loop_turns, called, names_in, functions_of, own_body}
+use Rattle.lang_meaning.specs.Evaluation.{Around, around, calls, Answer, called, names_in, functions_of, own_body}
 use Rattle.lang_meaning.specs.Evaluation as E
 use Rattle.lang_meaning.specs.HostSteps.{HostRules, Ask, CallbackEnd, CallbackValue, CallbackThrow}
 use Rattle.lang_meaning.specs.Asks.{Limited, limited, limited_operations, IsPassed, IsRefused}
@@ -131,13 +130,6 @@ IsUnsettled Fuel = ⊤
 IsUnsettled (Host stop) = ⊤
 IsUnsettled OutOfMemory = ⊤
 
-abbrev pub IsNoThrow : {S : Type 0} → Exit S → Type 0
-IsNoThrow (Throw v) = ⊥
-IsNoThrow (Return v) = ⊤
-IsNoThrow Fuel = ⊤
-IsNoThrow (Host stop) = ⊤
-IsNoThrow OutOfMemory = ⊤
-
 -- each function that the value names with which this is left has a number below the number of functions
 abbrev pub LeftIsNumbered : {S : Type 0} → ℕ → Left S → Type 0
 LeftIsNumbered count (ends (gives v)) = IsNumbered count v
@@ -228,20 +220,14 @@ module _ {T S : Type 0} where
     pub ready : IsReady w b
     pub numbered : LeftIsNumbered w.count l
 
-  -- What g comes to from the second moment on, f comes to from the first.
-  pub record Leads (w : Scope T) (f : Machine (Limited T) → Done (Limited T)) (a : Moment T S)
-      (g : Machine (Limited T) → Done (Limited T)) (b : Moment T S) : Type 0 where
-    pub runs : (l : Left S) (c : Moment T S) → Runs w g b l c → Runs w f a l c
+  -- what f does comes to what g does from the second moment on, after some asks of the host
+  pub record Asks (w : Scope T) (f g : Machine (Limited T) → Done (Limited T)) (a b : Moment T S) : Type 0 where
+    pub asks : ℕ
+    pub comes : (left : Option ℕ) → f (limited (more asks left) a.machine) ≡ g (limited left b.machine)
+    pub stands : IsPassed w.rules f a.machine b.machine.host
+    pub fuel : b.machine.fuel ≤ a.machine.fuel
+    pub refusals : b.now.refusals ≡ a.now.refusals
     pub ready : IsReady w b
-
-  -- These are the values of so many expressions: what is done with them from the second moment on comes of the whole from the first.
-  pub record AreValues (w : Scope T)
-      (whole : (List Model.Value → Machine (Limited T) → Done (Limited T)) → Machine (Limited T) → Done (Limited T))
-      (a : List (List M.Variable) → Moment T S) (vs : List Model.Value) (b : List (List M.Variable) → Moment T S) (n : ℕ) : Type 0 where
-    pub leads : (outer : List (List M.Variable)) (next : List Model.Value → Machine (Limited T) → Done (Limited T))
-        → Leads w (whole next) (a outer) (next vs) (b outer)
-    pub numbered : AllNumbered w.count vs
-    pub counted : length vs ≡ n
 
 -- how functions are called where so many calls are open, and what is around an expression there
 unfoldable pub caller_of : {T : Type 0} → HostRules T → Program → ℕ → Caller (Limited T)
@@ -249,10 +235,6 @@ caller_of rules program depth = calls program (limited_operations rules) (256 - 
 
 unfoldable pub around_of : {T : Type 0} → HostRules T → Program → ℕ → Around (Limited T)
 around_of rules program depth = around program (limited_operations rules) (caller_of rules program depth)
-
--- a call by name: what the name stands for is taken before the arguments
-abbrev pub called_by_name : {T : Type 0} → Around T → List ℕ → Exprs → Machine T → Done T
-called_by_name w x es m = eval_all w es [] (call_of w x m) m
 
 abbrev pub func_of : Option Model.Value → Option Func
 func_of None = None
@@ -269,15 +251,6 @@ call_given call o args m = given o TypeError m (λ f m. called call f args m)
 -- the names of a function's variables: its parameters, and those that its body gives
 abbrev pub frame_names : E.Function → List (List ℕ)
 frame_names f = f.parameters ++ names_in f.body
-
--- all turns of a loop
-abbrev pub all_turns : {T : Type 0} → (Machine T → Done T) → (Machine T → Done T) → Machine T → Done T
-all_turns test body m = loop_turns (suc m.fuel) test body m
-
--- how a block ended, where a throw is caught
-abbrev pub caught_left : {S : Type 0} → Option Value → Left S
-caught_left None = ends (gives UnitValue)
-caught_left (Some v) = ends (throws (seen v))
 
 -- how a call ends, by the end of its body
 abbrev pub call_left : {S : Type 0} → Left S → Left S

@@ -10,7 +10,3 @@ bodies_size (f ∷ fs) = block_size f.body + bodies_size fs
 
 abbrev pub program_size : Program → ℕ
 program_size p = bodies_size (functions_of p.items) + block_size (own_body p.items)
-
--- by the number of open calls, and then by the size of what is left
-unfoldable pub rank : Program → ℕ → ℕ → ℕ
-rank p depth size = (256 - depth) * (4 * program_size p + 4) + size

@@ -10,7 +10,7 @@ ghost use Rattle.page_interp.specs.Runs.{value_left, as_called};
 use crate::code::Code;
 use crate::exit::{Exit, Store};
 use crate::machine::{Machine, Ran, Stopped};
-use crate::run::run_function;
+use crate::stepping::run_function;
 use crate::values::joined;
 use crate::variables::locals_for;
 use lang_ast::{Host, Program};
@@ -74,7 +74,7 @@ impl<'p> Machine<'p> {
             Err(_) => return Err(Stopped::OutOfMemory),
         };
         self.store.fuel = *fuel;
-        let done = run_function(&self.code, host, &mut self.store, 0, fun.function, all);
+        let done = run_function(&self.code, host, &mut self.store, fun.function, all);
         *fuel = self.store.fuel;
         call_end(done)
     }

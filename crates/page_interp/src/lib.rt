@@ -2,15 +2,20 @@
 #![tactic(auto)]
 
 mod adding;
+mod asking;
 mod calling;
-mod catching;
 mod code;
 mod exit;
+mod expressions;
 mod gathering;
 mod machine;
 mod names;
+mod opening;
 mod operators;
-mod run;
+mod receiving;
+mod stack;
+mod statements;
+mod stepping;
 mod values;
 mod variables;
 

@@ -1,23 +1,18 @@
 //! Work on values.
 
-ghost use Rattle.std.specs.Prelude.{◌≡◌, ◌++◌, ◌∷◌, [], Option, Some, None, Ok, IfOk, IfErr, OnErr, IfSome, IfNone, map};
+ghost use Rattle.std.specs.Prelude.{◌≡◌, ◌++◌, ◌∷◌, [], Option, Some, None, Ok, IfOk, IfErr, IfSome, IfNone, map};
 ghost use Rattle.std.specs.Option.{option_map};
 ghost use Rattle.page_types.specs.Values as Model;
 ghost use Rattle.page_types.specs.Values.{items_of, ListValue, TextValue, FaultValue};
 ghost use Rattle.page_types.specs.declared.FaultName.TheVariants.{TypeError, RangeError};
-ghost use Rattle.page_parts.specs.Kinds.{bool_in};
 ghost use Rattle.lang_meaning.specs.Evaluation.{limited_value, need};
 ghost use Rattle.page_values.specs.Made.{IsMade};
 ghost use Rattle.page_values.specs.Seen.{seen, seen_all};
-ghost use Rattle.page_interp.specs.Runs.{value_left, unit_left, exit_left, call_left, func_of, func_seen, IsUnsettled, Settles};
-ghost use Rattle.page_interp.specs.Answers.{Answers, MadeGives, type_error};
-ghost use Rattle.lang_ast.specs.Steps.{seen_outcome};
+ghost use Rattle.page_interp.specs.Runs.{value_left, unit_left, exit_left, call_left, func_of, func_seen};
+ghost use Rattle.page_interp.specs.Answers.{Answers, MadeGives};
 
 use crate::exit::Exit;
-use lang_ast::Outcome;
-use page_values::{
-    FaultName, Func, Items, Str, Value, ValueFault, as_bool, copy_text, fault, make_list,
-};
+use page_values::{FaultName, Func, Items, Str, Value, ValueFault, copy_text, fault, make_list};
 use std::alloc::{AllocError, Global};
 
 /// A value that was made, or RangeError where it is too heavy.
@@ -48,40 +43,12 @@ pub fn text<S: Drop>(alloc: Global, text: &Str) -> Result<Value, Exit<S>>
     }
 }
 
-/// What a condition says.
-pub fn truth<S: Drop>(alloc: Global, value: Value) -> Result<bool, Exit<S>>
-    ensures ok { IfOk result (λ b. bool_in (seen value) ≡ Some b) }
-    ensures no_bool { OnErr result (bool_in (seen value) ≡ None) }
-    ensures throws { IfErr result (λ x. exit_left x ≡ type_error) }
-{
-    match as_bool(&value) {
-        Some(b) => Ok(b),
-        None => Err(Exit::Throw(fault(alloc, FaultName::TypeError))),
-    }
-}
-
 /// One more value at the end.
 pub fn append<S: Drop>(values: &mut Vec<Value>, value: Value) -> Result<(), Exit<S>>
     ensures appended { IfOk result (λ _. values.new.items ≡ values.old.items ++ value ∷ []) }
     ensures err { IfErr result (λ x. x ≡ Exit.OutOfMemory) }
 {
     values.push(value).map_err(|_| Exit::OutOfMemory)
-}
-
-/// What a callback came to, for the host. Any other end leaves the operation.
-pub fn settled<S: Drop>(called: Result<Value, Exit<S>>) -> Result<Outcome, Exit<S>>
-    ensures ok { IfOk result (λ o. Settles (value_left called) (seen_outcome o)) }
-    ensures err { IfErr result (λ x. value_left called ≡ exit_left x) }
-    ensures not_settled { IfErr result IsUnsettled }
-{
-    match called {
-        Ok(v) => Ok(Outcome::Value(v)),
-        Err(Exit::Throw(v)) => Ok(Outcome::Throw(v)),
-        Err(Exit::Return(v)) => Ok(Outcome::Value(v)),
-        Err(Exit::Fuel) => Err(Exit::Fuel),
-        Err(Exit::Host(stop)) => Err(Exit::Host(stop)),
-        Err(Exit::OutOfMemory) => Err(Exit::OutOfMemory),
-    }
 }
 
 /// The function that a value is.

@@ -6,6 +6,8 @@
 #![tactic(auto)]
 
 #[cfg(test)]
+mod deep;
+#[cfg(test)]
 mod example;
 pub mod nested_host;
 #[cfg(test)]

@@ -1,0 +1,6 @@
+use Rattle.page_interp.proofs.SmallSteps.{answer_moves, swaps_moves}
+use Rattle.page_interp.proofs.ValueSteps.{places_answer}
+use Rattle.page_interp.proofs.receiving.into_place.Goals as goal
+
+pub returns-clause-ok : goal.returns-clause-ok
+returns-clause-ok g c = rw c.in_ok-push.ensures.pushed (answer_moves c.come.result _ _ _ _ _ c.come.ensures.ok c.item_at.ensures (λ f h. swaps_moves g.H.Host.rules _ (places_answer _ _ _ f h)))

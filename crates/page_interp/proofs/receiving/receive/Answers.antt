@@ -1,0 +1,31 @@
+use Rattle.std.proofs.Common.{refl}
+use Rattle.page_interp.proofs.SmallSteps.{pushed_moves, answer_moves, pops_moves, swaps_moves}
+use Rattle.page_interp.proofs.ValueSteps.{left_swaps, right_pops, unary_pops, ignore_pops, if_picks, return_pops, throw_pops, stmts_pops, items_pops}
+use Rattle.page_interp.proofs.receiving.receive.Goals as goal
+
+pub returns-in-Left-clause-ok : goal.returns-in-Left-clause-ok
+returns-in-Left-clause-ok g c = rw c.in-Left.is (pushed_moves _ _ _ _ _ _ c.wait.ensures.pushed c.wait.ensures.next (swaps_moves g.H.Host.rules _ (left_swaps _ _ _)))
+
+pub returns-in-Right-clause-ok : goal.returns-in-Right-clause-ok
+returns-in-Right-clause-ok g c = rw c.in-Right.is (answer_moves c.come.result _ _ _ _ _ c.come.ensures.ok c.compare.ensures (λ f h. pops_moves g.H.Host.rules _ (right_pops _ _ _ f h)))
+
+pub returns-in-Unary-clause-ok : goal.returns-in-Unary-clause-ok
+returns-in-Unary-clause-ok g c = rw c.in-Unary.is (answer_moves c.come-in-Unary.result _ _ _ _ _ c.come-in-Unary.ensures.ok c.negate.ensures (λ f h. pops_moves g.H.Host.rules _ (unary_pops _ _ f h)))
+
+pub returns-in-Ignore-clause-ok : goal.returns-in-Ignore-clause-ok
+returns-in-Ignore-clause-ok g c = rw c.in-Ignore.is (pops_moves g.H.Host.rules _ (ignore_pops _))
+
+pub returns-in-If-clause-ok : goal.returns-in-If-clause-ok
+returns-in-If-clause-ok g c = rw c.in-If.is (pops_moves g.H.Host.rules _ (if_picks _ _ _ _ _ _ refl c.pick.ensures))
+
+pub returns-in-Return-clause-ok : goal.returns-in-Return-clause-ok
+returns-in-Return-clause-ok g c = rw c.in-Return.is (pops_moves g.H.Host.rules _ (return_pops _))
+
+pub returns-in-Throw-clause-ok : goal.returns-in-Throw-clause-ok
+returns-in-Throw-clause-ok g c = rw c.in-Throw.is (pops_moves g.H.Host.rules _ (throw_pops _))
+
+pub returns-in-Stmts-clause-ok : goal.returns-in-Stmts-clause-ok
+returns-in-Stmts-clause-ok g c = rw c.in-Stmts.is (pops_moves g.H.Host.rules _ (stmts_pops _ _))
+
+pub returns-clause-ok : goal.returns-clause-ok
+returns-clause-ok g c = rw c.in-Items.is (pops_moves g.H.Host.rules _ (items_pops _ _))

@@ -1,0 +1,111 @@
+//! Steps from an expression, and from expressions in a row.
+
+ghost use Rattle.std.specs.Prelude.{◌≡◌, IfOk, IfErr};
+ghost use Rattle.page_interp.specs.Answers.{Answers};
+ghost use Rattle.page_interp.specs.Clauses.{script};
+ghost use Rattle.page_interp.specs.Frames.{stacked, place, Holds, Goes, Moves, IsAnswer, IsCall};
+ghost use Rattle.page_interp.specs.Runs.{value_left};
+ghost use Rattle.lang_meaning.specs.Evaluation.{Answer};
+ghost use Rattle.page_interp.specs.declared.exit.Exit.TheVariants as exit;
+ghost use Rattle.page_interp.specs.declared.stack.Focus.TheVariants as focus;
+
+use crate::code::Code;
+use crate::exit::{Exit, Store};
+use crate::stack::{Current, Focus, Frame, Purpose, Waiting, wait};
+use crate::values::{list, text};
+use crate::variables::{name_value, named};
+use lang_ast::{Expr, Host, Named, operation_named};
+use page_values::Value;
+use std::alloc::Global;
+
+/// What an operator answers is next.
+pub fn come<'c, S: Drop>(done: Result<Value, Exit<S>>) -> Result<Focus<'c>, Exit<S>>
+    ensures ok { IfOk result (λ f. (r : Answer) → Answers (value_left done) r → IsAnswer f r) }
+    ensures err { IfErr result (λ x. (r : Answer) → Answers (value_left done) r → x ≡ exit.OutOfMemory) }
+{
+    match done {
+        Ok(v) => Ok(Focus::Value(v)),
+        Err(Exit::Throw(v)) => Ok(Focus::Throw(v)),
+        Err(Exit::Return(v)) => Ok(Focus::Return(v)),
+        Err(Exit::Fuel) => Err(Exit::Fuel),
+        Err(Exit::Host(stop)) => Err(Exit::Host(stop)),
+        Err(Exit::OutOfMemory) => Err(Exit::OutOfMemory),
+    }
+}
+
+/// From an expression.
+pub fn from_expr<'c, H: Host>(
+    code: &Code,
+    store: &Store,
+    current: &Current,
+    stack: &mut Vec<Frame<'c>>,
+    expr: &'c Expr,
+) -> Result<Focus<'c>, Exit<H::Stop>>
+    ensures ok { IfOk result (λ f.
+        Holds (script code.now) (place store.now current.now (stacked stack.old.items) (focus.Expr expr.entry)) →
+        Goes H.rules (script code.now) (place store.now current.now (stacked stack.old.items) (focus.Expr expr.entry))
+        (place store.now current.now (stacked stack.new.items) f)) }
+    ensures err { IfErr result (λ x. x ≡ exit.OutOfMemory) }
+{
+    match expr {
+        Expr::Or(first, rest) => wait(stack, Waiting::Or(rest), first),
+        Expr::And(first, rest) => wait(stack, Waiting::And(rest), first),
+        Expr::Compare(left, sign, right) => wait(stack, Waiting::Left(*sign, right), left),
+        Expr::Sum(first, parts) => wait(stack, Waiting::Terms(parts), first),
+        Expr::Product(first, parts) => wait(stack, Waiting::Factors(parts), first),
+        Expr::Unary(sign, operand) => wait(stack, Waiting::Unary(*sign), operand),
+        Expr::Post(first, places) => wait(stack, Waiting::Places(places), first),
+        Expr::Number(n) => Ok(Focus::Value(Value::Int(*n))),
+        Expr::Text(t) => come(text(code.alloc(), t)),
+        Expr::True => Ok(Focus::Value(Value::Bool(true))),
+        Expr::False => Ok(Focus::Value(Value::Bool(false))),
+        Expr::Unit => Ok(Focus::Value(Value::Unit)),
+        Expr::Name(x) => come(name_value(code, store, current.names, &current.locals, &x.name)),
+        Expr::Call(x, args) => from_call::<H>(code, store, current, x, args),
+        Expr::Paren(inner) => Ok(Focus::Expr(inner)),
+        Expr::List(items) => Ok(Focus::Row(Purpose::List, Vec::new(code.alloc()), items)),
+    }
+}
+
+/// From a call by name: of an operation, or of the value that the name has before the arguments.
+fn from_call<'c, H: Host>(
+    code: &Code,
+    store: &Store,
+    current: &Current,
+    name: &Named,
+    args: &'c [Expr],
+) -> Result<Focus<'c>, Exit<H::Stop>>
+    ensures ok { IfOk result (IsCall code.now store.now current.now name.now args.entry) }
+    ensures err { IfErr result (λ x. x ≡ exit.OutOfMemory) }
+{
+    let values = Vec::new(code.alloc());
+    match operation_named(&name.name) {
+        Some(op) => Ok(Focus::Row(Purpose::Ask(op), values, args)),
+        None => match named(code, store, current.names, &current.locals, &name.name) {
+            Ok(callee) => Ok(Focus::Row(Purpose::Call(callee), values, args)),
+            Err(_) => Err(Exit::OutOfMemory),
+        },
+    }
+}
+
+/// From expressions in a row.
+pub fn from_row<'c, H: Host>(
+    alloc: Global,
+    stack: &mut Vec<Frame<'c>>,
+    purpose: Purpose,
+    values: Vec<Value>,
+    exprs: &'c [Expr],
+) -> Result<Focus<'c>, Exit<H::Stop>>
+    ensures ok { IfOk result (Moves H.rules (stacked stack.old.items) (focus.Row purpose values exprs.entry)
+        (stacked stack.new.items)) }
+    ensures err { IfErr result (λ x. x ≡ exit.OutOfMemory) }
+{
+    match exprs.split_first() {
+        Some((expr, rest)) => wait(stack, Waiting::Row(purpose, values, rest), expr),
+        None => match purpose {
+            Purpose::List => come(list(alloc, values)),
+            Purpose::Ask(op) => Ok(Focus::Ask(op, values)),
+            Purpose::Call(callee) => Ok(Focus::Call(callee, values)),
+        },
+    }
+}

@@ -1,0 +1,111 @@
+//! Calls: what may be called, and how a call opens and closes.
+
+ghost use Rattle.std.specs.Prelude.{◌≡◌, ◌<◌, ◌≤◌, Some, IfOk, IfErr, map};
+ghost use Rattle.std.specs.Option.{option_map};
+ghost use Rattle.page_values.specs.Seen.{seen};
+ghost use Rattle.lang_ast.specs.Calls.{CallsFit};
+ghost use Rattle.lang_ast.specs.Names.{in_block};
+ghost use Rattle.lang_ast.specs.Steps.{AllNumbered};
+ghost use Rattle.page_interp.specs.Clauses.{script};
+ghost use Rattle.page_interp.specs.CodeNames.{function_at};
+ghost use Rattle.page_interp.specs.Frames.{stacked, place, Holds, Opens, IsWant, IsUncalled, IsBody, call_names, call_variables, call_body};
+ghost use Rattle.page_interp.specs.Runs.{func_of, func_seen, variables_of, count_of_functions};
+ghost use Rattle.page_interp.specs.declared.stack.Focus.{Focus};
+
+use crate::code::Code;
+use crate::exit::{Exit, Store};
+use crate::names::Names;
+use crate::stack::{Current, Focus, Frame, push};
+use crate::values::{callee, joined};
+use crate::variables::locals_for;
+use lang_ast::Host;
+use page_values::{FaultName, Func, MemoryFault, Value};
+
+/// How many calls may be open at once.
+const OPEN_CALLS: u64 = 256;
+
+/// The function that a value is, where it can be called with so many open calls.
+pub fn callable(depth: u64, value: Option<Value>) -> Result<Func, FaultName>
+    ensures ok { IfOk result (λ f. func_of (option_map seen value) ≡ Some (func_seen f)) }
+    ensures room { IfOk result (λ _. depth < 256) }
+    ensures err { IfErr result (IsUncalled depth (func_of (option_map seen value))) }
+{
+    let Some(function) = callee(value) else {
+        return Err(FaultName::TypeError);
+    };
+    if depth >= OPEN_CALLS {
+        return Err(FaultName::RangeError);
+    }
+    Ok(function)
+}
+
+/// The names of the variables of a function, or of the script's own body.
+pub fn callee_names<'c>(code: &'c Code, function: u32) -> &'c Names
+    ensures { result.now ≡ call_names (function_at code.now function) }
+{
+    match code.function(function) {
+        Some(_) => code.locals_of(function),
+        None => code.no_names(),
+    }
+}
+
+/// The values of its variables where it is called with these arguments.
+pub fn callee_locals(
+    code: &Code,
+    function: u32,
+    args: Vec<Value>,
+) -> Result<Vec<Value>, MemoryFault>
+    ensures { IfOk result (λ locals. variables_of (call_names (function_at code.now function)) locals.items ≡
+        call_variables (function_at code.now function) (map seen args.items)) }
+{
+    match code.function(function) {
+        Some(called) => locals_for(called.parameters.len(), code.locals_of(function), args),
+        None => Ok(Vec::new(code.alloc())),
+    }
+}
+
+/// Its body.
+pub fn callee_body<'c>(code: &'c Code, function: u32) -> Focus<'c>
+    ensures body { IsBody (call_body (script code.now) (function_at code.now function)) result }
+    ensures fits { CallsFit (in_block (call_body (script code.now) (function_at code.now function))) }
+{
+    match code.function(function) {
+        Some(called) => Focus::Block(&called.body),
+        None => Focus::Items(code.items()),
+    }
+}
+
+/// A call opens, where fewer than 256 are open: the body is next, with a unit less.
+pub fn open<'c, H: Host>(
+    code: &'c Code,
+    store: &mut Store,
+    current: &mut Current<'c>,
+    stack: &mut Vec<Frame<'c>>,
+    function: u32,
+    args: Vec<Value>,
+) -> Result<Focus<'c>, Exit<H::Stop>>
+    requires room { current.old.depth < 256 }
+    ensures ok { IfOk result (λ f. (g : Focus) →
+        Holds (script code.now) (place store.old current.old (stacked stack.old.items) g) →
+        AllNumbered (count_of_functions (script code.now)) (map seen args.items) →
+        Opens H.rules (script code.now) function (map seen args.items)
+        (place store.old current.old (stacked stack.old.items) g) (place store.new current.new (stacked stack.new.items) f)) }
+    ensures err { IfErr result (IsWant store.old.fuel) }
+    ensures globals { store.new.globals ≡ store.old.globals }
+    ensures fuel { store.new.fuel ≤ store.old.fuel }
+{
+    if store.fuel == 0 {
+        return Err(Exit::Fuel);
+    }
+    let names = callee_names(code, function);
+    let locals = match callee_locals(code, function, args) {
+        Ok(locals) => locals,
+        Err(_) => return Err(Exit::OutOfMemory),
+    };
+    let caller = std::mem::replace(&mut current.locals, locals);
+    push(stack, Frame::Open(current.names, caller))?;
+    current.names = names;
+    current.depth += 1;
+    store.fuel -= 1;
+    Ok(callee_body(code, function))
+}

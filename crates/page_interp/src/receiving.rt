@@ -1,0 +1,228 @@
+//! A value that comes back to what waits for it.
+
+ghost use Rattle.std.specs.Prelude.{◌≡◌, ◌∷◌, List, IfOk, IfErr};
+ghost use Rattle.page_parts.specs.Kinds.{bool_in};
+ghost use Rattle.page_values.specs.Seen.{seen};
+ghost use Rattle.page_interp.specs.declared.stack.Frame.{Frame};
+ghost use Rattle.page_interp.specs.Frames.{stacked, Moves, IsPicked};
+ghost use Rattle.page_interp.specs.declared.exit.Exit.TheVariants as exit;
+ghost use Rattle.page_interp.specs.declared.stack.Focus.TheVariants as focus;
+ghost use Rattle.page_interp.specs.declared.stack.Frame.TheVariants as frame;
+ghost use Rattle.page_interp.specs.declared.stack.Waiting.TheVariants as waiting;
+
+use crate::exit::Exit;
+use crate::expressions::come;
+use crate::operators::{add, compare, item_at, multiply, negate};
+use crate::stack::{Focus, Frame, Purpose, Waiting, push, wait};
+use crate::values::append;
+use lang_ast::{Expr, Host, ProductSign, SumSign};
+use page_values::{FaultName, Value, as_bool, fault};
+use std::alloc::Global;
+
+/// An operand of `||`.
+fn into_or<'c, H: Host>(
+    alloc: Global,
+    stack: &mut Vec<Frame<'c>>,
+    value: Value,
+    rest: &'c [Expr],
+) -> Result<Focus<'c>, Exit<H::Stop>>
+    ensures ok { IfOk result (Moves H.rules (frame.Wait (waiting.Or rest.entry) ∷ stacked stack.old.items)
+        (focus.Value value) (stacked stack.new.items)) }
+    ensures err { IfErr result (λ x. x ≡ exit.OutOfMemory) }
+{
+    match as_bool(&value) {
+        Some(true) => Ok(Focus::Value(Value::Bool(true))),
+        Some(false) => match rest.split_first() {
+            Some((next, rest)) => wait(stack, Waiting::Or(rest), next),
+            None => Ok(Focus::Value(Value::Bool(false))),
+        },
+        None => Ok(Focus::Throw(fault(alloc, FaultName::TypeError))),
+    }
+}
+
+/// An operand of `&&`.
+fn into_and<'c, H: Host>(
+    alloc: Global,
+    stack: &mut Vec<Frame<'c>>,
+    value: Value,
+    rest: &'c [Expr],
+) -> Result<Focus<'c>, Exit<H::Stop>>
+    ensures ok { IfOk result (Moves H.rules (frame.Wait (waiting.And rest.entry) ∷ stacked stack.old.items)
+        (focus.Value value) (stacked stack.new.items)) }
+    ensures err { IfErr result (λ x. x ≡ exit.OutOfMemory) }
+{
+    match as_bool(&value) {
+        Some(true) => match rest.split_first() {
+            Some((next, rest)) => wait(stack, Waiting::And(rest), next),
+            None => Ok(Focus::Value(Value::Bool(true))),
+        },
+        Some(false) => Ok(Focus::Value(Value::Bool(false))),
+        None => Ok(Focus::Throw(fault(alloc, FaultName::TypeError))),
+    }
+}
+
+/// The sum so far.
+fn into_terms<'c, H: Host>(
+    stack: &mut Vec<Frame<'c>>,
+    value: Value,
+    terms: &'c [(SumSign, Expr)],
+) -> Result<Focus<'c>, Exit<H::Stop>>
+    ensures ok { IfOk result (Moves H.rules (frame.Wait (waiting.Terms terms.entry) ∷ stacked stack.old.items)
+        (focus.Value value) (stacked stack.new.items)) }
+    ensures err { IfErr result (λ x. x ≡ exit.OutOfMemory) }
+{
+    match terms.split_first() {
+        Some((term, rest)) => wait(stack, Waiting::Term(value, term.0, rest), &term.1),
+        None => Ok(Focus::Value(value)),
+    }
+}
+
+/// A term of a sum.
+fn into_term<'c, H: Host>(
+    alloc: Global,
+    stack: &mut Vec<Frame<'c>>,
+    value: Value,
+    sum: Value,
+    sign: SumSign,
+    rest: &'c [(SumSign, Expr)],
+) -> Result<Focus<'c>, Exit<H::Stop>>
+    ensures ok { IfOk result (Moves H.rules (frame.Wait (waiting.Term sum sign rest.entry) ∷ stacked stack.old.items)
+        (focus.Value value) (stacked stack.new.items)) }
+    ensures err { IfErr result (λ x. x ≡ exit.OutOfMemory) }
+{
+    push(stack, Frame::Wait(Waiting::Terms(rest)))?;
+    come(add(alloc, sign, &sum, &value))
+}
+
+/// The product so far.
+fn into_factors<'c, H: Host>(
+    stack: &mut Vec<Frame<'c>>,
+    value: Value,
+    factors: &'c [(ProductSign, Expr)],
+) -> Result<Focus<'c>, Exit<H::Stop>>
+    ensures ok { IfOk result (Moves H.rules (frame.Wait (waiting.Factors factors.entry) ∷ stacked stack.old.items)
+        (focus.Value value) (stacked stack.new.items)) }
+    ensures err { IfErr result (λ x. x ≡ exit.OutOfMemory) }
+{
+    match factors.split_first() {
+        Some((factor, rest)) => wait(stack, Waiting::Factor(value, factor.0, rest), &factor.1),
+        None => Ok(Focus::Value(value)),
+    }
+}
+
+/// A factor of a product.
+fn into_factor<'c, H: Host>(
+    alloc: Global,
+    stack: &mut Vec<Frame<'c>>,
+    value: Value,
+    product: Value,
+    sign: ProductSign,
+    rest: &'c [(ProductSign, Expr)],
+) -> Result<Focus<'c>, Exit<H::Stop>>
+    ensures ok { IfOk result (Moves H.rules (frame.Wait (waiting.Factor product sign rest.entry) ∷ stacked stack.old.items)
+        (focus.Value value) (stacked stack.new.items)) }
+    ensures err { IfErr result (λ x. x ≡ exit.OutOfMemory) }
+{
+    push(stack, Frame::Wait(Waiting::Factors(rest)))?;
+    come(multiply(alloc, sign, &product, &value))
+}
+
+/// The value whose items are wanted.
+fn into_places<'c, H: Host>(
+    stack: &mut Vec<Frame<'c>>,
+    value: Value,
+    places: &'c [Expr],
+) -> Result<Focus<'c>, Exit<H::Stop>>
+    ensures ok { IfOk result (Moves H.rules (frame.Wait (waiting.Places places.entry) ∷ stacked stack.old.items)
+        (focus.Value value) (stacked stack.new.items)) }
+    ensures err { IfErr result (λ x. x ≡ exit.OutOfMemory) }
+{
+    match places.split_first() {
+        Some((place, rest)) => wait(stack, Waiting::Place(value, rest), place),
+        None => Ok(Focus::Value(value)),
+    }
+}
+
+/// A place of an item.
+fn into_place<'c, H: Host>(
+    alloc: Global,
+    stack: &mut Vec<Frame<'c>>,
+    value: Value,
+    list: Value,
+    rest: &'c [Expr],
+) -> Result<Focus<'c>, Exit<H::Stop>>
+    ensures ok { IfOk result (Moves H.rules (frame.Wait (waiting.Place list rest.entry) ∷ stacked stack.old.items)
+        (focus.Value value) (stacked stack.new.items)) }
+    ensures err { IfErr result (λ x. x ≡ exit.OutOfMemory) }
+{
+    push(stack, Frame::Wait(Waiting::Places(rest)))?;
+    come(item_at(alloc, &list, &value))
+}
+
+/// One way or the other, by a condition's value.
+pub fn pick<'c>(alloc: Global, value: &Value, yes: Focus<'c>, no: Focus<'c>) -> Focus<'c>
+    ensures { IsPicked (bool_in (seen value.now)) yes.entry no.entry result }
+{
+    match as_bool(value) {
+        Some(true) => yes,
+        Some(false) => no,
+        None => Focus::Throw(fault(alloc, FaultName::TypeError)),
+    }
+}
+
+/// A value of a row.
+fn into_row<'c, H: Host>(
+    value: Value,
+    purpose: Purpose,
+    mut values: Vec<Value>,
+    rest: &'c [Expr],
+) -> Result<Focus<'c>, Exit<H::Stop>>
+    ensures ok { IfOk result (λ f. (fs : List Frame) →
+        Moves H.rules (frame.Wait (waiting.Row purpose values rest.entry) ∷ fs) (focus.Value value) fs f) }
+    ensures err { IfErr result (λ x. x ≡ exit.OutOfMemory) }
+{
+    append(&mut values, value)?;
+    Ok(Focus::Row(purpose, values, rest))
+}
+
+/// A value comes back to what waits for it.
+pub fn receive<'c, H: Host>(
+    alloc: Global,
+    stack: &mut Vec<Frame<'c>>,
+    waiting: Waiting<'c>,
+    value: Value,
+) -> Result<Focus<'c>, Exit<H::Stop>>
+    ensures ok { IfOk result (Moves H.rules (frame.Wait waiting.entry ∷ stacked stack.old.items) (focus.Value value)
+        (stacked stack.new.items)) }
+    ensures err { IfErr result (λ x. x ≡ exit.OutOfMemory) }
+{
+    match waiting {
+        Waiting::Or(rest) => into_or::<H>(alloc, stack, value, rest),
+        Waiting::And(rest) => into_and::<H>(alloc, stack, value, rest),
+        Waiting::Left(sign, right) => wait(stack, Waiting::Right(sign, value), right),
+        Waiting::Right(sign, left) => come(compare(alloc, sign, &left, &value)),
+        Waiting::Terms(terms) => into_terms::<H>(stack, value, terms),
+        Waiting::Term(sum, sign, rest) => into_term::<H>(alloc, stack, value, sum, sign, rest),
+        Waiting::Factors(factors) => into_factors::<H>(stack, value, factors),
+        Waiting::Factor(product, sign, rest) => {
+            into_factor::<H>(alloc, stack, value, product, sign, rest)
+        }
+        Waiting::Unary(sign) => come(negate(alloc, sign, &value)),
+        Waiting::Places(places) => into_places::<H>(stack, value, places),
+        Waiting::Place(list, rest) => into_place::<H>(alloc, stack, value, list, rest),
+        Waiting::Row(purpose, values, rest) => into_row::<H>(value, purpose, values, rest),
+        Waiting::Ignore => Ok(Focus::Value(Value::Unit)),
+        Waiting::If(block, others, last) => {
+            Ok(pick(
+                alloc,
+                &value,
+                Focus::Block(block),
+                Focus::Others(others, last),
+            ))
+        }
+        Waiting::Return => Ok(Focus::Return(value)),
+        Waiting::Throw => Ok(Focus::Throw(value)),
+        Waiting::Stmts(rest) => Ok(Focus::Block(rest)),
+        Waiting::Items(rest) => Ok(Focus::Items(rest)),
+    }
+}

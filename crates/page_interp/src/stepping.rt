@@ -1,0 +1,336 @@
+//! The steps of a run, until the outermost call ends.
+
+ghost use Rattle.std.specs.Prelude.{◌≡◌, [], ◌∷◌, ◌+◌, ◌<◌, ◌≤◌, List, ℕ, true, Some, IfOk, IfErr, map};
+ghost use Rattle.std.specs.Option.{option_map};
+ghost use Rattle.page_types.specs.Tree.{Program};
+ghost use Rattle.page_parts.specs.Kinds.{bool_in};
+ghost use Rattle.page_values.specs.Seen.{seen};
+ghost use Rattle.lang_ast.specs.Steps.{AllNumbered};
+ghost use Rattle.page_interp.specs.Clauses.{script, CanCall};
+ghost use Rattle.page_interp.specs.Frames.{does, stacked, place, Stood, Steps, Holds, Goes, Finishes, IsWant, IsSet, IsCallable};
+ghost use Rattle.page_interp.specs.Runs.{Runs, outside, moment_of, caller_of, value_left, count_of_functions};
+ghost use Rattle.page_interp.specs.declared.stack.Current.{Current};
+ghost use Rattle.page_interp.specs.declared.stack.Focus.TheVariants as focus;
+ghost use Rattle.page_interp.specs.declared.stack.Frame.TheVariants as frame;
+
+use crate::asking::{ask, resume};
+use crate::code::Code;
+use crate::exit::{Exit, Store};
+use crate::expressions::{from_expr, from_row};
+use crate::names::Names;
+use crate::opening::{callable, callee_body, callee_locals, callee_names, open};
+use crate::receiving::receive;
+use crate::stack::{Current, Focus, Frame, pop, within};
+use crate::statements::{from_block, from_items, from_others, from_stmt};
+use crate::values::{ended, joined};
+use crate::variables::assign;
+use lang_ast::{Expr, Host, Named, Outcome, Stmt};
+use page_values::{FaultName, Value, as_bool, fault};
+use std::alloc::Global;
+
+/// A call ends: the variables of its caller are the innermost ones again.
+fn close<'c>(current: &mut Current<'c>, names: &'c Names, locals: Vec<Value>)
+    requires { 0 < current.old.depth }
+    ensures names { current.new.names ≡ names.entry }
+    ensures locals { current.new.locals ≡ locals }
+    ensures depth { current.new.depth + 1 ≡ current.old.depth }
+{
+    current.names = names;
+    current.locals = locals;
+    current.depth -= 1;
+}
+
+/// A variable takes a value.
+fn set<'c>(code: &Code, store: &mut Store, current: &mut Current<'c>, name: &Named, value: Value)
+    ensures { IsSet code.now store.old current.old name.now.name value store.new current.new }
+{
+    assign(
+        code,
+        store,
+        current.names,
+        &mut current.locals,
+        &name.name,
+        value,
+    );
+}
+
+/// The condition of a loop: its block is next, with a unit less.
+fn into_test<'c, H: Host>(
+    alloc: Global,
+    store: &mut Store,
+    stack: &mut Vec<Frame<'c>>,
+    value: Value,
+    test: &'c Expr,
+    block: &'c [Stmt],
+) -> Result<Focus<'c>, Exit<H::Stop>>
+    ensures ok { IfOk result (λ f. (p : Program) (current : Current) →
+        Holds p (place store.old current (frame.Test test.entry block.entry ∷ stacked stack.old.items) (focus.Value value)) →
+        Goes H.rules p
+        (place store.old current (frame.Test test.entry block.entry ∷ stacked stack.old.items) (focus.Value value))
+        (place store.new current (stacked stack.new.items) f)) }
+    ensures err { IfErr result (IsWant store.old.fuel) }
+    ensures enters { IfErr result (λ _. bool_in (seen value) ≡ Some true) }
+    ensures globals { store.new.globals ≡ store.old.globals }
+    ensures fuel { store.new.fuel ≤ store.old.fuel }
+{
+    match as_bool(&value) {
+        Some(true) => {
+            if store.fuel == 0 {
+                return Err(Exit::Fuel);
+            }
+            store.fuel -= 1;
+            within(stack, Frame::Turn(test, block), Focus::Block(block))
+        }
+        Some(false) => Ok(Focus::Value(Value::Unit)),
+        None => Ok(Focus::Throw(fault(alloc, FaultName::TypeError))),
+    }
+}
+
+/// A call of what a name stood for.
+fn call<'c, H: Host>(
+    code: &'c Code,
+    store: &mut Store,
+    current: &mut Current<'c>,
+    stack: &mut Vec<Frame<'c>>,
+    callee: Option<Value>,
+    args: Vec<Value>,
+) -> Result<Focus<'c>, Exit<H::Stop>>
+    ensures ok { IfOk result (λ f.
+        Holds (script code.now) (place store.old current.old (stacked stack.old.items) (focus.Call callee args)) →
+        Goes H.rules (script code.now) (place store.old current.old (stacked stack.old.items) (focus.Call callee args))
+        (place store.new current.new (stacked stack.new.items) f)) }
+    ensures err { IfErr result (IsWant store.old.fuel) }
+    ensures called { IfErr result (λ _. IsCallable current.old.depth (option_map seen callee)) }
+    ensures globals { store.new.globals ≡ store.old.globals }
+    ensures fuel { store.new.fuel ≤ store.old.fuel }
+{
+    match callable(current.depth, callee) {
+        Ok(called) => {
+            let all = match joined(called.bound, args) {
+                Ok(all) => all,
+                Err(_) => return Err(Exit::OutOfMemory),
+            };
+            open::<H>(code, store, current, stack, called.function, all)
+        }
+        Err(name) => Ok(Focus::Throw(fault(code.alloc(), name))),
+    }
+}
+
+/// A value comes back to the frame on top.
+fn from_value<'c, H: Host>(
+    code: &'c Code,
+    host: &mut H,
+    store: &mut Store,
+    current: &mut Current<'c>,
+    stack: &mut Vec<Frame<'c>>,
+    value: Value,
+) -> Result<Focus<'c>, Exit<H::Stop>>
+    requires stood { (ts : List ℕ) × Stood H.rules H.leaves (script code.now) ts (H.now host.old)
+        (place store.old current.old (stacked stack.old.items) (focus.Value value)) }
+    ensures { Steps H.rules H.leaves (script code.now) (H.now host.old)
+        (place store.old current.old (stacked stack.old.items) (focus.Value value)) result
+        (H.now host.new) store.new current.new (stacked stack.new.items) }
+{
+    match pop(stack) {
+        None => Err(Exit::Return(Value::Unit)),
+        Some(Frame::Wait(waiting)) => receive::<H>(code.alloc(), stack, waiting, value),
+        Some(Frame::Assign(name)) => {
+            set(code, store, current, name, value);
+            Ok(Focus::Value(Value::Unit))
+        }
+        Some(Frame::Test(test, block)) => {
+            into_test::<H>(code.alloc(), store, stack, value, test, block)
+        }
+        Some(Frame::Turn(test, block)) => {
+            within(stack, Frame::Test(test, block), Focus::Expr(test))
+        }
+        Some(Frame::Try(_, _)) => Ok(Focus::Value(value)),
+        Some(Frame::Open(names, locals)) => {
+            close(current, names, locals);
+            Ok(Focus::Value(Value::Unit))
+        }
+        Some(Frame::Host(ticket)) => {
+            resume(
+                code,
+                host,
+                store,
+                current,
+                stack,
+                ticket,
+                Outcome::Value(value),
+            )
+        }
+    }
+}
+
+/// A throw unwinds the frame on top, where no `try` catches it.
+fn from_throw<'c, H: Host>(
+    code: &'c Code,
+    host: &mut H,
+    store: &mut Store,
+    current: &mut Current<'c>,
+    stack: &mut Vec<Frame<'c>>,
+    value: Value,
+) -> Result<Focus<'c>, Exit<H::Stop>>
+    requires stood { (ts : List ℕ) × Stood H.rules H.leaves (script code.now) ts (H.now host.old)
+        (place store.old current.old (stacked stack.old.items) (focus.Throw value)) }
+    ensures { Steps H.rules H.leaves (script code.now) (H.now host.old)
+        (place store.old current.old (stacked stack.old.items) (focus.Throw value)) result
+        (H.now host.new) store.new current.new (stacked stack.new.items) }
+{
+    match pop(stack) {
+        None => Err(Exit::Throw(value)),
+        Some(Frame::Wait(_)) => Ok(Focus::Throw(value)),
+        Some(Frame::Assign(_)) => Ok(Focus::Throw(value)),
+        Some(Frame::Test(_, _)) => Ok(Focus::Throw(value)),
+        Some(Frame::Turn(_, _)) => Ok(Focus::Throw(value)),
+        Some(Frame::Try(name, handler)) => {
+            set(code, store, current, name, value);
+            Ok(Focus::Block(handler))
+        }
+        Some(Frame::Open(names, locals)) => {
+            close(current, names, locals);
+            Ok(Focus::Throw(value))
+        }
+        Some(Frame::Host(ticket)) => {
+            resume(
+                code,
+                host,
+                store,
+                current,
+                stack,
+                ticket,
+                Outcome::Throw(value),
+            )
+        }
+    }
+}
+
+/// A value returns from the innermost call.
+fn from_return<'c, H: Host>(
+    code: &'c Code,
+    host: &mut H,
+    store: &mut Store,
+    current: &mut Current<'c>,
+    stack: &mut Vec<Frame<'c>>,
+    value: Value,
+) -> Result<Focus<'c>, Exit<H::Stop>>
+    requires stood { (ts : List ℕ) × Stood H.rules H.leaves (script code.now) ts (H.now host.old)
+        (place store.old current.old (stacked stack.old.items) (focus.Return value)) }
+    ensures { Steps H.rules H.leaves (script code.now) (H.now host.old)
+        (place store.old current.old (stacked stack.old.items) (focus.Return value)) result
+        (H.now host.new) store.new current.new (stacked stack.new.items) }
+{
+    match pop(stack) {
+        None => Err(Exit::Return(value)),
+        Some(Frame::Wait(_)) => Ok(Focus::Return(value)),
+        Some(Frame::Assign(_)) => Ok(Focus::Return(value)),
+        Some(Frame::Test(_, _)) => Ok(Focus::Return(value)),
+        Some(Frame::Turn(_, _)) => Ok(Focus::Return(value)),
+        Some(Frame::Try(_, _)) => Ok(Focus::Return(value)),
+        Some(Frame::Open(names, locals)) => {
+            close(current, names, locals);
+            Ok(Focus::Value(value))
+        }
+        Some(Frame::Host(ticket)) => {
+            resume(
+                code,
+                host,
+                store,
+                current,
+                stack,
+                ticket,
+                Outcome::Value(value),
+            )
+        }
+    }
+}
+
+/// One step. An `Err` tells how the outermost call ends.
+fn step<'c, H: Host>(
+    code: &'c Code,
+    host: &mut H,
+    store: &mut Store,
+    current: &mut Current<'c>,
+    stack: &mut Vec<Frame<'c>>,
+    focus: Focus<'c>,
+) -> Result<Focus<'c>, Exit<H::Stop>>
+    requires stood { (ts : List ℕ) × Stood H.rules H.leaves (script code.now) ts (H.now host.old)
+        (place store.old current.old (stacked stack.old.items) focus) }
+    ensures { Steps H.rules H.leaves (script code.now) (H.now host.old)
+        (place store.old current.old (stacked stack.old.items) focus.entry) result
+        (H.now host.new) store.new current.new (stacked stack.new.items) }
+{
+    match focus {
+        Focus::Expr(expr) => from_expr::<H>(code, store, current, stack, expr),
+        Focus::Row(purpose, values, exprs) => {
+            from_row::<H>(code.alloc(), stack, purpose, values, exprs)
+        }
+        Focus::Stmt(stmt) => from_stmt::<H>(stack, stmt),
+        Focus::Block(stmts) => from_block::<H>(stack, stmts),
+        Focus::Items(items) => from_items::<H>(stack, items),
+        Focus::Others(others, last) => from_others::<H>(stack, others, last),
+        Focus::Ask(op, args) => ask(code, host, store, current, stack, op, args),
+        Focus::Call(callee, args) => call::<H>(code, store, current, stack, callee, args),
+        Focus::Value(value) => from_value(code, host, store, current, stack, value),
+        Focus::Throw(value) => from_throw(code, host, store, current, stack, value),
+        Focus::Return(value) => from_return(code, host, store, current, stack, value),
+    }
+}
+
+/// All steps of a call whose body is next: how it ends.
+fn run<'c, H: Host>(
+    code: &'c Code,
+    host: &mut H,
+    store: &mut Store,
+    mut current: Current<'c>,
+    first: Focus<'c>,
+) -> Exit<H::Stop>
+    requires stood { (ts : List ℕ) × Stood H.rules H.leaves (script code.now) ts (H.now host.old)
+        (place store.old current [] first) }
+    ensures { (ts : List ℕ) →
+        Stood H.rules H.leaves (script code.now) ts (H.now host.old) (place store.old current.entry [] first.entry) →
+        Finishes H.rules H.leaves (script code.now) ts (λ d. does d first.entry) (H.now host.old)
+        (place store.old current.entry [] first.entry) result (H.now host.new) store.new }
+{
+    let mut stack = Vec::new(code.alloc());
+    let mut focus = first;
+    'steps: loop {
+        focus = match step(code, host, store, &mut current, &mut stack, focus) {
+            Ok(next) => next,
+            Err(exit) => return exit,
+        };
+    }
+}
+
+/// A call of a function by its number, with all its arguments, where no call is open.
+pub fn run_function<H: Host>(
+    code: &Code,
+    host: &mut H,
+    store: &mut Store,
+    function: u32,
+    args: Vec<Value>,
+) -> Result<Value, Exit<H::Stop>>
+    requires ready { CanCall H.rules H.leaves code.now (H.now host.old) store.old }
+    requires args { AllNumbered (count_of_functions (script code.now)) (map seen args.items) }
+    ensures { Runs (outside H.rules H.leaves (script code.now))
+        (caller_of H.rules (script code.now) 0 function (map seen args.items))
+        (moment_of (script code.now) (H.now host.old) store.old []) (value_left result)
+        (moment_of (script code.now) (H.now host.new) store.new []) }
+{
+    if store.fuel == 0 {
+        return Err(Exit::Fuel);
+    }
+    let locals = match callee_locals(code, function, args) {
+        Ok(locals) => locals,
+        Err(_) => return Err(Exit::OutOfMemory),
+    };
+    store.fuel -= 1;
+    let current = Current {
+        names: callee_names(code, function),
+        locals,
+        depth: 1,
+    };
+    let body = callee_body(code, function);
+    ended(Err(run(code, host, store, current, body)))
+}
