@@ -436,7 +436,8 @@ pub record Stood {T S : Type 0} (rules : HostRules T) (leaves : Ask → T → T 
   pub tickets : h.tickets ≡ tickets_in a.frames ts
 
 -- what is left to do where f begins
-abbrev pub begun : {T : Type 0} → HostRules T → Program → List ℕ → List Frame → (Around (Limited T) → Machine (Limited T) → Done (Limited T))
+abbrev pub begun : {T : Type 0} → HostRules T → Program → List ℕ → List Frame
+    → (Around (Limited T) → Machine (Limited T) → Done (Limited T))
     → Machine (Limited T) → Done (Limited T)
 begun rules p ns fs f m = after_all rules p fs ns (f (around_of rules p (depth_of fs)) m)
 
@@ -510,8 +511,8 @@ abbrev pub resumes : {T : Type 0} → HostRules T → ℕ → ℕ → CallbackEn
 resumes rules n ticket end d m = ask_limited rules (AskResume ticket end) m (steps_by (ask_limited rules) d.call n)
 
 -- a variable has taken a value: a local one, or else a global one
-pub record IsSet (script : Code.Program) (store : Store) (current : Current) (name : List ℕ) (v : Value) (store' : Store) (current' : Current)
-    : Type 0 where
+pub record IsSet (script : Code.Program) (store : Store) (current : Current) (name : List ℕ) (v : Value) (store' : Store)
+    (current' : Current) : Type 0 where
   pub names : current'.names ≡ current.names
   pub depth : current'.depth ≡ current.depth
   pub locals : SetsLocal current.names.now current.locals name v current'.locals

@@ -53,7 +53,11 @@ fn returned(alloc: Global, text: &[u8]) -> Result<Option<i64>, Fail> {
 fn open_calls_stand_deep_in_brackets(rt: HostRuntime) -> Result<(), Fail> {
     for (left, right) in [(0, 60), (50, 50)] {
         let text = script(rt.alloc(), left, right)?;
-        assert_eq!(rt; returned(rt.alloc(), text.as_slice())?, Some(254), "{left} and {right}");
+        assert_eq!(rt;
+            returned(rt.alloc(), text.as_slice())?,
+            Some(254),
+            "{left} and {right}"
+        );
     }
     Ok(())
 }
