@@ -1,4 +1,4 @@
--- All queued tasks of a page. HTML, "Event loops: definitions"; Prioritized Task Scheduling, "Scheduling tasks and continuations"
+-- All queued tasks of a page. HTML, "Event loops: definitions"; Prioritized Task Scheduling, "Scheduling Tasks and Continuations"
 use Rattle.std.specs.Prelude.{◌≡◌, ℕ, suc, Bool, List, [], Option, Some, None, IsSome, find, option_map, filter_map, slice_index_or, ◌==◌, if◌then◌else◌, refl}
 use Rattle.std.specs.Coded.{Coded, code_by, coded×, coded_ℕ, coded_list}
 use Rattle.page_types.specs.declared.Source.{Source}

@@ -26,7 +26,7 @@ pub enum TaskSteps {
     NotifyHandled(u32),
 }
 
-/// A scheduler task as it stands in its queue (Prioritized Task Scheduling, "Scheduling tasks and continuations").
+/// A scheduler task as it stands in its queue (Prioritized Task Scheduling, "Scheduling Tasks and Continuations").
 #[derive(Clone, Copy, Debug, PartialEq, Eq)]
 pub struct PostedTask {
     pub registration: u32,

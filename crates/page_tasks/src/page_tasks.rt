@@ -177,7 +177,7 @@ impl<L: Ledger> PageTasks<L> {
     }
 
     /// Takes the scheduler task that is next: among those of greatest effective priority now the one of least order, none exactly
-    /// where none waits (Prioritized Task Scheduling, "Selecting the task queue"). Takes no memory.
+    /// where none waits (Prioritized Task Scheduling, "Selecting the Task Queue of the Next Scheduler Task"). Takes no memory.
     pub fn take_sched(&mut self) -> Option<SchedTask>
         ensures first { (p : Page) → IsOf self.old p → option_map sched_task result ≡ first_sched p }
         ensures gone { IfSome result

@@ -1,4 +1,4 @@
--- The first tasks of the priority sources. Prioritized Task Scheduling, "Selecting the task queue"
+-- The first tasks of the priority sources. Prioritized Task Scheduling, "Selecting the Task Queue of the Next Scheduler Task"
 use Rattle.std.specs.Prelude.{ℕ, ◌+◌, ◌*◌, Bool, true, false, cond, List, Option, map}
 use Rattle.std.specs.Option.{option_map, option_or}
 use Rattle.page_types.specs.declared.Priority.{Priority}

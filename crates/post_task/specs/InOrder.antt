@@ -1,5 +1,5 @@
 -- All scheduler tasks that wait as one list, in the order in which they were enqueued. Prioritized Task Scheduling,
--- "Selecting the task queue"
+-- "Selecting the Task Queue of the Next Scheduler Task"
 use Rattle.std.specs.Prelude.{◌≡◌, ℕ, ◌<◌, Bool, ◌&&◌, ◌||◌, ◌==◌, nat_lt, cond, List, [], ◌∷◌, ◌++◌, map, Option, Some, None}
 use Rattle.std.specs.List.{filter}
 use Rattle.page_types.specs.declared.Priority.{Priority}

@@ -1,4 +1,4 @@
--- Two lists of a pool for each priority source. Prioritized Task Scheduling, "Scheduling tasks and continuations": a queue for tasks and
+-- Two lists of a pool for each priority source. Prioritized Task Scheduling, "Scheduling Tasks and Continuations": a queue for tasks and
 -- one for continuations
 use Rattle.std.specs.Prelude.{◌≡◌, ◌≢◌, ◌⊎◌, ℕ, zero, suc, ◌<◌, Bool, true, false, cond, List, [], ◌∷◌, ◌++◌, map, length, Option, Some, None, IsSome, unwrap_or, Result, IfOk, MatchOption}
 use Rattle.std.specs.BTreeMap.{BTreeMap, get}

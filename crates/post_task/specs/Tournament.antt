@@ -1,4 +1,5 @@
--- Places that have a head or none, and the head that goes first. Prioritized Task Scheduling, "Selecting the task queue"
+-- Places that have a head or none, and the head that goes first. Prioritized Task Scheduling, "Selecting the Task Queue of the Next
+-- Scheduler Task"
 use Rattle.std.specs.Prelude.{◌≡◌, ℕ, ◌+◌, ◌*◌, ◌%◌, Bool, false, ◌||◌, ◌&&◌, ◌==◌, nat_lt, List, Option, Some, None, slice_index_or}
 use Rattle.page_types.specs.declared.Priority.{Priority}
 use Rattle.page_parts.specs.TaskSignals.{rank}

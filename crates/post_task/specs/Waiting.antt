@@ -1,4 +1,5 @@
--- Scheduler tasks that wait, in one list. Prioritized Task Scheduling, "Scheduling tasks and continuations" and "Selecting the task queue"
+-- Scheduler tasks that wait, in one list. Prioritized Task Scheduling, "Scheduling Tasks and Continuations" and "Selecting the Task
+-- Queue of the Next Scheduler Task"
 use Rattle.std.specs.Prelude.{◌≡◌, ◌⊎◌, ℕ, ◌+◌, ◌*◌, ◌≤◌, Bool, false, cond, not, ◌==◌, List, [], ◌∷◌, ◌++◌, Option, MatchOption}
 use Rattle.page_types.specs.declared.Priority.{Priority}
 use Rattle.page_parts.specs.TaskSignals.{rank, same_priority}

@@ -1,4 +1,4 @@
-//! The queues of scheduler tasks, all in one pool (Prioritized Task Scheduling, "Scheduling tasks and continuations").
+//! The queues of scheduler tasks, all in one pool (Prioritized Task Scheduling, "Scheduling Tasks and Continuations").
 #![tactic(auto)]
 
 mod heads;
