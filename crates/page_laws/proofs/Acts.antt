@@ -3,9 +3,10 @@ use Rattle.std.proofs.Common.{◌≡◌, Bool, true, false, ℕ, List, [], ◌�
 use Rattle.lang_meaning.specs.Evaluation.{call_from_outside}
 use Rattle.lang_meaning.specs.Machine.{Caller}
 use Rattle.page_laws.proofs.Ready.{first-ready}
+use Rattle.page_laws.proofs.Arming.{first-tidy}
 use Rattle.page_laws.proofs.Operations.{outside-goes}
 use Rattle.page_laws.proofs.Runs.{CallsGo}
-use Rattle.page_laws.proofs.Turns.{Lands, Rests, Stops, at_time-comes, choose-lands, ends-lands, idle_step-comes, lands-then, next_turn-stops, step_one-comes, step_three-lands}
+use Rattle.page_laws.proofs.Turns.{Lands, Rests, Stops, at_time-comes, choose-lands, clock-lands, ends-lands, idle_step-comes, lands-then, next_turn-stops, step_one-comes, step_three-lands}
 use Rattle.page_laws.specs.Moves.{Moves, here}
 use Rattle.page_model.proofs.NumbersEvaluation.{Good}
 use Rattle.page_model.proofs.NumbersTurns.{first_state-good}
@@ -40,12 +41,15 @@ module _ {C : Type 0} (program : Program) where
     serve-lands until c m g x = choose-lands program (is_empty (view m.host)) (λ m. Stuck NoAct m c) (step_three rules call until c) m here (step_three-lands program rules call calls_go until c m g x)
 
     stop_by_clock-lands : (until : ℕ) (c : C) (m : State) → Good m → Rests m → Lands program m (stop_by_clock until c m)
-    stop_by_clock-lands until c m g x = choose-lands program (nat_le until m.host.now) (ends ClockEnd c) (λ m. Stuck NoAct m c) m (ends-lands program ClockEnd c m g x) here
+    stop_by_clock-lands until c m g x = choose-lands program (nat_le until m.host.now) (ends ClockEnd c) (λ m. Stuck NoAct m c) m (clock-lands program c m g x) here
 
     stop-lands : (until : ℕ) (c : C) (m : State) → Good m → Rests m → Lands program m (stop until c m)
-    stop-lands until c m g x =
-        choose-lands program (is_empty (view m.host)) (choose_turned (is_pending m.host) (stop_by_clock until c) (ends DoneEnd c)) (stop_by_clock until c) m
-        (choose-lands program (is_pending m.host) (stop_by_clock until c) (ends DoneEnd c) m (stop_by_clock-lands until c m g x) (ends-lands program DoneEnd c m g x)) (stop_by_clock-lands until c m g x)
+    stop-lands until c m g x = by_view (is_empty (view m.host)) refl (is_pending m.host) refl
+      where
+        by_view : (a : Bool) → is_empty (view m.host) ≡ a → (b : Bool) → is_pending m.host ≡ b → Lands program m (choose_turned a (choose_turned b (stop_by_clock until c) (ends DoneEnd c)) (stop_by_clock until c) m)
+        by_view true e true k = stop_by_clock-lands until c m g x
+        by_view true e false k = ends-lands program DoneEnd c m (λ done. (e, k)) g x
+        by_view false e b k = stop_by_clock-lands until c m g x
 
     act-lands : (until : ℕ) (a : Act) (m : State) (c : C) → Good m → Rests m → Lands program m (act rules call until a m c)
     act-lands until (Pass t) m c g x = at_moment-lands t pass c m step_one-comes g x
@@ -61,4 +65,4 @@ module _ {C : Type 0} (program : Program) where
 pub gaps_are_moves : {C : Type 0} (rules : Rules C) (program : Program) (setup : Setup) (c : C) (list : List Act) → HoldsNoNumbers setup → Moves (first_page program setup []) (state_of (run_gaps_by rules program setup list c)).host
 unfolding run_gaps_by
 gaps_are_moves rules program setup c list h =
-    acts-stop program rules (call_from_outside program page_operations) (outside-goes program) setup.until list (first_state program setup []) c (first_state-good program setup [] h) ((refl, refl, tt), refl, ((λ c i. elim i [ ]), first-ready program setup []))
+    acts-stop program rules (call_from_outside program page_operations) (outside-goes program) setup.until list (first_state program setup []) c (first_state-good program setup [] h) ((refl, refl, tt), refl, ((λ c i. elim i [ ]), first-ready program setup [], first-tidy program setup []))

@@ -23,7 +23,7 @@ use Rattle.page_model.specs.State.{IdleTimeout, Registration, Page, Task, HostTa
 use Rattle.page_model.specs.Turns.{first_page}
 use Rattle.page_laws.specs.CallLaws.{is_answer_of, keeps_once}
 use Rattle.page_laws.specs.History.{History, count_lines, some_line, is_rest}
-use Rattle.page_laws.specs.Moves.{is_aside, is_end, is_free, fired_at, promise_changes, Places, places, PlaceChange, places_stay, task_queued, task_left, armed_again, signal_armed, timer_due, completed, idle_started, idle_queued, idle_left, answer_due, id_cleared, idle_armed, idle_due, Dropping, timer_dropped, idle_dropped, listener_dropped, task_dropped, FirstPlace, nowhere, at_listener, at_timer, at_delay, at_idle, at_host, AsBefore, PageChange, elsewhere, told, arm_told, rested, answered, dropped, frame_dropped, registered, frame_asked, promised, settled, followed, adopted, subscribed, then_asked, micro_asked, rejected_taken, noted, Beginning, TheScript, ATimer, AFrame, AnIdle, ALateIdle, AListener, APost, AContinuation, AMicro, AReaction, called_by, taken, Moves, here, changing, arming, calling, ending, flagging, running, framing, idling, enqueued_anew, fell_due, post_fell_due, delay_due, signal_due, DueChange, without_queued, without_answer, prio_told}
+use Rattle.page_laws.specs.Moves.{is_aside, is_end, is_free, fired_at, promise_changes, Places, places, PlaceChange, places_stay, task_queued, task_left, armed_again, signal_armed, timer_due, completed, idle_started, idle_queued, answer_due, id_cleared, idle_armed, idle_due, Dropping, timer_dropped, idle_dropped, listener_dropped, task_dropped, FirstPlace, nowhere, at_listener, at_timer, at_delay, at_idle, at_host, AsBefore, PageChange, elsewhere, told, arm_told, rested, answered, dropped, frame_dropped, registered, frame_asked, promised, settled, followed, adopted, subscribed, then_asked, micro_asked, rejected_taken, noted, Beginning, TheScript, ATimer, AFrame, AnIdle, ALateIdle, AListener, APost, AContinuation, AMicro, AReaction, called_by, taken, Moves, here, changing, arming, calling, ending, flagging, running, framing, idling, enqueued_anew, fell_due, post_fell_due, delay_due, signal_due, DueChange, without_queued, without_answer, prio_told}
 use Rattle.page_laws.proofs.Lines.{changed-each, added, emit_each-events}
 use Rattle.page_laws.proofs.Once.{keeps_calls, once_calls}
 use Rattle.page_laws.proofs.Scans.{Test, Kept}
@@ -188,13 +188,12 @@ place-fits {x = x} {y = y} (idle_queued t e from) past f =
     lessen-fits x (record x { tasks = and_last x.tasks t }) past (λ k. let a = total-last (net_claims k) x.tasks t in let b = free-claims k t.steps (ap is_free e) in omega (arith, a, b)) (same-live x.hosts) f
 place-fits {x = x} (task_left number) past f =
     lessen-fits x (record x { tasks = without (λ t. t.number == number) x.tasks }) past (λ k. let a = total-without (net_claims k) (λ t. t.number == number) x.tasks in omega (arith, a)) (same-live x.hosts) f
-place-fits (armed_again a t role there own) past f = record { once = f.once; live = f.live; kept = f.kept }
+place-fits (armed_again a t role there next) past f = record { once = f.once; live = f.live; kept = f.kept }
 place-fits (signal_armed ms now q signal) past f = record { once = f.once; live = f.live; kept = f.kept }
 place-fits (id_cleared id) past f = record { once = f.once; live = f.live; kept = f.kept }
 place-fits (idle_armed t most own) past f = record { once = f.once; live = f.live; kept = f.kept }
 place-fits (completed start gone) past f = record { once = f.once; live = f.live; kept = f.kept }
 place-fits idle_started past f = record { once = f.once; live = f.live; kept = f.kept }
-place-fits (idle_left handle) past f = record { once = f.once; live = f.live; kept = f.kept }
 
 -- what is due
 due-fits : {made : List Registration} {r : ℕ} {x y : Places} → DueChange made r x y → (past : History) → HostsFit x past → HostsFit y past
@@ -229,7 +228,7 @@ aborted-fits r x pending due past f =
 first-fits : {made : List Registration} {prios : Prios} {r : ℕ} {x y : Places} → FirstPlace made prios r x y → (past : History) → HostsFit x past → HostsFit y past
 first-fits nowhere past f = f
 first-fits (at_listener target name q e) past f = record { once = f.once; live = f.live; kept = f.kept }
-first-fits (at_timer a t e fresh) past f = record { once = f.once; live = f.live; kept = f.kept }
+first-fits (at_timer a t e first) past f = record { once = f.once; live = f.live; kept = f.kept }
 first-fits (at_delay ms now q source e prio) past f = record { once = f.once; live = f.live; kept = f.kept }
 first-fits (at_idle q e) past f = record { once = f.once; live = f.live; kept = f.kept }
 first-fits {x = x} {y = y} (at_host c a e there live) past f =
@@ -313,10 +312,10 @@ changes-fit n c p f = notices-fit (λ s. changed (context p) p.names n c s) p (c
 change-fits : {p q : Page} → PageChange p q → Fits p → Fits q
 change-fits {p = p} (elsewhere c b k) f = before-fits b (place-fits c p.events f)
 change-fits {p = p} (told e h) f = silent-fits e p.now (places p) p.events (aside-silent e h) f
-change-fits {p = p} (arm_told r due level w) f = silent-fits (Arm r due level) p.now (places p) p.events refl f
-change-fits {p = p} (rested e h x y z over begun) f = silent-fits e p.now (places p) p.events (rest-silent e h) f
+change-fits {p = p} (arm_told r due level w well) f = silent-fits (Arm r due level) p.now (places p) p.events refl f
+change-fits {p = p} (rested e h x y z over begun done) f = silent-fits e p.now (places p) p.events (rest-silent e h) f
 change-fits {p = p} {q = q} (answered source task t answer x y live z b) f = before-fits b (answered-fits (places p) (places q) (λ t. same_source t.source source) task t answer p.now p.events x y z f)
-change-fits {p = p} {q = q} (registered k x e unframed u b) f = before-fits b (first-fits u (register_as k x p).events (record { once = f.once; live = f.live; kept = (refl, f.kept) }))
+change-fits {p = p} {q = q} (registered k x e unframed u b at) f = before-fits b (first-fits u (register_as k x p).events (record { once = f.once; live = f.live; kept = (refl, f.kept) }))
 change-fits {p = p} (dropped r d b) f = before-fits b (drop-fits d (emit (Drop r) p).events (record { once = f.once; live = f.live; kept = (refl, f.kept) }))
 change-fits {p = p} {q = q} (task_dropped r role a e s b) f =
     before-fits b
@@ -326,8 +325,8 @@ change-fits {p = p} {q = q} (enqueued_anew k x t queue e i s n b) f =
     before-fits b
     (subst (λ (y : Places). HostsFit y (emit (Enq t.registration queue t.continuation t.order) (register_as k x p)).events) (sym s)
     (record { once = f.once; live = f.live; kept = (refl, (refl, f.kept)) }))
-change-fits {p = p} {q = q} (fell_due r d b) f = before-fits b (due-fits d (emit (Due r) p).events (record { once = f.once; live = f.live; kept = (refl, f.kept) }))
-change-fits {p = p} {q = q} (post_fell_due start source t queue e role a s n b) f =
+change-fits {p = p} {q = q} (fell_due r d b by) f = before-fits b (due-fits d (emit (Due r) p).events (record { once = f.once; live = f.live; kept = (refl, f.kept) }))
+change-fits {p = p} {q = q} (post_fell_due start source t queue e role a s n b by) f =
     before-fits b
     (subst (λ (y : Places). HostsFit y (emit (Enq t.registration queue t.continuation t.order) (emit (Due t.registration) p)).events) (sym s)
     (record { once = f.once; live = f.live; kept = (refl, (refl, f.kept)) }))

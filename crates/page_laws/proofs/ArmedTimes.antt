@@ -22,7 +22,7 @@ use Rattle.page_model.specs.Turns.{first_page}
 use Rattle.page_model.specs.Numbers.{Each}
 use Rattle.page_model.proofs.NumbersGrow.{length-last}
 use Rattle.page_laws.specs.History.{History, armed_for, armed_in, is_rest}
-use Rattle.page_laws.specs.Moves.{is_aside, is_end, role_at, is_delayed_role, IsIn, completes_for, completions_but, ArmedAt, by_timer, by_idle, by_host, Places, places, PlaceChange, places_stay, task_queued, task_left, armed_again, signal_armed, id_cleared, idle_armed, completed, idle_started, idle_queued, idle_left, DueChange, timer_due, delay_due, signal_due, idle_due, answer_due, Dropping, timer_dropped, idle_dropped, listener_dropped, FirstPlace, nowhere, at_listener, at_timer, at_delay, at_idle, at_host, promise_changes, AsBefore, PageChange, elsewhere, told, arm_told, rested, registered, promised, settled, followed, adopted, subscribed, micro_asked, then_asked, answered, dropped, frame_dropped, frame_asked, rejected_taken, noted, Beginning, TheScript, ATimer, AFrame, AnIdle, ALateIdle, AListener, APost, AContinuation, AMicro, AReaction, called_by, taken, task_dropped, enqueued_anew, fell_due, post_fell_due, prio_told, Moves, here, changing, arming, calling, ending, flagging, running, framing, idling}
+use Rattle.page_laws.specs.Moves.{is_aside, is_end, role_at, is_delayed_role, IsIn, completes_for, completions_but, ArmedAt, by_timer, by_idle, by_host, Places, places, PlaceChange, places_stay, task_queued, task_left, armed_again, signal_armed, id_cleared, idle_armed, completed, idle_started, idle_queued, DueChange, timer_due, delay_due, signal_due, idle_due, answer_due, Dropping, timer_dropped, idle_dropped, listener_dropped, FirstPlace, nowhere, at_listener, at_timer, at_delay, at_idle, at_host, promise_changes, AsBefore, PageChange, elsewhere, told, arm_told, rested, registered, promised, settled, followed, adopted, subscribed, micro_asked, then_asked, answered, dropped, frame_dropped, frame_asked, rejected_taken, noted, Beginning, TheScript, ATimer, AFrame, AnIdle, ALateIdle, AListener, APost, AContinuation, AMicro, AReaction, called_by, taken, task_dropped, enqueued_anew, fell_due, post_fell_due, prio_told, Moves, here, changing, arming, calling, ending, flagging, running, framing, idling}
 use Rattle.page_laws.proofs.Framed.{false_true}
 use Rattle.page_laws.proofs.Lines.{changed-each, added, emit_each-events}
 use Rattle.page_laws.proofs.Ready.{emit_each-places, in-left}
@@ -41,7 +41,7 @@ pub record AtTimer (x : Places) (r due : ℕ) : Type 0 where
   pub own : completes_for completion ≡ r
 
 -- steps that were found are found still where others come
-found-more : (cs : List Completing) (d : Completing) (start : ℕ) (c : Completion) → completion_of cs start ≡ Some c → completion_of (and_last cs d) start ≡ Some c
+pub found-more : (cs : List Completing) (d : Completing) (start : ℕ) (c : Completion) → completion_of cs start ≡ Some c → completion_of (and_last cs d) start ≡ Some c
 found-more [] d start c e = Prim.cc
 found-more (b ∷ cs) d start c e = by_test (b.start == start) e (found-more cs d start c)
   where
@@ -51,7 +51,7 @@ found-more (b ∷ cs) d start c e = by_test (b.start == start) e (found-more cs 
     by_test false e rest = rest e
 
 -- and where those of another start leave
-found-without : (cs : List Completing) (gone start : ℕ) (c : Completion) → (start ≡ gone → ⊥) → completion_of cs start ≡ Some c → completion_of (completions_but gone cs) start ≡ Some c
+pub found-without : (cs : List Completing) (gone start : ℕ) (c : Completion) → (start ≡ gone → ⊥) → completion_of cs start ≡ Some c → completion_of (completions_but gone cs) start ≡ Some c
 found-without [] gone start c other e = e
 found-without (b ∷ cs) gone start c other e = by_tests (b.start == gone) refl (b.start == start) refl e (found-without cs gone start c other)
   where
@@ -62,7 +62,7 @@ found-without (b ∷ cs) gone start c other e = by_tests (b.start == gone) refl 
     by_tests false q true k e rest = ap {A = Bool} {B = Option Completion} (λ t. option_map (λ (c : Completing). c.completion) (cond t (Some b) (find (λ c. c.start == start) (completions_but gone cs)))) k ∙ e
     by_tests false q false k e rest = ap {A = Bool} {B = Option Completion} (λ t. option_map (λ (c : Completing). c.completion) (cond t (Some b) (find (λ c. c.start == start) (completions_but gone cs)))) k ∙ rest e
 
-in-still : (a : ActiveTimer) (gone : ActiveTimer → Bool) (as' : List ActiveTimer) → IsIn a as' → gone a ≡ false → IsIn a (without gone as')
+pub in-still : (a : ActiveTimer) (gone : ActiveTimer → Bool) (as' : List ActiveTimer) → IsIn a as' → gone a ≡ false → IsIn a (without gone as')
 in-still a gone [] i e = i
 in-still a gone (d ∷ as') i e = by_test (gone d) refl i (λ j. in-still a gone as' j e)
   where
@@ -123,27 +123,27 @@ pub record ArmedFit (xs : List Registration) (x : Places) (past : History) : Typ
   pub tie : (r due : ℕ) → is_delayed_role (role_at xs r) ≡ true → armed_for past r ≡ Some due → AtTimer x r due
 
 -- a line that arms nothing, and tells of nothing that was due
-abbrev is_quiet : Event → Bool
+abbrev pub is_quiet : Event → Bool
 is_quiet (Arm r due level) = false
 is_quiet (Due r) = false
 is_quiet e = true
 
-aside-quiet : (e : Event) → is_aside e ≡ true → is_quiet e ≡ true
+pub aside-quiet : (e : Event) → is_aside e ≡ true → is_quiet e ≡ true
 aside-quiet (Arm r due level) h = Prim.cc
 aside-quiet (Due r) h = Prim.cc
 aside-quiet e h = refl
 
-rest-quiet : (e : Event) → is_rest e ≡ true → is_quiet e ≡ true
+pub rest-quiet : (e : Event) → is_rest e ≡ true → is_quiet e ≡ true
 rest-quiet (Arm r due level) h = Prim.cc
 rest-quiet (Due r) h = Prim.cc
 rest-quiet e h = refl
 
-end-quiet : (e : Event) → is_end e ≡ true → is_quiet e ≡ true
+pub end-quiet : (e : Event) → is_end e ≡ true → is_quiet e ≡ true
 end-quiet Ret h = refl
 end-quiet (Throw bs) h = refl
 end-quiet e h = Prim.cc
 
-quiet-armed : (e : Event) (r : ℕ) (earlier : Option ℕ) → is_quiet e ≡ true → armed_in r e earlier ≡ earlier
+pub quiet-armed : (e : Event) (r : ℕ) (earlier : Option ℕ) → is_quiet e ≡ true → armed_in r e earlier ≡ earlier
 quiet-armed (Arm q due level) r earlier h = Prim.cc
 quiet-armed (Due q) r earlier h = Prim.cc
 quiet-armed e r earlier h = refl
@@ -270,7 +270,7 @@ place-timers : {made : List Registration} {x y : Places} → PlaceChange made x 
 place-timers places_stay r due a = a
 place-timers {x = x} {y = y} (task_queued t h plain) r due a = at-same x y r due refl refl a
 place-timers {x = x} {y = y} (task_left number) r due a = at-same x y r due refl refl a
-place-timers {x = x} {y = y} (armed_again b t role there own) r due a = at-more x y r due _ _ refl refl a
+place-timers {x = x} {y = y} (armed_again b t role there next) r due a = at-more x y r due _ _ refl refl a
 place-timers {x = x} {y = y} (signal_armed ms now q s) r due a = at-more x y r due _ _ refl refl a
 place-timers {x = x} {y = y} (id_cleared id) r due a = at-same x y r due refl refl a
 place-timers {x = x} {y = y} (idle_armed t most own) r due a = at-same x y r due refl refl a
@@ -280,12 +280,11 @@ place-timers {x = x} {y = y} (completed start gone) r due a = at-without x y r d
     none c e = Prim.cc
 place-timers {x = x} {y = y} idle_started r due a = at-same x y r due refl refl a
 place-timers {x = x} {y = y} (idle_queued t e from) r due a = at-same x y r due refl refl a
-place-timers {x = x} {y = y} (idle_left handle) r due a = at-same x y r due refl refl a
 
 first-timers : {made : List Registration} {ps : Prios} {n : ℕ} {x y : Places} → FirstPlace made ps n x y → (r due : ℕ) → AtTimer x r due → AtTimer y r due
 first-timers nowhere r due a = a
 first-timers {x = x} {y = y} (at_listener target name q e) r due a = at-same x y r due refl refl a
-first-timers {x = x} {y = y} (at_timer b t e fresh) r due a = at-more x y r due _ _ refl refl a
+first-timers {x = x} {y = y} (at_timer b t e first) r due a = at-more x y r due _ _ refl refl a
 first-timers {x = x} {y = y} (at_delay ms now q source e h) r due a = at-more x y r due _ _ refl refl a
 first-timers {x = x} {y = y} (at_idle q e) r due a = at-same x y r due refl refl a
 first-timers {x = x} {y = y} (at_host c b e there live) r due a = at-same x y r due refl refl a
@@ -308,7 +307,7 @@ emit_each-registrations : (es : List Event) (p : Page) → (emit_each es p).regi
 emit_each-registrations [] p = refl
 emit_each-registrations (e ∷ es) p = emit_each-registrations es (emit e p)
 
-abbrev Quiet : Event → Type 0
+abbrev pub Quiet : Event → Type 0
 Quiet e = is_quiet e ≡ true
 
 said : (e : Event) (p : Page) → is_quiet e ≡ true → Fits p → Fits (emit e p)
@@ -318,7 +317,7 @@ added-fits : (now : ℕ) (es : List Event) (xs : List Registration) (x : Places)
 added-fits now [] xs x past h f = f
 added-fits now (e ∷ es) xs x past h f = added-fits now es xs x (record { time = now; event = e } ∷ past) h.1 (quiet-fits e now xs x past h.0 f)
 
-changed-quiet : (current : Context) (names : List (List ℕ)) (n : ℕ) (c : Promises.Change) (s : Notices) → Each Quiet (changed current names n c s).lines
+pub changed-quiet : (current : Context) (names : List (List ℕ)) (n : ℕ) (c : Promises.Change) (s : Notices) → Each Quiet (changed current names n c s).lines
 changed-quiet = changed-each Quiet (λ n ok bs. refl) (λ j what. refl)
 
 notices-fit : (f : Notices → Noticed) (p : Page) → Each Quiet (f p.notices).lines → Fits p → Fits (on_notices f p)
@@ -347,18 +346,18 @@ replaced xs y z past e f = subst (λ (x : Places). ArmedFit xs x past) (sym e) f
 change-fits : {p q : Page} → PageChange p q → Fits p → Fits q
 change-fits {p = p} {q = q} (elsewhere c b within) f = before-fits b (moved-fits p.registrations (places p) (places q) p.events (place-timers c) f)
 change-fits {p = p} (told e h) f = said e p (aside-quiet e h) f
-change-fits {p = p} (arm_told r due level w) f = arm-fits r due level p.now p.registrations (places p) p.events w f
-change-fits {p = p} (rested e h x y z over begun) f = said e p (rest-quiet e h) f
+change-fits {p = p} (arm_told r due level w well) f = arm-fits r due level p.now p.registrations (places p) p.events w f
+change-fits {p = p} (rested e h x y z over begun done) f = said e p (rest-quiet e h) f
 change-fits {p = p} {q = q} (answered source task t answer x y live z b) f =
     before-fits b (replaced p.registrations (places q) _ _ z (moved-fits p.registrations (places p) _ _ (λ r due a. at-same (places p) _ r due refl refl a) (said (Host t.closure t.number answer) p refl f)))
-change-fits {p = p} {q = q} (registered k x e unframed u b) f =
+change-fits {p = p} {q = q} (registered k x e unframed u b at) f =
     before-fits b (moved-fits (and_last p.registrations x) (places p) (places q) (register_as k x p).events (first-timers u) (registered-fits k x p f))
 change-fits {p = p} {q = q} (enqueued_anew k x t queue e i s n b) f =
     before-fits b
     (replaced (and_last p.registrations x) (places q) _ _ s
     (moved-fits (and_last p.registrations x) (places p) _ _ (λ r due a. at-same (places p) _ r due refl refl a) (said (Enq t.registration queue t.continuation t.order) (register_as k x p) refl (registered-fits k x p f))))
-change-fits {p = p} {q = q} (fell_due r d b) f = before-fits b (due-fits r p.now p.registrations (places p) (places q) p.events (due-timers d) f)
-change-fits {p = p} {q = q} (post_fell_due start source t queue e role a s n b) f =
+change-fits {p = p} {q = q} (fell_due r d b by) f = before-fits b (due-fits r p.now p.registrations (places p) (places q) p.events (due-timers d) f)
+change-fits {p = p} {q = q} (post_fell_due start source t queue e role a s n b by) f =
     before-fits b
     (replaced p.registrations (places q) _ _ s
     (quiet-fits (Enq t.registration queue t.continuation t.order) p.now p.registrations _ _ refl

@@ -27,7 +27,7 @@ use Rattle.page_model.specs.Turns.{first_page}
 use Rattle.page_model.proofs.NumbersGrow.{length-last}
 use Rattle.page_laws.specs.History.{History, has_kind, is_host, is_some_and, kind_of, was_dropped, is_drop_of, is_rest}
 use Rattle.page_laws.specs.CallLaws.{keeps_cancel}
-use Rattle.page_laws.specs.Moves.{is_aside, is_end, role_at, id_at, signal_at, promise_changes, Places, places, with_queued, without_start, without_aborted, PlaceChange, places_stay, task_queued, task_left, armed_again, signal_armed, completed, idle_started, idle_queued, idle_left, id_cleared, idle_armed, DueChange, timer_due, delay_due, signal_due, idle_due, answer_due, Dropping, timer_dropped, idle_dropped, listener_dropped, FirstPlace, nowhere, at_listener, at_timer, at_delay, at_idle, at_host, AsBefore, PageChange, elsewhere, told, arm_told, rested, answered, dropped, task_dropped, frame_dropped, registered, enqueued_anew, fell_due, post_fell_due, frame_asked, promised, settled, followed, adopted, subscribed, then_asked, micro_asked, rejected_taken, noted, Beginning, TheScript, ATimer, AFrame, AnIdle, ALateIdle, AListener, APost, AContinuation, AMicro, AReaction, called_by, role_of, taken, Waited, Moves, here, changing, arming, calling, ending, flagging, running, framing, idling, prio_told}
+use Rattle.page_laws.specs.Moves.{is_aside, is_end, role_at, id_at, signal_at, promise_changes, Places, places, with_queued, without_start, without_aborted, PlaceChange, places_stay, task_queued, task_left, armed_again, signal_armed, completed, idle_started, idle_queued, id_cleared, idle_armed, DueChange, timer_due, delay_due, signal_due, idle_due, answer_due, Dropping, timer_dropped, idle_dropped, listener_dropped, FirstPlace, nowhere, at_listener, at_timer, at_delay, at_idle, at_host, AsBefore, PageChange, elsewhere, told, arm_told, rested, answered, dropped, task_dropped, frame_dropped, registered, enqueued_anew, fell_due, post_fell_due, frame_asked, promised, settled, followed, adopted, subscribed, then_asked, micro_asked, rejected_taken, noted, Beginning, TheScript, ATimer, AFrame, AnIdle, ALateIdle, AListener, APost, AContinuation, AMicro, AReaction, called_by, role_of, taken, Waited, Moves, here, changing, arming, calling, ending, flagging, running, framing, idling, prio_told}
 use Rattle.page_laws.proofs.Aborted.{moves-aborted}
 use Rattle.page_laws.proofs.Claims.{callback_claims, sched_claims, sched-less}
 use Rattle.page_laws.proofs.Finding.{false_true, none-left, found-counts, found-passes, not-without, not-left, not-last, same_number, off-none, off-keeps, add-keeps}
@@ -257,9 +257,9 @@ place-shrinks : {made : List Registration} {x y : Places} → PlaceChange made x
 place-shrinks {x = x} places_stay cs a r id = same r id (waits x cs a)
 place-shrinks {x = x} (task_queued t h plain) cs a r id = same r id (waits x cs a)
 place-shrinks {x = x} (task_left number) cs a r id = same r id (waits x cs a)
-place-shrinks {x = x} (armed_again armed t role there own) cs a r id =
+place-shrinks {x = x} (armed_again armed t role there next) cs a r id =
     to_timers r id (waits x cs a) (with_armed (Some t.id) armed x.timers)
-    (λ h. with_id-keeps id armed.id armed.handle x.timers.ids (λ e. false_true (sym (ap {A = ℕ} {B = Bool} (λ n. has_id n x.timers) (sym own ∙ e) ∙ h) ∙ there)) h)
+    (λ h. with_id-keeps id armed.id armed.handle x.timers.ids (λ e. false_true (sym (ap {A = ℕ} {B = Bool} (λ n. has_id n x.timers) (sym next.same_id ∙ e) ∙ h) ∙ there)) h)
 place-shrinks {x = x} (signal_armed ms now q s) cs a r id = to_timers r id (waits x cs a) _ (λ h. h)
 place-shrinks {x = x} (id_cleared other) cs a r id = to_timers r id (waits x cs a) (clear other x.timers) (λ h. not-without (λ (e : TimerId). e.id == id) (λ e. e.id == other) x.timers.ids h)
 place-shrinks {x = x} (idle_queued t e from) cs a r id = same r id (waits x cs a)
@@ -267,7 +267,6 @@ place-shrinks {x = x} (idle_armed t most own) cs a r id = same r id (waits x cs 
 place-shrinks {x = x} (completed start gone) cs a r id = to_timers r id (waits x cs a) _ (λ h. h)
 place-shrinks {x = x} idle_started cs a r id =
     to_idle r id (waits x cs a) (started x.idle) (let e = total-append (callback_claims r) x.idle.runnable x.idle.pending in omega (arith, e))
-place-shrinks {x = x} (idle_left handle) cs a r id = to_idle r id (waits x cs a) (cancel handle x.idle) (cancel-less r handle x.idle)
 
 due-shrinks : {made : List Registration} {q : ℕ} {x y : Places} → DueChange made q x y → (cs : List Callback) (a : ℕ → Bool) (r id : ℕ) → Shrinks r id (waits x cs a) (waits y cs a)
 due-shrinks {x = x} (timer_due start number source t e i role) cs a r id = to_timers r id (waits x cs a) _ (λ h. h)
@@ -287,8 +286,8 @@ first-shrinks : {made : List Registration} {prios : Prios} {n : ℕ} {x y : Plac
 first-shrinks {made = made} {x = x} nowhere cs a r h = same r (id_at made r) (waits x cs a)
 first-shrinks {made = made} {x = x} (at_listener target name q e) cs a r h =
     to_listeners r (id_at made r) (waits x cs a) _ (add-keeps r q target name x.listeners (λ k. h (sym e ∙ k)))
-first-shrinks {made = made} {x = x} (at_timer armed t e fresh) cs a r h =
-    to_timers r (id_at made r) (waits x cs a) (with_armed None armed x.timers) (with_id-keeps (id_at made r) armed.id armed.handle x.timers.ids (λ k. fresh r (sym k)))
+first-shrinks {made = made} {x = x} (at_timer armed t e first) cs a r h =
+    to_timers r (id_at made r) (waits x cs a) (with_armed None armed x.timers) (with_id-keeps (id_at made r) armed.id armed.handle x.timers.ids (λ k. first.fresh r (sym k)))
 first-shrinks {made = made} {x = x} (at_delay ms now q source e prio) cs a r h = to_timers r (id_at made r) (waits x cs a) _ (λ k. k)
 first-shrinks {made = made} {x = x} (at_idle q e) cs a r h =
     to_idle r (id_at made r) (waits x cs a) _
@@ -479,13 +478,13 @@ pub change-fits : {p q : Page} → PageChange p q → once.Fits p → Fits p →
 change-fits {p = p} {q = q} (elsewhere c b k) o f =
     before-fits b (shrink-fits p.registrations (page_waits p) (waits (places q) p.frames.callbacks (is_aborted p)) p.events (λ r. place-shrinks c p.frames.callbacks (is_aborted p) r (id_at p.registrations r)) f)
 change-fits {p = p} (told e h) o f = silent-fits e p.now p.registrations (page_waits p) p.events (aside-silent e h) f
-change-fits {p = p} (arm_told r due level w) o f = silent-fits (Arm r due level) p.now p.registrations (page_waits p) p.events refl f
-change-fits {p = p} (rested e h x y z over begun) o f = silent-fits e p.now p.registrations (page_waits p) p.events (rest-silent e h) f
+change-fits {p = p} (arm_told r due level w well) o f = silent-fits (Arm r due level) p.now p.registrations (page_waits p) p.events refl f
+change-fits {p = p} (rested e h x y z over begun done) o f = silent-fits e p.now p.registrations (page_waits p) p.events (rest-silent e h) f
 change-fits {p = p} (answered source task t answer x y live z b) o f =
     before-fits b
     (subst (λ (y : Places). Cancels p.registrations (waits y p.frames.callbacks (is_aborted p)) (emit (Host t.closure t.number answer) p).events) (sym z)
     (silent-fits (Host t.closure t.number answer) p.now p.registrations (page_waits p) p.events refl f))
-change-fits {p = p} {q = q} (registered k x e unframed u b) o f =
+change-fits {p = p} {q = q} (registered k x e unframed u b at) o f =
     before-fits b
     (made-fits k (caller p) x p.now p.registrations (page_waits p) (waits (places q) p.frames.callbacks (is_aborted p)) p.events
     (λ r one le. first-shrinks u p.frames.callbacks (is_aborted p) r (λ same. absurd (omega (arith, same, le)))) f)
@@ -500,11 +499,11 @@ change-fits {p = p} {q = q} (enqueued_anew k x t queue e i s n b) o f =
     (let more = total-last (sched_claims r) p.sched_tasks t in
     let none : one_if (t.registration == r) ≡ 0 = ap one_if (same_number t.registration r (λ same. absurd (omega (arith, same, i, le)))) in
     omega (arith, more, none))) f)))
-change-fits {p = p} {q = q} (fell_due r d b) o f =
+change-fits {p = p} {q = q} (fell_due r d b by) o f =
     before-fits b
     (line-fits (Due r) p.now p.registrations (waits (places q) p.frames.callbacks (is_aborted p)) p.events (due-line d p.frames.callbacks (is_aborted p) p.events o.kinds f) (λ n. refl)
     (shrink-fits p.registrations (page_waits p) (waits (places q) p.frames.callbacks (is_aborted p)) p.events (λ n. due-shrinks d p.frames.callbacks (is_aborted p) n (id_at p.registrations n)) f))
-change-fits {p = p} {q = q} (post_fell_due start source t queue e role a s n b) o f =
+change-fits {p = p} {q = q} (post_fell_due start source t queue e role a s n b by) o f =
     before-fits b
     (subst (λ (y : Places). Cancels p.registrations (waits y p.frames.callbacks (is_aborted p)) (emit (Enq t.registration queue t.continuation t.order) (emit (Due t.registration) p)).events) (sym s)
     (line-fits (Enq t.registration queue t.continuation t.order) p.now p.registrations after (emit (Due t.registration) p).events (ap not (unless (was_dropped p.events t.registration) not_gone)) (λ n. refl)

@@ -26,7 +26,7 @@ use Rattle.page_model.specs.Operations.{queued_mark}
 use Rattle.page_model.specs.Turns.{first_page}
 use Rattle.page_laws.specs.History.{History, is_host, was_dropped}
 use Rattle.page_laws.specs.CallLaws.{answers_fit, keeps_cancel}
-use Rattle.page_laws.specs.Moves.{is_free, role_at, promise_changes, Places, places, without_aborted, PlaceChange, places_stay, task_queued, task_left, armed_again, signal_armed, completed, idle_started, idle_queued, idle_left, id_cleared, idle_armed, DueChange, timer_due, delay_due, signal_due, idle_due, answer_due, Dropping, timer_dropped, idle_dropped, listener_dropped, FirstPlace, nowhere, at_listener, at_timer, at_delay, at_idle, at_host, AsBefore, PageChange, elsewhere, told, arm_told, rested, answered, dropped, task_dropped, frame_dropped, registered as made_one, enqueued_anew, fell_due, post_fell_due, frame_asked, promised, settled, followed, adopted, subscribed, then_asked, micro_asked, rejected_taken, noted, Beginning, TheScript, ATimer, AFrame, AnIdle, ALateIdle, AListener, APost, AContinuation, AMicro, AReaction, called_by, taken, Moves, here, changing, arming, calling, ending, flagging, running, framing, idling, prio_told}
+use Rattle.page_laws.specs.Moves.{is_free, role_at, promise_changes, Places, places, without_aborted, PlaceChange, places_stay, task_queued, task_left, armed_again, signal_armed, completed, idle_started, idle_queued, id_cleared, idle_armed, DueChange, timer_due, delay_due, signal_due, idle_due, answer_due, Dropping, timer_dropped, idle_dropped, listener_dropped, FirstPlace, nowhere, at_listener, at_timer, at_delay, at_idle, at_host, AsBefore, PageChange, elsewhere, told, arm_told, rested, answered, dropped, task_dropped, frame_dropped, registered as made_one, enqueued_anew, fell_due, post_fell_due, frame_asked, promised, settled, followed, adopted, subscribed, then_asked, micro_asked, rejected_taken, noted, Beginning, TheScript, ATimer, AFrame, AnIdle, ALateIdle, AListener, APost, AContinuation, AMicro, AReaction, called_by, taken, Moves, here, changing, arming, calling, ending, flagging, running, framing, idling, prio_told}
 use Rattle.page_laws.proofs.Cancelled as cancelled
 use Rattle.page_laws.proofs.Cancelled.{Cancels, GoneBy, waits, unless, made-kind, no_kind, kind-there, answer_claims, keeps_dropped}
 use Rattle.page_laws.proofs.Finding.{false_true}
@@ -80,14 +80,13 @@ place-fits : {xs : List Registration} {x y : Places} → PlaceChange xs x y → 
 place-fits places_stay past f = f
 place-fits {xs = xs} {x = x} (task_queued t h plain) past f = task-more t xs x.tasks x.host_answers x.hosts past (free-net t.steps h) f
 place-fits {xs = xs} {x = x} (task_left number) past f = task-gone number xs x.tasks x.host_answers x.hosts past f
-place-fits (armed_again armed t role there own) past f = f
+place-fits (armed_again armed t role there next) past f = f
 place-fits (signal_armed ms now q s) past f = f
 place-fits (id_cleared other) past f = f
 place-fits {xs = xs} {x = x} (idle_queued t e from) past f = task-more t xs x.tasks x.host_answers x.hosts past (free-net t.steps (ap is_free e)) f
 place-fits (idle_armed t most own) past f = f
 place-fits (completed start gone) past f = f
 place-fits idle_started past f = f
-place-fits (idle_left handle) past f = f
 
 -- what is due, where what was dropped is gone
 due-fits : {xs : List Registration} {r : ℕ} {x y : Places} → DueChange xs r x y → (now : ℕ) (past : History) → KindsFit xs past → ((r : ℕ) → role_at xs r ≡ OfKind kind.Host → 1 ≤ total (answer_claims r) x.host_answers → was_dropped past r ≡ false) → AnswersAt xs x past → AnswersAt xs y (record { time = now; event = Due r } ∷ past)
@@ -145,7 +144,7 @@ dropping-same (listener_dropped there role) past f = f
 first-fits : {made : List Registration} {prios : Prios} {n : ℕ} {x y : Places} → FirstPlace made prios n x y → (k : RegKind) (by : Option ℕ) (e : Registration) (now : ℕ) (past : History) → n ≡ suc (length made) → AnswersAt made x past → AnswersAt (and_last made e) y (record { time = now; event = Reg (suc (length made)) k by } ∷ past)
 first-fits {made = made} {x = x} nowhere k by e now past i f = made-fits k by e now made x.tasks x.host_answers x.host_answers x.hosts x.hosts past (λ r. omega arith) (λ n h. h) f
 first-fits {made = made} {x = x} (at_listener target name q e1) k by e now past i f = made-fits k by e now made x.tasks x.host_answers x.host_answers x.hosts x.hosts past (λ r. omega arith) (λ n h. h) f
-first-fits {made = made} {x = x} (at_timer a t e1 fresh) k by e now past i f = made-fits k by e now made x.tasks x.host_answers x.host_answers x.hosts x.hosts past (λ r. omega arith) (λ n h. h) f
+first-fits {made = made} {x = x} (at_timer a t e1 first) k by e now past i f = made-fits k by e now made x.tasks x.host_answers x.host_answers x.hosts x.hosts past (λ r. omega arith) (λ n h. h) f
 first-fits {made = made} {x = x} (at_delay ms at q source e1 prio) k by e now past i f = made-fits k by e now made x.tasks x.host_answers x.host_answers x.hosts x.hosts past (λ r. omega arith) (λ n h. h) f
 first-fits {made = made} {x = x} (at_idle q e1) k by e now past i f = made-fits k by e now made x.tasks x.host_answers x.host_answers x.hosts x.hosts past (λ r. omega arith) (λ n h. h) f
 first-fits {made = made} {x = x} (at_host c a e1 there live) k by e now past i f =
@@ -164,19 +163,19 @@ first-fits {made = made} {x = x} (at_host c a e1 there live) k by e now past i f
 change-fits : {p q : Page} → PageChange p q → once.Fits p → cancelled.Fits p → Fits p → Fits q
 change-fits {p = p} (elsewhere c b k) o d f = before-fits b (place-fits c p.events f)
 change-fits {p = p} (told e h) o d f = silent-fits e p.now p.registrations p.tasks p.host_answers p.hosts p.events (aside-silent e h) f
-change-fits {p = p} (arm_told r due level w) o d f = silent-fits (Arm r due level) p.now p.registrations p.tasks p.host_answers p.hosts p.events refl f
-change-fits {p = p} (rested e h x y z over begun) o d f = silent-fits e p.now p.registrations p.tasks p.host_answers p.hosts p.events (rest-silent e h) f
+change-fits {p = p} (arm_told r due level w well) o d f = silent-fits (Arm r due level) p.now p.registrations p.tasks p.host_answers p.hosts p.events refl f
+change-fits {p = p} (rested e h x y z over begun done) o d f = silent-fits e p.now p.registrations p.tasks p.host_answers p.hosts p.events (rest-silent e h) f
 change-fits {p = p} (answered source task t answer x y live z b) o d f =
     before-fits b
     (subst (λ (y : Places). AnswersAt p.registrations y (emit (Host t.closure t.number answer) p).events) (sym z)
     (answered-fits task.number p.now p.registrations p.tasks p.host_answers p.hosts p.events (λ u. same_source u.source source) task t (Host t.closure t.number answer) refl x y live f))
-change-fits {p = p} (made_one k x e unframed u b) o d f = before-fits b (first-fits u k (caller p) x p.now p.events refl f)
+change-fits {p = p} (made_one k x e unframed u b at) o d f = before-fits b (first-fits u k (caller p) x p.now p.events refl f)
 change-fits {p = p} (enqueued_anew k x t queue e i s n b) o d f =
     before-fits b
     (subst (λ (y : Places). AnswersAt (and_last p.registrations x) y (emit (Enq t.registration queue t.continuation t.order) (register_as k x p)).events) (sym s)
     (silent-fits (Enq t.registration queue t.continuation t.order) p.now (and_last p.registrations x) p.tasks p.host_answers p.hosts (register_as k x p).events refl (plain-fits k x p f)))
-change-fits {p = p} (fell_due r c b) o d f = before-fits b (due-fits c p.now p.events o.kinds (undropped p d) f)
-change-fits {p = p} (post_fell_due start source t queue e role a s n b) o d f =
+change-fits {p = p} (fell_due r c b by) o d f = before-fits b (due-fits c p.now p.events o.kinds (undropped p d) f)
+change-fits {p = p} (post_fell_due start source t queue e role a s n b by) o d f =
     before-fits b
     (subst (λ (y : Places). AnswersAt p.registrations y (emit (Enq t.registration queue t.continuation t.order) (emit (Due t.registration) p)).events) (sym s)
     (silent-fits (Enq t.registration queue t.continuation t.order) p.now p.registrations p.tasks p.host_answers p.hosts (emit (Due t.registration) p).events refl

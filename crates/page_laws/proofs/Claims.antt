@@ -121,7 +121,7 @@ idle-less r handle i c e =
 pub first-claims : {made : List Registration} {prios : Prios} {n : ℕ} {x y : Places} → FirstPlace made prios n x y → (r : ℕ) → place_claims r y ≤ place_claims r x + one_if (n == r)
 first-claims nowhere r = omega arith
 first-claims (at_listener target name q e) r = omega arith
-first-claims {n = n} {x = x} (at_timer a t e fresh) r =
+first-claims {n = n} {x = x} (at_timer a t e first) r =
     let more = total-last (completing_claims r) x.completions (record { start = a.start; completion = QueueTimer t }) in
     let same : one_if (t.registration == r) ≡ one_if (n == r) = ap (λ q. one_if (q == r)) e in
     omega (arith, more, same)

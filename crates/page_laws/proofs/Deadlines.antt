@@ -28,7 +28,7 @@ use Rattle.page_model.specs.Turns.{first_page}
 use Rattle.page_model.proofs.NumbersGrow.{length-last}
 use Rattle.page_laws.specs.History.{History, armed_for, before_last, has_kind, is_delayed, is_idle, is_period, is_reg_of, is_rest, is_some_and, kind_of, last_line, registered, since_last, some_line, was_due}
 use Rattle.page_laws.specs.TimerLaws.{idle_calls, idle_well, is_deadline, is_idle_line, is_reg_before, keeps_idle, may_be_idle, none_earlier, period_start}
-use Rattle.page_laws.specs.Moves.{is_aside, is_end, role_at, is_delayed_role, IsIn, PeriodGoesOn, Places, places, PlaceChange, places_stay, task_queued, task_left, armed_again, signal_armed, id_cleared, idle_armed, completed, idle_started, idle_queued, idle_left, Dropping, timer_dropped, idle_dropped, listener_dropped, FirstPlace, nowhere, at_listener, at_timer, at_delay, at_idle, at_host, DueChange, timer_due, delay_due, signal_due, idle_due, answer_due, promise_changes, AsBefore, PageChange, elsewhere, told, arm_told, rested, registered as made_one, promised, settled, followed, adopted, subscribed, micro_asked, then_asked, answered, dropped, frame_dropped, frame_asked, rejected_taken, noted, Beginning, TheScript, ATimer, AFrame, AnIdle, ALateIdle, AListener, APost, AContinuation, AMicro, AReaction, called_by, role_of, taken, Waited, task_dropped, enqueued_anew, fell_due, post_fell_due, prio_told, Moves, here, changing, arming, calling, ending, flagging, running, framing, idling}
+use Rattle.page_laws.specs.Moves.{is_aside, is_end, role_at, is_delayed_role, IsIn, PeriodGoesOn, Places, places, PlaceChange, places_stay, task_queued, task_left, armed_again, signal_armed, id_cleared, idle_armed, completed, idle_started, idle_queued, Dropping, timer_dropped, idle_dropped, listener_dropped, FirstPlace, nowhere, at_listener, at_timer, at_delay, at_idle, at_host, DueChange, timer_due, delay_due, signal_due, idle_due, answer_due, promise_changes, AsBefore, PageChange, elsewhere, told, arm_told, rested, registered as made_one, promised, settled, followed, adopted, subscribed, micro_asked, then_asked, answered, dropped, frame_dropped, frame_asked, rejected_taken, noted, Beginning, TheScript, ATimer, AFrame, AnIdle, ALateIdle, AListener, APost, AContinuation, AMicro, AReaction, called_by, role_of, taken, Waited, task_dropped, enqueued_anew, fell_due, post_fell_due, prio_told, Moves, here, changing, arming, calling, ending, flagging, running, framing, idling}
 use Rattle.page_laws.proofs.ArmedTimes as armed
 use Rattle.page_laws.proofs.ArmedTimes.{ArmedFit, AtTimer, first-armed, moves-armed}
 use Rattle.page_laws.proofs.Framed.{false_true}
@@ -53,7 +53,7 @@ on_right : (a b : Bool) → b ≡ true → a || b ≡ true
 on_right true b h = refl
 on_right false b h = h
 
-all-filter : (f test : ℕ → Bool) (rs : List ℕ) → ((r : ℕ) → f r ≡ true → test r ≡ true) → list_all test (filter f rs) ≡ true
+pub all-filter : (f test : ℕ → Bool) (rs : List ℕ) → ((r : ℕ) → f r ≡ true → test r ≡ true) → list_all test (filter f rs) ≡ true
 all-filter f test [] h = refl
 all-filter f test (r ∷ rs) h = by_test (f r) refl (all-filter f test rs h)
   where
@@ -62,7 +62,7 @@ all-filter f test (r ∷ rs) h = by_test (f r) refl (all-filter f test rs h)
     by_test false e k = k
 
 -- of a list that was filtered before
-all-kept : (f g test : ℕ → Bool) (rs : List ℕ) → ((r : ℕ) → f r ≡ true → g r ≡ true → test r ≡ true) → list_all test (filter f (filter g rs)) ≡ true
+pub all-kept : (f g test : ℕ → Bool) (rs : List ℕ) → ((r : ℕ) → f r ≡ true → g r ≡ true → test r ≡ true) → list_all test (filter f (filter g rs)) ≡ true
 all-kept f g test [] h = refl
 all-kept f g test (r ∷ rs) h = by_tests (g r) refl (all-kept f g test rs h)
   where
@@ -134,12 +134,12 @@ Listed i = i.runnable ++ i.pending
 
 -- ---- what fits the lines
 
-record IdleFit (xs : List Registration) (i : Idle) (past : History) : Type 0 where
-  order : Rises (length xs) 0 (Listed i)
-  called : (q : ℕ) → IsIn q (idle_calls past) → (q ≤ length xs) × ((c : Callback) → IsIn c (Listed i) → q < c.registration)
-  last : last_line is_idle_line past ≡ false
-  none : some_line (is_reg_of 0) past ≡ false
-  kept : Kept idle_test past
+pub record IdleFit (xs : List Registration) (i : Idle) (past : History) : Type 0 where
+  pub order : Rises (length xs) 0 (Listed i)
+  pub called : (q : ℕ) → IsIn q (idle_calls past) → (q ≤ length xs) × ((c : Callback) → IsIn c (Listed i) → q < c.registration)
+  pub last : last_line is_idle_line past ≡ false
+  pub none : some_line (is_reg_of 0) past ≡ false
+  pub kept : Kept idle_test past
 
 -- a line that is no call and no idle line, and registers nothing
 abbrev is_plain : Event → Bool
@@ -306,7 +306,7 @@ one_at_least past zero h k = absurd (false_true (sym h ∙ k))
 one_at_least past (suc r) h k = omega arith
 
 -- what the lines tell to be delayed is so by its registration
-delayed_role : (xs : List Registration) (past : History) (r : ℕ) → KindsFit xs past → some_line (is_reg_of 0) past ≡ false → has_kind is_delayed past r ≡ true → is_delayed_role (role_at xs r) ≡ true
+pub delayed_role : (xs : List Registration) (past : History) (r : ℕ) → KindsFit xs past → some_line (is_reg_of 0) past ≡ false → has_kind is_delayed past r ≡ true → is_delayed_role (role_at xs r) ≡ true
 delayed_role xs past r n z h = by_kind (kind_of past r) refl h
   where
     by_role : (role : Role) (k : RegKind) → kind_in_role role ≡ Some k → is_delayed k ≡ true → is_delayed_role role ≡ true
@@ -430,14 +430,13 @@ place-fits : {xs : List Registration} {x y : Places} → PlaceChange xs x y → 
 place-fits places_stay past f = f
 place-fits (task_queued t h plain) past f = f
 place-fits (task_left number) past f = f
-place-fits (armed_again a t role there own) past f = f
+place-fits (armed_again a t role there next) past f = f
 place-fits (signal_armed ms now r s) past f = f
 place-fits (id_cleared id) past f = f
 place-fits (idle_armed t most own) past f = f
 place-fits (completed start gone) past f = f
 place-fits {xs = xs} {x = x} idle_started past f = started-fits xs x.idle past f
 place-fits (idle_queued t e from) past f = f
-place-fits {xs = xs} {x = x} (idle_left handle) past f = left-fits handle xs x.idle past f
 
 due-idle : {made : List Registration} {r : ℕ} {x y : Places} → DueChange made r x y → y.idle ≡ x.idle
 due-idle (timer_due start number source t e i role) = refl
@@ -454,14 +453,14 @@ drop-fits (listener_dropped there role) xs past f = f
 first-fits : {xs : List Registration} {ps : Prios} {x y : Places} → FirstPlace xs ps (suc (length xs)) x y → (k : RegKind) (by : Option ℕ) (z : Registration) (now : ℕ) (past : History) → IdleFit xs x.idle past → IdleFit (and_last xs z) y.idle (record { time = now; event = Reg (suc (length xs)) k by } ∷ past)
 first-fits {xs = xs} {x = x} nowhere k by z now past f = reg-fits k by z now xs x.idle past f
 first-fits {xs = xs} {x = x} (at_listener target name q e) k by z now past f = reg-fits k by z now xs x.idle past f
-first-fits {xs = xs} {x = x} (at_timer a t e fresh) k by z now past f = reg-fits k by z now xs x.idle past f
+first-fits {xs = xs} {x = x} (at_timer a t e first) k by z now past f = reg-fits k by z now xs x.idle past f
 first-fits {xs = xs} {x = x} (at_delay ms at q source e h) k by z now past f = reg-fits k by z now xs x.idle past f
 first-fits {xs = xs} {x = x} (at_idle q e) k by z now past f = asked-fits k by z now q xs x.idle past e f
 first-fits {xs = xs} {x = x} (at_host c a e there live) k by z now past f = reg-fits k by z now xs x.idle past f
 
 -- ---- moves
 
-abbrev Fits : Page → Type 0
+abbrev pub Fits : Page → Type 0
 Fits p = IdleFit p.registrations p.idle p.events
 
 before-fits : {p q : Page} → AsBefore p q → IdleFit p.registrations q.idle p.events → Fits q
@@ -518,16 +517,16 @@ registered-fits k x p f = reg-fits k (caller p) x p.now p.registrations p.idle p
 change-fits : {p q : Page} → PageChange p q → Fits p → Fits q
 change-fits {p = p} {q = q} (elsewhere c b within) f = before-fits b (place-fits c p.events f)
 change-fits {p = p} (told e h) f = said e p (aside-plain e h) f
-change-fits {p = p} (arm_told r due level w) f = said (Arm r due level) p refl f
-change-fits {p = p} (rested e h x y z over begun) f = said e p (rest-plain e h) f
+change-fits {p = p} (arm_told r due level w well) f = said (Arm r due level) p refl f
+change-fits {p = p} (rested e h x y z over begun done) f = said e p (rest-plain e h) f
 change-fits {p = p} {q = q} (answered source task t answer x y live z b) f =
     before-fits b (same-idle p.registrations p.idle q.idle _ (idle_of (places q) _ z) (said (Host t.closure t.number answer) p refl f))
-change-fits {p = p} {q = q} (made_one k x e unframed u b) f = before-fits b (first-fits u k (caller p) x p.now p.events f)
+change-fits {p = p} {q = q} (made_one k x e unframed u b at) f = before-fits b (first-fits u k (caller p) x p.now p.events f)
 change-fits {p = p} {q = q} (enqueued_anew k x t queue e i s n b) f =
     before-fits b
     (same-idle (and_last p.registrations x) p.idle q.idle _ (idle_of (places q) _ s) (said (Enq t.registration queue t.continuation t.order) (register_as k x p) refl (registered-fits k x p f)))
-change-fits {p = p} {q = q} (fell_due r d b) f = before-fits b (same-idle p.registrations p.idle q.idle _ (due-idle d) (said (Due r) p refl f))
-change-fits {p = p} {q = q} (post_fell_due start source t queue e role a s n b) f =
+change-fits {p = p} {q = q} (fell_due r d b by) f = before-fits b (same-idle p.registrations p.idle q.idle _ (due-idle d) (said (Due r) p refl f))
+change-fits {p = p} {q = q} (post_fell_due start source t queue e role a s n b by) f =
     before-fits b
     (same-idle p.registrations p.idle q.idle _ (idle_of (places q) _ s)
     (said (Enq t.registration queue t.continuation t.order) (emit (Due t.registration) p) refl (said (Due t.registration) p refl f)))
@@ -570,7 +569,7 @@ begins-fit (AContinuation t) p w i n a f =
 begins-fit (AMicro job others r) p w i n a f = other-fits r (OfKind kind.Micro) p (record { time = p.now; event = Run job.number } ∷ p.events) i refl refl n (said (Run job.number) p refl f)
 begins-fit (AReaction job others of x r) p w i n a f = other-fits r (OfKind kind.Then) p (record { time = p.now; event = Run job.number } ∷ p.events) i refl refl n (said (Run job.number) p refl f)
 
-moves-fit : {p q : Page} → Moves p q → once.Fits p → armed.Fits p → Fits p → Fits q
+pub moves-fit : {p q : Page} → Moves p q → once.Fits p → armed.Fits p → Fits p → Fits q
 moves-fit here o t f = f
 moves-fit (changing a c plain) o t f = change-fits c (moves-fit a o t f)
 moves-fit (arming a c e w) o t f = change-fits e (change-fits c (moves-fit a o t f))
@@ -583,9 +582,9 @@ moves-fit (running {q = q} a j others x y) o t f = said (Run j.number) q refl (m
 moves-fit (framing {q = q} a n) o t f = said (Frame n) q refl (moves-fit a o t f)
 moves-fit (idling a none) o t f = moves-fit a o t f
 
+pub first_fits : (program : Program) (setup : Setup) (hosts : List HostClosure) → Fits (first_page program setup hosts)
+first_fits program setup hosts = record { order = tt; called = λ q i. elim i [ ]; last = refl; none = refl; kept = tt }
+
 -- from a first page on, idle callbacks are called before their deadlines
 pub deadlines_kept : (program : Program) (setup : Setup) (hosts : List HostClosure) {q : Page} → Moves (first_page program setup hosts) q → Kept idle_test q.events
-deadlines_kept program setup hosts a = (moves-fit a (once.first_fits program setup hosts) (first-armed program setup hosts) first).kept
-  where
-    first : Fits (first_page program setup hosts)
-    first = record { order = tt; called = λ q i. elim i [ ]; last = refl; none = refl; kept = tt }
+deadlines_kept program setup hosts a = (moves-fit a (once.first_fits program setup hosts) (first-armed program setup hosts) (first_fits program setup hosts)).kept

@@ -24,7 +24,7 @@ use Rattle.page_model.specs.Turns.{first_page}
 use Rattle.page_model.proofs.NumbersGrow.{length-last}
 use Rattle.page_laws.specs.History.{History, count_lines, has_kind, is_call_of, is_due_of, is_rest, is_some_and, is_timer, kind_of}
 use Rattle.page_laws.specs.TimerLaws.{keeps_firing}
-use Rattle.page_laws.specs.Moves.{is_aside, is_end, is_free, role_at, Places, places, PlaceChange, places_stay, task_queued, task_left, armed_again, signal_armed, id_cleared, idle_armed, completed, idle_started, idle_queued, idle_left, Dropping, timer_dropped, idle_dropped, listener_dropped, FirstPlace, nowhere, at_listener, at_timer, at_delay, at_idle, at_host, DueChange, timer_due, delay_due, signal_due, idle_due, answer_due, promise_changes, AsBefore, PageChange, elsewhere, told, arm_told, rested, registered as made_one, promised, settled, followed, adopted, subscribed, micro_asked, then_asked, answered, dropped, frame_dropped, frame_asked, rejected_taken, noted, Beginning, TheScript, ATimer, AFrame, AnIdle, ALateIdle, AListener, APost, AContinuation, AMicro, AReaction, called_by, role_of, taken, Waited, task_dropped, enqueued_anew, fell_due, post_fell_due, prio_told, Moves, here, changing, arming, calling, ending, flagging, running, framing, idling}
+use Rattle.page_laws.specs.Moves.{is_aside, is_end, is_free, role_at, Places, places, PlaceChange, places_stay, task_queued, task_left, armed_again, signal_armed, id_cleared, idle_armed, completed, idle_started, idle_queued, Dropping, timer_dropped, idle_dropped, listener_dropped, FirstPlace, nowhere, at_listener, at_timer, at_delay, at_idle, at_host, DueChange, timer_due, delay_due, signal_due, idle_due, answer_due, promise_changes, AsBefore, PageChange, elsewhere, told, arm_told, rested, registered as made_one, promised, settled, followed, adopted, subscribed, micro_asked, then_asked, answered, dropped, frame_dropped, frame_asked, rejected_taken, noted, Beginning, TheScript, ATimer, AFrame, AnIdle, ALateIdle, AListener, APost, AContinuation, AMicro, AReaction, called_by, role_of, taken, Waited, task_dropped, enqueued_anew, fell_due, post_fell_due, prio_told, Moves, here, changing, arming, calling, ending, flagging, running, framing, idling}
 use Rattle.page_laws.proofs.ArmedTimes.{kind-given}
 use Rattle.page_laws.proofs.Framed.{false_true}
 use Rattle.page_laws.proofs.Lines.{changed-each, added, emit_each-events}
@@ -232,19 +232,18 @@ place-fits : {made : List Registration} {x y : Places} → PlaceChange made x y 
 place-fits places_stay xs past f = f
 place-fits {x = x} (task_queued t h plain) xs past f = fewer-fits xs x.tasks (and_last x.tasks t) past (one-more x.tasks t h) f
 place-fits {x = x} (task_left number) xs past f = fewer-fits xs x.tasks (without (λ t. t.number == number) x.tasks) past (λ r. total-without (fires r) (λ t. t.number == number) x.tasks) f
-place-fits (armed_again a t role there own) xs past f = f
+place-fits (armed_again a t role there next) xs past f = f
 place-fits (signal_armed ms now r s) xs past f = f
 place-fits (id_cleared id) xs past f = f
 place-fits (idle_armed t most own) xs past f = f
 place-fits (completed start gone) xs past f = f
 place-fits idle_started xs past f = f
 place-fits {x = x} (idle_queued t e from) xs past f = fewer-fits xs x.tasks (and_last x.tasks t) past (one-more x.tasks t (ap is_free e)) f
-place-fits (idle_left handle) xs past f = f
 
 first-tasks : {made : List Registration} {ps : Prios} {n : ℕ} {x y : Places} → FirstPlace made ps n x y → y.tasks ≡ x.tasks
 first-tasks nowhere = refl
 first-tasks (at_listener target name q e) = refl
-first-tasks (at_timer b t e fresh) = refl
+first-tasks (at_timer b t e first) = refl
 first-tasks (at_delay ms now q source e h) = refl
 first-tasks (at_idle q e) = refl
 first-tasks (at_host c b e there live) = refl
@@ -342,18 +341,18 @@ registered-fits k x p f = still-fits (Reg (suc (length p.registrations)) k (call
 change-fits : {p q : Page} → PageChange p q → Fits p → Fits q
 change-fits {p = p} {q = q} (elsewhere c b within) f = before-fits b (place-fits c p.registrations p.events f)
 change-fits {p = p} (told e h) f = said e p (aside-still e h) f
-change-fits {p = p} (arm_told r due level w) f = said (Arm r due level) p refl f
-change-fits {p = p} (rested e h x y z over begun) f = said e p (rest-still e h) f
+change-fits {p = p} (arm_told r due level w well) f = said (Arm r due level) p refl f
+change-fits {p = p} (rested e h x y z over begun done) f = said e p (rest-still e h) f
 change-fits {p = p} {q = q} (answered source task t answer x y live z b) f =
     before-fits b
     (same-tasks p.registrations _ q.tasks _ (tasks_of (places q) _ z)
     (fewer-fits p.registrations p.tasks (without (λ u. u.number == task.number) p.tasks) _ (λ r. total-without (fires r) (λ u. u.number == task.number) p.tasks) (said (Host t.closure t.number answer) p refl f)))
-change-fits {p = p} {q = q} (made_one k x e unframed u b) f = before-fits b (same-tasks (and_last p.registrations x) p.tasks q.tasks _ (first-tasks u) (registered-fits k x p f))
+change-fits {p = p} {q = q} (made_one k x e unframed u b at) f = before-fits b (same-tasks (and_last p.registrations x) p.tasks q.tasks _ (first-tasks u) (registered-fits k x p f))
 change-fits {p = p} {q = q} (enqueued_anew k x t queue e i s n b) f =
     before-fits b
     (same-tasks (and_last p.registrations x) p.tasks q.tasks _ (tasks_of (places q) _ s) (said (Enq t.registration queue t.continuation t.order) (register_as k x p) refl (registered-fits k x p f)))
-change-fits {p = p} {q = q} (fell_due r d b) f = before-fits b (due-changes-fit d p.now p.events f)
-change-fits {p = p} {q = q} (post_fell_due start source t queue e role a s n b) f =
+change-fits {p = p} {q = q} (fell_due r d b by) f = before-fits b (due-changes-fit d p.now p.events f)
+change-fits {p = p} {q = q} (post_fell_due start source t queue e role a s n b by) f =
     before-fits b
     (same-tasks p.registrations p.tasks q.tasks _ (tasks_of (places q) _ s)
     (said (Enq t.registration queue t.continuation t.order) (emit (Due t.registration) p) refl (same-due t.registration p.now p.registrations p.tasks p.events f)))

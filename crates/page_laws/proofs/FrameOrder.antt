@@ -12,7 +12,7 @@ use Rattle.page_types.specs.Tree.{Program}
 use Rattle.page_parts.specs.Setup.{Setup}
 use Rattle.page_parts.specs.HostClosures.{HostClosure}
 use Rattle.page_parts.specs.Frames.{Callback, Frames, callback_in, without_handle}
-use Rattle.page_parts.specs.Words.{and_last, without}
+use Rattle.page_parts.specs.Words.{and_last, without, is_empty}
 use Rattle.page_parts.specs.Promises.{Settled, Fulfilled, Failed, PromiseJob, Reaction}
 use Rattle.page_parts.specs.Promises as Promises
 use Rattle.page_parts.specs.Notices.{Notices, Noticed, changed, subscribe_promise, queue_micro, Context}
@@ -23,7 +23,7 @@ use Rattle.page_model.specs.Numbers.{Each, IsFor, made_by, timer_role}
 use Rattle.page_model.specs.PageTime.{deadline}
 use Rattle.page_model.specs.Turns.{first_page}
 use Rattle.page_model.proofs.NumbersGrow.{length-last, numbered-last}
-use Rattle.page_laws.specs.History.{History, is_call_of, is_scheduled, is_drop_of, is_frame, is_reg_of, is_rest, is_turn, has_kind, is_some_and, kind_in, kind_of, registered, before_last, this_turn, calls_in, called_in, some_line, was_called, was_dropped}
+use Rattle.page_laws.specs.History.{History, is_call_of, is_scheduled, is_drop_of, is_frame, is_reg_of, is_rest, is_turn, has_kind, is_some_and, kind_in, kind_of, registered, before_last, this_turn, calls_in, called_in, some_line, was_called, was_dropped, registered_for}
 use Rattle.page_laws.specs.TimerLaws.{all_framed, framed_at, is_frame_line, is_reg_before, keeps_frames, may_be_drawn, was_done}
 use Rattle.page_laws.specs.Moves.{is_aside, is_end, marked, marked_by, role_at, IsIn, IsDrawnNext, FrameIsOver, promise_changes, AsBefore, PageChange, elsewhere, told, arm_told, rested, registered as made_one, promised, settled, followed, adopted, subscribed, micro_asked, then_asked, answered, dropped, frame_dropped, frame_asked, rejected_taken, noted, Beginning, TheScript, ATimer, AFrame, AnIdle, ALateIdle, AListener, APost, AContinuation, AMicro, AReaction, called_by, role_of, taken, Waited, task_dropped, enqueued_anew, fell_due, post_fell_due, prio_told, Moves, here, changing, arming, calling, ending, flagging, running, framing, idling}
 use Rattle.page_laws.proofs.Drawing.{found-in}
@@ -614,14 +614,14 @@ unframed_sched k h = refl
 change-fits : {p q : Page} → PageChange p q → Ordered p → KindsFit p.registrations p.events → Fits p → Fits q
 change-fits (elsewhere c b k) o n f = before-fits b f
 change-fits {p = p} (told e h) o n f = said e p (aside-silent e h) f
-change-fits {p = p} (arm_told r due level w) o n f = said (Arm r due level) p refl f
-change-fits {p = p} (rested e h x y z over begun) o n f = rest-fits e p h over n f
+change-fits {p = p} (arm_told r due level w well) o n f = said (Arm r due level) p refl f
+change-fits {p = p} (rested e h x y z over begun done) o n f = rest-fits e p h over n f
 change-fits {p = p} (answered source task t answer x y live z b) o n f = before-fits b (said (Host t.closure t.number answer) p refl f)
-change-fits {p = p} (made_one k x e unframed u b) o n f = before-fits b (registered-fits k x p e unframed f)
+change-fits {p = p} (made_one k x e unframed u b at) o n f = before-fits b (registered-fits k x p e unframed f)
 change-fits {p = p} (enqueued_anew k x t queue e i s next b) o n f =
     before-fits b (said (Enq t.registration queue t.continuation t.order) (register_as k x p) refl (registered-fits k x p e (unframed_sched k next.2) f))
-change-fits {p = p} (fell_due r d b) o n f = before-fits b (said (Due r) p refl f)
-change-fits {p = p} (post_fell_due start source t queue e role a s next b) o n f =
+change-fits {p = p} (fell_due r d b by) o n f = before-fits b (said (Due r) p refl f)
+change-fits {p = p} (post_fell_due start source t queue e role a s next b by) o n f =
     before-fits b (said (Enq t.registration queue t.continuation t.order) (emit (Due t.registration) p) refl (said (Due t.registration) p refl f))
 change-fits {p = p} (dropped r d b) o n f = before-fits b (said (Drop r) p refl f)
 change-fits {p = p} (frame_dropped handle c e role) o n f = dropped-fits p.now p.frames.made (length p.registrations) handle c p.registrations p.frames.callbacks p.events o e f
@@ -684,20 +684,40 @@ moves-fit (running {q = q} a j others x y) o k f = said (Run j.number) q refl (m
 moves-fit (framing {q = q} a t) o x f = said (Frame t) q refl (moves-fit a o x f)
 moves-fit (idling a none) o x f = moves-fit a o x f
 
+first-frames : (program : Program) (setup : Setup) (hosts : List HostClosure) → Fits (first_page program setup hosts)
+first-frames program setup hosts =
+    record {
+      waiting = λ r one role. absurd (none r one role);
+      called = λ q h. absurd (false_true h);
+      none = refl;
+      kept = tt;
+    }
+  where
+    none : (r : ℕ) → 1 ≤ r → role_at (first_page program setup hosts).registrations r ≡ OfKind kind.Frame → ⊥
+    none zero one e = absurd (omega (arith, one))
+    none (suc zero) one e = no_script e
+    none (suc (suc i)) one e = no_script e
+
 -- from a first page on, frame callbacks go in order
 pub frames_in_order : (program : Program) (setup : Setup) (hosts : List HostClosure) {q : Page} → Moves (first_page program setup hosts) q → Kept framing_test q.events
-frames_in_order program setup hosts a = (moves-fit a tt (once.first_fits program setup hosts) first).kept
+frames_in_order program setup hosts a = (moves-fit a tt (once.first_fits program setup hosts) (first-frames program setup hosts)).kept
+
+-- and each was called or dropped, where none waits
+pub frames_over : (program : Program) (setup : Setup) (hosts : List HostClosure) {q : Page} → Moves (first_page program setup hosts) q → is_empty q.frames.callbacks ≡ true → list_all (was_done q.events) (registered_for is_frame q.events) ≡ true
+frames_over program setup hosts {q = q} a h = all-filter (has_kind is_frame q.events) (was_done q.events) (registered q.events) each
   where
-    first : Fits (first_page program setup hosts)
-    first =
-        record {
-          waiting = λ r one role. absurd (none r one role);
-          called = λ q h. absurd (false_true h);
-          none = refl;
-          kept = tt;
-        }
-      where
-        none : (r : ℕ) → 1 ≤ r → role_at (first_page program setup hosts).registrations r ≡ OfKind kind.Frame → ⊥
-        none zero one e = absurd (omega (arith, one))
-        none (suc zero) one e = no_script e
-        none (suc (suc i)) one e = no_script e
+    f : Fits q
+    f = moves-fit a tt (once.first_fits program setup hosts) (first-frames program setup hosts)
+
+    none : (cs : List Callback) → is_empty cs ≡ true → (c : Callback) → IsIn c cs → ⊥
+    none [] e c i = i
+    none (d ∷ cs) e c i = false_true e
+
+    by_place : (r : ℕ) → Accounted q.frames.callbacks q.events r → was_done q.events r ≡ true
+    by_place r (inl d) = d
+    by_place r (inr w) = absurd (none q.frames.callbacks h w.callback w.there)
+
+    each : (r : ℕ) → has_kind is_frame q.events r ≡ true → was_done q.events r ≡ true
+    each r is =
+        let one = one_at_least q.events r f.none (some-line q.events r kind.Frame (framed_kind (kind_of q.events r) is)) in
+        by_place r (f.waiting r one (framed_role q.registrations q.events r (once.moves-fit a (once.first_fits program setup hosts)).kinds one is))

@@ -18,7 +18,7 @@ use Rattle.page_model.specs.Numbers.{Each}
 use Rattle.page_model.proofs.NumbersGrow.{length-last}
 use Rattle.page_laws.specs.History.{History, is_period, is_reg_of, is_rest, since_last, some_line}
 use Rattle.page_laws.specs.TimerLaws.{period_in, period_start}
-use Rattle.page_laws.specs.Moves.{is_aside, is_end, IsIn, PeriodGoesOn, InPeriod, Places, places, PlaceChange, places_stay, task_queued, task_left, armed_again, signal_armed, id_cleared, idle_armed, completed, idle_started, idle_queued, idle_left, DueChange, timer_due, delay_due, signal_due, idle_due, answer_due, Dropping, timer_dropped, idle_dropped, listener_dropped, FirstPlace, nowhere, at_listener, at_timer, at_delay, at_idle, at_host, scheduling_of, Scheduling, promise_changes, AsBefore, PageChange, elsewhere, told, arm_told, rested, registered, promised, settled, followed, adopted, subscribed, micro_asked, then_asked, answered, dropped, frame_dropped, frame_asked, rejected_taken, noted, Changes, nothing, with_change, with_arm, Beginning, TheScript, ATimer, AFrame, AnIdle, ALateIdle, AListener, APost, AContinuation, AMicro, AReaction, called_by, taken, task_dropped, enqueued_anew, fell_due, post_fell_due, prio_told}
+use Rattle.page_laws.specs.Moves.{is_aside, is_end, IsIn, PeriodGoesOn, IsMade, Places, places, PlaceChange, places_stay, task_queued, task_left, armed_again, signal_armed, id_cleared, idle_armed, completed, idle_started, idle_queued, DueChange, timer_due, delay_due, signal_due, idle_due, answer_due, Dropping, timer_dropped, idle_dropped, listener_dropped, FirstPlace, nowhere, at_listener, at_timer, at_delay, at_idle, at_host, scheduling_of, Scheduling, promise_changes, AsBefore, PageChange, elsewhere, told, arm_told, rested, registered, promised, settled, followed, adopted, subscribed, micro_asked, then_asked, answered, dropped, frame_dropped, frame_asked, rejected_taken, noted, Changes, nothing, with_change, with_arm, Beginning, TheScript, ATimer, AFrame, AnIdle, ALateIdle, AListener, APost, AContinuation, AMicro, AReaction, called_by, taken, task_dropped, enqueued_anew, fell_due, post_fell_due, prio_told}
 use Rattle.page_laws.proofs.Framed.{in-without, false_true}
 use Rattle.page_laws.proofs.Lines.{changed-each, added, emit_each-events}
 use Rattle.page_laws.proofs.Moved.{in-either}
@@ -129,13 +129,13 @@ drop-fewer (listener_dropped there role) c j = j
 first-fewer : {made : List Registration} {r : ℕ} {x y : Places} {ps : Prios} → FirstPlace made ps r x y → FewerAt x y
 first-fewer nowhere c j = j
 first-fewer (at_listener target name q e) c j = j
-first-fewer (at_timer a t e fresh) c j = j
+first-fewer (at_timer a t e first) c j = j
 first-fewer (at_delay ms now q source e h) c j = j
 first-fewer (at_idle q e) c j = j
 first-fewer (at_host d a e there live) c j = j
 
 -- places that are changed in a period
-place-goes : {made : List Registration} {p q : Page} {x y : Places} (c : PlaceChange made x y) → InPeriod c p → x ≡ places p → y ≡ places q → q.last_idle_start ≡ p.last_idle_start → length p.registrations ≤ length q.registrations → SamePeriod (length p.registrations) p.events q.events → GoesOn p q
+place-goes : {made : List Registration} {p q : Page} {x y : Places} (c : PlaceChange made x y) → IsMade c p → x ≡ places p → y ≡ places q → q.last_idle_start ≡ p.last_idle_start → length p.registrations ≤ length q.registrations → SamePeriod (length p.registrations) p.events q.events → GoesOn p q
 place-goes {p = p} {q = q} {x = x} {y = y} c k ex ey e le s g =
     record {
       start = s.start ∙ (g.start ∙ ap Some (sym e));
@@ -146,11 +146,11 @@ place-goes {p = p} {q = q} {x = x} {y = y} c k ex ey e le s g =
     old : (d : Callback) → IsIn d x.idle.runnable → (Anew p.events d.registration ≡ false) × (d.registration ≤ length p.registrations)
     old d i = let j = subst (λ (z : Places). IsIn d z.idle.runnable) ex i in (g.runnable d j, g.given d j)
 
-    by_change : {made : List Registration} {y : Places} (c : PlaceChange made x y) → InPeriod c p → (d : Callback) → IsIn d y.idle.runnable → (Anew p.events d.registration ≡ false) × (d.registration ≤ length p.registrations)
+    by_change : {made : List Registration} {y : Places} (c : PlaceChange made x y) → IsMade c p → (d : Callback) → IsIn d y.idle.runnable → (Anew p.events d.registration ≡ false) × (d.registration ≤ length p.registrations)
     by_change places_stay k d i = old d i
     by_change (task_queued t h plain) k d i = old d i
     by_change (task_left number) k d i = old d i
-    by_change (armed_again a t role there own) k d i = old d i
+    by_change (armed_again a t role there next) k d i = old d i
     by_change (signal_armed ms now r s) k d i = old d i
     by_change (id_cleared id) k d i = old d i
     by_change (idle_armed t most own) k d i = old d i
@@ -161,7 +161,6 @@ place-goes {p = p} {q = q} {x = x} {y = y} c k ex ey e le s g =
         by_list (inl j) = old d j
         by_list (inr j) = k d (subst (λ (z : Places). IsIn d z.idle.pending) ex j)
     by_change (idle_queued t e from) k d i = old d i
-    by_change (idle_left handle) k d i = old d (in-without d (λ y. y.handle == handle) x.idle.runnable i)
 
     known : (d : Callback) → IsIn d q.idle.runnable → (Anew p.events d.registration ≡ false) × (d.registration ≤ length p.registrations)
     known d i = by_change c k d (subst (λ (z : Places). IsIn d z.idle.runnable) (sym ey) i)
@@ -226,16 +225,16 @@ change-goes {p = p} {q = q} (elsewhere c b within) =
     place-goes {p = p} {q = q} c within refl refl b.scheduling.idle_start (let a = ap {A = List Registration} {B = ℕ} length b.registrations in omega (arith, a))
     (subst (SamePeriod (length p.registrations) p.events) (sym b.events) (same-period (length p.registrations) p.events))
 change-goes {p = p} (told e h) = said-goes e p (aside-unperiodic e h)
-change-goes {p = p} (arm_told r due level w) = said-goes _ p (refl, λ r. refl)
-change-goes {p = p} (rested e h x y z over begun) = rest-goes e p h begun
+change-goes {p = p} (arm_told r due level w well) = said-goes _ p (refl, λ r. refl)
+change-goes {p = p} (rested e h x y z over begun done) = rest-goes e p h begun
 change-goes {p = p} {q = q} (answered source task t answer x y live z b) =
     before-goes {p = p} b refl (omega arith) (quiet-period (length p.registrations) p.now _ p.events (refl, λ r. refl)) (fewer-places p q _ z (λ c i. i))
-change-goes {p = p} {q = q} (registered k x e unframed u b) = before-goes {p = p} b refl (more p x) (reg-period k _ p.now (length p.registrations) p.events) (first-fewer u)
+change-goes {p = p} {q = q} (registered k x e unframed u b at) = before-goes {p = p} b refl (more p x) (reg-period k _ p.now (length p.registrations) p.events) (first-fewer u)
 change-goes {p = p} {q = q} (enqueued_anew k x t queue e i s n b) =
     before-goes {p = p} b refl (more p x) (period-then (length p.registrations) p.events (register_as k x p).events _ (reg-period k _ p.now (length p.registrations) p.events) (quiet-period (length p.registrations) p.now _ (register_as k x p).events (refl, λ r. refl)))
     (fewer-places p q _ s (λ c i. i))
-change-goes {p = p} {q = q} (fell_due r d b) = before-goes {p = p} b refl (omega arith) (quiet-period (length p.registrations) p.now _ p.events (refl, λ r. refl)) (due-fewer d)
-change-goes {p = p} {q = q} (post_fell_due start source t queue e role a s n b) =
+change-goes {p = p} {q = q} (fell_due r d b by) = before-goes {p = p} b refl (omega arith) (quiet-period (length p.registrations) p.now _ p.events (refl, λ r. refl)) (due-fewer d)
+change-goes {p = p} {q = q} (post_fell_due start source t queue e role a s n b by) =
     before-goes {p = p} b refl (omega arith)
     (period-then (length p.registrations) p.events _ _ (quiet-period (length p.registrations) p.now _ p.events (refl, λ r. refl)) (quiet-period (length p.registrations) p.now _ _ (refl, λ r. refl)))
     (fewer-places p q _ s (λ c i. i))

@@ -7,8 +7,8 @@ use Rattle.page_types.specs.declared.Priority.TheVariants.{Background, UserVisib
 use Rattle.page_types.specs.Events.{MicroJob, ReactJob, FixedQueue, SignalQueue, Turn, Call, Ret, Throw, Log, Reg, Arm, Due, Drop, Job, Run, Settle, Period, IdleLine, Frame, Enq, Prio, Host, EndLine, Stamped}
 use Rattle.page_laws.proofs.LawExamples.{at}
 use Rattle.page_laws.specs.CallLaws.{holds_once, holds_cancel, holds_settle_once, holds_jobs_in_order, holds_no_nesting}
-use Rattle.page_laws.specs.TimerLaws.{holds_timers_in_order, holds_frames_in_order, holds_idle_deadlines}
-use Rattle.page_laws.specs.SchedulerLaws.{holds_priority_order, holds_ends_truly}
+use Rattle.page_laws.specs.TimerLaws.{holds_due_in_order, holds_due_when_armed, holds_timers_clamped, holds_timers_in_order, holds_frames_in_order, holds_idle_deadlines}
+use Rattle.page_laws.specs.SchedulerLaws.{holds_arms_due, holds_ends_truly, holds_frames_over, holds_idles_over, holds_priority_order}
 
 registered_twice : holds_once (at 0 (Reg 2 kind.Timeout None) ∷ at 0 (Reg 2 kind.Micro None) ∷ []) ≡ false
 registered_twice = refl
@@ -96,20 +96,35 @@ first_is_due_first = refl
 second_overtakes : holds_timers_in_order 1 (two_timeouts 1000 1000 (at 1000 (Due 3) ∷ at 1000 (Due 2) ∷ [])) ≡ false
 second_overtakes = refl
 
+second_overtakes_in_time : holds_due_when_armed (two_timeouts 1000 1000 (at 1000 (Due 3) ∷ at 1000 (Due 2) ∷ [])) ≡ true
+second_overtakes_in_time = refl
+
+second_overtakes_out_of_order : holds_due_in_order (two_timeouts 1000 1000 (at 1000 (Due 3) ∷ at 1000 (Due 2) ∷ [])) ≡ false
+second_overtakes_out_of_order = refl
+
 second_is_armed_for_earlier : holds_timers_in_order 1 (two_timeouts 2000 1000 (at 1000 (Due 3) ∷ at 2000 (Due 2) ∷ [])) ≡ true
 second_is_armed_for_earlier = refl
 
 due_before_its_time : holds_timers_in_order 1 (two_timeouts 1000 2000 (at 999 (Due 2) ∷ [])) ≡ false
 due_before_its_time = refl
 
+due_before_its_time_alone : holds_due_when_armed (two_timeouts 1000 2000 (at 999 (Due 2) ∷ [])) ≡ false
+due_before_its_time_alone = refl
+
 due_twice : holds_timers_in_order 1 (two_timeouts 1000 2000 (at 1000 (Due 2) ∷ at 1000 (Due 2) ∷ [])) ≡ false
 due_twice = refl
+
+due_twice_for_one_arm : holds_due_when_armed (two_timeouts 1000 2000 (at 1000 (Due 2) ∷ at 1000 (Due 2) ∷ [])) ≡ false
+due_twice_for_one_arm = refl
 
 called_before_it_is_due : holds_timers_in_order 1 (two_timeouts 1000 2000 (at 1000 (Call 2) ∷ [])) ≡ false
 called_before_it_is_due = refl
 
 no_whole_milliseconds : holds_timers_in_order 1 (two_timeouts 1500 2000 []) ≡ false
 no_whole_milliseconds = refl
+
+no_whole_milliseconds_alone : holds_timers_clamped (two_timeouts 1500 2000 []) ≡ false
+no_whole_milliseconds_alone = refl
 
 -- a timeout in the callback of a timeout of the script
 abbrev timeout_in_timeout : ℕ → ℕ → List Stamped
@@ -121,6 +136,9 @@ timeout_in_timeout_gains_a_level = refl
 
 timeout_in_timeout_keeps_its_level : holds_timers_in_order 1 (timeout_in_timeout 0 1) ≡ false
 timeout_in_timeout_keeps_its_level = refl
+
+timeout_in_timeout_is_clamped_so : holds_timers_clamped (timeout_in_timeout 0 1) ≡ true
+timeout_in_timeout_is_clamped_so = refl
 
 level_of_a_timeout_in_the_script : holds_timers_in_order 1 (at 0 (Call 1) ∷ at 0 (Reg 2 kind.Timeout None) ∷ at 0 (Arm 2 0 2) ∷ []) ≡ false
 level_of_a_timeout_in_the_script = refl
@@ -162,8 +180,14 @@ clamped_at_level_7 = refl
 not_clamped_at_level_7 : holds_timers_in_order 1 (seventh_time 3000) ≡ false
 not_clamped_at_level_7 = refl
 
+not_clamped_at_level_7_alone : holds_timers_clamped (seventh_time 3000) ≡ false
+not_clamped_at_level_7_alone = refl
+
 post_armed_with_a_level : holds_timers_in_order 1 (at 0 (Reg 2 kind.Post None) ∷ at 0 (Arm 2 1000 1) ∷ []) ≡ false
 post_armed_with_a_level = refl
+
+post_armed_with_a_level_alone : holds_timers_clamped (at 0 (Reg 2 kind.Post None) ∷ at 0 (Arm 2 1000 1) ∷ []) ≡ false
+post_armed_with_a_level_alone = refl
 
 -- frames: requested, and then these lines of a turn
 abbrev in_a_frame : List Stamped → List Stamped
@@ -277,8 +301,26 @@ task_before_continuation = refl
 done_with_an_active_timer : holds_ends_truly 10000 100 (at 0 (Reg 2 kind.Timeout None) ∷ at 0 (Arm 2 0 1) ∷ at 0 (Drop 2) ∷ at 0 (EndLine end.Done) ∷ []) ≡ false
 done_with_an_active_timer = refl
 
+done_with_an_arm_that_was_not_due : holds_arms_due (at 0 (Reg 2 kind.Timeout None) ∷ at 0 (Arm 2 0 1) ∷ at 0 (Drop 2) ∷ at 0 (EndLine end.Done) ∷ []) ≡ false
+done_with_an_arm_that_was_not_due = refl
+
+stopped_with_an_arm_that_was_not_due : holds_arms_due (at 0 (Reg 2 kind.Timeout None) ∷ at 0 (Arm 2 0 1) ∷ at 0 (Drop 2) ∷ at 0 (EndLine end.Clock) ∷ []) ≡ true
+stopped_with_an_arm_that_was_not_due = refl
+
+done_with_a_frame_callback : holds_frames_over (at 0 (Reg 2 kind.Frame None) ∷ at 0 (EndLine end.Done) ∷ []) ≡ false
+done_with_a_frame_callback = refl
+
+done_with_a_dropped_frame_callback : holds_frames_over (at 0 (Reg 2 kind.Frame None) ∷ at 0 (Drop 2) ∷ at 0 (EndLine end.Done) ∷ []) ≡ true
+done_with_a_dropped_frame_callback = refl
+
 done_with_an_idle_callback : holds_ends_truly 10000 100 (at 0 (Reg 2 kind.Idle None) ∷ at 0 (EndLine end.Done) ∷ []) ≡ false
 done_with_an_idle_callback = refl
+
+an_idle_callback_is_left : holds_idles_over (at 0 (Reg 2 kind.Idle None) ∷ at 0 (EndLine end.Done) ∷ []) ≡ false
+an_idle_callback_is_left = refl
+
+a_dropped_idle_callback_is_over : holds_idles_over (at 0 (Reg 2 kind.Idle None) ∷ at 0 (Drop 2) ∷ at 0 (EndLine end.Done) ∷ []) ≡ true
+a_dropped_idle_callback_is_over = refl
 
 done_with_an_interval : holds_ends_truly 10000 100 (at 0 (Reg 2 kind.Interval None) ∷ at 0 (Arm 2 0 1) ∷ at 0 (Due 2) ∷ at 0 (Call 2) ∷ at 0 Ret ∷ at 0 (EndLine end.Done) ∷ []) ≡ false
 done_with_an_interval = refl
@@ -288,6 +330,9 @@ done_with_a_silent_host = refl
 
 done_with_a_dropped_host : holds_ends_truly 10000 100 (at 0 (Reg 2 kind.Host None) ∷ at 0 (Arm 2 0 0) ∷ at 0 (Drop 2) ∷ at 0 (EndLine end.Done) ∷ []) ≡ true
 done_with_a_dropped_host = refl
+
+done_with_the_arm_of_a_dropped_host : holds_arms_due (at 0 (Reg 2 kind.Host None) ∷ at 0 (Arm 2 0 0) ∷ at 0 (Drop 2) ∷ at 0 (EndLine end.Done) ∷ []) ≡ true
+done_with_the_arm_of_a_dropped_host = refl
 
 -- an interval that is armed, is due and is dropped, with these lines before its drop
 abbrev interval_to_the_end : List Stamped → List Stamped
@@ -302,6 +347,9 @@ done_with_the_last_arm_active = refl
 
 done_with_two_arms_and_one_due : holds_ends_truly 10000 100 (interval_to_the_end (at 0 (Reg 2 kind.Interval None) ∷ at 0 (Arm 2 0 1) ∷ at 0 (Arm 2 0 2) ∷ at 0 (Due 2) ∷ [])) ≡ false
 done_with_two_arms_and_one_due = refl
+
+two_arms_and_one_due : holds_arms_due (interval_to_the_end (at 0 (Reg 2 kind.Interval None) ∷ at 0 (Arm 2 0 1) ∷ at 0 (Arm 2 0 2) ∷ at 0 (Due 2) ∷ [])) ≡ false
+two_arms_and_one_due = refl
 
 clock_before_until : holds_ends_truly 10000 100 (at 9999 (EndLine end.Clock) ∷ []) ≡ false
 clock_before_until = refl

@@ -3,6 +3,8 @@ pub mod Moving
 pub mod Lines
 pub mod Framed
 pub mod Prioritised
+pub mod Unarmed
+pub mod Delays
 pub mod Moved
 pub mod Items
 pub mod Idling
@@ -34,8 +36,16 @@ pub mod HostAnswers
 pub mod CancelledHosts
 pub mod FrameOrder
 pub mod ArmedTimes
+pub mod Arming
 pub mod Deadlines
 pub mod Firing
+pub mod DueTimes
+pub mod DueOrder
+pub mod Clamps
+pub mod DoneArms
+pub mod AtEnd
+pub mod DoneFrames
+pub mod DoneIdle
 pub mod First
 pub mod Priorities
 pub mod OpenCalls

@@ -105,15 +105,15 @@ before-same b = (ap open_registrations b.events, b.performing)
 pub change-same : {p q : Page} → PageChange p q → Same p q
 change-same (elsewhere c b k) = before-same b
 change-same {p = p} (told e h) = (aside-open e h (open_registrations p.events), refl)
-change-same (arm_told r due level w) = (refl, refl)
-change-same {p = p} (rested e h x y z over begun) = (rest-open e h (open_registrations p.events), refl)
+change-same (arm_told r due level w well) = (refl, refl)
+change-same {p = p} (rested e h x y z over begun done) = (rest-open e h (open_registrations p.events), refl)
 change-same (answered source task t answer x y live z b) = before-same b
-change-same (registered kind x e unframed u b) = before-same b
+change-same (registered kind x e unframed u b at) = before-same b
 change-same (dropped r d b) = before-same b
 change-same (task_dropped r role a e s b) = before-same b
 change-same (enqueued_anew kind x t queue e i s n b) = before-same b
-change-same (fell_due r d b) = before-same b
-change-same (post_fell_due start source t queue e role a s n b) = before-same b
+change-same (fell_due r d b by) = before-same b
+change-same (post_fell_due start source t queue e role a s n b by) = before-same b
 change-same (prio_told s priority ps c) = (refl, refl)
 change-same (frame_dropped handle c e role) = (refl, refl)
 change-same (frame_asked f) = (refl, refl)
@@ -160,15 +160,15 @@ notices-calls f p = emit_each-calls (f p.notices).lines (record p { notices = (f
 pub change-calls : {p q : Page} → PageChange p q → q.calls ≡ p.calls
 change-calls (elsewhere c b k) = b.calls
 change-calls (told e h) = refl
-change-calls (arm_told r due level w) = refl
-change-calls (rested e h x y z over begun) = refl
+change-calls (arm_told r due level w well) = refl
+change-calls (rested e h x y z over begun done) = refl
 change-calls (answered source task t answer x y live z b) = b.calls
-change-calls (registered kind x e unframed u b) = b.calls
+change-calls (registered kind x e unframed u b at) = b.calls
 change-calls (dropped r d b) = b.calls
 change-calls (task_dropped r role a e s b) = b.calls
 change-calls (enqueued_anew kind x t queue e i s n b) = b.calls
-change-calls (fell_due r d b) = b.calls
-change-calls (post_fell_due start source t queue e role a s n b) = b.calls
+change-calls (fell_due r d b by) = b.calls
+change-calls (post_fell_due start source t queue e role a s n b by) = b.calls
 change-calls (prio_told s priority ps c) = refl
 change-calls (frame_dropped handle c e role) = refl
 change-calls (frame_asked f) = refl

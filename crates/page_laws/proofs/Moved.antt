@@ -16,7 +16,8 @@ use Rattle.page_types.specs.declared.RegKind.TheVariants.{Frame as FrameKind, In
 use Rattle.page_types.specs.declared.Source.{Source}
 use Rattle.page_types.specs.declared.Source.TheVariants.{Dom, Idle as IdleSource}
 use Rattle.page_types.specs.declared.HostMark.TheVariants.{Live}
-use Rattle.page_types.specs.Events.{Event, Report, Arm, Due, Drop, Period, Abort, Host, Send, Enq}
+use Rattle.page_types.specs.declared.End.TheVariants.{Done}
+use Rattle.page_types.specs.Events.{EndLine, Event, Report, Arm, Due, Drop, Period, Abort, Host, Send, Enq}
 use Rattle.page_parts.specs.Words.{is_empty, and_last, without, numbered, is_there}
 use Rattle.page_parts.proofs.Numbered.{with_numbered-own}
 use Rattle.page_parts.specs.Spelling.{spelled}
@@ -40,17 +41,19 @@ use Rattle.page_model.specs.PagePromises as promises
 use Rattle.page_model.specs.PagePromises.{new_promise, last_promise}
 use Rattle.page_model.specs.PageTime.{start_period, init_timer, clear_id, clear_timer, registration_with_id, first_task, without_frame, cancel_frame, deadline, period_begun, idle_timeout, idle_callback, without_idle, cancel_idle, completion_of}
 use Rattle.page_model.specs.Turns.{without_task, not_dropped}
-use Rattle.page_model.proofs.NumbersGrow.{length-last, numbered-last, Each-more, Each-append, Held, Each-find, InFrames, InIdle, InTimers, InListeners, InCompletions, InSchedTasks, InPrios}
+use Rattle.page_model.proofs.NumbersGrow.{length-last, numbered-last, Each-more, Each-append, Held, Each-find, InFrames, InIdle, InTimers, InIdleTimers, InListeners, InCompletions, InSchedTasks, InPrios}
 use Rattle.page_model.specs.SchedulerTasks.{enqueue, queue_name}
 use Rattle.page_model.specs.Invoke.{WhenReported, BeforeCheckpoint, AfterCheckpoint, Never, report_before, report_after, notify_rejected, register, register_as}
 use Rattle.page_model.specs.PageSignals.{waiting_answer, waiting_net_task, has_not_begun, drop_registration, abort_registration, reason_set, watch, unwatch, give_priority, change_begun, change_ended, is_aborted_source, is_delay_of, is_for, host_task_of, is_aborted}
 use Rattle.page_model.specs.Operations.{latency_of, queued_mark, micro_registered, script_promise, then_made, timer_set, frame_requested, idle_requested, with_signals, task_signal_made, any_made, last_signal, timeout_signal_made, listener_added, listener_removed, promised, post_delayed, post_queued, continuation_queued, host_queued, finally_made, posted}
 use Rattle.page_model.specs.Tasks.{invoke_idle_again, outstanding_if_unhandled, fire_closure, settle_answer, answer_host}
-use Rattle.page_model.specs.Numbers.{IsGiven, Each, IfThere, made_by, Made, is_abortable, timer_role, TimerIdIsGiven, CallbackIsGiven, IdleIsGiven, ListenerIsGiven, CompletionIsGiven, SchedTaskIsGiven, CompletingIsGiven, sched_role}
-use Rattle.page_laws.specs.History.{is_frame, open_registrations, is_scheduled}
-use Rattle.page_laws.specs.Moves.{PlaceIsPlain, FirstArms, with_arm, is_delayed_role, is_aside, is_idle_task, role_at, IsIn, PeriodGoesOn, InPeriod, ArmedAt, by_timer, by_idle, by_host, completes_for, with_timer, idle_queued, FrameIsOver, promise_changes, Places, places, is_free, PlaceChange, places_stay, task_queued, completed, idle_started, idle_left, id_cleared, Dropping, timer_dropped, idle_dropped, listener_dropped, FirstPlace, nowhere, at_listener, at_timer, at_delay, at_idle, at_host, AsBefore, fired_at, PageChange, elsewhere, frame_asked, registered, answered, dropped, frame_dropped, then_asked, micro_asked, told, rested, settled, followed, adopted, subscribed, rejected_taken, noted, Changes, nothing, with_change, with_arm, armed_again, signal_armed, idle_armed, timer_due, delay_due, signal_due, idle_due, answer_due, DueChange, StaysAborted, fell_due, post_fell_due, enqueued_anew, task_dropped, role_at, id_at, signal_at, Scheduling, scheduling_of, SchedulingAfter, HasPriority, Sourced, known, prio_told}
+use Rattle.page_model.specs.Numbers.{IsGiven, Each, IfThere, made_by, Made, is_abortable, timer_role, is_timer_role, TimerIdIsGiven, CallbackIsGiven, IdleIsGiven, IdleTimerIsGiven, ListenerIsGiven, CompletionIsGiven, SchedTaskIsGiven, CompletingIsGiven, sched_role}
+use Rattle.page_laws.specs.History.{is_frame, is_idle, open_registrations, is_scheduled}
+use Rattle.page_laws.specs.Moves.{PlaceIsPlain, FirstArms, with_arm, is_delayed_role, is_aside, is_idle_task, role_at, IsIn, PeriodGoesOn, IsMade, IsUnarmed, IsArmedWell, IsDueBy, ArmedAt, by_timer, by_idle, by_host, completes_for, with_timer, idle_queued, FrameIsOver, promise_changes, Places, places, is_free, PlaceChange, places_stay, task_queued, completed, idle_started, id_cleared, Dropping, timer_dropped, idle_dropped, listener_dropped, FirstPlace, nowhere, at_listener, at_timer, at_delay, at_idle, at_host, AsBefore, fired_at, PageChange, elsewhere, frame_asked, registered, answered, dropped, frame_dropped, then_asked, micro_asked, told, rested, settled, followed, adopted, subscribed, rejected_taken, noted, Changes, nothing, with_change, with_arm, armed_again, signal_armed, idle_armed, timer_due, delay_due, signal_due, idle_due, answer_due, DueChange, StaysAborted, fell_due, post_fell_due, enqueued_anew, task_dropped, role_at, id_at, signal_at, Scheduling, scheduling_of, SchedulingAfter, HasPriority, Sourced, known, prio_told}
 use Rattle.page_laws.specs.Moves as moves
 use Rattle.page_laws.proofs.Moving.{changes-then}
+use Rattle.page_laws.proofs.Delays.{timer-well, other-well}
+use Rattle.page_laws.proofs.Unarmed.{each-in, unregistered-unarmed, same-unarmed}
 
 -- ---- ways to put changes together
 
@@ -63,14 +66,14 @@ same_scheduling : (a b : Scheduling) → b ≡ a → SchedulingAfter a b
 same_scheduling a b e = subst (SchedulingAfter a) (sym e) (record { priorities = λ s. refl; states = refl; tasks_made = omega arith; idle_start = refl })
 
 -- a change of the places, and of what is not named otherwise
-pub placed : (p q : Page) (c : PlaceChange p.registrations (places p) (places q)) → PlaceIsPlain c → InPeriod c p → q.notices ≡ p.notices → q.performing ≡ p.performing → q.events ≡ p.events → q.registrations ≡ p.registrations → q.frames ≡ p.frames → q.calls ≡ p.calls → q.signals ≡ p.signals → scheduling_of q ≡ scheduling_of p → Changes p q
+pub placed : (p q : Page) (c : PlaceChange p.registrations (places p) (places q)) → PlaceIsPlain c → IsMade c p → q.notices ≡ p.notices → q.performing ≡ p.performing → q.events ≡ p.events → q.registrations ≡ p.registrations → q.frames ≡ p.frames → q.calls ≡ p.calls → q.signals ≡ p.signals → scheduling_of q ≡ scheduling_of p → Changes p q
 placed p q c plain k x y z w v u t j = with_change nothing (elsewhere c (record { notices = x; performing = y; events = z; registrations = w; frames = v; calls = u; aborted = same_signals p q t; scheduling = same_scheduling (scheduling_of p) (scheduling_of q) j }) k) plain
 
 -- a change of the places, with what holds then
 record StaysAt (made : List Registration) (x y : Places) (p : Page) : Type 0 where
   change : PlaceChange made x y
   plain : PlaceIsPlain change
-  period : InPeriod change p
+  period : IsMade change p
 
 pub quietly : (p q : Page) → places q ≡ places p → q.notices ≡ p.notices → q.performing ≡ p.performing → q.events ≡ p.events → q.registrations ≡ p.registrations → q.frames ≡ p.frames → q.calls ≡ p.calls → q.signals ≡ p.signals → scheduling_of q ≡ scheduling_of p → Changes p q
 quietly p q s x y z w v u t j = placed p q (same_places s).change (same_places s).plain (same_places s).period x y z w v u t j
@@ -115,8 +118,8 @@ timer_armed made x r due timers k e h own role =
     (found_last x.timers.starts_made x.completions k h) own role
 
 -- a registration is due, with its line
-pub due-changes : (r : ℕ) (p q : Page) → DueChange p.registrations r (places p) (places q) → AsBefore (emit (Due r) p) q → Changes p q
-due-changes r p q c b = with_change nothing (fell_due r c b) tt
+pub due-changes : (r : ℕ) (p q : Page) (d : DueChange p.registrations r (places p) (places q)) → AsBefore (emit (Due r) p) q → IsDueBy p.now d → Changes p q
+due-changes r p q d b by = with_change nothing (fell_due r d b by) tt
 
 pub cond_of-changes : (b : Bool) (f g : Page → Page) (p q : Page) → Changes q (f p) → Changes q (g p) → Changes q (cond b f g p)
 cond_of-changes true f g p q h k = h
@@ -224,24 +227,27 @@ in-either {X = X} x (z ∷ xs) ys (inr i) = by_rest (in-either x xs ys i)
     by_rest (inl j) = inl (inr j)
     by_rest (inr j) = inr j
 
+false_true : false ≡ true → ⊥
+false_true e = Prim.cc
+
 -- a registration is made and waits nowhere
-pub register-changes : (kind : RegKind) (x : Registration) (p : Page) → x.role ≡ OfKind kind → is_frame kind ≡ false → Changes p (register_as kind x p)
-register-changes kind x p e unframed = with_change nothing (registered kind x e unframed nowhere (record { notices = refl; performing = refl; events = refl; registrations = refl; frames = refl; calls = refl; aborted = λ s h. h; scheduling = record { priorities = λ s. refl; states = refl; tasks_made = omega arith; idle_start = refl } })) tt
+pub register-changes : (kind : RegKind) (x : Registration) (p : Page) → x.role ≡ OfKind kind → is_frame kind ≡ false → is_idle kind ≡ false → Changes p (register_as kind x p)
+register-changes kind x p e unframed other = with_change nothing (registered kind x e unframed nowhere (record { notices = refl; performing = refl; events = refl; registrations = refl; frames = refl; calls = refl; aborted = λ s h. h; scheduling = record { priorities = λ s. refl; states = refl; tasks_made = omega arith; idle_start = refl } }) (λ h. absurd (false_true (sym other ∙ h)))) tt
 
 -- it is made, waits at its first place, and is armed
-register_at-changes : (kind : RegKind) (x : Registration) (r due level : ℕ) (p q : Page) → x.role ≡ OfKind kind → is_frame kind ≡ false → ArmedAt q.registrations (places q) r due → r ≡ suc (length p.registrations) → (u : FirstPlace p.registrations p.prios (suc (length p.registrations)) (places p) (places q)) → FirstArms u due → AsBefore (register_as kind x p) q → Changes p (emit (Arm r due level) q)
-register_at-changes kind x r due level p q role unframed w e u arms b = with_arm {r = q} nothing (registered kind x role unframed u b) (moves.arm_told r due level w) (e, arms)
+register_at-changes : (kind : RegKind) (x : Registration) (r due level : ℕ) (p q : Page) → x.role ≡ OfKind kind → is_frame kind ≡ false → is_idle kind ≡ false → ArmedAt q.registrations (places q) r due → IsArmedWell q r due level → r ≡ suc (length p.registrations) → (u : FirstPlace p.registrations p.prios (suc (length p.registrations)) (places p) (places q)) → FirstArms u due → AsBefore (register_as kind x p) q → Changes p (emit (Arm r due level) q)
+register_at-changes kind x r due level p q role unframed other w well e u arms b = with_arm {r = q} nothing (registered kind x role unframed u b (λ h. absurd (false_true (sym other ∙ h)))) (moves.arm_told r due level w well) (e, arms)
 
 -- ---- time
 
 -- an interval whose id is in the map is armed again
-pub init_again-changes : (id r : ℕ) (timeout : ℤ) (p : Page) → Held (made_by p) p → (numbered p.registrations r no_registration).role ≡ OfKind IntervalKind → Timers.has_id id p.timers ≡ true → Changes p (init_timer (Some id) r true timeout p)
-init_again-changes id r timeout p h e there =
+pub init_again-changes : (id r : ℕ) (timeout : ℤ) (p : Page) → Held (made_by p) p → (numbered p.registrations r no_registration).role ≡ OfKind IntervalKind → Timers.has_id id p.timers ≡ true → id_at p.registrations r ≡ id → IsUnarmed r (places p) → Changes p (init_timer (Some id) r true timeout p)
+init_again-changes id r timeout p h e there own free =
     let a = armed (Some id) timeout p.level p.now p.timers in
     let t : TimerTask = record { registration = r; id = a.id; handle = a.handle; level = a.level; repeats = true; timeout = timeout } in
     let set : Page = record p { timers = with_armed (Some id) a p.timers; completions = and_last p.completions (record { start = a.start; completion = QueueTimer t }) } in
-    with_arm {r = set} nothing (elsewhere (armed_again a t e there refl) (record { notices = refl; performing = refl; events = refl; registrations = refl; frames = refl; calls = refl; aborted = λ s h. h; scheduling = record { priorities = λ s. refl; states = refl; tasks_made = omega arith; idle_start = refl } }) tt)
-    (moves.arm_told r a.due a.level (timer_armed p.registrations (places p) r a.due (with_armed (Some id) a p.timers) (QueueTimer t) refl (started p h) refl (ap is_delayed_role e))) (refl, refl)
+    with_arm {r = set} nothing (elsewhere (armed_again a t e there (record { same_id = refl; same_handle = refl; own = own; handle = refl; start = refl })) (record { notices = refl; performing = refl; events = refl; registrations = refl; frames = refl; calls = refl; aborted = λ s h. h; scheduling = record { priorities = λ s. refl; states = refl; tasks_made = omega arith; idle_start = refl } }) free)
+    (moves.arm_told r a.due a.level (timer_armed p.registrations (places p) r a.due (with_armed (Some id) a p.timers) (QueueTimer t) refl (started p h) refl (ap is_delayed_role e)) (timer-well set r p.level (Timers.milliseconds timeout) a.due refl (ap is_timer_role e))) (refl, refl)
 
 pub clear_id-changes : (id : ℕ) (p : Page) → Changes p (clear_id id p)
 clear_id-changes id p = placed p (clear_id id p) (id_cleared id) tt tt refl refl refl refl refl refl refl refl
@@ -313,11 +319,14 @@ callback-given kind last n c (d ∷ cs) h (inr i) = callback-given kind last n c
 pub start_period-changes : (p : Page) → p.last_idle_start ≡ p.now → open_registrations p.events ≡ [] → p.notices.jobs ≡ [] → FrameIsOver p → Held (made_by p) p → Changes p (start_period p)
 start_period-changes p now x y over h =
     cond-changes (waits p.idle && nat_lt p.now (deadline p.last_idle_start p) && nat_le p.idle_period_end p.now) p (period_begun end p) p
-    (changes-then (changes-then (with_change nothing (rested (Period end) refl x y refl over (λ e. now)) tt) (placed told_one started_one idle_started tt (λ c i. (refl, (of_pending c i).registration.registration.to_last)) refl refl refl refl refl refl refl refl))
+    (changes-then (changes-then (with_change nothing (rested (Period end) refl x y refl over (λ e. now) (λ e. absurd (no_end e))) tt) (placed told_one started_one idle_started tt (λ c i. (refl, (of_pending c i).registration.registration.to_last)) refl refl refl refl refl refl refl refl))
     (queue_idle-changes started_one (record { start = ap Some (sym now); runnable = λ c i. refl; given = λ c i. (of_all c i).registration.registration.to_last }))) nothing
   where
     end : ℕ
     end = deadline p.last_idle_start p
+
+    no_end : Period (deadline p.last_idle_start p) ≡ EndLine Done → ⊥
+    no_end e = Prim.cc
 
     told_one : Page
     told_one = emit (Period (deadline p.last_idle_start p)) p
@@ -334,15 +343,12 @@ start_period-changes p now x y over h =
         (Each-append (CallbackIsGiven IdleKind p.idle.made (made_by p)) p.idle.runnable p.idle.pending (idle_lists (h InIdle)).0 (idle_lists (h InIdle)).1) i
 
 -- an idle timeout is started for a callback, whose handle is the last one
-pub idle_timeout-changes : (ms r : ℕ) (p : Page) → role_at p.registrations r ≡ OfKind IdleKind → ((c : Callback) → IsIn c (p.idle.runnable ++ p.idle.pending) → c.handle ≡ p.idle.made → c.registration ≡ r) → Changes p (idle_timeout ms r p)
-idle_timeout-changes ms r p role own =
+pub idle_timeout-changes : (ms r : ℕ) (p : Page) → role_at p.registrations r ≡ OfKind IdleKind → ((c : Callback) → IsIn c (p.idle.runnable ++ p.idle.pending) → c.handle ≡ p.idle.made → c.registration ≡ r) → IsUnarmed r (places p) → ((u : IdleTimer) → IsIn u p.idle_timers → u.handle ≡ p.idle.made → ⊥) → Changes p (idle_timeout ms r p)
+idle_timeout-changes ms r p role own free other =
     let t : IdleTimer = record { due = p.now + ms * 1000; handle = p.idle.made; registration = r } in
     let set : Page = record p { idle_timers = and_last p.idle_timers t } in
-    with_arm {r = set} nothing (elsewhere (idle_armed t (omega arith) own) (record { notices = refl; performing = refl; events = refl; registrations = refl; frames = refl; calls = refl; aborted = λ s h. h; scheduling = record { priorities = λ s. refl; states = refl; tasks_made = omega arith; idle_start = refl } }) tt)
-    (moves.arm_told r (p.now + ms * 1000) 0 (by_idle t (is-last t p.idle_timers) refl refl role)) (refl, refl)
-
-pub without_idle-changes : (handle : ℕ) (p : Page) → Changes p (without_idle handle p)
-without_idle-changes handle p = placed p (without_idle handle p) (idle_left handle) tt tt refl refl refl refl refl refl refl refl
+    with_arm {r = set} nothing (elsewhere (idle_armed t (omega arith) own) (record { notices = refl; performing = refl; events = refl; registrations = refl; frames = refl; calls = refl; aborted = λ s h. h; scheduling = record { priorities = λ s. refl; states = refl; tasks_made = omega arith; idle_start = refl } }) (role, free, other))
+    (moves.arm_told r (p.now + ms * 1000) 0 (by_idle t (is-last t p.idle_timers) refl refl role) (other-well set r (p.now + ms * 1000) (ap is_timer_role role))) (refl, refl)
 
 pub cancel_idle-changes : (handle : ℕ) (p : Page) → Held (made_by p) p → Changes p (cancel_idle handle p)
 cancel_idle-changes handle p h = by_callback (idle_callback handle p) refl
@@ -529,6 +535,10 @@ delayed_timer : (repeats : Bool) → is_delayed_role (timer_role repeats) ≡ tr
 delayed_timer true = refl
 delayed_timer false = refl
 
+timer_there : (repeats : Bool) → is_timer_role (timer_role repeats) ≡ true
+timer_there true = refl
+timer_there false = refl
+
 -- a timer is for no frame
 no_frame : (repeats : Bool) (kind : RegKind) → OfKind kind ≡ timer_role repeats → is_frame kind ≡ false
 no_frame true kind e = ap {A = Role} {B = Bool} frames e
@@ -542,6 +552,19 @@ no_frame false kind e = ap {A = Role} {B = Bool} frames e
     frames ScriptRole = false
     frames (OfKind k) = is_frame k
 
+-- nor for an idle callback
+no_idle : (repeats : Bool) (kind : RegKind) → OfKind kind ≡ timer_role repeats → is_idle kind ≡ false
+no_idle true kind e = ap {A = Role} {B = Bool} idles e
+  where
+    idles : Role → Bool
+    idles ScriptRole = false
+    idles (OfKind k) = is_idle k
+no_idle false kind e = ap {A = Role} {B = Bool} idles e
+  where
+    idles : Role → Bool
+    idles ScriptRole = false
+    idles (OfKind k) = is_idle k
+
 pub timer_set-changes : (kind : RegKind) (repeats : Bool) (f : Func) (timeout : ℤ) (p : Page) → OfKind kind ≡ timer_role repeats → Held (made_by p) p → Changes p (timer_set kind repeats f timeout p)
 timer_set-changes kind repeats f timeout p role h =
     let x : Registration = record { role = OfKind kind; callback = Some f; second_callback = None; timer_id = suc p.timers.ids_made; promise = 0; signal = None; finally = false } in
@@ -551,7 +574,7 @@ timer_set-changes kind repeats f timeout p role h =
     let t : TimerTask = record { registration = r; id = a.id; handle = a.handle; level = a.level; repeats = repeats; timeout = timeout } in
     let fresh : (q : ℕ) → id_at p.registrations q ≡ a.id → ⊥ = λ q e. let le = (the_registration-given p q h).timer_id in absurd (omega (arith, le, e)) in
     let set : Page = record made { timers = with_armed None a made.timers; completions = and_last made.completions (record { start = a.start; completion = QueueTimer t }) } in
-    register_at-changes kind x r a.due a.level p set refl (no_frame repeats kind role) (timer_armed made.registrations (places made) r a.due (with_armed None a made.timers) (QueueTimer t) refl (started p h) refl (ap is_delayed_role (new_role kind x p refl ∙ role) ∙ delayed_timer repeats)) (made_last kind x p) (at_timer a t (made_last kind x p) fresh) refl (record { notices = refl; performing = refl; events = refl; registrations = refl; frames = refl; calls = refl; aborted = λ s h. h; scheduling = record { priorities = λ s. refl; states = refl; tasks_made = omega arith; idle_start = refl } })
+    register_at-changes kind x r a.due a.level p set refl (no_frame repeats kind role) (no_idle repeats kind role) (timer_armed made.registrations (places made) r a.due (with_armed None a made.timers) (QueueTimer t) refl (started p h) refl (ap is_delayed_role (new_role kind x p refl ∙ role) ∙ delayed_timer repeats)) (timer-well set r p.level (Timers.milliseconds timeout) a.due refl (ap is_timer_role (new_role kind x p refl ∙ role) ∙ timer_there repeats)) (made_last kind x p) (at_timer a t (made_last kind x p) (record { fresh = fresh; handle = refl; start = refl })) refl (record { notices = refl; performing = refl; events = refl; registrations = refl; frames = refl; calls = refl; aborted = λ s h. h; scheduling = record { priorities = λ s. refl; states = refl; tasks_made = omega arith; idle_start = refl } })
 
 pub frame_requested-changes : (f : Func) (p : Page) → Changes p (frame_requested f p)
 frame_requested-changes f p = with_change nothing (frame_asked f) tt
@@ -562,8 +585,12 @@ idle_requested-changes f ms p h =
     let made = register_as IdleKind x p in
     let r = last_registration made in
     let q : Page = record made { idle = IdleCallbacks.request r made.idle } in
-    let first : Changes p q = with_change nothing (registered IdleKind x refl refl (at_idle r (made_last IdleKind x p)) (record { notices = refl; performing = refl; events = refl; registrations = refl; frames = refl; calls = refl; aborted = λ s h. h; scheduling = record { priorities = λ s. refl; states = refl; tasks_made = omega arith; idle_start = refl } })) tt in
-    cond_of-changes (ms == 0) (λ q. q) (idle_timeout ms r) q p first (changes-then first (idle_timeout-changes ms r q (new_role IdleKind x p refl) (λ c i e. own c (in-either c p.idle.runnable (and_last p.idle.pending (record { handle = suc p.idle.made; registration = r })) i) e)))
+    let first : Changes p q = with_change nothing (registered IdleKind x refl refl (at_idle r (made_last IdleKind x p)) (record { notices = refl; performing = refl; events = refl; registrations = refl; frames = refl; calls = refl; aborted = λ s h. h; scheduling = record { priorities = λ s. refl; states = refl; tasks_made = omega arith; idle_start = refl } }) (λ h. tt)) tt in
+    cond_of-changes (ms == 0) (λ q. q) (idle_timeout ms r) q p first
+    (changes-then first
+    (idle_timeout-changes ms r q (new_role IdleKind x p refl) (λ c i e. own c (in-either c p.idle.runnable (and_last p.idle.pending (record { handle = suc p.idle.made; registration = r })) i) e)
+    (same-unarmed r (places p) (places q) refl refl refl refl (unregistered-unarmed p r h (let l = length-last p.registrations x in omega (arith, l))))
+    (λ u i e. let le = (each-in (IdleTimerIsGiven (made_by p)) p.idle_timers (h InIdleTimers) u i).handle.to_last in absurd (omega (arith, le, e)))))
   where
     last : ℕ
     last = length (and_last p.registrations (record { role = OfKind IdleKind; callback = Some f; second_callback = None; timer_id = 0; promise = 0; signal = None; finally = false }))
@@ -608,14 +635,14 @@ timeout_signal_made-changes ms p h =
     let timers = Timers.run_after ms made.now made.timers in
     let k = QueueSignal r (last_signal made) in
     let set : Page = record made { timers = timers; completions = and_last made.completions (record { start = suc made.timers.starts_made; completion = k }) } in
-    with_arm {r = set} (changes-then (make-changes p) (register-changes SignalKind _ new refl refl)) (elsewhere (signal_armed ms made.now r (last_signal made)) (record { notices = refl; performing = refl; events = refl; registrations = refl; frames = refl; calls = refl; aborted = λ s h. h; scheduling = record { priorities = λ s. refl; states = refl; tasks_made = omega arith; idle_start = refl } }) tt)
-    (moves.arm_told r (made.now + ms * 1000) 0 (timer_armed made.registrations (places made) r (made.now + ms * 1000) timers k refl (started p h) refl (ap is_delayed_role (new_role SignalKind _ new refl)))) (refl, refl)
+    with_arm {r = set} (changes-then (make-changes p) (register-changes SignalKind _ new refl refl refl)) (elsewhere (signal_armed ms made.now r (last_signal made)) (record { notices = refl; performing = refl; events = refl; registrations = refl; frames = refl; calls = refl; aborted = λ s h. h; scheduling = record { priorities = λ s. refl; states = refl; tasks_made = omega arith; idle_start = refl } }) (new_role SignalKind _ new refl, same-unarmed r (places p) (places made) refl refl refl refl (unregistered-unarmed p r h (let l = length-last p.registrations (record { role = OfKind SignalKind; callback = None; second_callback = None; timer_id = 0; promise = 0; signal = None; finally = false }) in omega (arith, l)))))
+    (moves.arm_told r (made.now + ms * 1000) 0 (timer_armed made.registrations (places made) r (made.now + ms * 1000) timers k refl (started p h) refl (ap is_delayed_role (new_role SignalKind _ new refl))) (other-well set r (made.now + ms * 1000) (ap is_timer_role (new_role SignalKind _ new refl)))) (refl, refl)
 
 pub listener_added-changes : (target : Target) (name : List ℕ) (f : Func) (p : Page) → Changes p (listener_added target name f p)
 listener_added-changes target name f p =
     let x : Registration = record { role = OfKind ListenerKind; callback = Some f; second_callback = None; timer_id = 0; promise = 0; signal = None; finally = false } in
     let made = register_as ListenerKind x p in
-    with_change nothing (registered ListenerKind x refl refl (at_listener target name (last_registration made) (made_last ListenerKind x p)) (record { notices = refl; performing = refl; events = refl; registrations = refl; frames = refl; calls = refl; aborted = λ s h. h; scheduling = record { priorities = λ s. refl; states = refl; tasks_made = omega arith; idle_start = refl } })) tt
+    with_change nothing (registered ListenerKind x refl refl (at_listener target name (last_registration made) (made_last ListenerKind x p)) (record { notices = refl; performing = refl; events = refl; registrations = refl; frames = refl; calls = refl; aborted = λ s h. h; scheduling = record { priorities = λ s. refl; states = refl; tasks_made = omega arith; idle_start = refl } }) (λ h. absurd (false_true h))) tt
 
 listening_role : (n : Made) (r : ℕ) (ls : List Listener) → Each (ListenerIsGiven n) ls → is_listening r ls ≡ true → role_at n.registrations r ≡ OfKind ListenerKind
 listening_role n r [] h e = Prim.cc
@@ -676,7 +703,7 @@ delayed-changes x source ms p h e from =
     let r = last_registration made in
     let timers = Timers.run_after ms made.now made.timers in
     let q : Page = record made { timers = timers; completions = and_last made.completions (record { start = timers.starts_made; completion = EnqueuePost r source }) } in
-    register_at-changes PostKind x r (made.now + ms * 1000) 0 p q e refl (timer_armed made.registrations (places made) r (made.now + ms * 1000) timers (EnqueuePost r source) refl h refl (ap is_delayed_role (new_role PostKind x p e))) (made_last PostKind x p) (at_delay ms made.now r source (made_last PostKind x p) from) refl (record { notices = refl; performing = refl; events = refl; registrations = refl; frames = refl; calls = refl; aborted = λ s h. h; scheduling = record { priorities = λ s. refl; states = refl; tasks_made = omega arith; idle_start = refl } })
+    register_at-changes PostKind x r (made.now + ms * 1000) 0 p q e refl refl (timer_armed made.registrations (places made) r (made.now + ms * 1000) timers (EnqueuePost r source) refl h refl (ap is_delayed_role (new_role PostKind x p e))) (other-well q r (made.now + ms * 1000) (ap is_timer_role (new_role PostKind x p e))) (made_last PostKind x p) (at_delay ms made.now r source (made_last PostKind x p) from) refl (record { notices = refl; performing = refl; events = refl; registrations = refl; frames = refl; calls = refl; aborted = λ s h. h; scheduling = record { priorities = λ s. refl; states = refl; tasks_made = omega arith; idle_start = refl } })
 
 pub post_queued-changes : (f : Func) (source : PrioSource) (signal : Option ℕ) (ms : ℕ) (p : Page) → Held (made_by p) p → HasPriority p.prios source → Changes p (post_queued f source signal ms p)
 post_queued-changes f source signal ms p h from =
@@ -712,7 +739,7 @@ asked-changes k c x e p role there live =
     let due = made.now + latency_of made.latencies k in
     let a : HostAnswer = record { due = due; task = record { registration = r; closure = k; number = x } } in
     let q : Page = record made { hosts = slice_set made.hosts k (queued_mark c); host_answers = and_last made.host_answers a } in
-    register_at-changes HostKind e r due 0 p q role refl (by_host a (is-last a made.host_answers) refl refl (new_role HostKind e p role)) (made_last HostKind e p) (at_host c a (made_last HostKind e p) there live) refl (record { notices = refl; performing = refl; events = refl; registrations = refl; frames = refl; calls = refl; aborted = λ s h. h; scheduling = record { priorities = λ s. refl; states = refl; tasks_made = omega arith; idle_start = refl } })
+    register_at-changes HostKind e r due 0 p q role refl refl (by_host a (is-last a made.host_answers) refl refl (new_role HostKind e p role)) (other-well q r due (ap is_timer_role (new_role HostKind e p role))) (made_last HostKind e p) (at_host c a (made_last HostKind e p) there live) refl (record { notices = refl; performing = refl; events = refl; registrations = refl; frames = refl; calls = refl; aborted = λ s h. h; scheduling = record { priorities = λ s. refl; states = refl; tasks_made = omega arith; idle_start = refl } })
 
 ready-hosts : (kind : RegKind) (f : Option Func) (signal : Option ℕ) (p : Page) → (ready kind f signal p).hosts ≡ p.hosts
 ready-hosts kind f None p = refl

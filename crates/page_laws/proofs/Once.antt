@@ -19,7 +19,7 @@ use Rattle.page_model.specs.Numbers.{Each, IsFor, made_by, timer_role}
 use Rattle.page_model.proofs.NumbersGrow.{length-last}
 use Rattle.page_laws.specs.History.{History, count_lines, has_kind, is_some_and, is_call_of, kind_of, was_called}
 use Rattle.page_laws.specs.CallLaws.{is_one_shot, has_no_callback, was_made, runs_once, may_be_called, may_be_registered}
-use Rattle.page_laws.specs.Moves.{is_free, promise_changes, Places, places, PlaceChange, places_stay, task_queued, task_left, armed_again, signal_armed, timer_due, completed, idle_started, idle_queued, idle_left, answer_due, id_cleared, idle_armed, idle_due, Dropping, timer_dropped, idle_dropped, listener_dropped, task_dropped, AsBefore, PageChange, elsewhere, told, arm_told, rested, answered, dropped, frame_dropped, registered, frame_asked, promised, settled, followed, adopted, subscribed, then_asked, micro_asked, rejected_taken, noted, Beginning, TheScript, ATimer, AFrame, AnIdle, ALateIdle, AListener, APost, AContinuation, AMicro, AReaction, called_by, role_of, taken, Waited, Moves, here, changing, arming, calling, ending, flagging, running, framing, idling, enqueued_anew, fell_due, post_fell_due, delay_due, signal_due, DueChange, prio_told}
+use Rattle.page_laws.specs.Moves.{is_free, promise_changes, Places, places, PlaceChange, places_stay, task_queued, task_left, armed_again, signal_armed, timer_due, completed, idle_started, idle_queued, answer_due, id_cleared, idle_armed, idle_due, Dropping, timer_dropped, idle_dropped, listener_dropped, task_dropped, AsBefore, PageChange, elsewhere, told, arm_told, rested, answered, dropped, frame_dropped, registered, frame_asked, promised, settled, followed, adopted, subscribed, then_asked, micro_asked, rejected_taken, noted, Beginning, TheScript, ATimer, AFrame, AnIdle, ALateIdle, AListener, APost, AContinuation, AMicro, AReaction, called_by, role_of, taken, Waited, Moves, here, changing, arming, calling, ending, flagging, running, framing, idling, enqueued_anew, fell_due, post_fell_due, delay_due, signal_due, DueChange, prio_told}
 use Rattle.page_types.specs.Tree.{Program}
 use Rattle.page_parts.specs.Setup.{Setup}
 use Rattle.page_parts.specs.HostClosures.{HostClosure}
@@ -335,7 +335,7 @@ place-fits {xs = xs} {x = x} (idle_queued t e from) s cs past f =
 place-fits {xs = xs} {x = x} (task_left number) s cs past f =
     let y : Places = record x { tasks = without (λ t. t.number == number) x.tasks } in
     lessen-fits xs (claims_of x s cs) (claims_of y s cs) past (λ r. let a = total-without (task_claims r) (λ t. t.number == number) x.tasks in omega (arith, a)) f
-place-fits {xs = xs} {x = x} {y = y} (armed_again armed t role there own) s cs past f =
+place-fits {xs = xs} {x = x} {y = y} (armed_again armed t role there next) s cs past f =
     again-fits t.registration xs (claims_of x s cs) (claims_of y s cs) past role
     (λ r. let a = total-last (completing_claims r) x.completions (record { start = armed.start; completion = QueueTimer t }) in omega (arith, a)) f
 place-fits {xs = xs} {x = x} {y = y} (signal_armed ms now q signal) s cs past f =
@@ -348,13 +348,6 @@ place-fits {xs = xs} {x = x} {y = y} (completed start gone) s cs past f =
 place-fits {xs = xs} {x = x} idle_started s cs past f =
     let y : Places = record x { idle = record x.idle { runnable = x.idle.runnable ++ x.idle.pending; pending = [] } } in
     lessen-fits xs (claims_of x s cs) (claims_of y s cs) past (λ r. let a = total-append (callback_claims r) x.idle.runnable x.idle.pending in omega (arith, a)) f
-place-fits {xs = xs} {x = x} (idle_left handle) s cs past f =
-    let y : Places = record x { idle = record x.idle { pending = without_handle handle x.idle.pending; runnable = without_handle handle x.idle.runnable } } in
-    lessen-fits xs (claims_of x s cs) (claims_of y s cs) past
-    (λ r.
-    let a = total-without (callback_claims r) (λ c. c.handle == handle) x.idle.pending in
-    let b = total-without (callback_claims r) (λ c. c.handle == handle) x.idle.runnable in
-    omega (arith, a, b)) f
 
 -- where something is due, it waits no more often
 due-less : {xs : List Registration} {q : ℕ} {x y : Places} → DueChange xs q x y → (r : ℕ) → place_claims r y ≤ place_claims r x
@@ -394,8 +387,8 @@ subscribed-silent n r p =
 pub change-fits : {p q : Page} → PageChange p q → Fits p → Fits q
 change-fits {p = p} (elsewhere c b k) f = before-fits b (place-fits c p.notices p.frames.callbacks p.events f)
 change-fits {p = p} (told e h) f = silent-fits e p.now p.registrations (claims_of (places p) p.notices p.frames.callbacks) p.events (aside-silent e h) f
-change-fits {p = p} (arm_told r due level w) f = silent-fits (Arm r due level) p.now p.registrations (claims_of (places p) p.notices p.frames.callbacks) p.events refl f
-change-fits {p = p} (rested e h x y z over begun) f = silent-fits e p.now p.registrations (claims_of (places p) p.notices p.frames.callbacks) p.events (rest-silent e h) f
+change-fits {p = p} (arm_told r due level w well) f = silent-fits (Arm r due level) p.now p.registrations (claims_of (places p) p.notices p.frames.callbacks) p.events refl f
+change-fits {p = p} (rested e h x y z over begun done) f = silent-fits e p.now p.registrations (claims_of (places p) p.notices p.frames.callbacks) p.events (rest-silent e h) f
 change-fits {p = p} {q = q} (answered source task t answer x y live z b) f =
     before-fits b
     (lessen-fits p.registrations (claims_of (places p) p.notices p.frames.callbacks) (claims_of (places q) p.notices p.frames.callbacks) (emit (Host t.closure t.number answer) p).events
@@ -404,7 +397,7 @@ change-fits {p = p} {q = q} (answered source task t answer x y live z b) f =
     let e = ap (place_claims r) z in
     omega (arith, a, e))
     (silent-fits (Host t.closure t.number answer) p.now p.registrations (claims_of (places p) p.notices p.frames.callbacks) p.events refl f))
-change-fits {p = p} {q = q} (registered k x e unframed u b) f =
+change-fits {p = p} {q = q} (registered k x e unframed u b at) f =
     before-fits b (registered-fits k x p (places q) p.notices p.frames.callbacks e (λ r. let a = first-claims u r in omega (arith, a)) f)
 change-fits {p = p} {q = q} (dropped r d b) f =
     before-fits b (drop-fits d p.notices p.frames.callbacks (emit (Drop r) p).events (silent-fits (Drop r) p.now p.registrations (claims_of (places p) p.notices p.frames.callbacks) p.events refl f))
@@ -422,12 +415,12 @@ change-fits {p = p} {q = q} (enqueued_anew k x t queue e i s n b) f =
     let same = ap (place_claims r) s in
     let it : one_if (t.registration == r) ≡ one_if (suc (length p.registrations) == r) = ap (λ n. one_if (n == r)) i in
     omega (arith, a, same, it)) f))
-change-fits {p = p} {q = q} (fell_due r d b) f =
+change-fits {p = p} {q = q} (fell_due r d b by) f =
     before-fits b
     (lessen-fits p.registrations (claims_of (places p) p.notices p.frames.callbacks) (claims_of (places q) p.notices p.frames.callbacks) (emit (Due r) p).events
     (λ n. let a = due-less d n in omega (arith, a))
     (silent-fits (Due r) p.now p.registrations (claims_of (places p) p.notices p.frames.callbacks) p.events refl f))
-change-fits {p = p} {q = q} (post_fell_due start source t queue e role a s n b) f =
+change-fits {p = p} {q = q} (post_fell_due start source t queue e role a s n b by) f =
     before-fits b
     (silent-fits (Enq t.registration queue t.continuation t.order) p.now p.registrations (claims_of (places q) p.notices p.frames.callbacks) (emit (Due t.registration) p).events refl
     (lessen-fits p.registrations (claims_of (places p) p.notices p.frames.callbacks) (claims_of (places q) p.notices p.frames.callbacks) (emit (Due t.registration) p).events

@@ -2,19 +2,19 @@
 use Rattle.page_laws.proofs.Aborted.{changes-aborted}
 use Rattle.page_laws.proofs.Evaluating.{Onto}
 use Rattle.page_laws.proofs.Items.{parallel-changes}
-use Rattle.page_laws.proofs.Moved.{abort_registration-changes, any_made-changes, cancel_frame-changes, cancel_idle-changes, change_begun-changes, change_ended-changes, clear_id-changes, clear_timer-changes, continuation_queued-changes, follow-changes, frame_requested-changes, host_queued-changes, idle_requested-changes, init_again-changes, listener_added-changes, listener_removed-changes, micro_registered-changes, new_promise-changes, post_queued-changes, reason_set-changes, script_promise-changes, settle-changes, subscribe-changes, task_signal_made-changes, then_made-changes, timeout_signal_made-changes, timer_set-changes, unwatch-changes, without_idle-changes, finally_made-changes, posted-changes, make-changes, make_aborted-changes, any-changes, Aborts, signals-changes, with_algorithms-aborted}
+use Rattle.page_laws.proofs.Moved.{abort_registration-changes, any_made-changes, cancel_frame-changes, cancel_idle-changes, change_begun-changes, change_ended-changes, clear_id-changes, clear_timer-changes, continuation_queued-changes, follow-changes, frame_requested-changes, host_queued-changes, idle_requested-changes, init_again-changes, listener_added-changes, listener_removed-changes, micro_registered-changes, new_promise-changes, post_queued-changes, reason_set-changes, script_promise-changes, settle-changes, subscribe-changes, task_signal_made-changes, then_made-changes, timeout_signal_made-changes, timer_set-changes, unwatch-changes, finally_made-changes, posted-changes, make-changes, make_aborted-changes, any-changes, Aborts, signals-changes, with_algorithms-aborted}
 use Rattle.page_laws.proofs.Moving.{changes-then}
-use Rattle.page_laws.specs.Moves.{Changes, nothing, id_at, HasPriority, Sourced}
+use Rattle.page_laws.specs.Moves.{Changes, nothing, IsUnarmed, places, id_at, HasPriority, Sourced}
 use Rattle.page_model.proofs.NumbersGrow.{Each-more, HasPromise-grows, Held, InSignals, IsKnown-grows, Onward, last-given, promise-grows, IsAbortedBy-grows, InAlgorithms}
 use Rattle.page_model.proofs.NumbersMaking.{any-held, any_made-held, continuation_queued-held, frame_requested-held, host_queued-held, idle_requested-held, listener_added-held, listener_removed-held, make-held, make_aborted-held, micro_registered-held, new_settled-held, post_queued-held, script_promise-held, task_signal_made-held, then_made-held, timeout_signal_made-held, timer_set-held, finally_made-held, posted-held}
-use Rattle.page_model.proofs.NumbersPages.{abort_registration-held, cancel_frame-held, cancel_idle-held, change_begun-held, change_ended-held, clear_id-held, clear_timer-held, follow-held, init_again-held, new_promise-held, reason_set-held, reason_value-known, reject-held, resolve-held, run_algorithms-held, settle-held, subscribe-held, unwatch-held, with_algorithms-held, without_idle-held}
+use Rattle.page_model.proofs.NumbersPages.{abort_registration-held, cancel_frame-held, cancel_idle-held, change_begun-held, change_ended-held, clear_id-held, clear_timer-held, follow-held, init_again-held, new_promise-held, reason_set-held, reason_value-known, reject-held, resolve-held, run_algorithms-held, settle-held, subscribe-held, unwatch-held, with_algorithms-held}
 use Rattle.page_model.proofs.NumbersParts.{the_signal-given}
 use Rattle.page_model.proofs.NumbersTasks.{parallel-held}
 use Rattle.page_model.specs.Numbers.{IsFor, timer_role, AreKnown, Each, HasPromise, IfThere, IsGiven, IsKnown, PrioSourceIsGiven, ReactionIsGiven, StateIsGiven, TargetIsGiven, made_by, IsAbortedBy}
 use Rattle.page_model.specs.Operations.{any_made, continuation_queued, frame_requested, host_queued, idle_requested, listener_added, listener_removed, micro_registered, post_queued, script_promise, task_signal_made, then_made, timeout_signal_made, timer_set, with_signals, finally_made, posted}
 use Rattle.page_model.specs.PagePromises.{last_promise, new_promise, new_settled}
 use Rattle.page_model.specs.PageSignals.{abort_registration, abort_registrations, change_begun, change_ended, reason_set, reason_value, run_algorithms, unwatch, is_aborted, is_aborted_source}
-use Rattle.page_model.specs.PageTime.{cancel_frame, cancel_idle, clear_id, clear_timer, init_timer, without_idle}
+use Rattle.page_model.specs.PageTime.{cancel_frame, cancel_idle, clear_id, clear_timer, init_timer}
 use Rattle.page_model.specs.Parallel.{parallel}
 use Rattle.page_model.specs.State.{OfKind, Page, PrioSource, SchedulingState}
 use Rattle.page_parts.specs.AbortGraph.{make_aborted, the_signal, with_algorithms}
@@ -54,8 +54,8 @@ follow-onto k how p h x v = (follow-held k how p h x v, follow-changes k how p x
 pub subscribe-onto : (k : ℕ) (r : Reaction) (p : Page) → Held (made_by p) p → IsGiven (length p.notices.promises) k → ReactionIsGiven (made_by p) r → r.registration ≡ None → Onto p (promises.subscribe k r p)
 subscribe-onto k r p h x y e = (subscribe-held k r p h x y, subscribe-changes k r p x e)
 
-pub init_again-onto : (id r : ℕ) (timeout : ℤ) (p : Page) → Held (made_by p) p → IsGiven p.timers.ids_made id → IsFor (timer_role true) (made_by p) r → id_at p.registrations r ≡ id → has_id id p.timers ≡ true → Onto p (init_timer (Some id) r true timeout p)
-init_again-onto id r timeout p h i x own there = (init_again-held id r true timeout p h i x own, init_again-changes id r timeout p h x.role there)
+pub init_again-onto : (id r : ℕ) (timeout : ℤ) (p : Page) → Held (made_by p) p → IsGiven p.timers.ids_made id → IsFor (timer_role true) (made_by p) r → id_at p.registrations r ≡ id → has_id id p.timers ≡ true → IsUnarmed r (places p) → Onto p (init_timer (Some id) r true timeout p)
+init_again-onto id r timeout p h i x own there free = (init_again-held id r true timeout p h i x own, init_again-changes id r timeout p h x.role there own free)
 
 pub clear_id-onto : (id : ℕ) (p : Page) → Held (made_by p) p → Onto p (clear_id id p)
 clear_id-onto id p h = (clear_id-held id p h, clear_id-changes id p)
@@ -65,9 +65,6 @@ clear_timer-onto id p h = (clear_timer-held id p h, clear_timer-changes id p h)
 
 pub cancel_frame-onto : (handle : ℕ) (p : Page) → Held (made_by p) p → Onto p (cancel_frame handle p)
 cancel_frame-onto handle p h = (cancel_frame-held handle p h, cancel_frame-changes handle p h)
-
-pub without_idle-onto : (handle : ℕ) (p : Page) → Held (made_by p) p → Onto p (without_idle handle p)
-without_idle-onto handle p h = (without_idle-held handle p h, without_idle-changes handle p)
 
 pub cancel_idle-onto : (handle : ℕ) (p : Page) → Held (made_by p) p → Onto p (cancel_idle handle p)
 cancel_idle-onto handle p h = (cancel_idle-held handle p h, cancel_idle-changes handle p h)

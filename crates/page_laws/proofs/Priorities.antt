@@ -26,7 +26,7 @@ use Rattle.page_model.specs.Turns.{first_page}
 use Rattle.page_model.proofs.NumbersGrow.{length-last, Each-more, Each-last, Each-without, Each-find, Each-numbered, numbered-last}
 use Rattle.page_laws.specs.History.{History, has_kind, is_scheduled, is_some_and, was_called, was_dropped, is_rest, is_sched_turn, last_line}
 use Rattle.page_laws.specs.SchedulerLaws.{Enqueued, enqueued, waiting, priority_now, precedes, first_tasks, has_task, is_later, keeps_priorities}
-use Rattle.page_laws.specs.Moves.{is_aside, is_end, role_at, signal_at, id_at, HasPriority, Sourced, known, inherited, Scheduling, scheduling_of, promise_changes, Places, places, completions_but, PlaceChange, places_stay, task_queued, task_left, armed_again, signal_armed, completed, idle_started, idle_queued, idle_left, id_cleared, idle_armed, DueChange, timer_due, delay_due, signal_due, idle_due, answer_due, Dropping, timer_dropped, idle_dropped, listener_dropped, FirstPlace, nowhere, at_listener, at_timer, at_delay, at_idle, at_host, AsBefore, PageChange, elsewhere, told, arm_told, rested, answered, dropped, task_dropped, frame_dropped, prio_told, registered, enqueued_anew, fell_due, post_fell_due, frame_asked, promised, settled, followed, adopted, subscribed, then_asked, micro_asked, rejected_taken, noted, Beginning, TheScript, ATimer, AFrame, AnIdle, ALateIdle, AListener, APost, AContinuation, AMicro, AReaction, called_by, role_of, taken, Waited, Moves, here, changing, arming, calling, ending, flagging, running, framing, idling, SchedulingAfter}
+use Rattle.page_laws.specs.Moves.{is_aside, is_end, role_at, signal_at, id_at, HasPriority, Sourced, known, inherited, Scheduling, scheduling_of, promise_changes, Places, places, completions_but, PlaceChange, places_stay, task_queued, task_left, armed_again, signal_armed, completed, idle_started, idle_queued, id_cleared, idle_armed, DueChange, timer_due, delay_due, signal_due, idle_due, answer_due, Dropping, timer_dropped, idle_dropped, listener_dropped, FirstPlace, nowhere, at_listener, at_timer, at_delay, at_idle, at_host, AsBefore, PageChange, elsewhere, told, arm_told, rested, answered, dropped, task_dropped, frame_dropped, prio_told, registered, enqueued_anew, fell_due, post_fell_due, frame_asked, promised, settled, followed, adopted, subscribed, then_asked, micro_asked, rejected_taken, noted, Beginning, TheScript, ATimer, AFrame, AnIdle, ALateIdle, AListener, APost, AContinuation, AMicro, AReaction, called_by, role_of, taken, Waited, Moves, here, changing, arming, calling, ending, flagging, running, framing, idling, SchedulingAfter}
 use Rattle.page_laws.proofs.Cancelled as cancelled
 use Rattle.page_laws.proofs.Cancelled.{unless, made-kind, no_kind, kind-there, GoneBy}
 use Rattle.page_laws.proofs.Claims.{completed-less}
@@ -376,14 +376,13 @@ place-fits : {xs : List Registration} {x y : Places} → PlaceChange xs x y → 
 place-fits places_stay g past f = f
 place-fits (task_queued t h plain) g past f = f
 place-fits (task_left number) g past f = f
-place-fits {xs = xs} {x = x} {y = y} (armed_again a t role there own) g past f = delays-fit xs x.sched_tasks x.completions y.completions g past (Each-last (λ (c : Completing). CompletionFits g.prios c.completion) x.completions _ f.delays tt) f
+place-fits {xs = xs} {x = x} {y = y} (armed_again a t role there next) g past f = delays-fit xs x.sched_tasks x.completions y.completions g past (Each-last (λ (c : Completing). CompletionFits g.prios c.completion) x.completions _ f.delays tt) f
 place-fits {xs = xs} {x = x} {y = y} (signal_armed ms now r s) g past f = delays-fit xs x.sched_tasks x.completions y.completions g past (Each-last (λ (c : Completing). CompletionFits g.prios c.completion) x.completions _ f.delays tt) f
 place-fits (id_cleared id) g past f = f
 place-fits (idle_queued t e from) g past f = f
 place-fits (idle_armed t most own) g past f = f
 place-fits {xs = xs} {x = x} {y = y} (completed start gone) g past f = delays-fit xs x.sched_tasks x.completions y.completions g past (Each-without (λ (c : Completing). CompletionFits g.prios c.completion) (λ c. c.start == start) x.completions f.delays) f
 place-fits idle_started g past f = f
-place-fits (idle_left handle) g past f = f
 
 due-fits : {xs : List Registration} {r : ℕ} {x y : Places} → DueChange xs r x y → (g : Scheduling) (past : History) → ScheduledAt xs x g past → ScheduledAt xs y g past
 due-fits {xs = xs} {x = x} {y = y} (timer_due start number source t e i role) g past f = delays-fit xs x.sched_tasks x.completions y.completions g past (Each-without (λ (c : Completing). CompletionFits g.prios c.completion) (λ c. c.start == start) x.completions f.delays) f
@@ -395,7 +394,7 @@ due-fits (answer_due before a after number source e i role) g past f = f
 first-fits : {made : List Registration} {n : ℕ} {x y : Places} (g : Scheduling) → FirstPlace made g.prios n x y → (xs : List Registration) (past : History) → ScheduledAt xs x g past → ScheduledAt xs y g past
 first-fits g nowhere xs past f = f
 first-fits g (at_listener target name q e) xs past f = f
-first-fits {x = x} {y = y} g (at_timer a t e fresh) xs past f = delays-fit xs x.sched_tasks x.completions y.completions g past (Each-last (λ (c : Completing). CompletionFits g.prios c.completion) x.completions _ f.delays tt) f
+first-fits {x = x} {y = y} g (at_timer a t e first) xs past f = delays-fit xs x.sched_tasks x.completions y.completions g past (Each-last (λ (c : Completing). CompletionFits g.prios c.completion) x.completions _ f.delays tt) f
 first-fits {x = x} {y = y} g (at_delay ms now q source e prio) xs past f = delays-fit xs x.sched_tasks x.completions y.completions g past (Each-last (λ (c : Completing). CompletionFits g.prios c.completion) x.completions _ f.delays prio) f
 first-fits g (at_idle q e) xs past f = f
 first-fits g (at_host c a e there live) xs past f = f
@@ -435,11 +434,11 @@ delay-source ps start cs c h e = by_found (find (λ c. c.start == start) cs) (Ea
 change-fits : {p q : Page} → PageChange p q → once.Fits p → cancelled.Fits p → Fits p → Fits q
 change-fits {p = p} (elsewhere c b k) o d f = before-fits b (place-fits c (scheduling_of p) p.events f)
 change-fits {p = p} (told e h) o d f = said e p (aside-silent e h) f
-change-fits {p = p} (arm_told r due level w) o d f = said (Arm r due level) p refl f
-change-fits {p = p} (rested e h x y z over begun) o d f = said e p (rest-silent e h z) f
+change-fits {p = p} (arm_told r due level w well) o d f = said (Arm r due level) p refl f
+change-fits {p = p} (rested e h x y z over begun done) o d f = said e p (rest-silent e h z) f
 change-fits {p = p} (answered source task t answer x y live z b) o d f =
     before-fits b (subst (λ (y : Places). ScheduledAt p.registrations y (scheduling_of p) (emit (Host t.closure t.number answer) p).events) (sym z) (said (Host t.closure t.number answer) p refl f))
-change-fits {p = p} (registered k x e unframed u b) o d f =
+change-fits {p = p} (registered k x e unframed u b at) o d f =
     before-fits b (first-fits (scheduling_of p) u (and_last p.registrations x) (register_as k x p).events (plain-fits k x p f))
 change-fits {p = p} {q = q} (enqueued_anew k x t queue e i s n b) o d f =
     before-by b next (record { priorities = b.scheduling.priorities; states = b.scheduling.states; tasks_made = omega arith; idle_start = b.scheduling.idle_start })
@@ -460,8 +459,8 @@ change-fits {p = p} {q = q} (enqueued_anew k x t queue e i s n b) o d f =
     by_source : {source : PrioSource} → Sourced p.prios p.scheduling_states source → HasPriority p.prios source
     by_source (known h) = h
     by_source (inherited m) = Each-numbered (λ (s : SchedulingState). HasPriority p.prios s.prio_source) p.scheduling_states m no_state f.states tt
-change-fits {p = p} (fell_due r c b) o d f = before-fits b (due-fits c (scheduling_of p) (emit (Due r) p).events (said (Due r) p refl f))
-change-fits {p = p} {q = q} (post_fell_due start source t queue e role a s n b) o d f =
+change-fits {p = p} (fell_due r c b by) o d f = before-fits b (due-fits c (scheduling_of p) (emit (Due r) p).events (said (Due r) p refl f))
+change-fits {p = p} {q = q} (post_fell_due start source t queue e role a s n b by) o d f =
     before-by b next (record { priorities = b.scheduling.priorities; states = b.scheduling.states; tasks_made = omega arith; idle_start = b.scheduling.idle_start })
     (subst (λ (y : Places). ScheduledAt p.registrations y next (emit (Enq t.registration queue t.continuation t.order) (emit (Due t.registration) p)).events) (sym s)
     (enqueue-fits t queue p.now q.tasks_made p.registrations p.sched_tasks (completions_but start p.completions) (scheduling_of p) next (emit (Due t.registration) p).events n.0.order n.0.made n.0.named refl refl

@@ -25,7 +25,7 @@ use Rattle.page_parts.specs.Setup.{Setup}
 use Rattle.page_types.specs.Tree.{Program}
 use Rattle.page_model.specs.View.{runnable_at, view}
 use Rattle.page_laws.specs.History.{History, is_due_of, was_due}
-use Rattle.page_laws.specs.Moves.{IsIn, HasSteps, PeriodGoesOn, InPeriod, is_idle_task, Places, places, PlaceChange, places_stay, task_queued, task_left, armed_again, signal_armed, id_cleared, idle_armed, completed, idle_started, idle_queued, idle_left, DueChange, timer_due, delay_due, signal_due, idle_due, answer_due, Dropping, timer_dropped, idle_dropped, listener_dropped, FirstPlace, nowhere, at_listener, at_timer, at_delay, at_idle, at_host, AsBefore, PageChange, elsewhere, told, arm_told, rested, registered, promised, settled, followed, adopted, subscribed, micro_asked, then_asked, answered, dropped, frame_dropped, frame_asked, rejected_taken, noted, Beginning, TheScript, ATimer, AFrame, AnIdle, ALateIdle, AListener, APost, AContinuation, AMicro, AReaction, called_by, taken, task_dropped, enqueued_anew, fell_due, post_fell_due, prio_told, Moves, here, changing, arming, calling, ending, flagging, running, framing, idling}
+use Rattle.page_laws.specs.Moves.{IsIn, HasSteps, PeriodGoesOn, IsMade, is_idle_task, Places, places, PlaceChange, places_stay, task_queued, task_left, armed_again, signal_armed, id_cleared, idle_armed, completed, idle_started, idle_queued, DueChange, timer_due, delay_due, signal_due, idle_due, answer_due, Dropping, timer_dropped, idle_dropped, listener_dropped, FirstPlace, nowhere, at_listener, at_timer, at_delay, at_idle, at_host, AsBefore, PageChange, elsewhere, told, arm_told, rested, registered, promised, settled, followed, adopted, subscribed, micro_asked, then_asked, answered, dropped, frame_dropped, frame_asked, rejected_taken, noted, Beginning, TheScript, ATimer, AFrame, AnIdle, ALateIdle, AListener, APost, AContinuation, AMicro, AReaction, called_by, taken, task_dropped, enqueued_anew, fell_due, post_fell_due, prio_told, Moves, here, changing, arming, calling, ending, flagging, running, framing, idling}
 use Rattle.page_laws.proofs.Framed.{false_true}
 use Rattle.page_laws.proofs.Idling.{made-goes, notices-goes, subscribed-goes, begins-go, change-goes, ended-goes, frame-goes_on, goes-same, job-goes_on}
 use Rattle.page_laws.proofs.Lines.{added, emit_each-events}
@@ -51,7 +51,7 @@ in-fewer {X = X} x gone (y ∷ xs) i = by_test (gone y) i (in-fewer x gone xs)
     by_test false (inl e) rest = inl e
     by_test false (inr i) rest = inr (rest i)
 
-in-last : {X : Type 0} (x y : X) (xs : List X) → IsIn x (and_last xs y) → IsIn x xs ⊎ (x ≡ y)
+pub in-last : {X : Type 0} (x y : X) (xs : List X) → IsIn x (and_last xs y) → IsIn x xs ⊎ (x ≡ y)
 in-last {X = X} x y xs i = by_part (in-either x xs (y ∷ []) i)
   where
     by_part : IsIn x xs ⊎ IsIn x (y ∷ []) → IsIn x xs ⊎ (x ≡ y)
@@ -309,27 +309,25 @@ place-late : {made : List Registration} {x y : Places} → PlaceChange made x y 
 place-late places_stay past f = f
 place-late {x = x} (task_queued t h plain) past f = late-less x _ past past (tasks-less x (and_last x.tasks t) (one-more x t plain)) (same-due past) f
 place-late {x = x} (task_left number) past f = late-less x _ past past (tasks-less x (without (λ t. t.number == number) x.tasks) (fewer-tasks x number)) (same-due past) f
-place-late {x = x} (armed_again a t role there own) past f = late-less x _ past past (record { made = omega arith; callbacks = λ c i. i; timers = λ t i. i; tasks = λ t i. inl i }) (same-due past) f
+place-late {x = x} (armed_again a t role there next) past f = late-less x _ past past (record { made = omega arith; callbacks = λ c i. i; timers = λ t i. i; tasks = λ t i. inl i }) (same-due past) f
 place-late {x = x} (signal_armed ms now r s) past f = late-less x _ past past (record { made = omega arith; callbacks = λ c i. i; timers = λ t i. i; tasks = λ t i. inl i }) (same-due past) f
 place-late {x = x} (id_cleared id) past f = late-less x _ past past (record { made = omega arith; callbacks = λ c i. i; timers = λ t i. i; tasks = λ t i. inl i }) (same-due past) f
 place-late {x = x} (idle_armed t most own) past f = armed-late x t past most own f
 place-late {x = x} (completed start gone) past f = late-less x _ past past (record { made = omega arith; callbacks = λ c i. i; timers = λ t i. i; tasks = λ t i. inl i }) (same-due past) f
 place-late {x = x} idle_started past f = late-less x _ past past (started-less x) (same-due past) f
 place-late {x = x} (idle_queued t e from) past f = queued-late x t past e from f
-place-late {x = x} (idle_left handle) past f = late-less x _ past past (idle-less x handle) (same-due past) f
 
-place-invokes : {made : List Registration} {p : Page} {x y : Places} (c : PlaceChange made x y) → InPeriod c p → (HasSteps InvokeIdle x.tasks → PeriodGoesOn p) → HasSteps InvokeIdle y.tasks → PeriodGoesOn p
+place-invokes : {made : List Registration} {p : Page} {x y : Places} (c : PlaceChange made x y) → IsMade c p → (HasSteps InvokeIdle x.tasks → PeriodGoesOn p) → HasSteps InvokeIdle y.tasks → PeriodGoesOn p
 place-invokes places_stay k f h = f h
 place-invokes {x = x} (task_queued t h plain) k f s = f (of_steps (tasks-less x (and_last x.tasks t) (one-more x t plain)) InvokeIdle refl s)
 place-invokes {x = x} (task_left number) k f s = f (of_steps (tasks-less x (without (λ t. t.number == number) x.tasks) (fewer-tasks x number)) InvokeIdle refl s)
-place-invokes (armed_again a t role there own) k f h = f h
+place-invokes (armed_again a t role there next) k f h = f h
 place-invokes (signal_armed ms now r s) k f h = f h
 place-invokes (id_cleared id) k f h = f h
 place-invokes (idle_armed t most own) k f h = f h
 place-invokes (completed start gone) k f h = f h
 place-invokes idle_started k f h = f h
 place-invokes (idle_queued t e from) k f h = k
-place-invokes (idle_left handle) k f h = f h
 
 -- what is due
 due-late : {made : List Registration} {r : ℕ} {x y : Places} → DueChange made r x y → (now : ℕ) (past : History) → Late x past → Late y (record { time = now; event = Due r } ∷ past)
@@ -368,7 +366,7 @@ drop-less (listener_dropped there role) = record { made = omega arith; callbacks
 first-late : {made : List Registration} {ps : Prios} {r : ℕ} {x y : Places} → FirstPlace made ps r x y → (past : History) → Late x past → Late y past
 first-late nowhere past f = f
 first-late {x = x} (at_listener target name q e) past f = late-less x _ past past (record { made = omega arith; callbacks = λ c i. i; timers = λ t i. i; tasks = λ t i. inl i }) (same-due past) f
-first-late {x = x} (at_timer a t e fresh) past f = late-less x _ past past (record { made = omega arith; callbacks = λ c i. i; timers = λ t i. i; tasks = λ t i. inl i }) (same-due past) f
+first-late {x = x} (at_timer a t e first) past f = late-less x _ past past (record { made = omega arith; callbacks = λ c i. i; timers = λ t i. i; tasks = λ t i. inl i }) (same-due past) f
 first-late {x = x} (at_delay ms now q source e h) past f = late-less x _ past past (record { made = omega arith; callbacks = λ c i. i; timers = λ t i. i; tasks = λ t i. inl i }) (same-due past) f
 first-late {x = x} (at_idle q e) past f = asked-late x q past f
 first-late {x = x} (at_host c a e there live) past f = late-less x _ past past (record { made = omega arith; callbacks = λ c i. i; timers = λ t i. i; tasks = λ t i. inl i }) (same-due past) f
@@ -376,7 +374,7 @@ first-late {x = x} (at_host c a e there live) past f = late-less x _ past past (
 first-invokes : {made : List Registration} {ps : Prios} {r : ℕ} {x y : Places} → FirstPlace made ps r x y → HasSteps InvokeIdle y.tasks → HasSteps InvokeIdle x.tasks
 first-invokes nowhere h = h
 first-invokes (at_listener target name q e) h = h
-first-invokes (at_timer a t e fresh) h = h
+first-invokes (at_timer a t e first) h = h
 first-invokes (at_delay ms now q source e k) h = h
 first-invokes (at_idle q e) h = h
 first-invokes (at_host c a e there live) h = h
@@ -439,24 +437,24 @@ change-ready {p = p} {q = q} (elsewhere c b within) r =
       late = subst (Late (places q)) (sym b.events) (place-late c p.events r.late);
     }
 change-ready {p = p} {q = q} (told e h) r = same-ready p q refl (more-due e p.now p.events) (change-goes (told e h)) r
-change-ready {p = p} {q = q} (arm_told n due level w) r = same-ready p q refl (more-due _ p.now p.events) (change-goes (arm_told n due level w)) r
-change-ready {p = p} {q = q} (rested e h x y z over begun) r = same-ready p q refl (more-due e p.now p.events) (change-goes (rested e h x y z over begun)) r
+change-ready {p = p} {q = q} (arm_told n due level w well) r = same-ready p q refl (more-due _ p.now p.events) (change-goes (arm_told n due level w well)) r
+change-ready {p = p} {q = q} (rested e h x y z over begun done) r = same-ready p q refl (more-due e p.now p.events) (change-goes (rested e h x y z over begun done)) r
 change-ready {p = p} {q = q} (answered source task t answer x y live z b) r =
     lines-ready p q _ z (record { made = omega arith; callbacks = λ c i. i; timers = λ t i. i; tasks = fewer-tasks (places p) task.number }) (events-due p _ q b (more-due _ p.now p.events)) (change-goes (answered source task t answer x y live z b)) r
-change-ready {p = p} {q = q} (registered k x e unframed u b) r =
+change-ready {p = p} {q = q} (registered k x e unframed u b at) r =
     record {
-      invoking = λ h. change-goes (registered k x e unframed u b) (r.invoking (first-invokes u h));
+      invoking = λ h. change-goes (registered k x e unframed u b at) (r.invoking (first-invokes u h));
       late = subst (Late (places q)) (sym b.events) (late-less (places q) (places q) p.events (register_as k x p).events (same-places (places q)) (more-due _ p.now p.events) (first-late u p.events r.late));
     }
 change-ready {p = p} {q = q} (enqueued_anew k x t queue e i s n b) r =
     lines-ready p q _ s (other-places (places p) _ refl refl refl) (events-due p _ q b (two-due _ _ p.now p.events)) (change-goes (enqueued_anew k x t queue e i s n b)) r
-change-ready {p = p} {q = q} (fell_due n d b) r =
+change-ready {p = p} {q = q} (fell_due n d b by) r =
     record {
-      invoking = λ h. change-goes (fell_due n d b) (r.invoking (due-invokes d h));
+      invoking = λ h. change-goes (fell_due n d b by) (r.invoking (due-invokes d h));
       late = subst (Late (places q)) (sym b.events) (due-late d p.now p.events r.late);
     }
-change-ready {p = p} {q = q} (post_fell_due start source t queue e role a s n b) r =
-    lines-ready p q _ s (other-places (places p) _ refl refl refl) (events-due p _ q b (two-due _ _ p.now p.events)) (change-goes (post_fell_due start source t queue e role a s n b)) r
+change-ready {p = p} {q = q} (post_fell_due start source t queue e role a s n b by) r =
+    lines-ready p q _ s (other-places (places p) _ refl refl refl) (events-due p _ q b (two-due _ _ p.now p.events)) (change-goes (post_fell_due start source t queue e role a s n b by)) r
 change-ready {p = p} {q = q} (dropped n d b) r = lines-ready p q (places q) refl (drop-less d) (events-due p _ q b (more-due _ p.now p.events)) (change-goes (dropped n d b)) r
 change-ready {p = p} {q = q} (frame_dropped handle c e role) r = same-ready p q refl (more-due _ p.now p.events) (change-goes (frame_dropped handle c e role)) r
 change-ready {p = p} {q = q} (task_dropped n role a e s b) r =

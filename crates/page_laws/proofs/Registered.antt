@@ -198,7 +198,7 @@ call-fits b now p past i f = record { tie = f.tie; kept = (by_role b i, f.kept) 
 
 -- ---- moves
 
-abbrev Fits : Page → Type 0
+abbrev pub Fits : Page → Type 0
 Fits p = KindsFit p.registrations p.events
 
 abbrev pub Silent : Event → Type 0
@@ -229,20 +229,20 @@ subscribed-fits n r p f =
 before-fits : {p q : Page} → AsBefore p q → Fits p → Fits q
 before-fits {p = p} {q = q} b f = subst (λ (xs : List Registration). KindsFit xs q.events) (sym b.registrations) (subst (KindsFit p.registrations) (sym b.events) f)
 
-change-fits : {p q : Page} → PageChange p q → Fits p → Fits q
+pub change-fits : {p q : Page} → PageChange p q → Fits p → Fits q
 change-fits {p = p} {q = q} (elsewhere c b k) f = before-fits b f
 change-fits {p = p} (told e h) f = silent-fits e p.now p.registrations p.events (aside-silent e h) f
-change-fits {p = p} (arm_told r due level w) f = silent-fits (Arm r due level) p.now p.registrations p.events refl f
-change-fits {p = p} (rested e h x y z over begun) f = silent-fits e p.now p.registrations p.events (rest-silent e h) f
+change-fits {p = p} (arm_told r due level w well) f = silent-fits (Arm r due level) p.now p.registrations p.events refl f
+change-fits {p = p} (rested e h x y z over begun done) f = silent-fits e p.now p.registrations p.events (rest-silent e h) f
 change-fits {p = p} (answered source task t answer x y live z b) f = before-fits b (silent-fits (Host t.closure t.number answer) p.now p.registrations p.events refl f)
-change-fits {p = p} (registered k x e unframed u b) f = before-fits b (made-fits k (caller p) x p.now p.registrations p.events e f)
+change-fits {p = p} (registered k x e unframed u b at) f = before-fits b (made-fits k (caller p) x p.now p.registrations p.events e f)
 change-fits {p = p} (frame_asked g) f = made-fits kind.Frame (caller p) (record { role = OfKind kind.Frame; callback = Some g; second_callback = None; timer_id = 0; promise = 0; signal = None; finally = false }) p.now p.registrations p.events refl f
 change-fits {p = p} (dropped r d b) f = before-fits b (silent-fits (Drop r) p.now p.registrations p.events refl f)
 change-fits {p = p} (task_dropped r role a e s b) f = before-fits b (silent-fits (Drop r) p.now p.registrations p.events refl f)
 change-fits {p = p} (enqueued_anew kind x t queue e i s n b) f =
     before-fits b (silent-fits (Enq t.registration queue t.continuation t.order) p.now (and_last p.registrations x) (register_as kind x p).events refl (made-fits kind (caller p) x p.now p.registrations p.events e f))
-change-fits {p = p} (fell_due r d b) f = before-fits b (silent-fits (Due r) p.now p.registrations p.events refl f)
-change-fits {p = p} (post_fell_due start source t queue e role a s n b) f =
+change-fits {p = p} (fell_due r d b by) f = before-fits b (silent-fits (Due r) p.now p.registrations p.events refl f)
+change-fits {p = p} (post_fell_due start source t queue e role a s n b by) f =
     before-fits b (silent-fits (Enq t.registration queue t.continuation t.order) p.now p.registrations (emit (Due t.registration) p).events refl (silent-fits (Due t.registration) p.now p.registrations p.events refl f))
 change-fits {p = p} (prio_told s priority ps c) f = silent-fits (Prio s priority) p.now p.registrations p.events refl f
 change-fits {p = p} (frame_dropped handle c e role) f = silent-fits (Drop c.registration) p.now p.registrations p.events refl f

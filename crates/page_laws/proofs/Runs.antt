@@ -13,7 +13,7 @@ use Rattle.page_laws.proofs.Framed.{FramesKept, Ordered, changes-kept, kept-same
 use Rattle.page_laws.proofs.Moved.{notify_rejected-changes, quietly, report_after-changes, report_before-changes}
 use Rattle.page_laws.proofs.Moving.{moves-then, moves_of}
 use Rattle.page_laws.proofs.Onto.{change_begun-onto, change_ended-onto, reason_set-onto, reject-onto, resolve-onto, run_algorithms-onto, settle-onto, subscribe-onto}
-use Rattle.page_laws.specs.Moves.{Changes, AListener, AMicro, AReaction, Beginning, Moves, Waited, called_by, calling, flagging, here, role_of, running, taken}
+use Rattle.page_laws.specs.Moves.{Changes, AListener, AMicro, AReaction, Beginning, Moves, Waited, called_by, calling, ending, flagging, here, role_of, running, taken}
 use Rattle.page_model.proofs.NumbersEvaluation as numbers
 use Rattle.page_model.proofs.NumbersEvaluation.{Good, each, every, on_page-good}
 use Rattle.page_model.proofs.NumbersGrow.{Each-append, Each-more, Grows-then, Held, InListeners, InNotices, InPrios, InScheduling, InSignals, IsFor-grows, IsKnown-grows, Onward, if_state-grows, promise-grows, signal-grows, signals-grow, stays, values-grow}
@@ -185,20 +185,39 @@ module _ (program : Program) where
 
   -- ---- callbacks
 
-  -- a callback that waited is called behind m; where it ends, the same calls are open as in m
-  end_of_callback-goes : (w : Ways) (a : WaysGo w) → (b : Beginning) (when : WhenReported) (m : State) (d : Done Page) → Good m → a.Here m → Waited b m.host → IsFor (role_of b) (made_by m.host) (called_by b) → Grows (made_by m.host) (made_by (taken b m.host)) → Goes (entered b m) d → Goes m (end_of_callback w.after when d)
+  -- where a step ends that is behind e by a row of moves
+  abbrev pub Came : State → Done Page → Type 0
+  Came e (Gives v r) = Moves e.host r.host
+  Came e (Throws v r) = Moves e.host r.host
+  Came e (Returns v r) = Moves e.host r.host
+  Came e (OutOfFuel r) = Unit {0}
+
+  came : (e m : State) (d : Done Page) → Moves e.host m.host → Goes m d → Came e d
+  came e m (Gives v r) a h = moves-then a h.0.1
+  came e m (Throws v r) a h = moves-then a h.0.1
+  came e m (Returns v r) a h = moves-then a h.0.1
+  came e m (OutOfFuel r) a h = tt
+
+  pub afterwards-comes : (e m : State) (d : Done Page) (next : State → Done Page) → Goes m d → Came e d → ((r : State) → Le m r → Moves e.host r.host → Good r → Goes r (next r)) → Goes m (afterwards d next)
+  afterwards-comes e m (Gives v r) next h k q = wide m r (next r) h.0 (q r h.0 k h.1)
+  afterwards-comes e m (Throws v r) next h k q = wide m r (next r) h.0 (q r h.0 k h.1)
+  afterwards-comes e m (Returns v r) next h k q = wide m r (next r) h.0 (q r h.0 k h.1)
+  afterwards-comes e m (OutOfFuel r) next h k q = h
+
+  -- a callback that waited is called behind m; where it ends, the same calls are open as in m, and it ends behind its call
+  end_of_callback-goes : (w : Ways) (a : WaysGo w) → (b : Beginning) (when : WhenReported) (m : State) (d : Done Page) → Good m → a.Here m → Waited b m.host → IsFor (role_of b) (made_by m.host) (called_by b) → Grows (made_by m.host) (made_by (taken b m.host)) → Goes (entered b m) d → Goes m (end_of_callback w.after when d) × Came (entered b m) (end_of_callback w.after when d)
   end_of_callback-goes w a b when m (Gives v s) g x y i gr h =
       let ended = on_page (call_ended Ret) s in
       let good : Good ended = (numbers.on_page-good s (call_ended Ret) h.1 (call_ended-held Ret s.host h.1.0)).1 in
       let le : Le m ended = call_over b m s Ret refl (λ calls. refl) gr y i h.0 in
-      wide m ended _ le (and_then-holds (keeping program) ended (w.after ended) _ (a.after ended good (a.later m ended le x))
-      (λ u t le' gt k. (le-same t, gt, IsKnown-grows (made_by s.host) (made_by t.host) le'.0 v h.2)))
+      let last : Goes ended (end_of_callback w.after when (Gives v s)) = and_then-holds (keeping program) ended (w.after ended) _ (a.after ended good (a.later m ended le x)) (λ u t le' gt k. (le-same t, gt, IsKnown-grows (made_by s.host) (made_by t.host) le'.0 v h.2)) in
+      (wide m ended _ le last, came (entered b m) ended _ (ending h.0.1 Ret refl) last)
   end_of_callback-goes w a b when m (Returns v s) g x y i gr h =
       let ended = on_page (call_ended Ret) s in
       let good : Good ended = (numbers.on_page-good s (call_ended Ret) h.1 (call_ended-held Ret s.host h.1.0)).1 in
       let le : Le m ended = call_over b m s Ret refl (λ calls. refl) gr y i h.0 in
-      wide m ended _ le (and_then-holds (keeping program) ended (w.after ended) _ (a.after ended good (a.later m ended le x))
-      (λ u t le' gt k. (le-same t, gt, IsKnown-grows (made_by s.host) (made_by t.host) le'.0 v h.2)))
+      let last : Goes ended (end_of_callback w.after when (Returns v s)) = and_then-holds (keeping program) ended (w.after ended) _ (a.after ended good (a.later m ended le x)) (λ u t le' gt k. (le-same t, gt, IsKnown-grows (made_by s.host) (made_by t.host) le'.0 v h.2)) in
+      (wide m ended _ le last, came (entered b m) ended _ (ending h.0.1 Ret refl) last)
   end_of_callback-goes w a b when m (Throws v s) g x y i gr h =
       let ended = on_page (thrown v) s in
       let good : Good ended = (numbers.on_page-good s (thrown v) h.1 (call_ended-held (Throw (spelled s.host.names v)) s.host h.1.0)).1 in
@@ -206,11 +225,12 @@ module _ (program : Program) where
       let before = on_page (report_before when v) ended in
       let told_one : Reached ended before = on_page-reached ended (report_before when v) good (report_before-onto when v ended.host good.0) in
       let le' : Le m before = le-then m ended before le told_one.0 in
-      wide m before _ le' (and_then-holds (keeping program) before (w.after before) _ (a.after before told_one.1 (a.later m before le' x))
+      let last : Goes before (end_of_callback w.after when (Throws v s)) = and_then-holds (keeping program) before (w.after before) _ (a.after before told_one.1 (a.later m before le' x))
       (λ u t le'' gt k.
       let c = on_page-reached t (report_after when v) gt (report_after-onto when v t.host gt.0) in
-      (c.0, c.1, IsKnown-grows (made_by s.host) (made_by (report_after when v t.host)) (Grows-then (made_by s.host) (made_by t.host) (made_by (report_after when v t.host)) (Grows-then (made_by s.host) (made_by before.host) (made_by t.host) told_one.0.0 le''.0) c.0.0) v h.2)))
-  end_of_callback-goes w a b when m (OutOfFuel s) g x y i gr h = moves-then (calling here b y i) h
+      (c.0, c.1, IsKnown-grows (made_by s.host) (made_by (report_after when v t.host)) (Grows-then (made_by s.host) (made_by t.host) (made_by (report_after when v t.host)) (Grows-then (made_by s.host) (made_by before.host) (made_by t.host) told_one.0.0 le''.0) c.0.0) v h.2)) in
+      (wide m before _ le' last, came (entered b m) before _ (moves-then (ending h.0.1 (Throw (spelled s.host.names v)) refl) told_one.0.1) last)
+  end_of_callback-goes w a b when m (OutOfFuel s) g x y i gr h = (moves-then (calling here b y i) h, tt)
 
   call_back-goes : (call : Caller Page) → CallsGo call → (f : Option Func) (args : List Value) (m : State) → Good m → IfThere (λ f. AreKnown (made_by m.host) f.bound) f → Each (IsKnown (made_by m.host)) args → Goes m (call_back call f args m)
   call_back-goes call c None args m g b k = finish-goes m g
@@ -229,12 +249,18 @@ module _ (program : Program) where
       call_back-goes w.call a.call (callback_of second registration) args (entered b m) called (callback_of-given (made_by n.host) second registration (the_registration-given n.host (called_by b) there.1.0)) (values-grow (made_by m.host) (made_by n.host) there.0 args k)
 
   -- what waited at b is taken and invoked
-  pub invoke-goes : (w : Ways) (a : WaysGo w) → (b : Beginning) (second : Bool) (args : List Value) (m : State) → Good m → a.Here m → Waited b m.host → IsFor (role_of b) (made_by m.host) (called_by b) → Onward (made_by m.host) (taken b m.host) → Each (IsKnown (made_by m.host)) args → Goes m (invoke w (called_by b) second args (on_page (taken b) m))
-  invoke-goes w a b second args m g x y i o k =
+  invoked-goes : (w : Ways) (a : WaysGo w) → (b : Beginning) (second : Bool) (args : List Value) (m : State) → Good m → a.Here m → Waited b m.host → IsFor (role_of b) (made_by m.host) (called_by b) → Onward (made_by m.host) (taken b m.host) → Each (IsKnown (made_by m.host)) args → Goes m (invoke w (called_by b) second args (on_page (taken b) m)) × Came (entered b m) (invoke w (called_by b) second args (on_page (taken b) m))
+  invoked-goes w a b second args m g x y i o k =
       let there = numbers.on_page-good m (taken b) g o in
       let registration = the_registration (taken b m.host) (called_by b) in
       end_of_callback-goes w a b (when_reported registration.role) m (call_back w.call (callback_of second registration) args (entered b m)) g x y i there.0
       (entered-goes w a b second args m g i o k)
+
+  pub invoke-goes : (w : Ways) (a : WaysGo w) → (b : Beginning) (second : Bool) (args : List Value) (m : State) → Good m → a.Here m → Waited b m.host → IsFor (role_of b) (made_by m.host) (called_by b) → Onward (made_by m.host) (taken b m.host) → Each (IsKnown (made_by m.host)) args → Goes m (invoke w (called_by b) second args (on_page (taken b) m))
+  invoke-goes w a b second args m g x y i o k = (invoked-goes w a b second args m g x y i o k).0
+
+  pub invoke-comes : (w : Ways) (a : WaysGo w) → (b : Beginning) (second : Bool) (args : List Value) (m : State) → Good m → a.Here m → Waited b m.host → IsFor (role_of b) (made_by m.host) (called_by b) → Onward (made_by m.host) (taken b m.host) → Each (IsKnown (made_by m.host)) args → Came (entered b m) (invoke w (called_by b) second args (on_page (taken b) m))
+  invoke-comes w a b second args m g x y i o k = (invoked-goes w a b second args m g x y i o k).1
 
   -- one way or the other, by a test
   pub branch_when-goes : (b : Bool) (m : State) (then else : State → Done Page) → (b ≡ true → Goes m (then m)) → (b ≡ false → Goes m (else m)) → Goes m (branch b m then else)

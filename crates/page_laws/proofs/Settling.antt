@@ -263,17 +263,17 @@ registered-fits k x p f = silent-fits (Reg (suc (length p.registrations)) k (cal
 change-fits : {p q : Page} → PageChange p q → Fits p → Fits q
 change-fits (elsewhere c b k) f = before-fits b f
 change-fits {p = p} (told e h) f = silent-fits e p.now p.notices.promises p.events (aside-silent e h) f
-change-fits {p = p} (arm_told r due level w) f = silent-fits (Arm r due level) p.now p.notices.promises p.events refl f
-change-fits {p = p} (rested e h x y z over begun) f = silent-fits e p.now p.notices.promises p.events (rest-silent e h) f
+change-fits {p = p} (arm_told r due level w well) f = silent-fits (Arm r due level) p.now p.notices.promises p.events refl f
+change-fits {p = p} (rested e h x y z over begun done) f = silent-fits e p.now p.notices.promises p.events (rest-silent e h) f
 change-fits {p = p} (answered source task t answer x y live z b) f = before-fits b (silent-fits (Host t.closure t.number answer) p.now p.notices.promises p.events refl f)
-change-fits {p = p} (registered kind x e unframed u b) f = before-fits b (registered-fits kind x p f)
+change-fits {p = p} (registered kind x e unframed u b at) f = before-fits b (registered-fits kind x p f)
 change-fits {p = p} (frame_asked g) f = silent-fits (Reg (suc (length p.registrations)) kind.Frame (caller p)) p.now p.notices.promises p.events refl f
 change-fits {p = p} (dropped r d b) f = before-fits b (silent-fits (Drop r) p.now p.notices.promises p.events refl f)
 change-fits {p = p} (task_dropped r role a e s b) f = before-fits b (silent-fits (Drop r) p.now p.notices.promises p.events refl f)
 change-fits {p = p} (enqueued_anew kind x t queue e i s n b) f =
     before-fits b (silent-fits (Enq t.registration queue t.continuation t.order) p.now p.notices.promises (register_as kind x p).events refl (registered-fits kind x p f))
-change-fits {p = p} (fell_due r d b) f = before-fits b (silent-fits (Due r) p.now p.notices.promises p.events refl f)
-change-fits {p = p} (post_fell_due start source t queue e role a s n b) f =
+change-fits {p = p} (fell_due r d b by) f = before-fits b (silent-fits (Due r) p.now p.notices.promises p.events refl f)
+change-fits {p = p} (post_fell_due start source t queue e role a s n b by) f =
     before-fits b (silent-fits (Enq t.registration queue t.continuation t.order) p.now p.notices.promises (emit (Due t.registration) p).events refl (silent-fits (Due t.registration) p.now p.notices.promises p.events refl f))
 change-fits {p = p} (prio_told s priority ps c) f = silent-fits (Prio s priority) p.now p.notices.promises p.events refl f
 change-fits {p = p} (frame_dropped handle c e role) f = silent-fits (Drop c.registration) p.now p.notices.promises p.events refl f

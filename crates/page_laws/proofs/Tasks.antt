@@ -4,11 +4,12 @@ use Rattle.lang_meaning.specs.Machine.{Caller, Done, afterwards, branch, finish}
 use Rattle.page_laws.proofs.Drawing.{found-in, run_frame-goes}
 use Rattle.page_laws.proofs.Framed.{Ordered}
 use Rattle.page_laws.proofs.Ready.{Ready, due-there, task-there}
+use Rattle.page_laws.proofs.Arming.{Tidy, moves-keep, none-unarmed, taken-unarmed}
 use Rattle.page_laws.proofs.Evaluating.{Le, Onto, Reached, entered, le-same, le-then, on_page-reached, told-onto, call_over}
 use Rattle.page_laws.proofs.Moved.{invoke_idle_again-changes, outstanding-changes, placed, quietly}
 use Rattle.page_laws.proofs.Onto.{clear_id-onto, init_again-onto, resolve-onto, unwatch-onto}
-use Rattle.page_laws.proofs.Runs.{AtTop, CallsGo, Goes, WaysGo, abort-goes, afterwards-goes, at_top-later, branch-goes, branch_when-goes, checkpoint-goes, dispatch-goes, each_in_turn-goes, finish-goes, finish_page, invoke-goes, scheduling-onto, settle_derived-goes, then_page, wide}
-use Rattle.page_laws.specs.Moves.{IsIn, PeriodGoesOn, task_left, AContinuation, ALateIdle, APost, ATimer, AnIdle, TheScript, FrameIsOver, Waited, sched_begun, taken}
+use Rattle.page_laws.proofs.Runs.{AtTop, CallsGo, Goes, WaysGo, abort-goes, afterwards-comes, afterwards-goes, at_top-later, branch-goes, branch_when-goes, checkpoint-goes, dispatch-goes, each_in_turn-goes, finish-goes, finish_page, invoke-comes, invoke-goes, scheduling-onto, settle_derived-goes, then_page, wide}
+use Rattle.page_laws.specs.Moves.{IsIn, IsUnarmed, places, PeriodGoesOn, task_left, AContinuation, ALateIdle, APost, ATimer, AnIdle, TheScript, FrameIsOver, Waited, sched_begun, taken}
 use Rattle.page_model.proofs.NumbersEvaluation as numbers
 use Rattle.page_model.proofs.NumbersEvaluation.{Good, on_page-good}
 use Rattle.page_model.proofs.NumbersGrow.{Each-append, Each-find, Each-last, Each-without, Held, InIdle, InNotices, InTasks, Onward, TimerTask-grows, onward-then, promise-grows, stays, IsFor-grows}
@@ -36,7 +37,7 @@ use Rattle.page_types.specs.declared.FaultName.TheVariants.{TimeoutError}
 use Rattle.page_types.specs.declared.RegKind.{RegKind}
 use Rattle.page_types.specs.declared.Source.{Source}
 use Rattle.page_types.specs.declared.Source.TheVariants.{Idle, Sched}
-use Rattle.std.proofs.Common.{Bool, List, None, Option, Some, [], cond, false, length, nat_lt, refl, subst, sym, true, ℕ, ◌++◌, ◌∷◌, ◌≡◌}
+use Rattle.std.proofs.Common.{Bool, List, None, Option, Some, [], ap, ◌∙◌, cond, false, length, nat_lt, refl, subst, sym, true, ℕ, ◌++◌, ◌∷◌, ◌≡◌}
 use Rattle.std.specs.Prelude.{codes, ◌==◌}
 use Rattle.page_laws.specs.History.{open_registrations, was_due}
 use Rattle.page_model.specs.PagePromises as promises
@@ -133,26 +134,30 @@ live_there id handle t h = by_entry (id_entry id t) h
 module _ (program : Program) where
   -- ---- timers
 
-  timer_goes_on-goes : (t : TimerTask) (m : State) → Good m → is_live t.id t.handle m.host.timers ≡ true → TimerTaskIsGiven (made_by m.host) t → Goes program m (timer_goes_on t m)
-  timer_goes_on-goes t m g live x =
+  timer_goes_on-goes : (t : TimerTask) (m : State) → Good m → is_live t.id t.handle m.host.timers ≡ true → TimerTaskIsGiven (made_by m.host) t → (t.repeats ≡ true → IsUnarmed t.registration (places m.host)) → Goes program m (timer_goes_on t m)
+  timer_goes_on-goes t m g live x free =
       branch_when-goes program t.repeats m (initialised_again t) (λ m. finish (on_page (clear_id t.id) m))
       (λ e. subst (λ (b : Bool). Goes program m (finish (on_page (init_timer (Some t.id) t.registration b t.timeout) m))) (sym e)
       (finish_page program m (init_timer (Some t.id) t.registration true t.timeout) g
-      (init_again-onto t.id t.registration t.timeout m.host g.0 x.id (subst (λ (b : Bool). IsFor (timer_role b) (made_by m.host) t.registration) e x.registration) x.own (live_there t.id t.handle m.host.timers live))))
+      (init_again-onto t.id t.registration t.timeout m.host g.0 x.id (subst (λ (b : Bool). IsFor (timer_role b) (made_by m.host) t.registration) e x.registration) x.own (live_there t.id t.handle m.host.timers live) (free e))))
       (λ e. finish_page program m (clear_id t.id) g (clear_id-onto t.id m.host g.0))
 
   where_live-goes : (t : TimerTask) (next : State → Done Page) (m : State) → Good m → (is_live t.id t.handle m.host.timers ≡ true → Goes program m (next m)) → Goes program m (where_live t next m)
   where_live-goes t next m g q = branch_when-goes program (is_live t.id t.handle m.host.timers) m next finish q (λ gone. finish-goes program m g)
 
   -- the task of a timer, from before it leaves its queue
-  timer_task-goes : (w : Ways) (a : WaysGo program w) → (source : Source) (task : Task) (t : TimerTask) (m : State) → Good m → a.Here m → first_task source m.host.tasks ≡ Some task → task.steps ≡ RunTimer t → TimerTaskIsGiven (made_by m.host) t → Goes program m (run_timer w t (on_page (without_task task.number) m))
-  timer_task-goes w a source task t m g z e e1 x =
+  timer_task-goes : (w : Ways) (a : WaysGo program w) → (source : Source) (task : Task) (t : TimerTask) (m : State) → Good m → a.Here m → first_task source m.host.tasks ≡ Some task → task.steps ≡ RunTimer t → TimerTaskIsGiven (made_by m.host) t → Tidy m.host → Goes program m (run_timer w t (on_page (without_task task.number) m))
+  timer_task-goes w a source task t m g z e e1 x tidy =
       let begun = on_page (taken (ATimer source task t)) m in
       let o : Onward (made_by m.host) begun.host = without_task-held task.number m.host g.0 in
       branch_when-goes_from (is_live t.id t.handle m.host.timers) m begun (λ m. afterwards (invoke w t.registration false [] m) (where_live t (timer_goes_on t))) finish
-      (λ live. afterwards-goes program m (invoke w t.registration false [] begun) (where_live t (timer_goes_on t))
+      (λ live. afterwards-comes program (entered (ATimer source task t) m) m (invoke w t.registration false [] begun) (where_live t (timer_goes_on t))
       (invoke-goes program w a (ATimer source task t) false [] m g z (e, e1, live, x.own) x.registration o tt)
-      (λ r le gr. where_live-goes t (timer_goes_on t) r gr (λ live. timer_goes_on-goes t r gr live (TimerTask-grows (made_by m.host) (made_by r.host) le.0 t x))))
+      (invoke-comes program w a (ATimer source task t) false [] m g z (e, e1, live, x.own) x.registration o tt)
+      (λ r le moved gr. where_live-goes t (timer_goes_on t) r gr
+      (λ live. timer_goes_on-goes t r gr live (TimerTask-grows (made_by m.host) (made_by r.host) le.0 t x)
+      (λ again. none-unarmed t.registration (places r.host)
+      ((moves-keep moved).unarmed t.registration t.handle (x.registration.role ∙ ap timer_role again) x.handle.to_last (ap (λ n. is_live n t.handle r.host.timers) x.own ∙ live) (taken-unarmed m.host source task t tidy e e1))))))
       (let b = on_page-reached m (taken (ATimer source task t)) g (o, placed m.host begun.host (task_left task.number) tt tt refl refl refl refl refl refl refl refl) in (b.0, b.1, tt))
     where
       branch_when-goes_from : (b : Bool) (m n : State) (then else : State → Done Page) → (b ≡ true → Goes program m (then n)) → Goes program m (else n) → Goes program m (branch b n then else)
@@ -203,8 +208,8 @@ module _ (program : Program) where
   -- ---- steps of tasks
 
   -- a task, from before it leaves its queue
-  pub task-goes : (w : Ways) (a : WaysGo program w) → (source : Source) (task : Task) (m : State) → Good m → a.Here m → Ordered m.host → Ready m.host → first_task source m.host.tasks ≡ Some task → StepsAreGiven (made_by m.host) task.steps → Goes program m (perform_steps w task.steps (on_page (without_task task.number) m))
-  task-goes w a source task m g z o ready e x = by_steps task.steps refl x
+  pub task-goes : (w : Ways) (a : WaysGo program w) → (source : Source) (task : Task) (m : State) → Good m → a.Here m → Ordered m.host → Ready m.host → Tidy m.host → first_task source m.host.tasks ≡ Some task → StepsAreGiven (made_by m.host) task.steps → Goes program m (perform_steps w task.steps (on_page (without_task task.number) m))
+  task-goes w a source task m g z o ready tidy e x = by_steps task.steps refl x
     where
       left : Reached m (on_page (without_task task.number) m)
       left = on_page-reached m (without_task task.number) g (without_task-onto task.number m.host g.0)
@@ -217,7 +222,7 @@ module _ (program : Program) where
 
       by_steps : (steps : Steps) → task.steps ≡ steps → StepsAreGiven (made_by m.host) steps → Goes program m (perform_steps w steps (on_page (without_task task.number) m))
       by_steps RunScript e1 x = invoke-goes program w a (TheScript source task) false [] m g z (e, e1) x (without_task-held task.number m.host g.0) tt
-      by_steps (RunTimer t) e1 x = timer_task-goes w a source task t m g z e e1 x
+      by_steps (RunTimer t) e1 x = timer_task-goes w a source task t m g z e e1 x tidy
       by_steps (TimeOutSignal s) e1 x = wide program m (on_page (without_task task.number) m) (perform_steps w (TimeOutSignal s) (on_page (without_task task.number) m)) left.0 (abort-goes program w a s (a_fault TimeoutError) (on_page (without_task task.number) m) left.1 there x tt)
       by_steps (FireAtWindow name v) e1 x = wide program m (on_page (without_task task.number) m) (perform_steps w (FireAtWindow name v) (on_page (without_task task.number) m)) left.0 (dispatch-goes program w a Window name (v ∷ []) (on_page (without_task task.number) m) left.1 there (x, tt))
       by_steps (AnswerHost t) e1 x = wide program m (on_page (without_task task.number) m) (perform_steps w (AnswerHost t) (on_page (without_task task.number) m)) left.0 (finish-goes program (on_page (without_task task.number) m) left.1)

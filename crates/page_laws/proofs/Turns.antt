@@ -2,6 +2,7 @@
 use Rattle.page_parts.specs.WrittenChoices.{is_runnable}
 use Rattle.page_model.proofs.HoldingTurns.{legal_choice}
 use Rattle.page_model.proofs.Ending.{runnable-there}
+use Rattle.page_model.proofs.Pending.{target-pending}
 use Rattle.lang_meaning.specs.Evaluation.{call_from_outside}
 use Rattle.lang_meaning.specs.Machine.{Caller, Done, Gives, OutOfFuel, Returns, Throws, finish}
 use Rattle.page_laws.proofs.Framed.{CameAfter, FramesKept, Ordered, Stayed, kept-same}
@@ -9,12 +10,13 @@ use Rattle.page_laws.proofs.Evaluating.{Lasts, Onto, lasting, lasts-then, Reache
 use Rattle.page_laws.proofs.Moved.{answer_task-changes, quietly, start_period-changes}
 use Rattle.page_laws.proofs.Ready.{Ready, first-ready, moves-ready, none-invokes}
 use Rattle.page_laws.proofs.Moving.{moves-then}
+use Rattle.page_laws.proofs.Arming.{Tidy, first-tidy, moves-tidy}
 use Rattle.page_laws.proofs.Onto.{parallel-onto}
 use Rattle.page_model.proofs.NumbersTasks.{answer_host-held}
 use Rattle.page_laws.proofs.Operations.{outside-goes}
 use Rattle.page_laws.proofs.Runs.{AtTop, CallsGo, Clears, Goes, at_top-later, checkpoint-clears, finish-goes, finish_page, in_task-goes}
 use Rattle.page_laws.proofs.Tasks.{after_task-goes, sched_task-goes, task-goes, without_task-held, without_task-onto}
-use Rattle.page_laws.specs.Moves.{HasSteps, idling, FrameIsOver, marked, places_stay, Moves, changing, elsewhere, here, nothing, rested, sched_begun, told, with_change}
+use Rattle.page_laws.specs.Moves.{HasSteps, IsAtEnd, idling, FrameIsOver, marked, places_stay, Moves, changing, elsewhere, here, nothing, rested, sched_begun, told, with_change}
 use Rattle.page_model.proofs.NumbersEvaluation.{Good, on_page-good}
 use Rattle.page_model.proofs.NumbersGrow.{Each-find, Grows-same, InSchedTasks, InTasks, onward-then, stays}
 use Rattle.page_model.proofs.NumbersPages.{idle_step-held}
@@ -141,9 +143,9 @@ idle_step-notices p = by_start (waits before.idle && nat_lt before.now (deadline
 
 -- ---- turns
 
--- no frame is in progress, and tasks of idle callbacks find what they need
+-- no frame is in progress, tasks of idle callbacks find what they need, and no registration waits twice
 abbrev pub Calm : State → Type 0
-Calm m = FrameIsOver m.host × Ready m.host
+Calm m = FrameIsOver m.host × Ready m.host × Tidy m.host
 
 -- between turns no call is open, no checkpoint is performed and no job waits
 abbrev pub Rests : State → Type 0
@@ -158,7 +160,7 @@ over-later m r k o over c i = by_place (k.each o c i)
     by_place (inr n) = n.2
 
 pub calm-later : (m r : State) → Moves m.host r.host → FramesKept m.host r.host → Ordered m.host → Calm m → Calm r
-calm-later m r a k o x = (over-later m r k o x.0, moves-ready a x.1)
+calm-later m r a k o x = (over-later m r k o x.0, moves-ready a x.1, moves-tidy a x.2)
 
 -- a state between turns that is reached from another one
 abbrev pub Comes : State → State → Type 0
@@ -177,8 +179,8 @@ comes_here : (m : State) → Good m → Rests m → Comes m m
 comes_here m g x = (lasting m m (le-same m), g, x)
 
 -- a line between turns
-rested-onto : (e : Event) (m : State) → is_rest e ≡ true → is_sched_turn e ≡ false → is_period e ≡ false → Good m → Rests m → Onto m.host (emit e m.host)
-rested-onto e m h k none g x = (stays m.host g.0, with_change nothing (rested e h x.0.0 x.1 k x.2.0 (λ e. absurd (no_period (sym none ∙ e)))) tt)
+rested-onto : (e : Event) (m : State) → is_rest e ≡ true → is_sched_turn e ≡ false → is_period e ≡ false → (e ≡ EndLine DoneEnd → IsAtEnd m.host) → Good m → Rests m → Onto m.host (emit e m.host)
+rested-onto e m h k none done g x = (stays m.host g.0, with_change nothing (rested e h x.0.0 x.1 k x.2.0 (λ e. absurd (no_period (sym none ∙ e))) done) tt)
   where
     no_period : false ≡ true → ⊥
     no_period e = Prim.cc
@@ -202,7 +204,7 @@ idle_step-comes m g x empty =
     now = (
       (Grows-same (made_by m.host), row, (refl, refl), kept-same m.host mid.host refl refl refl),
       (on_page-good m (λ p. record p { last_idle_start = p.now }) g (stays mid.host g.0)).1,
-      (x.0, x.1, (x.2.0, moves-ready row x.2.1)),
+      (x.0, x.1, (x.2.0, moves-ready row x.2.1, moves-tidy row x.2.2)),
     )
 
 step_five-comes : (m : State) → Good m → Rests m → Comes m (step_five m)
@@ -231,10 +233,20 @@ module _ {C : Type 0} (program : Program) where
   lands-then m r (Ended end s c) le h = moves-then le.1 h
   lands-then m r (Stuck at s c) le h = moves-then le.1 h
 
-  pub ends-lands : (end : End) (c : C) (m : State) → Good m → Rests m → Lands m (ends end c m)
-  ends-lands DoneEnd c m g x = (on_page-reached m (emit (EndLine DoneEnd)) g (rested-onto (EndLine DoneEnd) m refl refl refl g x)).0.1
-  ends-lands ClockEnd c m g x = (on_page-reached m (emit (EndLine ClockEnd)) g (rested-onto (EndLine ClockEnd) m refl refl refl g x)).0.1
-  ends-lands FuelEnd c m g x = changing here (told (EndLine FuelEnd) refl) tt
+  pub ends-lands : (end : End) (c : C) (m : State) → (end ≡ DoneEnd → IsAtEnd m.host) → Good m → Rests m → Lands m (ends end c m)
+  ends-lands DoneEnd c m done g x = (on_page-reached m (emit (EndLine DoneEnd)) g (rested-onto (EndLine DoneEnd) m refl refl refl (λ e. done refl) g x)).0.1
+  ends-lands ClockEnd c m done g x = (on_page-reached m (emit (EndLine ClockEnd)) g (rested-onto (EndLine ClockEnd) m refl refl refl (λ e. absurd (no_done e)) g x)).0.1
+    where
+      no_done : EndLine ClockEnd ≡ EndLine DoneEnd → ⊥
+      no_done e = Prim.cc
+  ends-lands FuelEnd c m done g x = changing here (told (EndLine FuelEnd) refl) tt
+
+  -- an end by the clock
+  pub clock-lands : (c : C) (m : State) → Good m → Rests m → Lands m (ends ClockEnd c m)
+  clock-lands c m g x = ends-lands ClockEnd c m (λ e. absurd (other e)) g x
+    where
+      other : ClockEnd ≡ DoneEnd → ⊥
+      other e = Prim.cc
 
   pub choose-lands : (b : Bool) (then else : State → Turned C) (m : State) → Lands m (then m) → Lands m (else m) → Lands m (choose_turned b then else m)
   choose-lands true then else m h k = h
@@ -262,7 +274,10 @@ module _ {C : Type 0} (program : Program) where
     task_done-lands c m (OutOfFuel r) z y h = changing h (told (EndLine FuelEnd) refl) tt
 
     pub turn_line-comes : (source : Option Source) (m : State) → is_sched source ≡ false → Good m → Rests m → Comes m (turn_line source m)
-    turn_line-comes source m k g x = comes_by m (λ p. emit (Turn p.turns source) p) g x (rested-onto (Turn m.host.turns source) m refl k refl g x) refl
+    turn_line-comes source m k g x = comes_by m (λ p. emit (Turn p.turns source) p) g x (rested-onto (Turn m.host.turns source) m refl k refl (λ e. absurd (no_end source e)) g x) refl
+      where
+        no_end : (source : Option Source) → Turn m.host.turns source ≡ EndLine DoneEnd → ⊥
+        no_end source e = Prim.cc
 
     perform_first-lands : (source : Source) (task : Option Task) (m : State) (c : C) → first_task source m.host.tasks ≡ task → Good m → AtTop m → Calm m → IfThere (TaskIsGiven (made_by m.host)) task → Lands m (perform_first rules call task m c)
     perform_first-lands source None m c e g z over x = here
@@ -273,7 +288,7 @@ module _ {C : Type 0} (program : Program) where
 
         by_host : (t : Option HostTask) → host_task_of task.steps ≡ t → IfThere (λ (t : HostTask). HasPromise (made_by m.host) t.registration) t → Lands m (perform_task rules call task t (on_page (without_task task.number) m) c)
         by_host None k y =
-            task_done-lands c m (perform_steps (in_task call) task.steps (on_page (without_task task.number) m)) z over (task-goes program (in_task call) (in_task-goes program call calls_go) source task m g z z.2 over.1 e x.steps)
+            task_done-lands c m (perform_steps (in_task call) task.steps (on_page (without_task task.number) m)) z over (task-goes program (in_task call) (in_task-goes program call calls_go) source task m g z z.2 over.1 over.2 e x.steps)
         by_host (Some t) k y = by_closure (not_dropped (slice_get m.host.hosts t.closure)) refl
           where
             n : State
@@ -340,15 +355,15 @@ module _ {C : Type 0} (program : Program) where
         by_choice (Some s) k = subst (λ (ys : List Runnable). is_runnable ys s.choice ≡ true) e (legal_choice (is_runnable (r ∷ rs)) (rules.source (r ∷ rs) c) s k)
 
     with_turn_fuel-lands : (fuel : ℕ) (m : State) (c : C) → Good m → Rests m → Lands m (with_turn_fuel rules call fuel m c)
-    with_turn_fuel-lands zero m c g x = ends-lands FuelEnd c m g x
+    with_turn_fuel-lands zero m c g x = changing here (told (EndLine FuelEnd) refl) tt
     with_turn_fuel-lands (suc left) m c g x =
         let counted = counted_turn left m in
         let row : Moves m.host counted.host = changing here (elsewhere places_stay (record { notices = refl; performing = refl; events = refl; registrations = refl; frames = refl; calls = refl; aborted = λ s h. h; scheduling = record { priorities = λ s. refl; states = refl; tasks_made = omega arith; idle_start = refl } }) tt) tt in
-        lands-then m counted (step_four rules call (view m.host) counted c) (Grows-same (made_by m.host), row, (refl, refl), kept-same m.host counted.host refl refl refl) (step_four-lands (view m.host) counted c refl g (x.0, x.1, (x.2.0, moves-ready row x.2.1)))
+        lands-then m counted (step_four rules call (view m.host) counted c) (Grows-same (made_by m.host), row, (refl, refl), kept-same m.host counted.host refl refl refl) (step_four-lands (view m.host) counted c refl g (x.0, x.1, (x.2.0, moves-ready row x.2.1, moves-tidy row x.2.2)))
 
     pub step_three-lands : (until : ℕ) (c : C) (m : State) → Good m → Rests m → Lands m (step_three rules call until c m)
     step_three-lands until c m g x =
-        choose-lands (nat_le until m.host.now) (ends ClockEnd c) (λ m. with_turn_fuel rules call m.fuel m c) m (ends-lands ClockEnd c m g x) (with_turn_fuel-lands m.fuel m c g x)
+        choose-lands (nat_le until m.host.now) (ends ClockEnd c) (λ m. with_turn_fuel rules call m.fuel m c) m (clock-lands c m g x) (with_turn_fuel-lands m.fuel m c g x)
 
     -- steps 3 and 4, and then the idle step
     step_five-lands : (t : Turned C) (m : State) → Lands m t → Lands m (next_turn t (λ m c. GoesOn (step_five m) c))
@@ -375,29 +390,37 @@ module _ {C : Type 0} (program : Program) where
         let there = on_page (λ p. at_time x.choice p) m in
         let later = on_page (λ p. emit (Wait t) (at_time x.choice p)) m in
         let a = at_time-comes x.choice m g z in
-        let b = comes_by there (emit (Wait t)) a.1 a.2 (rested-onto (Wait t) there refl refl refl a.1 a.2) refl in
+        let b = comes_by there (emit (Wait t)) a.1 a.2 (rested-onto (Wait t) there refl refl refl (λ e. absurd (no_end e)) a.1 a.2) refl in
         lands-then m later (again later x.left) (lasts-then m there later a.0 b.0) (k later x.left b.1 b.2)
+      where
+        no_end : Wait t ≡ EndLine DoneEnd → ⊥
+        no_end e = Prim.cc
 
     step_two_at-lands : (until t : ℕ) (again : State → C → Turned C) (next : State → Turned C) (c : C) (m : State) → LandsAgain again → LandsNext next → Good m → Rests m → Lands m (step_two_at rules until t again next c m)
     step_two_at-lands until t again next c m k h g z =
         let late = on_page (λ p. at_time (max p.now until) p) m in
         let a = at_time-comes (max m.host.now until) m g z in
         choose-lands (nat_le until m.host.now || nat_le until t) (λ m. ends ClockEnd c (on_page (λ p. at_time (max p.now until) p) m)) (choose_turned (nat_lt m.host.now t) (waited t (chosen_reading rules t c) again c) next) m
-        (lands-then m late (ends ClockEnd c late) a.0 (ends-lands ClockEnd c late a.1 a.2))
+        (lands-then m late (ends ClockEnd c late) a.0 (clock-lands c late a.1 a.2))
         (choose-lands (nat_lt m.host.now t) (waited t (chosen_reading rules t c) again c) next m (waited-lands t (chosen_reading rules t c) again c m k g z) (h m g z))
 
-    step_two_by-lands : (until : ℕ) (t : Option ℕ) (again : State → C → Turned C) (next : State → Turned C) (c : C) (m : State) → LandsAgain again → LandsNext next → Good m → Rests m → Lands m (step_two_by rules until t again next c m)
-    step_two_by-lands until None again next c m k h g z = ends-lands DoneEnd c m g z
-    step_two_by-lands until (Some t) again next c m k h g z = step_two_at-lands until t again next c m k h g z
+    step_two_by-lands : (until : ℕ) (t : Option ℕ) (again : State → C → Turned C) (next : State → Turned C) (c : C) (m : State) → is_empty (view m.host) ≡ true → target m.host ≡ t → LandsAgain again → LandsNext next → Good m → Rests m → Lands m (step_two_by rules until t again next c m)
+    step_two_by-lands until None again next c m empty aim k h g z = ends-lands DoneEnd c m (λ e. (empty, sym (target-pending m.host empty) ∙ ap is_there aim)) g z
+    step_two_by-lands until (Some t) again next c m empty aim k h g z = step_two_at-lands until t again next c m k h g z
 
-    step_two-lands : (until : ℕ) (again : State → C → Turned C) (next : State → Turned C) (c : C) (m : State) → LandsAgain again → LandsNext next → Good m → Rests m → Lands m (step_two rules until again next c m)
-    step_two-lands until again next c m k h g z =
-        choose-lands (is_pending m.host) (step_two_by rules until (target m.host) again next c) (ends DoneEnd c) m (step_two_by-lands until (target m.host) again next c m k h g z) (ends-lands DoneEnd c m g z)
+    step_two-lands : (until : ℕ) (again : State → C → Turned C) (next : State → Turned C) (c : C) (m : State) → is_empty (view m.host) ≡ true → LandsAgain again → LandsNext next → Good m → Rests m → Lands m (step_two rules until again next c m)
+    step_two-lands until again next c m empty k h g z = by_pending (is_pending m.host) refl
+      where
+        by_pending : (b : Bool) → is_pending m.host ≡ b → Lands m (choose_turned b (step_two_by rules until (target m.host) again next c) (ends DoneEnd c) m)
+        by_pending true e = step_two_by-lands until (target m.host) again next c m empty refl k h g z
+        by_pending false e = ends-lands DoneEnd c m (λ done. (empty, e)) g z
 
     after_step_one-lands : (until : ℕ) (again : State → C → Turned C) (c : C) (m : State) → LandsAgain again → Good m → Rests m → Lands m (after_step_one rules call until again c m)
-    after_step_one-lands until again c m k g z =
-        choose-lands (is_empty (view m.host)) (step_two rules until again (from_step_three rules call until c) c) (from_step_three rules call until c) m
-        (step_two-lands until again (from_step_three rules call until c) c m k (from_step_three-lands until c) g z) (from_step_three-lands until c m g z)
+    after_step_one-lands until again c m k g z = by_view (is_empty (view m.host)) refl
+      where
+        by_view : (b : Bool) → is_empty (view m.host) ≡ b → Lands m (choose_turned b (step_two rules until again (from_step_three rules call until c) c) (from_step_three rules call until c) m)
+        by_view true e = step_two-lands until again (from_step_three rules call until c) c m e k (from_step_three-lands until c) g z
+        by_view false e = from_step_three-lands until c m g z
 
     from_step_one-lands : (until n : ℕ) (m : State) (c : C) → Good m → Rests m → Lands m (from_step_one rules call until n m c)
     from_step_one-lands until zero m c g z = here
@@ -422,7 +445,7 @@ module _ {C : Type 0} (program : Program) where
 pub turns_are_moves : {C : Type 0} (rules : Rules C) (program : Program) (setup : Setup) (hosts : List HostClosure) (c : C) (until most : ℕ) → HoldsNoNumbers setup
     → Moves (first_page program setup hosts) (state_of (turns rules (call_from_outside program page_operations) until most (first_state program setup hosts) c)).host
 turns_are_moves rules program setup hosts c until most h =
-    turns-stop program rules (call_from_outside program page_operations) (outside-goes program) until most (first_state program setup hosts) c (first_state-good program setup hosts h) ((refl, refl, tt), refl, ((λ c i. elim i [ ]), first-ready program setup hosts))
+    turns-stop program rules (call_from_outside program page_operations) (outside-goes program) until most (first_state program setup hosts) c (first_state-good program setup hosts h) ((refl, refl, tt), refl, ((λ c i. elim i [ ]), first-ready program setup hosts, first-tidy program setup hosts))
 
 -- A whole run is a row of moves.
 pub run_is_moves : {C : Type 0} (rules : Rules C) (program : Program) (setup : Setup) (hosts : List HostClosure) (c : C) → HoldsNoNumbers setup → Moves (first_page program setup hosts) (state_of (run_by rules program setup hosts c)).host

@@ -1,6 +1,6 @@
 -- What happens to a page, move by move: each move changes it once, with its lines.
-use Rattle.std.specs.Prelude.{◌≡◌, ◌⊎◌, ◌≤◌, ◌+◌, ◌*◌, ℕ, suc, ℤ, Bool, true, false, not, ◌&&◌, if◌then◌else◌, List, [], ◌∷◌, length, nat_lt, Option, Some, None, Result, ◌==◌, ◌++◌, ◌||◌, slice_get, slice_set}
-use Rattle.page_types.specs.declared.End.TheVariants.{Fuel}
+use Rattle.std.specs.Prelude.{◌≡◌, ◌⊎◌, ◌≤◌, ◌<◌, ◌+◌, ◌-◌, ◌*◌, ℕ, suc, ℤ, Bool, true, false, not, ◌&&◌, if◌then◌else◌, List, [], ◌∷◌, length, nat_lt, Option, Some, None, Result, ◌==◌, ◌++◌, ◌||◌, slice_get, slice_set}
+use Rattle.page_types.specs.declared.End.TheVariants.{Done, Fuel}
 use Rattle.page_types.specs.Events.{QueueName, Event, Ret, Throw, Report, Log, Turn, Arm, Due, Drop, IdleLine, Frame, Reg, Enq, Prio, Abort, Host, Unhandled, Handled, EndLine, Send}
 use Rattle.page_types.specs.declared.Source.{Source}
 use Rattle.page_types.specs.declared.Source.TheVariants.{Sched, Idle as IdleSource}
@@ -15,12 +15,13 @@ use Rattle.page_model.specs.SchedulerTasks.{no_state, queue_name, with_state, fi
 use Rattle.page_parts.specs.Kinds.{Func}
 use Rattle.page_model.specs.Operations.{frame_requested, queued_mark}
 use Rattle.page_model.specs.PageSignals.{drop_closure, task_in_answer, task_in_net, waiting_answer, waiting_net_task, is_aborted, is_aborted_source}
-use Rattle.page_parts.specs.Words.{and_last, without, numbered, is_there}
+use Rattle.page_parts.specs.Words.{and_last, without, numbered, is_empty, is_there}
 use Rattle.page_parts.specs.IdleCallbacks.{Idle, request, cancel, started, waiting_callback}
 use Rattle.page_parts.specs.HostClosures.{HostClosure, fired}
 use Rattle.page_types.specs.declared.HostMark.TheVariants.{Live}
 use Rattle.page_model.specs.Tasks.{background, post_state}
-use Rattle.page_model.specs.Turns.{without_task, not_dropped}
+use Rattle.page_model.specs.Turns.{is_pending, without_task, not_dropped}
+use Rattle.page_model.specs.View.{view}
 use Rattle.page_parts.specs.Timers as Timers
 use Rattle.page_parts.specs.Timers.{Timers, ActiveTimer, Armed, with_armed, run_after, clear, has_id, is_live}
 use Rattle.page_parts.specs.Frames.{Callback, callback_in}
@@ -31,8 +32,8 @@ use Rattle.page_types.specs.declared.RegKind.{RegKind}
 use Rattle.page_types.specs.declared.RegKind.TheVariants as kind
 use Rattle.page_parts.specs.TaskSignals.{Prios, priority_of}
 use Rattle.page_types.specs.declared.Priority.{Priority}
-use Rattle.page_laws.specs.TimerLaws.{period_start}
-use Rattle.page_laws.specs.History.{is_delayed, History, is_frame, is_period, is_reg_of, since_last, some_line, was_due, open_registrations, is_rest, is_sched_turn, is_scheduled}
+use Rattle.page_laws.specs.TimerLaws.{is_delay, period_start}
+use Rattle.page_laws.specs.History.{is_delayed, History, is_frame, is_idle, is_period, is_reg_of, since_last, some_line, was_due, open_registrations, is_rest, is_sched_turn, is_scheduled}
 
 -- ---- Ours: kinds of lines
 
@@ -215,6 +216,27 @@ pub record PrioSet (s : ℕ) (priority : Priority) (before after : Prios) : Type
   pub own : (other : Priority) → priority_of after s ≡ Some other → other ≡ priority
   pub kept : (t : ℕ) → is_there (priority_of before t) ≡ true → is_there (priority_of after t) ≡ true
 
+-- the registration whose steps an active timer completes with
+abbrev pub completes_for : Completion → ℕ
+completes_for (QueueTimer t) = t.registration
+completes_for (EnqueuePost r source) = r
+completes_for (QueueSignal r s) = r
+
+-- what initialising a timer gave: the next start number and the next unique handle, with the id of its registration
+pub record IsArmedNext (made : List Registration) (x : Places) (a : Armed) (t : TimerTask) : Type 0 where
+  pub same_id : a.id ≡ t.id
+  pub same_handle : t.handle ≡ a.handle
+  pub own : (numbered made t.registration no_registration).timer_id ≡ t.id
+  pub handle : a.handle ≡ suc x.timers.handles_made
+  pub start : a.start ≡ suc x.timers.starts_made
+
+-- registration r waits in no active timer, no task of a timer, no idle timeout and no pending answer
+pub record IsUnarmed (r : ℕ) (x : Places) : Type 0 where
+  pub completions : (c : Completing) → IsIn c x.completions → completes_for c.completion ≡ r → ⊥
+  pub tasks : (t : TimerTask) → HasSteps (RunTimer t) x.tasks → t.registration ≡ r → ⊥
+  pub idle_timers : (t : IdleTimer) → IsIn t x.idle_timers → t.registration ≡ r → ⊥
+  pub host_answers : (a : HostAnswer) → IsIn a x.host_answers → a.task.registration ≡ r → ⊥
+
 -- a change of the places, where these registrations were made
 pub data PlaceChange (made : List Registration) : Places → Places → Type 0 where
   -- none
@@ -224,7 +246,7 @@ pub data PlaceChange (made : List Registration) : Places → Places → Type 0 w
   task_left : {x : Places} (number : ℕ) → PlaceChange made x (without_number number x)
   -- an interval whose id is in the map is armed again, and the timer of a signal is armed
   armed_again : {x : Places} (a : Armed) (t : TimerTask) → (numbered made t.registration no_registration).role ≡ OfKind kind.Interval
-      → has_id t.id x.timers ≡ true → a.id ≡ t.id
+      → has_id t.id x.timers ≡ true → IsArmedNext made x a t
       → PlaceChange made x (with_timer (with_armed (Some t.id) a x.timers) a.start (QueueTimer t) x)
   signal_armed : {x : Places} (ms now r s : ℕ)
       → PlaceChange made x (with_timer (run_after ms now x.timers) (suc x.timers.starts_made) (QueueSignal r s) x)
@@ -236,23 +258,27 @@ pub data PlaceChange (made : List Registration) : Places → Places → Type 0 w
       → PlaceChange made x (record x { idle_timers = and_last x.idle_timers t })
   -- an active timer without steps completes
   completed : {x : Places} (start : ℕ) → completion_of x.completions start ≡ None → PlaceChange made x (without_start start x)
-  -- the pending idle callbacks become runnable, and the task is queued that invokes them; an idle callback leaves the lists
+  -- the pending idle callbacks become runnable, and the task is queued that invokes them
   idle_started : {x : Places} → PlaceChange made x (record x { idle = started x.idle })
   idle_queued : {x : Places} (t : Task) → t.steps ≡ InvokeIdle → t.source ≡ IdleSource → PlaceChange made x (with_task t x)
-  idle_left : {x : Places} (handle : ℕ) → PlaceChange made x (record x { idle = cancel handle x.idle })
-
--- what holds where the places are changed so: the pending idle callbacks become runnable in the period that goes on, and the task that
--- invokes them is queued in it
-abbrev pub InPeriod : {made : List Registration} {x y : Places} → PlaceChange made x y → Page → Type 0
-InPeriod idle_started p =
-    (c : Callback) → IsIn c p.idle.pending
-    → some_line (is_reg_of c.registration) (since_last is_period p.events) ≡ false × c.registration ≤ length p.registrations
-InPeriod (idle_queued t e from) p = PeriodGoesOn p
-InPeriod c p = Unit {0}
 
 -- what a registration is for
 abbrev pub role_at : List Registration → ℕ → Role
 role_at made r = (numbered made r no_registration).role
+
+-- what holds where the places are changed so: what is armed waits nowhere and is for its kind; the pending idle callbacks become runnable
+-- in the period that goes on, and the task that invokes them is queued in it
+abbrev pub IsMade : {made : List Registration} {x y : Places} → PlaceChange made x y → Page → Type 0
+IsMade (armed_again a t role there next) p = IsUnarmed t.registration (places p)
+IsMade (signal_armed ms now r s) p = role_at p.registrations r ≡ OfKind kind.Signal × IsUnarmed r (places p)
+IsMade (idle_armed t most own) p =
+    role_at p.registrations t.registration ≡ OfKind kind.Idle × IsUnarmed t.registration (places p)
+    × ((u : IdleTimer) → IsIn u p.idle_timers → u.handle ≡ t.handle → ⊥)
+IsMade idle_started p =
+    (c : Callback) → IsIn c p.idle.pending
+    → some_line (is_reg_of c.registration) (since_last is_period p.events) ≡ false × c.registration ≤ length p.registrations
+IsMade (idle_queued t e from) p = PeriodGoesOn p
+IsMade c p = Unit {0}
 
 -- a registration's own timer id, 0 where it has none
 abbrev pub id_at : List Registration → ℕ → ℕ
@@ -282,11 +308,25 @@ pub data DueChange (made : List Registration) (r : ℕ) : Places → Places → 
       → DueChange made r x
       (with_task (record { number = number; source = source; steps = AnswerHost a.task }) (without_answer a.task.registration x))
 
--- the registration whose steps an active timer completes with
-abbrev pub completes_for : Completion → ℕ
-completes_for (QueueTimer t) = t.registration
-completes_for (EnqueuePost r source) = r
-completes_for (QueueSignal r s) = r
+-- the first of the active timers of least due time: those before it are due later, and those behind it no earlier
+abbrev pub IsFirstDue : ActiveTimer → List ActiveTimer → Type 0
+IsFirstDue t [] = ⊥
+IsFirstDue t (b ∷ bs) = (t ≡ b × ((c : ActiveTimer) → IsIn c bs → t.due ≤ c.due)) ⊎ (t.due < b.due × IsFirstDue t bs)
+
+-- the active timer of this start completes first, and is due by now
+pub record IsTimerDue (x : Places) (start now : ℕ) : Type 0 where
+  pub timer : ActiveTimer
+  pub first : IsFirstDue timer x.timers.active
+  pub own : timer.start ≡ start
+  pub time : timer.due ≤ now
+
+-- what is due so is due by now
+abbrev pub IsDueBy : {made : List Registration} {r : ℕ} {x y : Places} → (now : ℕ) → DueChange made r x y → Type 0
+IsDueBy {x = x} now (timer_due start number source t e i role) = IsTimerDue x start now
+IsDueBy {x = x} now (delay_due start source e role) = IsTimerDue x start now
+IsDueBy {x = x} now (signal_due start s e role) = IsTimerDue x start now
+IsDueBy now (idle_due t number source i e role) = t.due ≤ now
+IsDueBy now (answer_due before a after number source e i role) = a.due ≤ now
 
 -- what waits for its due time in an active timer
 abbrev pub is_delayed_role : Role → Bool
@@ -301,6 +341,11 @@ pub data ArmedAt (made : List Registration) (x : Places) (r due : ℕ) : Type 0 
       → ArmedAt made x r due
   by_host : (a : HostAnswer) → IsIn a x.host_answers → a.due ≡ due → a.task.registration ≡ r → role_at made r ≡ OfKind kind.Host
       → ArmedAt made x r due
+
+-- a timer is armed for a whole number of milliseconds, and from level 7 on for 4 at least; anything else is armed with level 0
+pub record IsArmedWell (p : Page) (r due level : ℕ) : Type 0 where
+  pub timer : is_timer_role (role_at p.registrations r) ≡ true → p.now ≤ due × is_delay (due - p.now) level ≡ true
+  pub other : is_timer_role (role_at p.registrations r) ≡ false → level ≡ 0
 
 -- how registration r leaves its place by a cancel
 pub data Dropping (made : List Registration) (r : ℕ) : Places → Places → Type 0 where
@@ -322,6 +367,12 @@ without_aborted r p =
       hosts = drop_closure (task_in_answer (waiting_answer r p)) (drop_closure (task_in_net (waiting_net_task r p)) p.hosts);
     }
 
+-- what initialising a new timer gave: an id that no registration has, the next start number and the next unique handle
+pub record IsFirstArmed (made : List Registration) (x : Places) (a : Armed) (t : TimerTask) : Type 0 where
+  pub fresh : (q : ℕ) → id_at made q ≡ a.id → ⊥
+  pub handle : a.handle ≡ suc x.timers.handles_made
+  pub start : a.start ≡ suc x.timers.starts_made
+
 -- where new registration r waits first, from the places before; these were made before it, and these are the priorities
 pub data FirstPlace (made : List Registration) (prios : Prios) (r : ℕ) : Places → Places → Type 0 where
   -- at none of these: the timer of a signal, which is armed next
@@ -330,7 +381,7 @@ pub data FirstPlace (made : List Registration) (prios : Prios) (r : ℕ) : Place
   at_listener : {x : Places} (target : Target) (name : List ℕ) (q : ℕ) → q ≡ r
       → FirstPlace made prios r x (record x { listeners = add target name q x.listeners })
   -- in the completion steps of its timer: a timer, with an id that no other registration has, a delayed post
-  at_timer : {x : Places} (a : Armed) (t : TimerTask) → t.registration ≡ r → ((q : ℕ) → id_at made q ≡ a.id → ⊥)
+  at_timer : {x : Places} (a : Armed) (t : TimerTask) → t.registration ≡ r → IsFirstArmed made x a t
       → FirstPlace made prios r x (with_timer (with_armed None a x.timers) a.start (QueueTimer t) x)
   at_delay : {x : Places} (ms now q : ℕ) (source : PrioSource) → q ≡ r → HasPriority prios source
       → FirstPlace made prios r x (with_timer (run_after ms now x.timers) (suc x.timers.starts_made) (EnqueuePost q source) x)
@@ -341,6 +392,11 @@ pub data FirstPlace (made : List Registration) (prios : Prios) (r : ℕ) : Place
       → c.mark ≡ Live
       → FirstPlace made prios r x
       (record x { hosts = slice_set x.hosts a.task.closure (queued_mark c); host_answers = and_last x.host_answers a })
+
+-- whether a first place is among the idle callbacks
+abbrev pub IsAtIdle : {made : List Registration} {prios : Prios} {r : ℕ} {x y : Places} → FirstPlace made prios r x y → Type 0
+IsAtIdle (at_idle q e) = Unit {0}
+IsAtIdle u = ⊥
 
 -- each signal that was aborted is so still
 abbrev pub StaysAborted : Page → Page → Type 0
@@ -364,6 +420,10 @@ pub record IsNext (p q : Page) (t : SchedTask) (queue : QueueName) : Type 0 wher
   pub made : suc p.tasks_made ≤ q.tasks_made
   pub named : queue ≡ queue_name t.source
 
+-- no task is runnable and nothing is pending
+abbrev pub IsAtEnd : Page → Type 0
+IsAtEnd p = is_empty (view p) ≡ true × is_pending p ≡ false
+
 -- ---- Ours: a change, with which no call begins or ends
 
 -- promise number n is changed so, with its lines and jobs
@@ -372,15 +432,17 @@ promise_changes n c p = on_notices (λ s. changed (context p) p.names n c s) p
 
 pub data PageChange : Page → Page → Type 0 where
   -- something else than promises, jobs, lines, registrations, frame callbacks and the checkpoint is changed, and the places so
-  elsewhere : {p q : Page} (c : PlaceChange p.registrations (places p) (places q)) → AsBefore p q → InPeriod c p → PageChange p q
+  elsewhere : {p q : Page} (c : PlaceChange p.registrations (places p) (places q)) → AsBefore p q → IsMade c p → PageChange p q
   -- a line that tells nothing of promises and jobs
   told : {p : Page} (e : Event) → is_aside e ≡ true → PageChange p (emit e p)
   -- a registration is armed
-  arm_told : {p : Page} (r due level : ℕ) → ArmedAt p.registrations (places p) r due → PageChange p (emit (Arm r due level) p)
+  arm_told : {p : Page} (r due level : ℕ) → ArmedAt p.registrations (places p) r due → IsArmedWell p r due level
+      → PageChange p (emit (Arm r due level) p)
   -- a line between turns, where no call is open, no job waits and no frame is in progress; that of the scheduler's turn comes with its
   -- call, and that of a period at the idle period start
   rested : {p : Page} (e : Event) → is_rest e ≡ true → open_registrations p.events ≡ [] → p.notices.jobs ≡ []
-      → is_sched_turn e ≡ false → FrameIsOver p → (is_period e ≡ true → p.last_idle_start ≡ p.now) → PageChange p (emit e p)
+      → is_sched_turn e ≡ false → FrameIsOver p → (is_period e ≡ true → p.last_idle_start ≡ p.now) → (e ≡ EndLine Done → IsAtEnd p)
+      → PageChange p (emit e p)
   -- a host's task is taken, and the host answers
   answered : {p q : Page} (source : Source) (task : Task) (t : HostTask) (answer : Result ℤ ℤ) → first_task source p.tasks ≡ Some task
       → task.steps ≡ AnswerHost t
@@ -389,22 +451,24 @@ pub data PageChange : Page → Page → Type 0 where
       → AsBefore (emit (Host t.closure t.number answer) p) q → PageChange p q
   -- a registration is made, for no frame, and waits at its first place
   registered : {p q : Page} (kind : RegKind) (x : Registration) → x.role ≡ OfKind kind → is_frame kind ≡ false
-      → FirstPlace p.registrations p.prios (suc (length p.registrations)) (places p) (places q)
-      → AsBefore (register_as kind x p) q → PageChange p q
+      → (u : FirstPlace p.registrations p.prios (suc (length p.registrations)) (places p) (places q))
+      → AsBefore (register_as kind x p) q → (is_idle kind ≡ true → IsAtIdle u) → PageChange p q
   -- a registration is made, and its scheduler task is enqueued, with its line
   enqueued_anew : {p q : Page} (kind : RegKind) (x : Registration) (t : SchedTask) (queue : QueueName) → x.role ≡ OfKind kind
       → t.registration ≡ suc (length p.registrations) → places q ≡ with_queued t (places p)
       → IsNext p q t queue × Sourced p.prios p.scheduling_states t.source × is_scheduled kind ≡ true
       → AsBefore (emit (Enq t.registration queue t.continuation t.order) (register_as kind x p)) q → PageChange p q
   -- a registration is due, with its line; a delayed post that was not aborted is enqueued then
-  fell_due : {p q : Page} (r : ℕ) → DueChange p.registrations r (places p) (places q) → AsBefore (emit (Due r) p) q → PageChange p q
+  fell_due : {p q : Page} (r : ℕ) (d : DueChange p.registrations r (places p) (places q)) → AsBefore (emit (Due r) p) q → IsDueBy p.now d
+      → PageChange p q
   post_fell_due : {p q : Page} (start : ℕ) (source : PrioSource) (t : SchedTask) (queue : QueueName)
       → completion_of p.completions start ≡ Some (EnqueuePost t.registration source)
       → role_at p.registrations t.registration ≡ OfKind kind.Post
       → is_aborted_source p (signal_at p.registrations t.registration) ≡ false
       → places q ≡ with_queued t (without_start start (places p)) → IsNext p q t queue × t.source ≡ source
       × t.continuation ≡ false
-      → AsBefore (emit (Enq t.registration queue t.continuation t.order) (emit (Due t.registration) p)) q → PageChange p q
+      → AsBefore (emit (Enq t.registration queue t.continuation t.order) (emit (Due t.registration) p)) q
+      → IsTimerDue (places p) start p.now → PageChange p q
   -- a registration is cancelled, with its line, and a frame callback so
   dropped : {p q : Page} (r : ℕ) → Dropping p.registrations r (places p) (places q) → AsBefore (emit (Drop r) p) q → PageChange p q
   frame_dropped : {p : Page} (handle : ℕ) (c : Callback) → callback_in p.frames.callbacks handle ≡ Some c
@@ -458,15 +522,15 @@ FirstArms u due = ⊥
 
 -- whether a change of the places arms this registration for this due time
 abbrev pub PlaceArms : {made : List Registration} {x y : Places} → PlaceChange made x y → (r due : ℕ) → Type 0
-PlaceArms (armed_again a t role there own) r due = r ≡ t.registration × due ≡ a.due
+PlaceArms (armed_again a t role there next) r due = r ≡ t.registration × due ≡ a.due
 PlaceArms (signal_armed ms now q s) r due = r ≡ q × due ≡ now + ms * 1000
 PlaceArms (idle_armed t most own) r due = r ≡ t.registration × due ≡ t.due
 PlaceArms c r due = ⊥
 
 -- a change and the line that tells what it arms
 abbrev pub Tells : {p q r : Page} → PageChange p q → PageChange q r → Type 0
-Tells {p = p} (registered kind x e unframed u b) (arm_told r due level w) = r ≡ suc (length p.registrations) × FirstArms u due
-Tells (elsewhere c b k) (arm_told r due level w) = PlaceArms c r due
+Tells {p = p} (registered kind x e unframed u b at) (arm_told r due level w well) = r ≡ suc (length p.registrations) × FirstArms u due
+Tells (elsewhere c b k) (arm_told r due level w well) = PlaceArms c r due
 Tells a b = ⊥
 
 -- whether a first place, and a change of the places, arm nothing
@@ -477,16 +541,16 @@ FirstIsPlain (at_host c a e there live) = ⊥
 FirstIsPlain u = Unit {0}
 
 abbrev pub PlaceIsPlain : {made : List Registration} {x y : Places} → PlaceChange made x y → Type 0
-PlaceIsPlain (armed_again a t role there own) = ⊥
+PlaceIsPlain (armed_again a t role there next) = ⊥
 PlaceIsPlain (signal_armed ms now q s) = ⊥
 PlaceIsPlain (idle_armed t most own) = ⊥
 PlaceIsPlain c = Unit {0}
 
 -- a change that arms nothing
 abbrev pub IsPlain : {p q : Page} → PageChange p q → Type 0
-IsPlain (registered kind x e unframed u b) = FirstIsPlain u
+IsPlain (registered kind x e unframed u b at) = FirstIsPlain u
 IsPlain (elsewhere c b k) = PlaceIsPlain c
-IsPlain (arm_told r due level w) = ⊥
+IsPlain (arm_told r due level w well) = ⊥
 IsPlain c = Unit {0}
 
 -- changes one after another, where each that arms is told of at once

@@ -8,7 +8,7 @@ use Rattle.page_types.specs.declared.RegKind.TheVariants as kind
 use Rattle.page_types.specs.declared.End.{End}
 use Rattle.page_types.specs.declared.End.TheVariants as end
 use Rattle.page_types.specs.Events.{QueueName, FixedQueue, SignalQueue, Event, Turn, Call, Arm, Run, Enq, Prio, EndLine, Stamped}
-use Rattle.page_laws.specs.History.{History, each_line, count_lines, is_turn, is_run, is_sched_turn, is_arm_of, is_due_of, is_some_and, is_host, is_scheduled, has_kind, kind_of, registered, registered_for, was_called, was_dropped, last_line}
+use Rattle.page_laws.specs.History.{is_idle, History, each_line, count_lines, is_turn, is_run, is_sched_turn, is_arm_of, is_due_of, is_some_and, is_host, is_scheduled, has_kind, kind_of, registered, registered_for, was_called, was_dropped, last_line, is_frame}
 use Rattle.page_laws.specs.CallLaws.{is_answer}
 
 -- ---- Prioritized Task Scheduling, "Selecting the Task Queue of the Next Scheduler Task"
@@ -158,3 +158,40 @@ holds_ends_truly until fuel es = each_line (λ past e. keeps_end until fuel past
 -- `until` or later, and no turn begins then. Turns and jobs together are no more than the fuel.
 abbrev pub EndsTruly : (until fuel : ℕ) → List Stamped → Type 0
 EndsTruly until fuel es = holds_ends_truly until fuel es ≡ true
+
+abbrev pub keeps_arms_due : History → Event → Bool
+keeps_arms_due past (EndLine end.Done) = list_all (was_each_due past) (armed_ever past)
+keeps_arms_due past e = true
+
+abbrev pub holds_arms_due : List Stamped → Bool
+holds_arms_due es = each_line (λ past e. keeps_arms_due past e.event) [] es
+
+-- A part of that law by itself: where a run ends for nothing is left to do, whatever was armed was due each time, but
+-- for a host that was dropped.
+abbrev pub ArmsAreDueAtEnd : List Stamped → Type 0
+ArmsAreDueAtEnd es = holds_arms_due es ≡ true
+
+-- where a run ends for nothing is left to do, the test holds of the lines before that
+abbrev pub at_done : (History → Bool) → History → Event → Bool
+at_done test past (EndLine end.Done) = test past
+at_done test past e = true
+
+abbrev pub frames_are_over : History → Bool
+frames_are_over past = list_all (λ r. was_called past r || was_dropped past r) (registered_for is_frame past)
+
+abbrev pub holds_frames_over : List Stamped → Bool
+holds_frames_over es = each_line (λ past e. at_done frames_are_over past e.event) [] es
+
+-- Another part of it by itself: each frame callback was called or dropped then.
+abbrev pub FramesAreOverAtEnd : List Stamped → Type 0
+FramesAreOverAtEnd es = holds_frames_over es ≡ true
+
+abbrev pub idles_are_over : History → Bool
+idles_are_over past = list_all (λ r. was_called past r || was_dropped past r) (registered_for is_idle past)
+
+abbrev pub holds_idles_over : List Stamped → Bool
+holds_idles_over es = each_line (λ past e. at_done idles_are_over past e.event) [] es
+
+-- And so was each idle callback.
+abbrev pub IdlesAreOverAtEnd : List Stamped → Type 0
+IdlesAreOverAtEnd es = holds_idles_over es ≡ true

@@ -109,6 +109,46 @@ holds_fire_when_due es = each_line (λ past e. keeps_firing past e.event) [] es
 abbrev pub TimersFireWhenDue : List Stamped → Type 0
 TimersFireWhenDue es = holds_fire_when_due es ≡ true
 
+abbrev pub keeps_due : History → ℕ → Event → Bool
+keeps_due past now (Due r) = is_due_now past now r
+keeps_due past now e = true
+
+abbrev pub holds_due_when_armed : List Stamped → Bool
+holds_due_when_armed es = each_line (λ past e. keeps_due past e.time e.event) [] es
+
+-- Another part of it by itself: what is due was armed for that time or an earlier one, and was not due since.
+abbrev pub DueWhenArmed : List Stamped → Type 0
+DueWhenArmed es = holds_due_when_armed es ≡ true
+
+abbrev pub keeps_due_order : History → Event → Bool
+keeps_due_order past (Due r) = goes_in_order past r
+keeps_due_order past e = true
+
+abbrev pub holds_due_in_order : List Stamped → Bool
+holds_due_in_order es = each_line (λ past e. keeps_due_order past e.event) [] es
+
+-- A third part of it by itself: of two that are active at one line, the one that was armed first is due first, unless it
+-- was armed for a later time.
+abbrev pub DueInOrder : List Stamped → Type 0
+DueInOrder es = holds_due_in_order es ≡ true
+
+abbrev pub is_clamped : History → (now r due level : ℕ) → Bool
+is_clamped past now r due level =
+    cond (has_kind is_timer past r) (nat_le now due && is_delay (due - now) level)
+    (not (has_kind has_no_level past r) || (level == 0))
+
+abbrev pub keeps_clamps : History → ℕ → Event → Bool
+keeps_clamps past now (Arm r due level) = is_clamped past now r due level
+keeps_clamps past now e = true
+
+abbrev pub holds_timers_clamped : List Stamped → Bool
+holds_timers_clamped es = each_line (λ past e. keeps_clamps past e.time e.event) [] es
+
+-- A fourth part of it by itself: a timer is armed for a whole number of milliseconds, and from level 7 on for 4 at
+-- least; idle callbacks, posted tasks, signals and hosts are armed with level 0.
+abbrev pub TimersClamped : List Stamped → Type 0
+TimersClamped es = holds_timers_clamped es ≡ true
+
 -- ---- HTML, "Animation frames": run the animation frame callbacks
 
 abbrev pub is_frame_line : Event → Bool

@@ -12,8 +12,8 @@ ghost use Rattle.page_model.specs.Turns.{turns, run_by, state_of, first_state, f
 ghost use Rattle.page_model.specs.Numbers.{HoldsNoNumbers};
 ghost use Rattle.page_laws.specs.CallLaws.{Once, Cancel, SettleOnce, JobsInOrder, NoNesting};
 ghost use Rattle.page_laws.specs.History.{open_registrations};
-ghost use Rattle.page_laws.specs.SchedulerLaws.{PriorityOrder};
-ghost use Rattle.page_laws.specs.TimerLaws.{FramesInOrder, IdleDeadlines, TimersFireWhenDue};
+ghost use Rattle.page_laws.specs.SchedulerLaws.{ArmsAreDueAtEnd, FramesAreOverAtEnd, IdlesAreOverAtEnd, PriorityOrder};
+ghost use Rattle.page_laws.specs.TimerLaws.{DueInOrder, DueWhenArmed, FramesInOrder, IdleDeadlines, TimersClamped, TimersFireWhenDue};
 ghost use Rattle.page_laws.specs.Moves.{Moves};
 ghost use Rattle.page_model.specs.Gaps.{Act, run_gaps_by};
 
@@ -88,6 +88,38 @@ pub fn timers_fire_when_due<R: Choosing>()
         → TimersFireWhenDue (events_of_run (run_by R.rules program setup hosts c)) }
 {}
 
+/// What is due was armed for that time or an earlier one, and was not due since: another part of the law of timers. It holds of timers,
+/// delays of posted tasks, timeout signals, idle timeouts and the answers of hosts.
+pub fn registrations_are_due_when_armed<R: Choosing>()
+    ensures { (program : Program) (setup : Setup) (hosts : List HostClosure) (c : R.Held) → HoldsNoNumbers setup
+        → DueWhenArmed (events_of_run (run_by R.rules program setup hosts c)) }
+{}
+
+/// Of two timers, delays of posted tasks or timeout signals that are active at one line, the one that was armed first is due first, unless
+/// it was armed for a later time: a third part of the law of timers.
+pub fn registrations_are_due_in_order<R: Choosing>()
+    ensures { (program : Program) (setup : Setup) (hosts : List HostClosure) (c : R.Held) → HoldsNoNumbers setup
+        → DueInOrder (events_of_run (run_by R.rules program setup hosts c)) }
+{}
+
+/// A timer is armed for a whole number of milliseconds, and for 4 at least from level 7 on; idle callbacks, posted tasks, signals and
+/// hosts are armed with level 0: a fourth part of the law of timers.
+pub fn timers_are_clamped<R: Choosing>()
+    ensures { (program : Program) (setup : Setup) (hosts : List HostClosure) (c : R.Held) → HoldsNoNumbers setup
+        → TimersClamped (events_of_run (run_by R.rules program setup hosts c)) }
+{}
+
+/// Where a run ends for nothing is left to do, whatever was armed was due each time, but for a host that was dropped, and each frame
+/// callback and each idle callback was called or dropped: parts of the law of how runs end.
+pub fn runs_end_with_nothing_armed<R: Choosing>()
+    ensures arms { (program : Program) (setup : Setup) (hosts : List HostClosure) (c : R.Held) → HoldsNoNumbers setup
+        → ArmsAreDueAtEnd (events_of_run (run_by R.rules program setup hosts c)) }
+    ensures frames { (program : Program) (setup : Setup) (hosts : List HostClosure) (c : R.Held) → HoldsNoNumbers setup
+        → FramesAreOverAtEnd (events_of_run (run_by R.rules program setup hosts c)) }
+    ensures idles { (program : Program) (setup : Setup) (hosts : List HostClosure) (c : R.Held) → HoldsNoNumbers setup
+        → IdlesAreOverAtEnd (events_of_run (run_by R.rules program setup hosts c)) }
+{}
+
 /// The open calls that a page keeps are those that its lines tell, the innermost first, wherever a run stops.
 pub fn open_calls_are_told<R: Choosing>()
     ensures in_runs { (program : Program) (setup : Setup) (hosts : List HostClosure) (c : R.Held) → HoldsNoNumbers setup
@@ -118,4 +150,16 @@ pub fn acts_keep_the_laws<R: Choosing>()
         → IdleDeadlines (events_of_run (run_gaps_by R.rules program setup list c)) }
     ensures firing { (program : Program) (setup : Setup) (c : R.Held) (list : List Act) → HoldsNoNumbers setup
         → TimersFireWhenDue (events_of_run (run_gaps_by R.rules program setup list c)) }
+    ensures due_times { (program : Program) (setup : Setup) (c : R.Held) (list : List Act) → HoldsNoNumbers setup
+        → DueWhenArmed (events_of_run (run_gaps_by R.rules program setup list c)) }
+    ensures due_order { (program : Program) (setup : Setup) (c : R.Held) (list : List Act) → HoldsNoNumbers setup
+        → DueInOrder (events_of_run (run_gaps_by R.rules program setup list c)) }
+    ensures clamps { (program : Program) (setup : Setup) (c : R.Held) (list : List Act) → HoldsNoNumbers setup
+        → TimersClamped (events_of_run (run_gaps_by R.rules program setup list c)) }
+    ensures arms_at_end { (program : Program) (setup : Setup) (c : R.Held) (list : List Act) → HoldsNoNumbers setup
+        → ArmsAreDueAtEnd (events_of_run (run_gaps_by R.rules program setup list c)) }
+    ensures frames_at_end { (program : Program) (setup : Setup) (c : R.Held) (list : List Act) → HoldsNoNumbers setup
+        → FramesAreOverAtEnd (events_of_run (run_gaps_by R.rules program setup list c)) }
+    ensures idles_at_end { (program : Program) (setup : Setup) (c : R.Held) (list : List Act) → HoldsNoNumbers setup
+        → IdlesAreOverAtEnd (events_of_run (run_gaps_by R.rules program setup list c)) }
 {}

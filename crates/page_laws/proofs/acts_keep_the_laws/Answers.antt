@@ -31,3 +31,21 @@ returns-clause-deadlines g c = λ program setup choices list h. (laws_of_gaps g.
 
 pub returns-clause-firing : goal.returns-clause-firing
 returns-clause-firing g c = λ program setup choices list h. (laws_of_gaps g.R.Choosing.rules program setup choices list h).9
+
+pub returns-clause-due_times : goal.returns-clause-due_times
+returns-clause-due_times g c = λ program setup choices list h. (laws_of_gaps g.R.Choosing.rules program setup choices list h).10
+
+pub returns-clause-due_order : goal.returns-clause-due_order
+returns-clause-due_order g c = λ program setup choices list h. (laws_of_gaps g.R.Choosing.rules program setup choices list h).11
+
+pub returns-clause-clamps : goal.returns-clause-clamps
+returns-clause-clamps g c = λ program setup choices list h. (laws_of_gaps g.R.Choosing.rules program setup choices list h).12
+
+pub returns-clause-arms_at_end : goal.returns-clause-arms_at_end
+returns-clause-arms_at_end g c = λ program setup choices list h. (laws_of_gaps g.R.Choosing.rules program setup choices list h).13
+
+pub returns-clause-frames_at_end : goal.returns-clause-frames_at_end
+returns-clause-frames_at_end g c = λ program setup choices list h. (laws_of_gaps g.R.Choosing.rules program setup choices list h).14
+
+pub returns-clause-idles_at_end : goal.returns-clause-idles_at_end
+returns-clause-idles_at_end g c = λ program setup choices list h. (laws_of_gaps g.R.Choosing.rules program setup choices list h).15
