@@ -65,6 +65,14 @@ impl Idle {
         Ok(handle)
     }
 
+    /// The registration of the callback with this handle, in either list: none exactly where the handle is in neither. Takes no
+    /// memory.
+    pub fn registration(&self, handle: u32) -> Option<u32>
+        ensures { result ≡ option_map (λ callback. callback.registration) (waiting_callback handle self.now) }
+    {
+        self.callbacks.get(&handle).copied()
+    }
+
     /// Takes the callback with this handle out of both lists, and answers its registration.
     ///
     /// None exactly where the handle is in neither, and then nothing changes. Takes no memory.
@@ -172,7 +180,10 @@ mod tests {
         idle.start()?;
         assert_eq!(rt; idle.request(4)?, 3);
 
+        assert_eq!(rt; idle.registration(1), Some(2));
+        assert_eq!(rt; idle.registration(3), Some(4));
         assert_eq!(rt; idle.cancel(1), Some(2));
+        assert_eq!(rt; idle.registration(1), None);
         assert_eq!(rt; idle.cancel(1), None);
         assert_eq!(rt; idle.find_timeout(3), Some(4));
         assert_eq!(rt; idle.find_timeout(3), None);

@@ -1,5 +1,5 @@
 ghost use Rattle.std.specs.Prelude.{◌≡◌, [], IfOk, OnOk, OnErr};
-ghost use Rattle.page_parts.specs.Listeners.{add as with_listener, off as without_listener, snapshot, is_listening};
+ghost use Rattle.page_parts.specs.Listeners.{add as with_listener, off as without_listener, snapshot, is_listening as is_live};
 ghost use Rattle.page_events.specs.Seen.{seen_target};
 ghost use Rattle.page_events.specs.Dispatching.{next_listening, behind_next};
 
@@ -91,7 +91,7 @@ impl Listeners {
     ///
     /// True exactly where it was live, and else nothing changes. Takes no memory.
     pub fn off(&mut self, registration: u32) -> bool
-        ensures was { result ≡ is_listening registration self.old }
+        ensures was { result ≡ is_live registration self.old }
         ensures gone { self.new ≡ without_listener registration self.old }
     {
         let Some(serials) = self.serials.remove(&registration) else {
@@ -99,6 +99,13 @@ impl Listeners {
         };
         take_out_all(&mut self.listed, &mut self.kinds, &serials);
         !serials.is_empty()
+    }
+
+    /// Whether a listener is live: it was added, and not removed. It costs look-ups. Takes no memory.
+    pub fn is_listening(&self, registration: u32) -> bool
+        ensures { result ≡ is_live registration self.now }
+    {
+        has_serials(&self.serials, registration)
     }
 
     /// Begins a dispatch to the listeners of this target and name as they are now, in the order in which they were added.

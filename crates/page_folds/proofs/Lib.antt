@@ -1,2 +1,3 @@
 pub mod VisitLemmas
 pub mod ModelLemmas
+pub mod NumberLemmas

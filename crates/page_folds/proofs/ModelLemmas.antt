@@ -10,8 +10,6 @@ use Rattle.page_parts.specs.Words.{is_there}
 use Rattle.page_parts.specs.AbortGraph.{SignalRecord, Signals, fresh_signal, the_signal, reason_of, marked, with_algorithms}
 use Rattle.page_parts.specs.TaskSignals.{PrioRecord, Prios, same_priority, record_of, priority_of, is_changing, followers, changed_at, ended}
 use Rattle.page_parts.specs.Listeners.{Listener, AtSignal, snapshot, is_listening}
-use Rattle.abort_graph.specs.ByValue.{by_value}
-use Rattle.abort_graph.proofs.ByValueLemmas.{signal_by, marked_by, with_reason_by, with_algorithms_by}
 use Rattle.page_model.specs.State.{Page, the_registration, emit_each}
 use Rattle.page_model.specs.Invoke.{when_reported, call_begun, call_ended}
 use Rattle.page_model.specs.PageSignals.{abort_registrations, run_algorithms, reason_value, priority_value, has_priority}
@@ -170,32 +168,25 @@ some-there : (ps : Prios) (s : ℕ) (own : Priority) → priority_of ps s ≡ So
 some-there [] s own e = cc
 some-there (r ∷ rs) s own e = omega arith
 
-module _ (value : ℕ → Value) (p : Page) where
-  abbrev at : Parts → Page
-  at ps = page_with value ps p
+module _ (p : Page) where
+  abbrev at : Parts Value → Page
+  at ps = page_with ps p
 
-  value-kept : (ps : Parts) (s t : ℕ) → reason_value (at (algorithms_taken s ps)) t ≡ reason_value (at ps) t
-  value-kept ps s t =
-      ap (λ (ss : Signals Value). unwrap_or (reason_of ss t) UnitValue) (with_algorithms_by value ps.signals s [])
-      ∙ ap (λ o. unwrap_or o UnitValue) (reason-kept (by_value value ps.signals) s t)
+  value-kept : (ps : Parts Value) (s t : ℕ) → reason_value (at (algorithms_taken s ps)) t ≡ reason_value (at ps) t
+  value-kept ps s t = ap (λ o. unwrap_or o UnitValue) (reason-kept ps.signals s t)
 
-  have-kept : (reason : Value) (ps : Parts) (s : ℕ) (ss : List ℕ) → HaveReason reason (at ps) ss → HaveReason reason (at (algorithms_taken s ps)) ss
+  have-kept : (reason : Value) (ps : Parts Value) (s : ℕ) (ss : List ℕ) → HaveReason reason (at ps) ss → HaveReason reason (at (algorithms_taken s ps)) ss
   have-kept reason ps s [] h = tt
   have-kept reason ps s (t ∷ ss) h = (value-kept ps s t ∙ h.0, have-kept reason ps s ss h.1)
 
   -- the algorithms of a signal are run with the reason
-  algorithms-are : (reason : Value) (ps : Parts) (s : ℕ) → reason_value (at ps) s ≡ reason
+  algorithms-are : (reason : Value) (ps : Parts Value) (s : ℕ) → reason_value (at ps) s ≡ reason
       → run_algorithms s (at ps) ≡ abort_registrations reason (the_signal ps.signals s).algorithms (at (algorithms_taken s ps))
   algorithms-are reason ps s h =
-      let left = (the_signal ps.signals s).algorithms in
-      let emptied : Signals Value → Page = λ ss. record p { listeners = ps.listeners; signals = ss; prios = ps.prios } in
-      let own : (the_signal (by_value value ps.signals) s).algorithms ≡ left = ap (λ (q : SignalRecord Value). q.algorithms) (signal_by value ps.signals s) in
-      ap (λ r. abort_registrations r (the_signal (by_value value ps.signals) s).algorithms (emptied (with_algorithms s [] (by_value value ps.signals)))) h
-      ∙ ap (λ ns. abort_registrations reason ns (emptied (with_algorithms s [] (by_value value ps.signals)))) own
-      ∙ ap (λ ss. abort_registrations reason left (emptied ss)) (sym (with_algorithms_by value ps.signals s []))
+      ap (λ r. abort_registrations r (the_signal ps.signals s).algorithms (at (algorithms_taken s ps))) h
 
-  pub aborts-are : (reason : Value) (ss : List ℕ) (ps : Parts) → HaveReason reason (at ps) ss
-      → model.aborts_from ss (at ps) ≡ came_meaning value (OfAbort reason) (aborts_from ss ps) p
+  pub aborts-are : (reason : Value) (ss : List ℕ) (ps : Parts Value) → HaveReason reason (at ps) ss
+      → model.aborts_from ss (at ps) ≡ came_meaning (OfAbort reason) (aborts_from ss ps) p
   aborts-are reason [] ps h = refl
   aborts-are reason (s ∷ ss) ps h =
       let own = Algorithms s (the_signal ps.signals s).algorithms in
@@ -203,9 +194,9 @@ module _ (value : ℕ → Value) (p : Page) where
       ∙ stage-is (OfAbort reason) own (AbortsLeft ss) (at (algorithms_taken s ps))
       ∙ by (stage_next ps.listeners own) (aborts-are reason ss (algorithms_taken s ps) (have-kept reason ps s ss h.1))
     where
-      by : (o : Option (FoldStep × Stage)) → model.aborts_from ss (at (algorithms_taken s ps)) ≡ came_meaning value (OfAbort reason) (aborts_from ss (algorithms_taken s ps)) p
+      by : (o : Option (FoldStep × Stage)) → model.aborts_from ss (at (algorithms_taken s ps)) ≡ came_meaning (OfAbort reason) (aborts_from ss (algorithms_taken s ps)) p
           → or_meaning (OfAbort reason) o (AbortsLeft ss) (at (algorithms_taken s ps))
-          ≡ came_meaning value (OfAbort reason) (or_then o (AbortsLeft ss) (aborts_from ss) (algorithms_taken s ps)) p
+          ≡ came_meaning (OfAbort reason) (or_then o (AbortsLeft ss) (aborts_from ss) (algorithms_taken s ps)) p
       by None again = again
       by (Some a) again = refl
 
@@ -216,9 +207,9 @@ module _ (value : ℕ → Value) (p : Page) where
   each-is priority n [] more next same q = same q
   each-is priority n (s ∷ ss) more next same q = change-same priority n s (changes_of n ss more) _ _ (each-is priority n ss more next same) q
 
-  change-is : (last priority : Priority) (n s : ℕ) (more : List ChangePiece) (ps : Parts) → HasRecord ps.prios s
-      → model.changes_from priority more (at ps) ≡ came_meaning value (OfChange last) (changes_from priority more ps) p
-      → model.changes_from priority (ChangeOf (suc n) s ∷ more) (at ps) ≡ came_meaning value (OfChange last) (changes_from priority (ChangeOf (suc n) s ∷ more) ps) p
+  change-is : (last priority : Priority) (n s : ℕ) (more : List ChangePiece) (ps : Parts Value) → HasRecord ps.prios s
+      → model.changes_from priority more (at ps) ≡ came_meaning (OfChange last) (changes_from priority more ps) p
+      → model.changes_from priority (ChangeOf (suc n) s ∷ more) (at ps) ≡ came_meaning (OfChange last) (changes_from priority (ChangeOf (suc n) s ∷ more) ps) p
   change-is last priority n s more ps h again =
       by (suc n == 0) (grind (arith, nat_tests)) (is_changing ps.prios s) (has_priority ps.prios s priority) (priority_of ps.prios s) refl (priority-there (record_of ps.prios s) h)
     where
@@ -226,7 +217,7 @@ module _ (value : ℕ → Value) (p : Page) where
           → cond (a || b) (model.changes_from priority more (at ps))
           (fire s (codes "prioritychange") (SignalValue s ∷ priority_value (priority_of ps.prios s) ∷ []) (ChangesLeft priority (changes_of n (followers ps.prios s) (EndChange s ∷ more)))
           (each_change (model.change_from priority n) n (followers ps.prios s) (EndChange s ∷ more) (λ q. model.changes_from priority more (page.change_ended s q))) (page.change_begun s priority (at ps)))
-          ≡ came_meaning value (OfChange last) (change_from (cond (z || a || b) None o) priority (suc n) s more (changes_from priority more) ps) p
+          ≡ came_meaning (OfChange last) (change_from (cond (z || a || b) None o) priority (suc n) s more (changes_from priority more) ps) p
       by true e a b o at_o there = cc
       by false e true b o at_o there = again
       by false e false true o at_o there = again
@@ -243,8 +234,8 @@ module _ (value : ℕ → Value) (p : Page) where
           ∙ ap (λ (m : ℕ). next_listener (SignalValue s ∷ priority_value (Some before) ∷ []) heard_by (ChangesLeft priority (changes_of m ss (EndChange s ∷ more)))
           (model.changes_from priority (changes_of m ss (EndChange s ∷ more))) begun_at) less
 
-  changes-are : (last priority : Priority) (more : List ChangePiece) (ps : Parts) → CanChange ps.prios more
-      → model.changes_from priority more (at ps) ≡ came_meaning value (OfChange last) (changes_from priority more ps) p
+  changes-are : (last priority : Priority) (more : List ChangePiece) (ps : Parts Value) → CanChange ps.prios more
+      → model.changes_from priority more (at ps) ≡ came_meaning (OfChange last) (changes_from priority more ps) p
   changes-are last priority [] ps h = refl
   changes-are last priority (ChangeOf zero s ∷ more) ps h = changes-are last priority more ps h.1
   changes-are last priority (ChangeOf (suc n) s ∷ more) ps h = change-is last priority n s more ps h.0 (changes-are last priority more ps h.1)
@@ -252,7 +243,7 @@ module _ (value : ℕ → Value) (p : Page) where
 
   -- ---- a fold
 
-  rest-is : (kind : Kind) (rest : Rest) (ps : Parts) → Fits kind rest (at ps) → rest_from rest (at ps) ≡ came_meaning value kind (steps.rest_from rest ps) p
+  rest-is : (kind : Kind) (rest : Rest) (ps : Parts Value) → Fits kind rest (at ps) → rest_from rest (at ps) ≡ came_meaning kind (steps.rest_from rest ps) p
   rest-is (OfDispatch args) (AbortsLeft []) ps h = refl
   rest-is (OfDispatch args) (AbortsLeft (s ∷ ss)) ps h = absurd h
   rest-is (OfDispatch args) (ChangesLeft priority more) ps h = absurd h
@@ -261,27 +252,24 @@ module _ (value : ℕ → Value) (p : Page) where
   rest-is (OfChange last) (AbortsLeft ss) ps h = absurd h
   rest-is (OfChange last) (ChangesLeft priority more) ps h = changes-are last priority more ps h
 
-  pub step-is : (kind : Kind) (fold : OpenFold) (ps : Parts) → StepIs value kind fold ps p
+  pub step-is : (kind : Kind) (fold : OpenFold) (ps : Parts Value) → StepIs kind fold ps p
   step-is kind fold ps h =
       stage-is kind fold.stage fold.rest (at ps) ∙ by (stage_next ps.listeners fold.stage) (rest-is kind fold.rest ps h)
     where
-      by : (o : Option (FoldStep × Stage)) → rest_from fold.rest (at ps) ≡ came_meaning value kind (steps.rest_from fold.rest ps) p
-          → or_meaning kind o fold.rest (at ps) ≡ came_meaning value kind (or_then o fold.rest (steps.rest_from fold.rest) ps) p
+      by : (o : Option (FoldStep × Stage)) → rest_from fold.rest (at ps) ≡ came_meaning kind (steps.rest_from fold.rest ps) p
+          → or_meaning kind o fold.rest (at ps) ≡ came_meaning kind (or_then o fold.rest (steps.rest_from fold.rest) ps) p
       by None again = again
       by (Some a) again = refl
 
   -- ---- how folds begin
 
-  pub dispatch-is : (args : List Value) (target : Target) (name : List ℕ) (ps : Parts) → DispatchIs value args target name ps p
+  pub dispatch-is : (args : List Value) (target : Target) (name : List ℕ) (ps : Parts Value) → DispatchIs args target name ps p
   dispatch-is args target name ps = refl
 
-  pub abort-is : (s reason : ℕ) (ps : Parts) → AbortIs value s reason ps p
-  abort-is s reason ps =
-      let ss = marked s ps.signals in
-      ap (λ (m : List ℕ). model.aborts_from m (page.reason_set (value reason) m (at ps))) (marked_by value ps.signals s)
-      ∙ ap (λ (q : Signals Value). model.aborts_from ss (emit_each (map Abort ss) (record p { listeners = ps.listeners; signals = q; prios = ps.prios }))) (sym (with_reason_by value reason ss ps.signals))
+  pub abort-is : (s : ℕ) (reason : Value) (ps : Parts Value) → AbortIs s reason ps p
+  abort-is s reason ps = refl
 
-  pub change-begins : (s : ℕ) (priority : Priority) (ps : Parts) → ChangeIs value s priority ps p
+  pub change-begins : (s : ℕ) (priority : Priority) (ps : Parts Value) → ChangeIs s priority ps p
   change-begins s priority ps own at_own other still =
       let n = length ps.prios - 1 in
       let chain = some-there ps.prios s own at_own in
@@ -290,5 +278,5 @@ module _ (value : ℕ → Value) (p : Page) where
       let begins : before_change (length ps.prios) ps.prios s priority ≡ Some own = none_passes (length ps.prios == 0) (is_changing ps.prios s) (has_priority ps.prios s priority) (priority_of ps.prios s) not_zero still differs ∙ at_own in
       ap (λ (m : ℕ). model.changes_from priority (ChangeOf m s ∷ []) (at ps)) chain
       ∙ change-is own priority n s [] ps (record-there (record_of ps.prios s) own at_own) refl
-      ∙ ap (λ (m : ℕ). came_meaning value (OfChange own) (changes_from priority (ChangeOf m s ∷ []) ps) p) (sym chain)
-      ∙ ap (λ (o : Option Priority). came_meaning value (OfChange own) (change_from o priority (length ps.prios) s [] (changes_from priority []) ps) p) begins
+      ∙ ap (λ (m : ℕ). came_meaning (OfChange own) (changes_from priority (ChangeOf m s ∷ []) ps) p) (sym chain)
+      ∙ ap (λ (o : Option Priority). came_meaning (OfChange own) (change_from o priority (length ps.prios) s [] (changes_from priority []) ps) p) begins

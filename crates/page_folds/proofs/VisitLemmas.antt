@@ -55,7 +55,7 @@ stage-falls ls (Calling target left) = listener-falls ls target left
 -- ---- aborts
 
 -- fewer are left after the step, where a fold comes to one
-abbrev CameFalls : ℕ → Came → Type 0
+abbrev pub CameFalls : {R : Type 0} → ℕ → Came R → Type 0
 CameFalls n (Ends ps) = ⊤
 CameFalls n (Gives s fold ps) = fold_visits ps fold < n
 
@@ -67,21 +67,21 @@ at_place f (y ∷ xs) (suc i) zero x d e = omega arith
 at_place f (y ∷ xs) (suc i) (suc j) x d e = at_place f xs i j x d e
 
 -- a signal has no more algorithms where those of one were taken
-taken-fewer : (ss : Signals ℕ) (s t : ℕ) → length (the_signal (with_algorithms s [] ss) t).algorithms ≤ length (the_signal ss t).algorithms
+taken-fewer : {R : Type 0} (ss : Signals R) (s t : ℕ) → length (the_signal (with_algorithms s [] ss) t).algorithms ≤ length (the_signal ss t).algorithms
 taken-fewer ss zero t = omega arith
 taken-fewer ss (suc s) zero = omega arith
-taken-fewer ss (suc s) (suc t) =
-    at_place (λ (r : SignalRecord ℕ). length r.algorithms) ss s t (record (the_signal ss (suc s)) { algorithms = [] }) fresh_signal (omega arith)
+taken-fewer {R} ss (suc s) (suc t) =
+    at_place (λ (r : SignalRecord R). length r.algorithms) ss s t (record (the_signal ss (suc s)) { algorithms = [] }) fresh_signal (omega arith)
 
-module _ (ls : List Listener) (prios : Prios) where
-  abbrev with_signals : Signals ℕ → Parts
+module _ {R : Type 0} (ls : List Listener) (prios : Prios) where
+  abbrev with_signals : Signals R → Parts R
   with_signals ss = record { listeners = ls; signals = ss; prios = prios }
 
-  aborts-fewer : (ss : Signals ℕ) (s : ℕ) (left : List ℕ) → abort_visits (with_signals (with_algorithms s [] ss)) left ≤ abort_visits (with_signals ss) left
+  aborts-fewer : (ss : Signals R) (s : ℕ) (left : List ℕ) → abort_visits (with_signals (with_algorithms s [] ss)) left ≤ abort_visits (with_signals ss) left
   aborts-fewer ss s [] = omega arith
   aborts-fewer ss s (t ∷ left) = omega (arith, taken-fewer ss s t, aborts-fewer ss s left)
 
-  aborts-fall : (left : List ℕ) (ss : Signals ℕ) (n : ℕ) → abort_visits (with_signals ss) left ≤ n → CameFalls n (aborts_from left (with_signals ss))
+  aborts-fall : (left : List ℕ) (ss : Signals R) (n : ℕ) → abort_visits (with_signals ss) left ≤ n → CameFalls n (aborts_from left (with_signals ss))
   aborts-fall [] ss n h = tt
   aborts-fall (s ∷ left) ss n h =
       let own = Algorithms s (the_signal ss s).algorithms in
@@ -149,8 +149,8 @@ module _ (priority : Priority) (s : ℕ) (f : PrioRecord → PrioRecord) (same_s
           ∙ again
           ∙ sym (followers-at r rs t false q)
 
-  module _ (ls : List Listener) (ss : Signals ℕ) where
-    abbrev with_prios : Prios → Parts
+  module _ {R : Type 0} (ls : List Listener) (ss : Signals R) where
+    abbrev with_prios : Prios → Parts R
     with_prios ps = record { listeners = ls; signals = ss; prios = ps }
 
     change-fewer : (n : ℕ) (ps : Prios) (t : ℕ) → change_visits priority (with_prios (changed_at s f ps)) n t ≤ change_visits priority (with_prios ps) n t
@@ -173,7 +173,7 @@ module _ (priority : Priority) (s : ℕ) (f : PrioRecord → PrioRecord) (same_s
     pieces-fewer ps (EndChange t ∷ more) = pieces-fewer ps more
 
 -- the pieces of signals that are to be changed, before others
-pieces-of : (priority : Priority) (ps : Parts) (n : ℕ) (ss : List ℕ) (more : List ChangePiece)
+pieces-of : {R : Type 0} (priority : Priority) (ps : Parts R) (n : ℕ) (ss : List ℕ) (more : List ChangePiece)
     → piece_visits priority ps (changes_of n ss more) ≡ sum_by (change_visits priority ps n) ss + piece_visits priority ps more
 pieces-of priority ps n [] more = omega arith
 pieces-of priority ps n (s ∷ ss) more = omega (arith, sum_by-cons (change_visits priority ps n) s ss, pieces-of priority ps n ss more)
@@ -194,8 +194,8 @@ begins-with chain prios s priority before e = by (chain == 0) refl (is_changing 
     by false q false true e = cc
     by false q false false e = (grind (arith, nat_tests), refl)
 
-module _ (priority : Priority) (ls : List Listener) (ss : Signals ℕ) where
-  abbrev at_prios : Prios → Parts
+module _ {R : Type 0} (priority : Priority) (ls : List Listener) (ss : Signals R) where
+  abbrev at_prios : Prios → Parts R
   at_prios ps = record { listeners = ls; signals = ss; prios = ps }
 
   begun-fewer : (s : ℕ) (n : ℕ) (ps : Prios) (t : ℕ) → change_visits priority (at_prios (begun s priority ps)) n t ≤ change_visits priority (at_prios ps) n t
@@ -239,11 +239,11 @@ module _ (priority : Priority) (ls : List Listener) (ss : Signals ℕ) where
 
 -- ---- a fold
 
-rest-falls : (rest : Rest) (ps : Parts) (n : ℕ) → rest_visits ps rest ≤ n → CameFalls n (rest_from rest ps)
+rest-falls : {R : Type 0} (rest : Rest) (ps : Parts R) (n : ℕ) → rest_visits ps rest ≤ n → CameFalls n (rest_from rest ps)
 rest-falls (AbortsLeft left) ps n h = aborts-fall ps.listeners ps.prios left ps.signals n h
 rest-falls (ChangesLeft priority more) ps n h = changes-fall priority ps.listeners ps.signals more ps.prios n h
 
-fold-falls : (fold : OpenFold) (ps : Parts) → CameFalls (fold_visits ps fold) (goes_on fold ps)
+pub fold-falls : {R : Type 0} (fold : OpenFold) (ps : Parts R) → CameFalls (fold_visits ps fold) (goes_on fold ps)
 fold-falls fold ps =
     by (rest-falls fold.rest ps (fold_visits ps fold) (omega arith)) (stage_next ps.listeners fold.stage) (stage-falls ps.listeners fold.stage)
   where
@@ -253,23 +253,23 @@ fold-falls fold ps =
     by again None less = again
     by again (Some a) less = omega (arith, less)
 
-falls-by : (s : FoldStep) (before after : Standing) → to_visit after < to_visit before → Falls s before after
+falls-by : {R : Type 0} (s : FoldStep) (before after : Standing R) → to_visit after < to_visit before → Falls s before after
 falls-by step.Finished before after h = tt
 falls-by (step.Algorithm a) before after h = h
 falls-by (step.Listener target r) before after h = h
 falls-by (step.Changed s b) before after h = h
 
-came-falls : (came : Came) (fold : OpenFold) (ps : Parts) (around : List OpenFold) → CameFalls (fold_visits ps fold) came
+came-falls : {R : Type 0} (came : Came R) (fold : OpenFold) (ps : Parts R) (around : List OpenFold) → CameFalls (fold_visits ps fold) came
     → Falls (after came around).0 (record { parts = ps; folds = fold ∷ around }) (after came around).1
 came-falls (Ends q) fold ps around h = tt
 came-falls (Gives s new q) fold ps around h =
     falls-by s (record { parts = ps; folds = fold ∷ around }) (record { parts = q; folds = new ∷ around }) h
 
-falls-in : (folds : List OpenFold) (ps : Parts) → Falls (stepped_in folds ps).0 (record { parts = ps; folds = folds }) (stepped_in folds ps).1
+falls-in : {R : Type 0} (folds : List OpenFold) (ps : Parts R) → Falls (stepped_in folds ps).0 (record { parts = ps; folds = folds }) (stepped_in folds ps).1
 falls-in [] ps = tt
 falls-in (fold ∷ around) ps = came-falls (goes_on fold ps) fold ps around (fold-falls fold ps)
 
 -- at each step that is not the end, less is left to visit
-pub step-falls : (s : FoldStep) (before after : Standing) → (s, after) ≡ stepped before → Falls s before after
-step-falls s before after e =
-    let P : FoldStep × Standing → Type 0 = λ a. Falls a.0 before a.1 in subst P (sym e) (falls-in before.folds before.parts)
+pub step-falls : {R : Type 0} (s : FoldStep) (before after : Standing R) → (s, after) ≡ stepped before → Falls s before after
+step-falls {R} s before after e =
+    let P : FoldStep × Standing R → Type 0 = λ a. Falls a.0 before a.1 in subst P (sym e) (falls-in before.folds before.parts)

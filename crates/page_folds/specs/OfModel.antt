@@ -21,9 +21,9 @@ use Rattle.page_folds.specs.Steps.{Parts, Stage, Between, Algorithms, ToTell, To
 
 -- ---- Ours: what the model's page does with an open fold
 
--- the page with these parts, where `value` gives the reason with a number
-abbrev pub page_with : (ℕ → Value) → Parts → Page → Page
-page_with value ps p = record p { listeners = ps.listeners; signals = by_value value ps.signals; prios = ps.prios }
+-- the page with these parts
+abbrev pub page_with : Parts Value → Page → Page
+page_with ps p = record p { listeners = ps.listeners; signals = ps.signals; prios = ps.prios }
 
 -- which fold it is: a dispatch with the arguments of its listeners, an abort with its reason, or a change, with the priority before of
 -- the signal that was told last
@@ -88,9 +88,9 @@ step_meaning kind (step.Changed s before) fold p = meaning (OfChange before) fol
 step_meaning kind step.Finished fold p = Finished p
 
 -- what a page does where a fold comes to this
-abbrev pub came_meaning : (ℕ → Value) → Kind → Came → Page → Reached
-came_meaning value kind (Ends ps) p = Finished (page_with value ps p)
-came_meaning value kind (Gives s fold ps) p = step_meaning kind s fold (page_with value ps p)
+abbrev pub came_meaning : Kind → Came Value → Page → Reached
+came_meaning kind (Ends ps) p = Finished (page_with ps p)
+came_meaning kind (Gives s fold ps) p = step_meaning kind s fold (page_with ps p)
 
 -- these signals are aborted with this reason
 abbrev pub HaveReason : Value → Page → List ℕ → Type 0
@@ -105,29 +105,42 @@ Fits (OfChange before) (ChangesLeft priority more) p = CanChange p.prios more
 Fits kind rest p = ⊥
 
 -- what a page does with an open fold is its next step, and what it does with the fold then
-abbrev pub StepIs : (ℕ → Value) → Kind → OpenFold → Parts → Page → Type 0
-StepIs value kind fold ps p =
-    Fits kind fold.rest (page_with value ps p) →
-    meaning kind fold (page_with value ps p) ≡ came_meaning value kind (goes_on fold ps) p
+abbrev pub StepIs : Kind → OpenFold → Parts Value → Page → Type 0
+StepIs kind fold ps p =
+    Fits kind fold.rest (page_with ps p) → meaning kind fold (page_with ps p) ≡ came_meaning kind (goes_on fold ps) p
+
+-- ---- Ours: reasons by number
+
+-- the parts with the value f n in place of each reason n
+abbrev pub parts_by : (ℕ → Value) → Parts ℕ → Parts Value
+parts_by f ps = record { listeners = ps.listeners; signals = by_value f ps.signals; prios = ps.prios }
+
+abbrev pub came_by : (ℕ → Value) → Came ℕ → Came Value
+came_by f (Ends ps) = Ends (parts_by f ps)
+came_by f (Gives s fold ps) = Gives s fold (parts_by f ps)
+
+-- a fold goes on in the same way with numbers as with values
+abbrev pub NumbersAre : (ℕ → Value) → OpenFold → Parts ℕ → Type 0
+NumbersAre f fold ps = goes_on fold (parts_by f ps) ≡ came_by f (goes_on fold ps)
 
 -- ---- Ours: how folds begin
 
 -- a dispatch begins as its fold
-abbrev pub DispatchIs : (ℕ → Value) → (args : List Value) → Target → (name : List ℕ) → Parts → Page → Type 0
-DispatchIs value args target name ps p =
-    model.begin_dispatch (seen_target target) name args (page_with value ps p)
-    ≡ meaning (OfDispatch args) (dispatch_fold target name ps) (page_with value ps p)
+abbrev pub DispatchIs : (args : List Value) → Target → (name : List ℕ) → Parts Value → Page → Type 0
+DispatchIs args target name ps p =
+    model.begin_dispatch (seen_target target) name args (page_with ps p)
+    ≡ meaning (OfDispatch args) (dispatch_fold target name ps) (page_with ps p)
 
 -- an abort begins as its fold, once a line is written for each signal
-abbrev pub AbortIs : (ℕ → Value) → (s reason : ℕ) → Parts → Page → Type 0
-AbortIs value s reason ps p =
+abbrev pub AbortIs : (s : ℕ) (reason : Value) → Parts Value → Page → Type 0
+AbortIs s reason ps p =
     let ss = marked s ps.signals in
-    model.begin_abort s (value reason) (page_with value ps p)
-    ≡ meaning (OfAbort (value reason)) (abort_fold ss) (emit_each (map Abort ss) (page_with value (reason_set s reason ps) p))
+    model.begin_abort s reason (page_with ps p)
+    ≡ meaning (OfAbort reason) (abort_fold ss) (emit_each (map Abort ss) (page_with (reason_set s reason ps) p))
 
 -- a change of a signal that has another priority, and of which no change is in progress, begins as its fold
-abbrev pub ChangeIs : (ℕ → Value) → (s : ℕ) → Priority → Parts → Page → Type 0
-ChangeIs value s priority ps p =
+abbrev pub ChangeIs : (s : ℕ) → Priority → Parts Value → Page → Type 0
+ChangeIs s priority ps p =
     (own : Priority) → priority_of ps.prios s ≡ Some own → same_priority own priority ≡ false → is_changing ps.prios s ≡ false →
-    model.begin_change priority (length ps.prios) s (page_with value ps p)
-    ≡ meaning (OfChange own) (change_fold s priority own ps) (page_with value (change_begun s priority ps) p)
+    model.begin_change priority (length ps.prios) s (page_with ps p)
+    ≡ meaning (OfChange own) (change_fold s priority own ps) (page_with (change_begun s priority ps) p)

@@ -51,7 +51,7 @@ IsBegun chain s priority before (Some b) after =
     × (pieces_of (b.level ∷ []) ≡ changes_of (chain - 1) (followers before s) (EndChange s ∷ []))
 
 -- what the next change comes to
-abbrev pub came_to_told : Option Told → Parts → Came
+abbrev pub came_to_told : {R : Type 0} → Option Told → Parts R → Came R
 came_to_told None ps = Ends ps
 came_to_told (Some t) ps =
     Gives (step.Changed t.signal t.before)
@@ -59,16 +59,16 @@ came_to_told (Some t) ps =
     ps
 
 -- what a step comes to
-abbrev pub came_to : Option Next → Parts → Came
+abbrev pub came_to : {R : Type 0} → Option Next → Parts R → Came R
 came_to None ps = Ends ps
 came_to (Some n) ps = Gives n.step (fold_seen n.fold) ps
 
 -- the parts, and the open folds of which the innermost stands last
-abbrev pub parts_of : Folds → Parts
+abbrev pub parts_of : Folds → Parts ℕ
 parts_of f = record { listeners = f.listeners; signals = f.signals; prios = f.prios }
 
 abbrev pub open_of : Folds → List OpenFold
 open_of f = reverse (map fold_seen f.open_folds.items)
 
-abbrev pub standing : Folds → Standing
+abbrev pub standing : Folds → Standing ℕ
 standing f = record { parts = parts_of f; folds = open_of f }

@@ -15,10 +15,11 @@ use Rattle.page_folds.specs.declared.step.FoldStep.TheVariants as step
 
 -- ---- Ours: folds by steps
 
--- what folds read and change of a page: the listeners, the signals with the numbers of their reasons, and the priorities
-pub record Parts : Type 0 where
+-- what folds read and change of a page: the listeners, the signals and the priorities. R is the type of a reason: the signals of the code
+-- have numbers, and those of a page have values.
+pub record Parts (R : Type 0) : Type 0 where
   pub listeners : List Listener
-  pub signals : Signals ℕ
+  pub signals : Signals R
   pub prios : Prios
 
 -- what a fold is at between two steps
@@ -40,9 +41,9 @@ pub record OpenFold : Type 0 where
   pub rest : Rest
 
 -- what a fold comes to: its end, or a step, and the fold after it
-pub data Came : Type 0 where
-  Ends : Parts → Came
-  Gives : FoldStep → OpenFold → Parts → Came
+pub data Came (R : Type 0) : Type 0 where
+  Ends : Parts R → Came R
+  Gives : FoldStep → OpenFold → Parts R → Came R
 
 -- DOM, "Dispatching events": the first of these listeners that was not removed, and those behind it
 abbrev pub listener_next : List Listener → Target → List ℕ → Option (FoldStep × Stage)
@@ -63,26 +64,26 @@ stage_next ls (ToFire s) = fired ls (codes "prioritychange") s
 stage_next ls (Calling target left) = listener_next ls target left
 
 -- this step, or what comes where there is none
-abbrev pub or_then : Option (FoldStep × Stage) → Rest → (Parts → Came) → Parts → Came
+abbrev pub or_then : {R : Type 0} → Option (FoldStep × Stage) → Rest → (Parts R → Came R) → Parts R → Came R
 or_then None rest next ps = next ps
 or_then (Some (s, stage)) rest next ps = Gives s (record { stage = stage; rest = rest }) ps
 
 -- the algorithms of a signal are taken
-abbrev pub algorithms_taken : ℕ → Parts → Parts
+abbrev pub algorithms_taken : {R : Type 0} → ℕ → Parts R → Parts R
 algorithms_taken s ps = record ps { signals = with_algorithms s [] ps.signals }
 
 -- DOM, "Interface AbortSignal": the abort steps of each of these signals: its algorithms, and then `abort` is fired at it
-abbrev pub aborts_from : List ℕ → Parts → Came
+abbrev pub aborts_from : {R : Type 0} → List ℕ → Parts R → Came R
 aborts_from [] ps = Ends ps
 aborts_from (s ∷ ss) ps =
     or_then (stage_next ps.listeners (Algorithms s (the_signal ps.signals s).algorithms)) (AbortsLeft ss) (aborts_from ss)
     (algorithms_taken s ps)
 
 -- a change begins, and ends
-abbrev pub change_begun : ℕ → Priority → Parts → Parts
+abbrev pub change_begun : {R : Type 0} → ℕ → Priority → Parts R → Parts R
 change_begun s priority ps = record ps { prios = begun s priority ps.prios }
 
-abbrev pub change_ended : ℕ → Parts → Parts
+abbrev pub change_ended : {R : Type 0} → ℕ → Parts R → Parts R
 change_ended s ps = record ps { prios = ended s ps.prios }
 
 -- The priority before a change of a signal, where no chain of followers is longer than `chain`. None where it is passed over: while a
@@ -93,7 +94,7 @@ before_change chain prios s priority =
 
 -- Prioritized Task Scheduling, "The TaskSignal Interface": a change of one signal, before other pieces: it is passed over, or its
 -- priority is set, and then come `prioritychange`, the changes of its followers and the change's end
-abbrev pub change_from : Option Priority → Priority → ℕ → ℕ → List ChangePiece → (Parts → Came) → Parts → Came
+abbrev pub change_from : {R : Type 0} → Option Priority → Priority → ℕ → ℕ → List ChangePiece → (Parts R → Came R) → Parts R → Came R
 change_from None priority chain s more next ps = next ps
 change_from (Some before) priority chain s more next ps =
     Gives (step.Changed s before)
@@ -104,25 +105,25 @@ change_from (Some before) priority chain s more next ps =
     (change_begun s priority ps)
 
 -- the pieces of a change
-abbrev pub changes_from : Priority → List ChangePiece → Parts → Came
+abbrev pub changes_from : {R : Type 0} → Priority → List ChangePiece → Parts R → Came R
 changes_from priority [] ps = Ends ps
 changes_from priority (ChangeOf chain s ∷ more) ps =
     change_from (before_change chain ps.prios s priority) priority chain s more (changes_from priority more) ps
 changes_from priority (EndChange s ∷ more) ps = changes_from priority more (change_ended s ps)
 
 -- what comes after a stage
-abbrev pub rest_from : Rest → Parts → Came
+abbrev pub rest_from : {R : Type 0} → Rest → Parts R → Came R
 rest_from (AbortsLeft ss) ps = aborts_from ss ps
 rest_from (ChangesLeft priority more) ps = changes_from priority more ps
 
 -- a fold goes on by one step
-abbrev pub goes_on : OpenFold → Parts → Came
+abbrev pub goes_on : {R : Type 0} → OpenFold → Parts R → Came R
 goes_on fold ps = or_then (stage_next ps.listeners fold.stage) fold.rest (rest_from fold.rest) ps
 
 -- ---- Ours: how a fold begins
 
 -- an event is fired at a target
-abbrev pub dispatch_fold : Target → List ℕ → Parts → OpenFold
+abbrev pub dispatch_fold : {R : Type 0} → Target → List ℕ → Parts R → OpenFold
 dispatch_fold target name ps = record { stage = Calling target (snapshot (seen_target target) name ps.listeners); rest = AbortsLeft [] }
 
 -- a signal is aborted: the reason was set on these signals
@@ -130,11 +131,11 @@ abbrev pub abort_fold : List ℕ → OpenFold
 abort_fold ss = record { stage = Between; rest = AbortsLeft ss }
 
 -- the reason is set on a signal and those that depend on it
-abbrev pub reason_set : ℕ → ℕ → Parts → Parts
+abbrev pub reason_set : {R : Type 0} → ℕ → R → Parts R → Parts R
 reason_set s reason ps = record ps { signals = with_reason reason (marked s ps.signals) ps.signals }
 
 -- the priority of a signal was set, and was `before` until then
-abbrev pub change_fold : ℕ → Priority → Priority → Parts → OpenFold
+abbrev pub change_fold : {R : Type 0} → ℕ → Priority → Priority → Parts R → OpenFold
 change_fold s priority before ps =
     record {
       stage = ToTell s before;
@@ -144,8 +145,8 @@ change_fold s priority before ps =
 -- ---- Ours: tickets
 
 -- the parts and the open folds, the innermost first
-pub record Standing : Type 0 where
-  pub parts : Parts
+pub record Standing (R : Type 0) : Type 0 where
+  pub parts : Parts R
   pub folds : List OpenFold
 
 -- a fold's ticket is the number of folds that are open around it; this one is the innermost fold's
@@ -153,28 +154,28 @@ abbrev pub IsInnermost : ℕ → List OpenFold → Type 0
 IsInnermost ticket folds = length folds ≡ ticket + 1
 
 -- one more fold is open
-abbrev pub opened : OpenFold → Parts → List OpenFold → Standing
+abbrev pub opened : {R : Type 0} → OpenFold → Parts R → List OpenFold → Standing R
 opened fold ps around = record { parts = ps; folds = fold ∷ around }
 
 -- a dispatch begins
-abbrev pub dispatch_begun : Target → List ℕ → Standing → Standing
+abbrev pub dispatch_begun : {R : Type 0} → Target → List ℕ → Standing R → Standing R
 dispatch_begun target name st = opened (dispatch_fold target name st.parts) st.parts st.folds
 
 -- an abort begins
-abbrev pub abort_begun : (s reason : ℕ) → Standing → Standing
+abbrev pub abort_begun : {R : Type 0} → (s : ℕ) (reason : R) → Standing R → Standing R
 abort_begun s reason st = opened (abort_fold (marked s st.parts.signals)) (reason_set s reason st.parts) st.folds
 
 -- a step of the innermost fold, with these around it, and what stands after it: at its end the fold is closed
-abbrev pub after : Came → List OpenFold → FoldStep × Standing
+abbrev pub after : {R : Type 0} → Came R → List OpenFold → FoldStep × Standing R
 after (Ends ps) around = (step.Finished, record { parts = ps; folds = around })
 after (Gives s fold ps) around = (s, opened fold ps around)
 
 -- the innermost fold goes on; with none open nothing is left to visit
-abbrev pub stepped_in : List OpenFold → Parts → FoldStep × Standing
+abbrev pub stepped_in : {R : Type 0} → List OpenFold → Parts R → FoldStep × Standing R
 stepped_in [] ps = after (Ends ps) []
 stepped_in (fold ∷ around) ps = after (goes_on fold ps) around
 
-abbrev pub stepped : Standing → FoldStep × Standing
+abbrev pub stepped : {R : Type 0} → Standing R → FoldStep × Standing R
 stepped st = stepped_in st.folds st.parts
 
 -- the folds around the innermost one

@@ -24,14 +24,14 @@ stage_visits ls (ToFire s) = heard ls (codes "prioritychange") s
 stage_visits ls (Calling target left) = length left
 
 -- the abort steps of these signals
-abbrev pub abort_visits : Parts → List ℕ → ℕ
+abbrev pub abort_visits : {R : Type 0} → Parts R → List ℕ → ℕ
 abort_visits ps [] = 0
 abort_visits ps (s ∷ ss) =
     length (the_signal ps.signals s).algorithms + heard ps.listeners (codes "abort") s + abort_visits ps ss
 
 -- The change of a signal, and of those that follow it, where no chain of followers is longer than the number. None where this is its
 -- priority already.
-abbrev pub change_visits : Priority → Parts → ℕ → ℕ → ℕ
+abbrev pub change_visits : {R : Type 0} → Priority → Parts R → ℕ → ℕ → ℕ
 change_visits priority ps zero s = 0
 change_visits priority ps (suc n) s =
     cond (has_priority ps.prios s priority)
@@ -39,29 +39,29 @@ change_visits priority ps (suc n) s =
     (1 + heard ps.listeners (codes "prioritychange") s + sum_by (change_visits priority ps n) (followers ps.prios s))
 
 -- the pieces of a change
-abbrev pub piece_visits : Priority → Parts → List ChangePiece → ℕ
+abbrev pub piece_visits : {R : Type 0} → Priority → Parts R → List ChangePiece → ℕ
 piece_visits priority ps [] = 0
 piece_visits priority ps (ChangeOf chain s ∷ more) = change_visits priority ps chain s + piece_visits priority ps more
 piece_visits priority ps (EndChange s ∷ more) = piece_visits priority ps more
 
 -- what comes after a stage
-abbrev pub rest_visits : Parts → Rest → ℕ
+abbrev pub rest_visits : {R : Type 0} → Parts R → Rest → ℕ
 rest_visits ps (AbortsLeft ss) = abort_visits ps ss
 rest_visits ps (ChangesLeft priority more) = piece_visits priority ps more
 
 -- what a fold has still to visit
-abbrev pub fold_visits : Parts → OpenFold → ℕ
+abbrev pub fold_visits : {R : Type 0} → Parts R → OpenFold → ℕ
 fold_visits ps fold = stage_visits ps.listeners fold.stage + rest_visits ps fold.rest
 
 -- the same of the innermost of these folds
-abbrev pub innermost_visits : Parts → List OpenFold → ℕ
+abbrev pub innermost_visits : {R : Type 0} → Parts R → List OpenFold → ℕ
 innermost_visits ps [] = 0
 innermost_visits ps (fold ∷ around) = fold_visits ps fold
 
-abbrev pub to_visit : Standing → ℕ
+abbrev pub to_visit : {R : Type 0} → Standing R → ℕ
 to_visit st = innermost_visits st.parts st.folds
 
 -- at each step that is not the end, less is left to visit
-abbrev pub Falls : FoldStep → (before after : Standing) → Type 0
+abbrev pub Falls : {R : Type 0} → FoldStep → (before after : Standing R) → Type 0
 Falls Finished before after = ⊤
 Falls step before after = to_visit after < to_visit before

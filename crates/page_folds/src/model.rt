@@ -5,15 +5,17 @@ ghost use Rattle.page_types.specs.declared.Priority.{Priority};
 ghost use Rattle.page_events.specs.declared.target.Target.{Target};
 ghost use Rattle.page_model.specs.State.{Page};
 ghost use Rattle.page_folds.specs.Steps.{Parts, OpenFold};
-ghost use Rattle.page_folds.specs.OfModel.{Kind, StepIs, DispatchIs, AbortIs, ChangeIs};
+ghost use Rattle.page_folds.specs.OfModel.{Kind, StepIs, NumbersAre, DispatchIs, AbortIs, ChangeIs};
 
 /// The steps of a fold are those that a page takes, in order: what a page does with an open fold is to do what the next step says,
 /// and then what it does with the fold after that step. What it does where a fold begins is what it does with the fold that begins
-/// here. It does nothing when it runs.
+/// here. A fold goes on in the same way where the reasons of signals are numbers and where they are the values with these numbers.
+/// It does nothing when it runs.
 pub fn steps_are_those_of_a_page()
-    ensures step { (value : ℕ → Value) (kind : Kind) (fold : OpenFold) (ps : Parts) (p : Page) → StepIs value kind fold ps p }
-    ensures dispatch { (value : ℕ → Value) (args : List Value) (target : Target) (name : List ℕ) (ps : Parts) (p : Page) →
-        DispatchIs value args target name ps p }
-    ensures abort { (value : ℕ → Value) (s reason : ℕ) (ps : Parts) (p : Page) → AbortIs value s reason ps p }
-    ensures change { (value : ℕ → Value) (s : ℕ) (priority : Priority) (ps : Parts) (p : Page) → ChangeIs value s priority ps p }
+    ensures step { (kind : Kind) (fold : OpenFold) (ps : Parts Value) (p : Page) → StepIs kind fold ps p }
+    ensures numbers { (f : ℕ → Value) (fold : OpenFold) (ps : Parts ℕ) → NumbersAre f fold ps }
+    ensures dispatch { (args : List Value) (target : Target) (name : List ℕ) (ps : Parts Value) (p : Page) →
+        DispatchIs args target name ps p }
+    ensures abort { (s : ℕ) (reason : Value) (ps : Parts Value) (p : Page) → AbortIs s reason ps p }
+    ensures change { (s : ℕ) (priority : Priority) (ps : Parts Value) (p : Page) → ChangeIs s priority ps p }
 {}

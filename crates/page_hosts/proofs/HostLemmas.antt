@@ -1,5 +1,5 @@
 -- A page's closures and those of its port.
-use Rattle.std.proofs.Common.{◌≡◌, ◌≢◌, ◌≤◌, ◌^◌, ◌⊎◌, inl, inr, ℕ, zero, suc, Bool, true, false, not, cond, ◌&&◌, List, [], ◌∷◌, length, map, Option, None, Some, Result, Ok, Err, refl, sym, ap, ◌∙◌, eqb, nat_cmp, arith}
+use Rattle.std.proofs.Common.{◌≡◌, ◌≢◌, ◌≤◌, ◌^◌, ◌⊎◌, inl, inr, ℕ, zero, suc, Bool, true, false, not, cond, ◌&&◌, List, [], ◌∷◌, length, map, Option, None, Some, Result, Ok, Err, refl, sym, ap, subst, ◌∙◌, eqb, nat_cmp, arith}
 use Rattle.std.specs.Int.{FitsUnsignedBits}
 use lib.IntN.{nat_abs}
 use Rattle.std.specs.Prelude.{ℤ, pos, negsuc, IsTrue, slice_get, slice_set, option_map, is_some, OnOk, OnErr}
@@ -7,6 +7,7 @@ use Rattle.std.specs.List.{list_all}
 use Rattle.std.specs.Option.{option_map_or}
 use Rattle.std.specs.BTreeMap.{is_at}
 use Rattle.std.proofs.Math.Bool.{false≢true}
+use Rattle.std.proofs.lemmas.Bool.{eqb-true}
 use Rattle.std.proofs.lemmas.Bool.Decides.{nat_tests}
 use Rattle.page_types.specs.declared.HostMark.{HostMark}
 use Rattle.page_types.specs.declared.HostMark.TheVariants.{Live, Queued, Fired, Dropped}
@@ -20,7 +21,7 @@ use Rattle.page_fields.proofs.FieldLemmas as fields
 use Rattle.page_model.specs.Operations.{is_fresh, fitting, int_within}
 use Rattle.page_model.specs.PageSignals.{drop_at}
 use Rattle.page_model.specs.Turns.{not_dropped}
-use Rattle.page_hosts.specs.Hosts.{closure_in, is_fresh_at, IsUnfired, ask_at, fire_at, is_unqueued, unasked, AreOfPort}
+use Rattle.page_hosts.specs.Hosts.{closure_in, is_fresh_at, IsUnfired, ask_at, fire_at, IsQueued, is_unqueued_mark, is_unqueued, unasked, AreOfPort, AreHeld}
 
 -- ---- what is told of one closure
 
@@ -245,3 +246,157 @@ pub takes_not_found : (asked : ℕ → Bool) (cs : List HostClosure) (k x : ℤ)
 takes_not_found asked cs (pos k) x count outside =
     sym (ap (λ (o : Option HostClosure). is_some (fitting o x)) (get_beyond (overlaid asked cs) k (omega (arith, count_is asked cs))))
 takes_not_found asked cs (negsuc k) x count outside = refl
+
+-- ---- those that were asked and have not answered
+
+get_set_same : (cs : List HostClosure) (k : ℕ) (c d : HostClosure) → slice_get (slice_set cs k d) k ≡ Some c → c ≡ d
+get_set_same [] k c d there = cc
+get_set_same (e ∷ cs) zero c d there = cc
+get_set_same (e ∷ cs) (suc k) c d there = get_set_same cs k c d there
+
+get_set_other : (cs : List HostClosure) (k j : ℕ) (d : HostClosure) → eqb k j ≡ false → slice_get (slice_set cs k d) j ≡ slice_get cs j
+get_set_other [] k j d other = refl
+get_set_other (e ∷ cs) zero zero d other = absurd (false≢true (sym other))
+get_set_other (e ∷ cs) zero (suc j) d other = refl
+get_set_other (e ∷ cs) (suc k) zero d other = refl
+get_set_other (e ∷ cs) (suc k) (suc j) d other = get_set_other cs k j d (grind (arith, nat_tests, other))
+
+-- a change of closure k, where it is there
+changed_same : (change : HostClosure → HostClosure) (cs : List HostClosure) (k : ℕ) (c : HostClosure) → slice_get (changed_at change cs k) k ≡ Some c
+    → (d : HostClosure) × (slice_get cs k ≡ Some d) × (c ≡ change d)
+changed_same change cs k c there = by (slice_get cs k) refl there
+  where
+    by : (o : Option HostClosure) → slice_get cs k ≡ o → slice_get (option_map_or (λ d. slice_set cs k (change d)) o cs) k ≡ Some c
+        → (d : HostClosure) × (slice_get cs k ≡ Some d) × (c ≡ change d)
+    by None e there = absurd (let never : ⊥ = cc in never)
+    by (Some d) e there = (d, e, get_set_same cs k c (change d) there)
+
+changed_other : (change : HostClosure → HostClosure) (cs : List HostClosure) (k j : ℕ) → eqb k j ≡ false → slice_get (changed_at change cs k) j ≡ slice_get cs j
+changed_other change cs k j other = by (slice_get cs k)
+  where
+    by : (o : Option HostClosure) → slice_get (option_map_or (λ d. slice_set cs k (change d)) o cs) j ≡ slice_get cs j
+    by None = refl
+    by (Some d) = get_set_other cs k j (change d) other
+
+live_mark : (c : HostClosure) → is_live c.mark ≡ true → c.mark ≡ Live
+live_mark c live = by c.mark live
+  where
+    by : (m : HostMark) → is_live m ≡ true → m ≡ Live
+    by Live e = refl
+    by Queued e = absurd (false≢true e)
+    by Fired e = absurd (false≢true e)
+    by Dropped e = absurd (false≢true e)
+
+live_there : (cs : List HostClosure) (k : ℕ) → is_live_at cs k ≡ true → IsLiveOrDropped cs k
+live_there cs k live c there =
+    inl (live_mark c (sym (ap (λ o. option_map_or (λ (d : HostClosure). is_live d.mark) o false) there) ∙ live))
+
+-- none was asked
+pub none_held : (asked : ℕ → Bool) (cs : List HostClosure) → ((k : ℕ) → asked k ≡ false) → AreOfPort cs → AreHeld asked cs
+none_held asked cs none of_port = record { of_port = of_port; unfired = λ k is. absurd (false≢true (sym (none k) ∙ is)) }
+
+-- one more was asked
+pub asked_held : (asked now : ℕ → Bool) (cs : List HostClosure) (k : ℕ) → IsTrue (is_fresh_at (overlaid asked cs) k)
+    → ((j : ℕ) → now j ≡ cond (is_at (nat_cmp k) j) true (asked j)) → AreHeld asked cs → AreHeld now cs
+asked_held asked now cs k fresh each held = record {
+  of_port = held.of_port;
+  unfired = λ j is. by j (eqb k j) refl (sym (each j ∙ ap (λ b. cond b true (asked j)) (at_same k j)) ∙ is);
+}
+  where
+    by : (j : ℕ) (b : Bool) → eqb k j ≡ b → cond b true (asked j) ≡ true → IsLiveOrDropped cs j
+    by j true same is =
+        let P : ℕ → Type 0 = IsLiveOrDropped cs in
+        subst P (eqb-true k j same) (live_there cs k (first (is_live_at cs k) (not (asked k)) (sym (fresh_is asked cs k) ∙ fresh)))
+    by j false same is = held.unfired j is
+
+-- one has answered
+pub fired_held : (asked now : ℕ → Bool) (cs : List HostClosure) (k : ℕ)
+    → ((j : ℕ) → now j ≡ cond (is_at (nat_cmp k) j) false (asked j)) → AreHeld asked cs → AreHeld now (fired_at cs k)
+fired_held asked now cs k each held = record {
+  of_port = fired_keeps cs k held.of_port;
+  unfired = λ j is. by j (eqb k j) refl (sym (each j ∙ ap (λ b. cond b false (asked j)) (at_same k j)) ∙ is);
+}
+  where
+    by : (j : ℕ) (b : Bool) → eqb k j ≡ b → cond b false (asked j) ≡ true → IsLiveOrDropped (fired_at cs k) j
+    by j true same is = absurd (false≢true is)
+    by j false same is = λ c there. held.unfired j is c (sym (changed_other fired cs k j same) ∙ there)
+
+-- one was dropped
+pub dropped_held : (asked : ℕ → Bool) (cs : List HostClosure) (k : ℕ) → AreHeld asked cs → AreHeld asked (dropped_at cs k)
+dropped_held asked cs k held = record {
+  of_port = dropped_keeps cs k held.of_port;
+  unfired = λ j is. by j (eqb k j) refl is;
+}
+  where
+    one : (d : HostClosure) → (d.mark ≡ Live) ⊎ (d.mark ≡ Dropped) → ((after_drop d).mark ≡ Live) ⊎ ((after_drop d).mark ≡ Dropped)
+    one d (inl live) = inr (ap (λ m. (cond (is_live m) (dropped d) d).mark) live)
+    one d (inr was) = inr (ap (λ m. (cond (is_live m) (dropped d) d).mark) was ∙ was)
+
+    at : (c : HostClosure) → asked k ≡ true → slice_get (dropped_at cs k) k ≡ Some c → (c.mark ≡ Live) ⊎ (c.mark ≡ Dropped)
+    at c is there =
+        let was = changed_same after_drop cs k c there in
+        let P : HostClosure → Type 0 = λ c. (c.mark ≡ Live) ⊎ (c.mark ≡ Dropped) in
+        subst P (sym was.2) (one was.0 (held.unfired k is was.0 was.1))
+
+    by : (j : ℕ) (b : Bool) → eqb k j ≡ b → asked j ≡ true → IsLiveOrDropped (dropped_at cs k) j
+    by j true same is =
+        let P : ℕ → Type 0 = λ j. asked j ≡ true → IsLiveOrDropped (dropped_at cs k) j in
+        subst P (eqb-true k j same) (λ is c there. at c is there) is
+    by j false same is = λ c there. held.unfired j is c (sym (changed_other after_drop cs k j same) ∙ there)
+
+-- the mark of one that the port has fired says so, whether it was asked or not
+overlaid_alike : (asked now : ℕ → Bool) (cs : List HostClosure)
+    → ((k : ℕ) (c : HostClosure) → slice_get cs k ≡ Some c → is_live c.mark ≡ true → now k ≡ asked k) → overlaid now cs ≡ overlaid asked cs
+overlaid_alike asked now [] same = refl
+overlaid_alike asked now (c ∷ cs) same =
+    ap (λ (d : HostClosure). d ∷ overlaid (λ k. now (suc k)) cs) (by (is_live c.mark) refl)
+    ∙ ap (λ (ds : List HostClosure). queued_where (asked 0) c ∷ ds)
+    (overlaid_alike (λ k. asked (suc k)) (λ k. now (suc k)) cs (λ k d there live. same (suc k) d there live))
+  where
+    none : (a : Bool) → cond (a && false) (queued c) c ≡ c
+    none true = refl
+    none false = refl
+
+    by : (b : Bool) → is_live c.mark ≡ b → cond (now 0 && b) (queued c) c ≡ cond (asked 0 && b) (queued c) c
+    by true e = ap (λ a. cond (a && true) (queued c) c) (same 0 c refl e)
+    by false e = none (now 0) ∙ sym (none (asked 0))
+
+pub answered_overlaid : (asked now : ℕ → Bool) (cs : List HostClosure) (k : ℕ) → ((j : ℕ) → now j ≡ cond (is_at (nat_cmp k) j) false (asked j))
+    → overlaid now (fired_at cs k) ≡ overlaid asked (fired_at cs k)
+answered_overlaid asked now cs k each = overlaid_alike asked now (fired_at cs k) (λ j c there live. by j c there live (eqb k j) refl)
+  where
+    by : (j : ℕ) (c : HostClosure) → slice_get (fired_at cs k) j ≡ Some c → is_live c.mark ≡ true → (b : Bool) → eqb k j ≡ b → now j ≡ asked j
+    by j c there live true same =
+        let was = changed_same fired cs k c (ap (slice_get (fired_at cs k)) (eqb-true k j same) ∙ there) in
+        absurd (false≢true (sym (ap (λ (d : HostClosure). is_live d.mark) was.2) ∙ live))
+    by j c there live false same = each j ∙ ap (λ b. cond b false (asked j)) (at_same k j ∙ same)
+
+-- ---- whether one was asked and has not answered
+
+pub asked_unfired : (asked : ℕ → Bool) (cs : List HostClosure) (k : ℕ) → AreHeld asked cs → asked k ≡ true → IsUnfired (overlaid asked cs) k
+asked_unfired asked cs k held is c there fired_mark = by (slice_get cs k) refl (sym (closure_is asked cs k) ∙ there)
+  where
+    one : (d : HostClosure) → (d.mark ≡ Live) ⊎ (d.mark ≡ Dropped) → (b : Bool) → (queued_where b d).mark ≡ Fired → ⊥
+    one d (inl live) true e = let never : Queued ≡ Fired = sym (ap (λ m. (cond (is_live m) (queued d) d).mark) live) ∙ e in cc
+    one d (inl live) false e = let never : Live ≡ Fired = sym live ∙ e in cc
+    one d (inr was) true e = let never : Dropped ≡ Fired = sym (ap (λ m. (cond (is_live m) (queued d) d).mark) was ∙ was) ∙ e in cc
+    one d (inr was) false e = let never : Dropped ≡ Fired = sym was ∙ e in cc
+
+    by : (o : Option HostClosure) → slice_get cs k ≡ o → option_map (queued_where (asked k)) o ≡ Some c → ⊥
+    by None e found = cc
+    by (Some d) e found =
+        let same : queued_where (asked k) d ≡ c = cc in
+        one d (held.unfired k is d e) (asked k) (ap (λ (x : HostClosure). x.mark) same ∙ fired_mark)
+
+pub queued_asked : (asked : ℕ → Bool) (cs : List HostClosure) (k : ℕ) → AreOfPort cs → IsQueued (overlaid asked cs) k → asked k ≡ true
+queued_asked asked cs k of_port found = by (slice_get cs k) refl (sym (closure_is asked cs k) ∙ found.1)
+  where
+    one : (d : HostClosure) (b : Bool) → is_unqueued d ≡ true → (queued_where b d).mark ≡ Queued → b ≡ true
+    one d true un e = refl
+    one d false un e = absurd (false≢true (sym (ap is_unqueued_mark e) ∙ un))
+
+    by : (o : Option HostClosure) → slice_get cs k ≡ o → option_map (queued_where (asked k)) o ≡ Some found.0 → asked k ≡ true
+    by None e there = absurd (let never : ⊥ = cc in never)
+    by (Some d) e there =
+        let same : queued_where (asked k) d ≡ found.0 = cc in
+        one d (asked k) (all_at cs k d of_port.unqueued e) (ap (λ (x : HostClosure). x.mark) same ∙ found.2)

@@ -6,6 +6,7 @@ use Rattle.std.specs.Option.{option_map_or}
 use Rattle.page_types.specs.declared.HostMark.{HostMark}
 use Rattle.page_types.specs.declared.HostMark.TheVariants.{Live, Queued, Fired, Dropped}
 use Rattle.page_parts.specs.HostClosures.{HostClosure, fired}
+use Rattle.host_jobs.specs.Overlay.{IsLiveOrDropped}
 use Rattle.page_model.specs.Operations.{is_fresh, queued_mark}
 
 -- the closures in the order of their numbers, the answers that are still kept, where they are told, and how often an answer was refused
@@ -39,6 +40,10 @@ abbrev pub fire_at : ℕ → Option HostClosure → List HostClosure → List Ho
 fire_at k None hosts = hosts
 fire_at k (Some c) hosts = slice_set hosts k (fired c)
 
+-- closure k is there and was asked, and has not answered
+abbrev pub IsQueued : List HostClosure → ℕ → Type 0
+IsQueued hosts k = (c : HostClosure) × (slice_get hosts k ≡ Some c) × (c.mark ≡ Queued)
+
 -- ---- what a port tells
 
 -- whether a mark is another than that of a closure that was asked
@@ -67,3 +72,8 @@ unasked c = record c { mark = mark_at_port c.mark }
 pub record AreOfPort (cs : List HostClosure) : Type 0 where
   pub count : length cs ≤ 2 ^ 32
   pub unqueued : IsTrue (list_all is_unqueued cs)
+
+-- what is kept: a port's closures, and of those that were asked and have not answered the port has fired none
+pub record AreHeld (asked : ℕ → Bool) (cs : List HostClosure) : Type 0 where
+  pub of_port : AreOfPort cs
+  pub unfired : (k : ℕ) → asked k ≡ true → IsLiveOrDropped cs k

@@ -6,7 +6,7 @@ ghost use Rattle.host_jobs.specs.KeptAnswers.{FollowsKept};
 ghost use Rattle.page_model.specs.Operations.{fitting};
 ghost use Rattle.page_model.specs.PageSignals.{drop_at};
 ghost use Rattle.page_model.specs.Turns.{not_dropped};
-ghost use Rattle.page_hosts.specs.Hosts.{closure_in, is_fresh_at, ask_at, fire_at, IsUnfired, is_unqueued, unasked};
+ghost use Rattle.page_hosts.specs.Hosts.{closure_in, is_fresh_at, ask_at, fire_at, IsUnfired, IsQueued, is_unqueued, unasked};
 
 use crate::{HostPort, MemoryFault, NoHost};
 use std::alloc::Global;
@@ -21,6 +21,7 @@ use std::marker::Model;
 #[derive(Drop)]
 pub struct PageHosts<P: HostPort> {
     port: P,
+    // Those that were asked and have not answered.
     asked: BTreeSet<u32>,
 }
 
@@ -28,7 +29,7 @@ impl<P: HostPort> Model for PageHosts<P> {
     ghost use Rattle.std.specs.BTreeSet.{contains};
     ghost use Rattle.std.specs.Ordering.{nat_cmp};
     ghost use Rattle.host_jobs.specs.Overlay.{overlaid};
-    ghost use Rattle.page_hosts.specs.Hosts.{Hosts, AreOfPort};
+    ghost use Rattle.page_hosts.specs.Hosts.{Hosts, AreHeld};
 
     ghost Value = { Hosts };
 
@@ -38,7 +39,7 @@ impl<P: HostPort> Model for PageHosts<P> {
       refusals = P.refusals hosts.port;
     } };
 
-    ghost invariant = { λ hosts. AreOfPort (P.closures hosts.port) };
+    ghost invariant = { λ hosts. AreHeld (contains nat_cmp hosts.asked) (P.closures hosts.port) };
 }
 
 impl<P: HostPort> PageHosts<P> {
@@ -72,6 +73,14 @@ impl<P: HostPort> PageHosts<P> {
         ensures { result ≡ is_fresh_at self.now.closures k }
     {
         self.port.live(k) && !self.asked.contains(&k)
+    }
+
+    /// Whether closure `k` was asked and has not answered: it was not fired. Takes no memory.
+    pub fn is_asked(&self, k: u32) -> bool
+        ensures unfired { IsTrue result → IsUnfired self.now.closures k }
+        ensures queued { IsQueued self.now.closures k → IsTrue result }
+    {
+        self.asked.contains(&k)
     }
 
     /// Marks closure `k` as asked. Want of memory is the only error; then nothing has changed.
@@ -111,7 +120,13 @@ impl<P: HostPort> PageHosts<P> {
         ensures kept { FollowsKept (meets_at self.old.closures k x) self.old.kept result self.new.kept }
         ensures refused { self.new.refusals ≡ refusals_after self.old.refusals result }
     {
-        self.port.fire_live(k, x)
+        match self.port.fire_live(k, x) {
+            Ok(answer) => {
+                self.asked.remove(&k);
+                Ok(answer)
+            }
+            Err(refused) => Err(refused),
+        }
     }
 
     /// Drops closure `k` uncalled, where it is there; it was not fired. Takes no memory.

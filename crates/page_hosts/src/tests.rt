@@ -21,7 +21,9 @@ fn ask_both<P: HostPort + Drop>(rt: &impl Abort, alloc: Global, port: P) -> Resu
     hosts.ask(0)?;
     hosts.ask(1)?;
     assert!(rt; !hosts.is_fresh(0) && !hosts.is_dropped(0));
+    assert!(rt; hosts.is_asked(0) && hosts.is_asked(1) && !hosts.is_asked(2));
     assert_eq!(rt; hosts.fire(0, 21), Ok(Ok(42)));
+    assert!(rt; !hosts.is_asked(0));
     hosts.drop_closure(1);
     assert!(rt; hosts.is_dropped(1) && !hosts.is_fresh(1));
     Ok(hosts.into_port())

@@ -9,4 +9,6 @@ pub mod PageDoing
 pub mod Tasking
 pub mod Touching
 pub mod Numbering
+pub mod TimerIdLemmas
+pub mod Items
 pub mod Promising

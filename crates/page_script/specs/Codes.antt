@@ -1,20 +1,17 @@
 -- The codes that a model of the script's part asks for.
 use Rattle.std.specs.Prelude.{◌≡◌, ℕ, Bool, List, Option, Some, None, refl}
-use Rattle.std.specs.Coded.{Coded, code_by, coded_bool, coded_list, coded_option, coded×, coded⊎, coded_ℕ}
-use mathlib.Core.Logic.{◌⊎◌, inl, inr}
+use Rattle.std.specs.Coded.{Coded, code_by, coded_bool, coded_list, coded_option, coded×, coded_ℕ}
 use Rattle.page_types.specs.Values.{Value, Values}
 use Rattle.page_types.specs.ValueCode.{coded_value, coded_values}
 use Rattle.page_types.specs.declared.RegKind.{RegKind}
-use Rattle.page_types.specs.declared.Priority.{Priority}
 use Rattle.page_types.specs.contracts.RegKind as kind_code
-use Rattle.page_types.specs.contracts.Priority as priority_code
 use Rattle.page_parts.specs.Kinds.{Func}
 use Rattle.page_parts.specs.Notices.{Notices}
 use Rattle.page_parts.specs.Combinators.{Combine}
 use Rattle.page_parts.specs.Channels.{Post}
 use Rattle.promise_combine.specs.Coded.{coded_combine}
 use Rattle.page_notices.specs.State.{coded_notices}
-use Rattle.page_model.specs.State.{Role, ScriptRole, OfKind, Registration, PrioSource, Fixed, OfSignal, SchedulingState, Combining, Element}
+use Rattle.page_model.specs.State.{Role, ScriptRole, OfKind, Registration, PrioSource, SchedulingState, Combining, Element}
 use Rattle.page_tasks.specs.Coded.{coded_prio_source}
 use Rattle.page_script.specs.Script.{Script}
 

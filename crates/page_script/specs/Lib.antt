@@ -9,3 +9,4 @@ pub mod First
 pub mod Lengths
 pub mod Leading
 pub mod Jobs
+pub mod TimerIds

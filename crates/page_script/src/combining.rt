@@ -1,12 +1,11 @@
 //! A combinator of a page, and what it is told.
 
-ghost use Rattle.std.specs.Prelude.{◌≡◌, ◌<◌, ◌≤◌, length, false, IfOk, OnOk};
+ghost use Rattle.std.specs.Prelude.{◌≡◌, IfOk, OnOk, IsTrue};
 ghost use Rattle.page_parts.specs.Words.{with_numbered};
 ghost use Rattle.page_parts.specs.Combinators.{report_answer};
 ghost use Rattle.promise_combine.specs.Seen.{report_of};
 ghost use Rattle.promise_combine.specs.Answers.{answer_seen};
-ghost use Rattle.promise_combine.specs.Reports.{has_reported};
-ghost use Rattle.page_script.specs.Leading.{all_seen, combining_in, reported};
+ghost use Rattle.page_script.specs.Leading.{all_seen, combining_in, reported, MayReport};
 
 use crate::combiner::Combining;
 use page_notices::Settled;
@@ -19,6 +18,19 @@ pub(crate) struct Answered {
     pub(crate) answer: Option<Settled>,
 }
 
+// Whether the element of a combinator at a place may report.
+pub(crate) fn may_report(combinators: &[Combining], number: u32, place: u32) -> bool
+    ensures { IsTrue result → MayReport number place combinators.now }
+{
+    let Some(index) = number.checked_sub(1) else {
+        return false;
+    };
+    match combinators.get(index as usize) {
+        Some(combining) => combining.combine.may_report(place),
+        None => false,
+    }
+}
+
 // Notes what the element of a combinator at a place was settled with.
 pub(crate) fn note_report(
     combinators: &mut Vec<Combining>,
@@ -26,10 +38,7 @@ pub(crate) fn note_report(
     place: u32,
     how: Settled,
 ) -> Result<Answered, MemoryFault>
-    requires counted { 0 < number }
-    requires made { number ≤ length combinators.old.items }
-    requires within { place < (combining_in combinators.old.items number).combine.count }
-    requires fresh { has_reported place (combining_in combinators.old.items number).combine ≡ false }
+    requires { MayReport number place combinators.old.items }
     ensures result { IfOk result (λ a. a.result ≡ (combining_in combinators.old.items number).result) }
     ensures answer { IfOk result (λ a. answer_seen a.answer
         ≡ report_answer (report_of place how) (combining_in combinators.old.items number).combine) }

@@ -7,7 +7,9 @@ mod combiner;
 mod combining;
 mod laws;
 mod marked;
+mod naming;
 mod parts;
+mod registrations;
 mod script;
 #[cfg(test)]
 mod tests;

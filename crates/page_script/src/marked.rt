@@ -1,6 +1,6 @@
 //! The notices, and what each promise is besides.
 
-ghost use Rattle.std.specs.Prelude.{◌≡◌, ◌∷◌, ◌+◌, ◌^◌, ◌<◌, ◌==◌, not, [], length, find, drop, IfOk, OnOk, OnErr, MatchOption, IsTrue};
+ghost use Rattle.std.specs.Prelude.{◌≡◌, ◌∷◌, ◌+◌, ◌^◌, ◌<◌, ◌==◌, not, [], length, find, drop, IfOk, OnOk, OnErr, MatchOption, IsTrue, ◌↔◌};
 ghost use Rattle.std.specs.Option.{option_map};
 ghost use Rattle.std.specs.Result.{result_err};
 ghost use Rattle.page_parts.specs.Words.{has_number, numbered};
@@ -207,20 +207,31 @@ impl Marked {
         self.notices.made()
     }
 
-    // Whether a promise has or had a handler. Takes no memory.
+    // Whether a promise with this number was made. Takes no memory.
+    pub(crate) fn is_made(&self, p: u32) -> bool
+        ensures { IsTrue result ↔ IsMade (held self.now.notices) p }
+    {
+        p > 0 && p <= self.notices.made()
+    }
+
+    // Whether a promise has or had a handler; one that was never made has none. Takes no memory.
     pub(crate) fn handled(&self, p: u32) -> bool
-        requires { IsMade (held self.now.notices) p }
         ensures { result ≡ (the_promise self.now.notices.promises p).handled }
     {
+        if !self.is_made(p) {
+            return false;
+        }
         self.notices.handled(p)
     }
 
-    // How a promise was settled. Takes no memory.
+    // How a promise was settled; one that was never made was not. Takes no memory.
     pub(crate) fn outcome(&self, p: u32) -> Option<&Settled>
-        requires { IsMade (held self.now.notices) p }
         ensures { MatchOption result ((the_promise self.now.notices.promises p).outcome ≡ None)
             (λ how. (the_promise self.now.notices.promises p).outcome ≡ Some (settled_seen how.now)) }
     {
+        if !self.is_made(p) {
+            return None;
+        }
         self.notices.outcome(p)
     }
 

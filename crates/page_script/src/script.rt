@@ -1,6 +1,6 @@
 //! The script's part of a page: its state, its lines, its registrations and its calls.
 
-ghost use Rattle.std.specs.Prelude.{◌≡◌, ◌+◌, ◌^◌, ◌<◌, ◌≤◌, length, IfOk, IfErr, OnOk, MatchOption, Some, None};
+ghost use Rattle.std.specs.Prelude.{◌≡◌, ◌+◌, ◌^◌, ◌<◌, ◌≤◌, ◌↔◌, length, IfOk, IfErr, IfSome, OnOk, IsTrue, MatchOption, Some, None};
 ghost use Rattle.std.specs.Result.{result_err};
 ghost use Rattle.page_parts.specs.Words.{and_last};
 ghost use Rattle.page_parts.specs.Spelling.{spelled};
@@ -14,6 +14,7 @@ ghost use Rattle.trace_text.specs.Acts.{Does};
 ghost use Rattle.page_script.specs.ScriptActs.{on, on_script, read_by};
 ghost use Rattle.page_script.specs.Seen.{registration_seen, function_seen};
 ghost use Rattle.page_script.specs.First.{IsFirst};
+ghost use Rattle.page_script.specs.TimerIds.{first_with_id};
 
 mod calls;
 mod combinators;
@@ -24,7 +25,9 @@ mod states;
 
 use crate::combiner::Combining;
 use crate::marked::Marked;
+use crate::naming::is_numbered;
 use crate::parts::{Moment, Post, Registration, Role, Run, SchedulingState};
+use crate::registrations::Registrations;
 use page_base::Micros;
 use page_values::{FunNames, Func, Items, MemoryFault, Value, print};
 use std::alloc::Global;
@@ -45,7 +48,7 @@ pub struct PageScript {
     names: FunNames,
     // The innermost call is the last one.
     calls: Vec<u32>,
-    registrations: Vec<Registration>,
+    registrations: Registrations,
     states: Vec<SchedulingState>,
     posts: Vec<Post>,
     promises: Marked,
@@ -56,7 +59,7 @@ impl Model for PageScript {
     ghost use Rattle.std.specs.Prelude.{map, reverse};
     ghost use Rattle.page_script.specs.Script.{Script};
     ghost use Rattle.page_script.specs.Codes.{coded_script};
-    ghost use Rattle.page_script.specs.Seen.{registration_seen, state_seen, post_seen};
+    ghost use Rattle.page_script.specs.Seen.{state_seen, post_seen};
     ghost use Rattle.page_script.specs.Leading.{combining_seen};
 
     ghost Value = { Script };
@@ -73,7 +76,7 @@ impl Model for PageScript {
       level = a.moment.level;
       scheduling = a.moment.state;
       performing = a.performing;
-      registrations = map registration_seen a.registrations.items;
+      registrations = a.registrations;
       script_promises = a.promises.script_promises;
       notices = a.promises.notices;
       combinators = map combining_seen a.combinators.items;
@@ -99,7 +102,7 @@ impl PageScript {
             function: names.names().len() as u32,
             bound: Items::new(Vec::new(alloc)),
         };
-        let mut registrations = Vec::new(alloc);
+        let mut registrations = Registrations::new(alloc);
         registrations.push(Registration {
             role: Role::Script,
             callback: Some(script),
@@ -175,7 +178,7 @@ impl PageScript {
         requires made { r ≤ length self.now.registrations }
         ensures { registration_seen result.now ≡ read_by (λ p. model.the_registration p r) self.now }
     {
-        &self.registrations[r as usize - 1]
+        self.registrations.get(r)
     }
 
     /// The function that a registration calls: its second callback, or the first. None exactly where there is none. Takes no
@@ -201,6 +204,29 @@ impl PageScript {
         self.registrations.len()
     }
 
+    /// Whether a registration with this number was made. Takes no memory.
+    pub fn is_registered(&self, r: u32) -> bool
+        ensures { IsTrue result ↔ ((0 < r) × (r ≤ length self.now.registrations)) }
+    {
+        r > 0 && r as usize <= self.registrations.len()
+    }
+
+    /// The first registration that has this timer id; the id 0 is that of those with no timer. None exactly where there is
+    /// none. Takes no memory. It costs a look-up, whatever there is.
+    pub fn registration_with_timer_id(&self, id: u32) -> Option<u32>
+        ensures first { result ≡ read_by (λ p. first_with_id id p.registrations) self.now }
+        ensures made { IfSome result (λ r. (0 < r) × (r ≤ length self.now.registrations)) }
+    {
+        self.registrations.first_with_id(id)
+    }
+
+    /// Whether each function that a value names has a name here. Takes no memory, and costs at most the weight of the value.
+    pub fn is_numbered(&self, value: &Value) -> bool
+        ensures { IsTrue result ↔ IsNumbered (length self.now.names) (seen value.now) }
+    {
+        is_numbered(value, self.names.names().len())
+    }
+
     // The registration of the innermost open call, which a trace of form 2 tells.
     fn caller(&self) -> Option<u64>
         ensures { result ≡ read_by model.caller self.now }
@@ -222,10 +248,10 @@ impl PageScript {
         ensures kept { OnOk result (self.new
             ≡ record self.old { registrations = and_last self.old.registrations (registration_seen registration) }) }
     {
-        if self.registrations.push(registration).is_err() {
-            return Err(NoLine::OutOfMemory);
+        match self.registrations.push(registration) {
+            Ok(r) => Ok(r),
+            Err(_) => Err(NoLine::OutOfMemory),
         }
-        Ok(self.registrations.len() as u32)
     }
 
     // The spelling of a value.

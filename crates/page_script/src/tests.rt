@@ -9,7 +9,7 @@ use crate::{
 };
 use page_base::{End, Source};
 use page_io::MemSink;
-use page_values::{FunNames, Value};
+use page_values::{FunNames, Func, Items, Value};
 use std::alloc::Global;
 use std::process::Abort;
 use std::test::Fail;
@@ -146,6 +146,86 @@ fn promises_write_their_lines(rt: HostRuntime) -> Result<(), Fail> {
         0 job 2 react 5\n"
             .as_slice()
     );
+    Ok(())
+}
+
+// The result of `all` of one item is promise 1, the item promise 2 and the element promise 3.
+fn report_an_element(
+    rt: &impl Abort,
+    page: &mut PageScript,
+    lines: &mut LineSink<MemSink>,
+) -> Result<(), Fail> {
+    assert_room(rt, page);
+    let made = page.combine(Kind::All, 1, lines)?;
+    assert_room(rt, page);
+    let p = page.item(Value::Int(7), lines)?;
+    assert_room(rt, page);
+    assert_made(rt, page, p);
+    assert!(rt; !page.element(made.combinator, 0, p, lines)?);
+    page.lead_into(3, Ok(Value::Int(7)), lines)?;
+    assert!(rt; page.outcome(1).is_some() && page.outcome(3).is_none());
+    Ok(())
+}
+
+#[test]
+fn an_element_reports_once(rt: HostRuntime) -> Result<(), Fail> {
+    let mut page = first_page(rt.alloc())?;
+    let mut lines = sink(rt.alloc())?;
+    report_an_element(&rt, &mut page, &mut lines)?;
+    assert!(rt; page.lead_into(3, Ok(Value::Int(8)), &mut lines).is_err());
+    let sink = lines.into_sink();
+    assert_eq!(rt;
+        sink.bytes(),
+        b"0 settle 2 ok 7\n0 job 1 react 2\n0 settle 1 ok [7]\n".as_slice()
+    );
+    Ok(())
+}
+
+#[test]
+fn what_was_never_made_is_led_nowhere(rt: HostRuntime) -> Result<(), Fail> {
+    let mut page = first_page(rt.alloc())?;
+    let mut lines = sink(rt.alloc())?;
+    assert!(rt; !page.is_promise(1) && page.outcome(1).is_none() && !page.handled(1));
+    assert!(rt; page.lead_into(1, Ok(Value::Unit), &mut lines).is_err());
+    assert_eq!(rt; lines.into_sink().bytes(), b"".as_slice());
+    Ok(())
+}
+
+#[test]
+fn names_of_functions_are_tested(rt: HostRuntime) -> Result<(), Fail> {
+    let mut page = first_page(rt.alloc())?;
+    let unnamed = Value::Fun(Func {
+        function: 0,
+        bound: Items::new(Vec::new(rt.alloc())),
+    });
+    assert_room(&rt, &page);
+    let p = page.new_promise()?;
+    assert!(rt; page.is_numbered(&Value::Int(1)) && !page.is_numbered(&unnamed));
+    assert!(rt; page.may_settle(p, &Err(Value::Unit)) && !page.may_settle(p, &Ok(unnamed)));
+    assert!(rt; p == 1 && !page.may_settle(2, &Ok(Value::Unit)));
+    Ok(())
+}
+
+#[test]
+fn the_first_registration_has_the_timer_id(rt: HostRuntime) -> Result<(), Fail> {
+    let mut page = first_page(rt.alloc())?;
+    let mut lines = sink(rt.alloc())?;
+    for _ in 0..2 {
+        let registration = Registration {
+            role: Role::Of(RegKind::Timeout),
+            callback: None,
+            second_callback: None,
+            timer_id: 4,
+            promise: 0,
+            signal: None,
+            finally: false,
+        };
+        assert_room(&rt, &page);
+        page.register(RegKind::Timeout, registration, &mut lines)?;
+    }
+    assert!(rt; page.is_registered(3) && !page.is_registered(4) && !page.is_registered(0));
+    assert_eq!(rt; page.registration_with_timer_id(4), Some(2));
+    assert_eq!(rt; page.registration_with_timer_id(5), None);
     Ok(())
 }
 

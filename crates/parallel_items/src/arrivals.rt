@@ -69,6 +69,13 @@ impl Arrivals {
         Ok(())
     }
 
+    // How many there ever were. Takes no memory.
+    pub(crate) fn made(&self) -> u64
+        ensures { result ≡ self.now.made }
+    {
+        self.made
+    }
+
     pub(crate) fn next_due(&self) -> Option<Micros>
         ensures { option_map (λ moment. moment.0) result ≡ due_of (first_item_of (arrival_items 1 self.now.arrivals)) }
     {

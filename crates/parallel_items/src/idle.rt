@@ -79,6 +79,13 @@ impl IdleTimeouts {
         Ok(())
     }
 
+    // The handle of the last one. Takes no memory.
+    pub(crate) fn last(&self) -> u32
+        ensures { result ≡ self.now.last }
+    {
+        self.last
+    }
+
     pub(crate) fn next_due(&self) -> Option<Micros>
         ensures { option_map (λ moment. moment.0) result ≡ due_of (first_item_of (idle_items self.now.timers)) }
     {

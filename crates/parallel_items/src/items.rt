@@ -196,6 +196,41 @@ impl ParallelItems {
         self.timers.made()
     }
 
+    /// How many unique handles of ids were ever given. Takes no memory.
+    pub fn handles_made(&self) -> u64
+        ensures { result ≡ self.now.waiting.timers.handles_made }
+    {
+        self.timers.handles_made()
+    }
+
+    /// How many active timers were ever started. Takes no memory.
+    pub fn starts_made(&self) -> u64
+        ensures { result ≡ self.now.waiting.timers.starts_made }
+    {
+        self.timers.starts_made()
+    }
+
+    /// Whether the id is in the map, with any handle. Takes no memory.
+    pub fn has_id(&self, id: u32) -> bool
+        ensures { result ≡ has_id id self.now.waiting.timers }
+    {
+        self.timers.has(id)
+    }
+
+    /// The handle of the idle timeout that was started last, 0 where none was. Takes no memory.
+    pub fn last_idle(&self) -> u32
+        ensures { result ≡ self.now.last_idle }
+    {
+        self.idle.last()
+    }
+
+    /// How many arrivals there ever were. Takes no memory.
+    pub fn arrivals_made(&self) -> u64
+        ensures { result ≡ self.now.arrivals_made }
+    {
+        self.arrivals.made()
+    }
+
     /// Whether the `postTask` of a registration is delayed. Takes no memory.
     pub fn is_delayed(&self, registration: u32) -> bool
         ensures { result ≡ is_delay registration self.now.waiting }

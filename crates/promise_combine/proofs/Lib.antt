@@ -3,3 +3,4 @@ pub mod Places
 pub mod Answering
 pub mod Heavy
 pub mod Kept
+pub mod Marking

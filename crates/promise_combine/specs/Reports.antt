@@ -1,5 +1,5 @@
 -- The reports of a combinator: who has reported, and how they are kept.
-use Rattle.std.specs.Prelude.{◌≡◌, ℕ, Bool, true, false, not, ◌&&◌, nat_lt, List, [], ◌∷◌, map, length, is_some, Result}
+use Rattle.std.specs.Prelude.{◌≡◌, ℕ, Bool, true, false, not, ◌&&◌, nat_lt, List, [], ◌∷◌, map, length, is_some, Result, slice_get, unwrap_or}
 use Rattle.page_types.specs.Values.{UnitValue}
 use Rattle.page_values.specs.declared.Value.{Value}
 use Rattle.page_parts.specs.Words.{has_number}
@@ -31,3 +31,8 @@ pub record IsKept (kind : CombinatorKind) (outcomes : List (Result Value Value))
   pub silent : (k : ℕ) → has_number order k ≡ false → outcome_of outcomes k ≡ Fulfilled UnitValue
   pub marked :
       answered ≡ is_some (answer_of (record { kind = kind; count = length outcomes; reports = reports_of outcomes order }))
+
+-- a mark for each of n places tells whether the place is among these, and no other place is
+pub record AreMarked (n : ℕ) (order : List ℕ) (marks : List Bool) : Type 0 where
+  pub each : length marks ≡ n
+  pub told : (k : ℕ) → unwrap_or (slice_get marks k) false ≡ has_number order k

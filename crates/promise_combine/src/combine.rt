@@ -1,6 +1,6 @@
 //! A combinator, its reports and its one answer.
 
-ghost use Rattle.std.specs.Prelude.{◌≡◌, ◌<◌, ℕ, length, IfOk, OnOk, OnErr, IsOk, None, false};
+ghost use Rattle.std.specs.Prelude.{◌≡◌, ◌<◌, ◌↔◌, ℕ, length, IfOk, OnOk, OnErr, IsOk, IsTrue, None, false};
 ghost use Rattle.page_types.specs.Values.{ListValue, no_values, UnitValue};
 ghost use Rattle.page_values.specs.Seen.{seen};
 ghost use Rattle.page_parts.specs.Promises.{Fulfilled};
@@ -28,6 +28,8 @@ pub struct Combine {
     outcomes: Vec<Settled>,
     // The places of the elements that have reported, in the order of their reports.
     order: Vec<u32>,
+    // Whether the element at each place has reported, so that no call looks for one among the others.
+    reported: Vec<bool>,
     // Whether there is an answer already.
     answered: bool,
 }
@@ -44,7 +46,7 @@ impl Model for Combine {
     ghost use Rattle.promise_combine.specs.Seen.{kind_seen, reports_of};
     ghost use Rattle.std.specs.Prelude.{◌≤◌};
     ghost use Rattle.std.specs.Vec.{vec_capacity};
-    ghost use Rattle.promise_combine.specs.Reports.{IsKept};
+    ghost use Rattle.promise_combine.specs.Reports.{IsKept, AreMarked};
 
     ghost view = { λ a. record {
       kind = kind_seen a.kind;
@@ -53,7 +55,8 @@ impl Model for Combine {
     } };
 
     ghost invariant = { λ a. IsKept (kind_seen a.kind) a.outcomes.items a.order.items a.answered
-        × (length a.outcomes.items ≤ vec_capacity a.order) };
+        × (length a.outcomes.items ≤ vec_capacity a.order)
+        × AreMarked (length a.outcomes.items) a.order.items a.reported.items };
 }
 
 impl Combine {
@@ -66,11 +69,13 @@ impl Combine {
     {
         let outcomes = silent_outcomes(alloc, n)?;
         let order = Vec::with_capacity(alloc, n as usize)?;
+        let reported = vec![in alloc; false; n as usize]?;
         Ok(Combine {
             alloc,
             kind,
             outcomes,
             order,
+            reported,
             answered: n == 0,
         })
     }
@@ -106,9 +111,21 @@ impl Combine {
     {
         let answer = self.answer_by(place, &outcome)?;
         self.order.push(place)?;
+        self.reported[place as usize] = true;
         self.answered |= answer.is_some();
         self.outcomes[place as usize] = outcome;
         Ok(answer)
+    }
+
+    /// Whether the element at a place, from 0, may report: the place is one of the combinator, and has not reported. Takes no
+    /// memory.
+    pub fn may_report(&self, place: u32) -> bool
+        ensures { IsTrue result ↔ ((place < self.now.count) × (has_reported place self.now ≡ false)) }
+    {
+        match self.reported.get(place as usize) {
+            Some(reported) => !*reported,
+            None => false,
+        }
     }
 
     // The answer that this report would bring.

@@ -8,7 +8,6 @@ ghost use Rattle.raf_frames.specs.Entries.{callbacks_of, unmarked, AreKept};
 use crate::MemoryFault;
 use indexmap::IndexMap;
 use std::alloc::{AllocError, Global};
-use std::collections::VecDeque;
 use std::marker::Model;
 
 // The map of animation frame callbacks, in the order of the requests.
@@ -84,16 +83,16 @@ impl CallbackMap {
     }
 
     // The handles of the callbacks, in order.
-    pub fn handles(&self) -> Result<VecDeque<u32>, AllocError>
-        ensures { IfOk result (λ queue. queue.items ≡ handles self.now) }
+    pub fn handles(&self) -> Result<Vec<u32>, AllocError>
+        ensures { IfOk result (λ list. list.items ≡ handles self.now) }
     {
-        let mut queue = VecDeque::new(self.alloc);
+        let mut list = Vec::new(self.alloc);
         for (handle, callback) in &self.callbacks {
             if callback.is_some() {
-                queue.push_back(*handle)?;
+                list.push(*handle)?;
             }
         }
-        Ok(queue)
+        Ok(list)
     }
 
     pub fn is_empty(&self) -> bool

@@ -71,7 +71,7 @@ impl Frames {
         ensures begun { OnOk result (self.new ≡ record self.old { left = handles self.old.map }) }
         ensures err { OnErr result (self.new ≡ self.old) }
     {
-        self.left = self.map.handles()?;
+        self.left = VecDeque::from(self.map.handles()?);
         Ok(())
     }
 
@@ -89,6 +89,13 @@ impl Frames {
             }
         }
         None
+    }
+
+    /// The handles of the callbacks in the map, in order: those that a frame which began now would call.
+    pub fn keys(&self) -> Result<Vec<u32>, MemoryFault>
+        ensures { IfOk result (λ keys. keys.items ≡ handles self.now.map) }
+    {
+        Ok(self.map.handles()?)
     }
 
     /// Whether no callback is in the map. Takes no memory.
@@ -118,8 +125,10 @@ mod tests {
         assert_eq!(rt; frames.request(2)?, 1);
         assert_eq!(rt; frames.request(3)?, 2);
 
+        assert_eq!(rt; frames.keys()?.as_slice(), [1, 2].as_slice());
         frames.begin_frame()?;
         assert_eq!(rt; frames.next_in_frame(), Some(2));
+        assert_eq!(rt; frames.keys()?.as_slice(), [2].as_slice());
         assert_eq!(rt; frames.cancel(2), Some(3));
         assert_eq!(rt; frames.cancel(2), None);
         assert_eq!(rt; frames.request(4)?, 3);

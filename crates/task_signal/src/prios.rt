@@ -1,5 +1,5 @@
 ghost use Rattle.std.specs.Prelude.{◌≡◌, ◌≢◌, [], length, None, Some, OnOk, OnErr, IsTrue, is_some};
-ghost use Rattle.page_parts.specs.TaskSignals.{priority_of, followed as followed_by, give as given, depend as depending, ended};
+ghost use Rattle.page_parts.specs.TaskSignals.{priority_of, followed as followed_by, is_changing as changing_at, give as given, depend as depending, ended};
 ghost use Rattle.task_signal.specs.Changes.{IsAnswer, Leaves, HasPriority};
 ghost use Rattle.task_signal.specs.Places.{place_in, signals};
 
@@ -129,6 +129,16 @@ impl Prios {
     {
         let place = self.place(s)?;
         Some(self.records[place].priority)
+    }
+
+    /// Whether a change of a signal's priority is in progress. Takes no memory.
+    pub fn is_changing(&self, s: u32) -> bool
+        ensures { result ≡ changing_at self.now s }
+    {
+        match self.place(s) {
+            Some(place) => self.records[place].changing,
+            None => false,
+        }
     }
 
     /// Begins a change of the priority of a signal, which [`Prios::finish`] ends.

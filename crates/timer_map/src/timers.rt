@@ -141,6 +141,13 @@ impl Timers {
         self.ids.get(&id).copied() == Some(handle)
     }
 
+    /// Whether the id is in the map, with any handle. Takes no memory.
+    pub fn has(&self, id: u32) -> bool
+        ensures { result ≡ has_id id self.now }
+    {
+        self.ids.contains_key(&id)
+    }
+
     /// The least due time of an active timer, none exactly where none is active. Takes no memory.
     pub fn next_due(&self) -> Option<Micros>
         ensures { option_map (λ moment. moment.0) result ≡ next_due_of self.now }
@@ -169,6 +176,20 @@ impl Timers {
         ensures { result ≡ self.now.ids_made }
     {
         self.ids_made
+    }
+
+    /// How many unique handles were ever given. Takes no memory.
+    pub fn handles_made(&self) -> u64
+        ensures { result ≡ self.now.handles_made }
+    {
+        self.handles_made
+    }
+
+    /// How many active timers were ever started. Takes no memory.
+    pub fn starts_made(&self) -> u64
+        ensures { result ≡ self.now.starts_made }
+    {
+        self.starts_made
     }
 }
 

@@ -1,6 +1,6 @@
 //! Combinators of promises, and what their elements report (ECMA-262, "Promise.all" and its like).
 
-ghost use Rattle.std.specs.Prelude.{◌≡◌, ◌+◌, ◌^◌, ◌<◌, ◌≤◌, false, length, IfOk, IfErr, OnOk};
+ghost use Rattle.std.specs.Prelude.{◌≡◌, ◌+◌, ◌^◌, ◌<◌, length, IfOk, IfErr, OnOk};
 ghost use Rattle.std.specs.Result.{result_err};
 ghost use Rattle.page_parts.specs.Combinators.{combine, answer_of, report_answer};
 ghost use Rattle.page_parts.specs.Notices.{is_outstanding};
@@ -12,17 +12,17 @@ ghost use Rattle.page_model.specs.PagePromises.{new_promise};
 ghost use Rattle.promise_core.specs.Seen.{settled_seen};
 ghost use Rattle.promise_combine.specs.Seen.{kind_seen, report_of};
 ghost use Rattle.promise_combine.specs.Answers.{answer_seen};
-ghost use Rattle.promise_combine.specs.Reports.{HasCount, has_reported};
+ghost use Rattle.promise_combine.specs.Reports.{HasCount};
 ghost use Rattle.page_model.specs.PageCombinators as model;
 ghost use Rattle.trace_text.specs.declared.lines.NoLine.TheVariants.{OutOfMemory};
 ghost use Rattle.trace_text.specs.Acts.{Does};
 ghost use Rattle.page_script.specs.Script.{holding};
 ghost use Rattle.page_script.specs.ScriptActs.{on, on_script, changed_by, read_by};
-ghost use Rattle.page_script.specs.Leading.{noted_at, IsItem, MayLead, MayReport, MaySettle};
+ghost use Rattle.page_script.specs.Leading.{noted_at, IsItem};
 
 use super::PageScript;
 use crate::combiner::Combining;
-use crate::combining::{Answered, note_report};
+use crate::combining::{Answered, may_report, note_report};
 use crate::parts::{Combined, Mark};
 use page_notices::{Reaction, Settled};
 use page_values::{Value, as_promise};
@@ -32,19 +32,24 @@ use trace_text::{Lines, NoLine};
 impl PageScript {
     /// Leads an outcome to where an inner subscription leads: an element of a combinator reports it and stays pending, and where
     /// that brings an answer, the result of the combinator is settled; any other promise follows the outcome.
+    ///
+    /// It answers `OutOfMemory` also where `into` was never made, where it is an element whose combinator was never made, whose
+    /// place is none of it or has reported before, and where what is to be settled may not be, as [`PageScript::may_settle`]
+    /// tells. No run comes to any of these.
     pub fn lead_into<L: Lines>(
         &mut self,
         into: u32,
         how: Settled,
         lines: &mut L,
     ) -> Result<(), NoLine>
-        requires counted { 0 < into }
-        requires leads { MayLead (model.element_at (holding self.old) into) into (settled_seen how) self.old }
         ensures { Does L.keeping (on self.old (L.seen lines.old)) (on_script (model.lead_into into (settled_seen how)))
             (result_err result) (on self.new (L.seen lines.new)) }
     {
+        if !self.is_promise(into) {
+            return Err(NoLine::OutOfMemory);
+        }
         match self.promises.element(into) {
-            None => self.follow(into, how, lines),
+            None => self.follow_if_made(into, how, lines),
             Some((combinator, place)) => self.report_for(into, combinator, place, how, lines),
         }
     }
@@ -150,7 +155,7 @@ impl PageScript {
         Ok((Combined { combinator, result }, answer))
     }
 
-    // The element `into` of a combinator, at a place, reports its outcome.
+    // The element `into` of a combinator, at a place, reports its outcome, where it may.
     fn report_for<L: Lines>(
         &mut self,
         into: u32,
@@ -159,7 +164,6 @@ impl PageScript {
         how: Settled,
         lines: &mut L,
     ) -> Result<(), NoLine>
-        requires { MayReport (record { promise = into; combinator = combinator; place = place }) (settled_seen how) self.old }
         ensures { Does L.keeping (on self.old (L.seen lines.old))
             (on_script (model.report (record { promise = into; combinator = combinator; place = place }) (settled_seen how)))
             (result_err result) (on self.new (L.seen lines.new)) }
@@ -168,35 +172,33 @@ impl PageScript {
         self.settle_result(answer, result, lines)
     }
 
-    // An answer, where there is one, settles the promise of its combinator.
+    // An answer, where there is one, settles the promise of its combinator, where that may be settled so.
     fn settle_result<L: Lines>(
         &mut self,
         answer: Option<Settled>,
         promise: u32,
         lines: &mut L,
     ) -> Result<(), NoLine>
-        requires { MaySettle promise (answer_seen answer) self.old }
         ensures { Does L.keeping (on self.old (L.seen lines.old)) (on_script (model.settle_result (answer_seen answer) promise))
             (result_err result) (on self.new (L.seen lines.new)) }
     {
         match answer {
             None => Ok(()),
-            Some(how) => self.follow(promise, how, lines),
+            Some(how) => self.follow_if_made(promise, how, lines),
         }
     }
 
-    // Notes the report of a combinator's element, and answers what it brings.
+    // Notes the report of a combinator's element, where it may report, and answers what it brings.
     fn note(&mut self, combinator: u32, place: u32, how: Settled) -> Result<Answered, NoLine>
-        requires counted { 0 < combinator }
-        requires made { combinator ≤ length self.old.combinators }
-        requires within { place < (model.combining_at (holding self.old) combinator).combine.count }
-        requires fresh { has_reported place (model.combining_at (holding self.old) combinator).combine ≡ false }
         ensures result { IfOk result (λ a. a.result ≡ (model.combining_at (holding self.old) combinator).result) }
         ensures answer { IfOk result (λ a. answer_seen a.answer
             ≡ report_answer (report_of place how) (model.combining_at (holding self.old) combinator).combine) }
         ensures noted { OnOk result (self.new ≡ changed_by (noted_at combinator (report_of place how)) self.old) }
         ensures memory { IfErr result (λ why. why ≡ OutOfMemory) }
     {
+        if !may_report(&self.combinators, combinator, place) {
+            return Err(NoLine::OutOfMemory);
+        }
         match note_report(&mut self.combinators, combinator, place, how) {
             Ok(answered) => Ok(answered),
             Err(_) => Err(NoLine::OutOfMemory),

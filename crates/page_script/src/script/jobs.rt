@@ -63,9 +63,8 @@ impl PageScript {
         self.promises.take_rejected()
     }
 
-    /// Whether a promise has or had a handler. Takes no memory.
+    /// Whether a promise has or had a handler; one that was never made has none. Takes no memory.
     pub fn handled(&self, p: u32) -> bool
-        requires { IsMade (held self.now.notices) p }
         ensures { result ≡ read_by (λ q. (promise_at q p).handled) self.now }
     {
         self.promises.handled(p)

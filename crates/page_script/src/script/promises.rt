@@ -1,6 +1,6 @@
 //! The promises of a page: making and settling them, and giving them handlers.
 
-ghost use Rattle.std.specs.Prelude.{◌≡◌, ◌+◌, ◌^◌, ◌<◌, ◌==◌, length, find, IfOk, IfErr, OnOk, OnErr, MatchOption, None, Some};
+ghost use Rattle.std.specs.Prelude.{◌≡◌, ◌+◌, ◌^◌, ◌<◌, ◌↔◌, ◌==◌, length, find, IfOk, IfErr, OnOk, OnErr, IsTrue, MatchOption, None, Some};
 ghost use Rattle.std.specs.Option.{option_map};
 ghost use Rattle.std.specs.Result.{result_err};
 ghost use Rattle.page_parts.specs.Words.{has_number};
@@ -62,9 +62,26 @@ impl PageScript {
         self.promises.is_of_script(p)
     }
 
-    /// How a promise was settled, and None exactly while it is pending. Takes no memory.
+    /// Whether a promise with this number was made. Takes no memory.
+    pub fn is_promise(&self, p: u32) -> bool
+        ensures { IsTrue result ↔ IsMade (held self.now.notices) p }
+    {
+        self.promises.is_made(p)
+    }
+
+    /// Whether a promise may be settled so, by [`PageScript::settle`] or [`PageScript::follow`]: it was made, and each function
+    /// that the outcome names has a name here. Takes no memory, and costs at most the weight of the outcome's value.
+    pub fn may_settle(&self, p: u32, how: &Settled) -> bool
+        ensures { IsTrue result ↔ (IsMade (held self.now.notices) p
+            × IsNumbered (length self.now.names) (settled_value (settled_seen how.now))) }
+    {
+        match how {
+            Ok(value) | Err(value) => self.is_promise(p) && self.is_numbered(value),
+        }
+    }
+
+    /// How a promise was settled, and None exactly while it is pending or where it was never made. Takes no memory.
     pub fn outcome(&self, p: u32) -> Option<&Settled>
-        requires { IsMade (held self.now.notices) p }
         ensures { MatchOption result (read_by (λ q. (model.promise_at q p).outcome) self.now ≡ None)
             (λ how. read_by (λ q. (model.promise_at q p).outcome) self.now ≡ Some (settled_seen how.now)) }
     {
@@ -138,6 +155,22 @@ impl PageScript {
             (result_err result) (on self.new (L.seen lines.new)) }
     {
         self.promises.queue_micro(registration, self.moment, lines)
+    }
+
+    // A promise follows an outcome, where it may be settled so. No run comes to another answer than [`PageScript::follow`] gives.
+    pub(super) fn follow_if_made<L: Lines>(
+        &mut self,
+        p: u32,
+        how: Settled,
+        lines: &mut L,
+    ) -> Result<(), NoLine>
+        ensures { Does L.keeping (on self.old (L.seen lines.old)) (on_script (model.follow p (settled_seen how)))
+            (result_err result) (on self.new (L.seen lines.new)) }
+    {
+        if !self.may_settle(p, &how) {
+            return Err(NoLine::OutOfMemory);
+        }
+        self.follow(p, how, lines)
     }
 
     // Makes a promise with this mark, and answers its number.

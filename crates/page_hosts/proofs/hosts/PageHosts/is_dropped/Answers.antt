@@ -8,4 +8,4 @@ returns g c =
     let asked = contains nat_cmp c.self.inside.asked in
     let cs = g.P.HostPort.closures c.self.inside.port in
     rw (← c.self.view_is)
-    (ap not (c.live.ensures ∙ sym (undropped_is asked cs c.args.k (unfired_is asked cs c.args.k c.self.invariant (rw (← c.self.view_is) at c.requires)))))
+    (ap not (c.live.ensures ∙ sym (undropped_is asked cs c.args.k (unfired_is asked cs c.args.k c.self.invariant.of_port (rw (← c.self.view_is) at c.requires)))))

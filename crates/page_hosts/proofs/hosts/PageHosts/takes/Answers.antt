@@ -14,4 +14,4 @@ returns-in-Ok g c =
 pub returns-in-Err : goal.returns-in-Err
 returns-in-Err g c =
     rw (← c.self.view_is)
-    (takes_not_found (contains nat_cmp c.self.inside.asked) (g.P.HostPort.closures c.self.inside.port) c.args.k c.args.x c.self.invariant.count (rw (to_z-of_z c.ranges.k) at c.in-Err.ensures))
+    (takes_not_found (contains nat_cmp c.self.inside.asked) (g.P.HostPort.closures c.self.inside.port) c.args.k c.args.x c.self.invariant.of_port.count (rw (to_z-of_z c.ranges.k) at c.in-Err.ensures))

@@ -5,4 +5,4 @@ use Rattle.raf_frames.proofs.callback_map.CallbackMap.handles.Given as goal
 
 abbrev pub invariant-loop-handle : goal.invariant-loop-handle
 invariant-loop-handle l =
-    l.queue.items ++ map (λ (c : Callback). c.handle) (callbacks_of l.handle-iterator) ≡ keys l.self
+    l.list.items ++ map (λ (c : Callback). c.handle) (callbacks_of l.handle-iterator) ≡ keys l.self
