@@ -1,0 +1,10 @@
+pub mod AbortLemmas
+pub mod AdvanceLemmas
+pub mod FitLemmas
+pub mod GraphLemmas
+pub mod KeptLemmas
+pub mod LawLemmas
+pub mod PrioLemmas
+pub mod PushLemmas
+pub mod StepLemmas
+pub mod ViewLemmas

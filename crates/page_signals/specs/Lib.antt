@@ -1,0 +1,9 @@
+pub mod Codes
+pub mod Kept
+pub mod Kinds
+pub mod Laws
+pub mod Made
+pub mod Registrations
+pub mod Seen
+pub mod Signalling
+pub mod Steps
