@@ -10,6 +10,7 @@ pub mod AskSteps
 pub mod HostTurns
 pub mod RunSteps
 pub mod NameSteps
+pub mod DirectSteps
 pub mod ValueSteps
 pub mod Ranks
 pub mod Numbered

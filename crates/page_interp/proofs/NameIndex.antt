@@ -12,6 +12,7 @@ use Rattle.std.proofs.lemmas.Map.Text.{is_eq-slice_cmp}
 use mathlib.Core.Logic.{⊎_elim}
 use Rattle.std.proofs.lemmas.List.{drop_all}
 use Rattle.page_values.proofs.Lists.{front, same_bytes-pointwise}
+use Rattle.page_parts.specs.Words.{same_bytes}
 use Rattle.page_interp.specs.Places.{at_bytes, place_of, IsIndex}
 
 abbrev Index : Type 0
@@ -65,3 +66,23 @@ whole_index names i m le h =
 
 pub no_index : (names : List (List ℕ)) (i : ℕ) (m : Index) → i ≡ length names → m.entries ≡ [] → IndexesFrom i names m
 no_index names i m at e = λ x. rw (e, at, drop_all (length names) names (omega arith)) refl
+
+-- the first place of a name, as far as the places before i do not have it
+unfoldable pub IsSoughtTo : ℕ → List (List ℕ) → List ℕ → Type 0
+IsSoughtTo i names x = place_of names x ≡ option_map (λ k. i + k) (place_of (drop i names) x)
+
+pub sought_none : (names : List (List ℕ)) (x : List ℕ) → IsSoughtTo 0 names x
+unfolding IsSoughtTo
+sought_none names x = sym (from_zero (place_of names x))
+
+pub sought_here : (names : List (List ℕ)) (i : ℕ) (name x : List ℕ) → name ≡ get_or names i name → i < length names → same_bytes name x ≡ true → IsSoughtTo i names x → place_of names x ≡ Some i
+unfolding IsSoughtTo
+sought_here names i name x at lt q h = h ∙ rw (front names i name at lt, q) (ap Some (omega arith))
+
+pub sought_on : (names : List (List ℕ)) (i : ℕ) (name x : List ℕ) → name ≡ get_or names i name → i < length names → same_bytes name x ≡ false → IsSoughtTo i names x → IsSoughtTo (i + 1) names x
+unfolding IsSoughtTo
+sought_on names i name x at lt q h = h ∙ rw (front names i name at lt, q) (sym (by_first i false (place_of (drop (i + 1) names) x)))
+
+pub sought_all : (names : List (List ℕ)) (i : ℕ) (x : List ℕ) → length names ≤ i → IsSoughtTo i names x → place_of names x ≡ None
+unfolding IsSoughtTo
+sought_all names i x le h = h ∙ rw (drop_all i names le) refl

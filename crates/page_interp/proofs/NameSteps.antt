@@ -63,7 +63,7 @@ arguments count None v purpose.List n h k s = absurd h
 arguments count None v (purpose.Ask op1) n h k s = absurd h
 
 module _ (p : Program) (store : Store) (current : Current) (fs : List Frame) where
-  name_numbered : (f : Focus) (x : List ℕ) → Holds (seen_program p) (place store current fs f) → SomeIsNumbered (count_of_functions (seen_program p)) (named_in p store current.names.now current.locals x)
+  pub name_numbered : (f : Focus) (x : List ℕ) → Holds (seen_program p) (place store current fs f) → SomeIsNumbered (count_of_functions (seen_program p)) (named_in p store current.names.now current.locals x)
   name_numbered f x h =
       or_numbered _ (or_else (value_at current.names.now current.locals x) (value_in (globals_of p store) x)) _
       (or_numbered _ (value_at current.names.now current.locals x) (value_in (globals_of p store) x) (read_numbered _ (variables_of current.names.now current.locals.items) x h.held) (read_numbered _ (globals_of p store) x h.globals))

@@ -10,6 +10,7 @@ ghost use Rattle.page_interp.specs.declared.exit.Exit.TheVariants as exit;
 ghost use Rattle.page_interp.specs.declared.stack.Focus.TheVariants as focus;
 
 use crate::code::Code;
+use crate::direct::direct_value;
 use crate::exit::{Exit, Store};
 use crate::stack::{Current, Focus, Frame, Purpose, Waiting, wait};
 use crate::values::{list, text};
@@ -33,8 +34,29 @@ pub fn come<'c, S: Drop>(done: Result<Value, Exit<S>>) -> Result<Focus<'c>, Exit
     }
 }
 
-/// From an expression.
+/// From an expression. One that calls nothing has its value at once, where it is simple enough.
 pub fn from_expr<'c, H: Host>(
+    code: &Code,
+    store: &Store,
+    current: &Current,
+    stack: &mut Vec<Frame<'c>>,
+    expr: &'c Expr,
+) -> Result<Focus<'c>, Exit<H::Stop>>
+    ensures ok { IfOk result (λ f.
+        Holds (script code.now) (place store.now current.now (stacked stack.old.items) (focus.Expr expr.entry)) →
+        Goes H.rules (script code.now) (place store.now current.now (stacked stack.old.items) (focus.Expr expr.entry))
+        (place store.now current.now (stacked stack.new.items) f)) }
+    ensures err { IfErr result (λ x. x ≡ exit.OutOfMemory) }
+{
+    match direct_value(code, store, current, expr) {
+        Ok(Some(value)) => Ok(Focus::Value(value)),
+        Ok(None) => by_parts::<H>(code, store, current, stack, expr),
+        Err(_) => Err(Exit::OutOfMemory),
+    }
+}
+
+/// From an expression, to the first of its parts.
+fn by_parts<'c, H: Host>(
     code: &Code,
     store: &Store,
     current: &Current,

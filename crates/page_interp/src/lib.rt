@@ -5,6 +5,7 @@ mod adding;
 mod asking;
 mod calling;
 mod code;
+mod direct;
 mod exit;
 mod expressions;
 mod gathering;

@@ -3,10 +3,13 @@
 ghost use Rattle.std.specs.Prelude.{◌≡◌, ◌≤◌, IfOk, length};
 ghost use Rattle.page_interp.specs.Places.{place_of, IsIndex};
 
-use page_values::{MemoryFault, Str};
+use page_values::{MemoryFault, Str, same_text};
 use std::alloc::Global;
 use std::collections::BTreeMap;
 use std::marker::Model;
+
+/// Among how many names a name is sought one after the other.
+const FEW: usize = 8;
 
 /// The names of functions or of variables, in order. A name may stand there more than once; it is found by its first
 /// place, in a number of steps that grows with the logarithm of how many there are.
@@ -53,6 +56,21 @@ impl Names {
     pub fn place(&self, name: &Str) -> Option<usize>
         ensures { result ≡ place_of self.now name.now }
     {
+        if self.names.len() <= FEW {
+            return first_place(&self.names, name);
+        }
         self.places.get(name.bytes()).copied()
     }
+}
+
+/// The first place of a name, sought one after the other.
+fn first_place(names: &[Str], name: &Str) -> Option<usize>
+    ensures { result ≡ place_of names.now name.now }
+{
+    for (place, other) in names.iter().enumerate() {
+        if same_text(other, name) {
+            return Some(place);
+        }
+    }
+    None
 }

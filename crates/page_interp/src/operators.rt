@@ -101,8 +101,9 @@ pub fn multiply<S: Drop>(
     }
 }
 
-/// Division truncates towards zero, and a remainder has the sign of the dividend.
-fn int_product(sign: ProductSign, x: i64, y: i64) -> Option<i64>
+/// A product, a quotient or a remainder within 64 bits. Division truncates towards zero, and a remainder has the sign of the
+/// dividend.
+pub fn int_product(sign: ProductSign, x: i64, y: i64) -> Option<i64>
     ensures { result ≡ int_product sign x y }
 {
     match sign {
@@ -178,7 +179,8 @@ pub fn item_at<S: Drop>(alloc: Global, list: &Value, place: &Value) -> Result<Va
     }
 }
 
-fn item_of(items: &[Value], n: i64) -> Option<&Value>
+/// The item at a place from 0.
+pub fn item_of(items: &[Value], n: i64) -> Option<&Value>
     ensures { option_map (λ v. seen v.now) result ≡ place_in (values_of (map seen items.now)) n }
 {
     if n < 0 {

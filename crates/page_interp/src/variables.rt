@@ -12,6 +12,19 @@ use crate::names::Names;
 use page_values::{FaultName, MemoryFault, Str, Value, copy, fault, function_value};
 use std::alloc::Global;
 
+/// The value of the variable of this name.
+pub fn find<'a>(names: &Names, values: &'a Vec<Value>, name: &Str) -> Option<&'a Value>
+    ensures { option_map (λ v. seen v.now) result ≡ value_at names.now values.now name.now }
+{
+    let Some(place) = names.place(name) else {
+        return None;
+    };
+    if place < values.len() {
+        return Some(&values[place]);
+    }
+    None
+}
+
 /// What a variable of this name holds.
 fn read(
     alloc: Global,
@@ -21,13 +34,10 @@ fn read(
 ) -> Result<Option<Value>, MemoryFault>
     ensures { IfOk result (λ o. option_map seen o ≡ value_at names.now values.now name.now) }
 {
-    let Some(place) = names.place(name) else {
-        return Ok(None);
-    };
-    if place < values.len() {
-        return Ok(Some(copy(alloc, &values[place])?));
+    match find(names, values, name) {
+        Some(value) => Ok(Some(copy(alloc, value)?)),
+        None => Ok(None),
     }
-    Ok(None)
 }
 
 /// Puts a value into the variable of this name, and gives it back where there is none.

@@ -1,0 +1,61 @@
+-- What an expression gives where it calls nothing and nothing is thrown.
+use Rattle.std.specs.Prelude.{ℕ, List, Option, Some, None, Ok, Err}
+use Rattle.std.specs.Option.{option_and_then}
+use Rattle.page_types.specs.Values.{Value, IntValue}
+use Rattle.page_types.specs.Tree.{Expr, Compare, Sum, Product, Unary, Post, Number, Name, Paren, Exprs, no_exprs, with_expr, SumParts, no_terms, with_term, ProductParts, no_factors, with_factor}
+use Rattle.lang_meaning.specs.Evaluation.{Answer, sum_answer, product_answer, compare_answer, unary_answer, item_answer}
+use Rattle.lang_ast.specs.declared.program.Program as Code
+use Rattle.lang_ast.specs.declared.tree.Expr as Syntax
+use Rattle.lang_ast.specs.Seen.{seen_expr}
+use Rattle.page_interp.specs.declared.exit.Store.{Store}
+use Rattle.page_interp.specs.declared.stack.Current.{Current}
+use Rattle.page_interp.specs.Variables.{named_in}
+
+-- ---- Ours: the meaning of the script language
+
+-- the value of an answer, where it is no fault
+abbrev pub value_of : Answer → Option Value
+value_of (Ok v) = Some v
+value_of (Err name) = None
+
+-- what is done with a value, where there is one
+abbrev pub and_so : Option Value → (Value → Option Value) → Option Value
+and_so o next = option_and_then next o
+
+abbrev mutual
+  -- the value of an expression, where `look` tells the values of names
+  pub direct : (look : List ℕ → Option Value) → Expr → Option Value
+  direct look (Number n) = Some (IntValue n)
+  direct look (Name x) = look x.name
+  direct look (Paren e) = direct look e
+  direct look (Compare a sign b) = and_so (direct look a) (λ x. and_so (direct look b) (λ y. value_of (compare_answer sign x y)))
+  direct look (Sum e parts) = and_so (direct look e) (direct_sum look parts)
+  direct look (Product e parts) = and_so (direct look e) (direct_product look parts)
+  direct look (Post e places) = and_so (direct look e) (direct_item look places)
+  direct look e = None
+
+  -- an item of an item and so on, by the places in a row
+  pub direct_item : (look : List ℕ → Option Value) → Exprs → Value → Option Value
+  direct_item look no_exprs v = Some v
+  direct_item look (with_expr e es) v =
+      and_so (direct look e) (λ i. and_so (value_of (item_answer v i)) (direct_item look es))
+
+  -- the further terms, added to or subtracted from what stands so far
+  pub direct_sum : (look : List ℕ → Option Value) → SumParts → Value → Option Value
+  direct_sum look no_terms v = Some v
+  direct_sum look (with_term sign e parts) v =
+      and_so (direct look e) (λ x. and_so (value_of (sum_answer sign v x)) (direct_sum look parts))
+
+  -- the further factors, by which what stands so far is multiplied or divided
+  pub direct_product : (look : List ℕ → Option Value) → ProductParts → Value → Option Value
+  direct_product look no_factors v = Some v
+  direct_product look (with_factor sign e parts) v =
+      and_so (direct look e) (λ x. and_so (value_of (product_answer sign v x)) (direct_product look parts))
+
+-- the values of names in a call
+abbrev pub names_there : Code.Program → Store → Current → List ℕ → Option Value
+names_there script store current x = named_in script store current.names.now current.locals x
+
+-- the value of an expression there
+abbrev pub direct_there : Code.Program → Store → Current → Syntax.Expr → Option Value
+direct_there script store current e = direct (names_there script store current) (seen_expr e)

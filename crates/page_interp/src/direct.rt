@@ -1,0 +1,219 @@
+//! Values of expressions that call nothing and throw nothing, found with no frame for their parts.
+//!
+//! Where one of these functions answers `None`, the expression is evaluated part by part.
+
+ghost use Rattle.std.specs.Prelude.{◌≡◌, Ok, Some, IfOk, IfSome};
+ghost use Rattle.std.specs.Option.{option_map};
+ghost use Rattle.page_types.specs.Values.{BoolValue, IntValue};
+ghost use Rattle.lang_meaning.specs.Evaluation.{compare_answer, sum_answer, product_answer};
+ghost use Rattle.lang_ast.specs.Seen.{seen_expr, seen_exprs, seen_terms, seen_factors};
+ghost use Rattle.page_values.specs.Seen.{seen};
+ghost use Rattle.page_interp.specs.Direct.{direct_item, direct_sum, direct_product, direct_there, names_there, value_of};
+
+use crate::code::Code;
+use crate::exit::Store;
+use crate::operators::{int_product, item_of};
+use crate::stack::Current;
+use crate::variables::find;
+use lang_ast::{CompareSign, Expr, ProductSign, SumSign};
+use page_values::{MemoryFault, Str, Value, as_int, as_list, copy};
+
+/// How deep the parts of an expression may nest that is evaluated at once.
+const LEVELS: u32 = 8;
+
+/// A variable of this name: a local one, or else a global one.
+fn variable<'a>(
+    code: &'a Code,
+    store: &'a Store,
+    current: &'a Current,
+    name: &Str,
+) -> Option<&'a Value>
+    ensures { IfSome result (λ v. names_there code.now store.now current.now name.now ≡ Some (seen v.now)) }
+{
+    if let Some(value) = find(current.names, &current.locals, name) {
+        return Some(value);
+    }
+    find(code.globals(), &store.globals, name)
+}
+
+/// The variable that an expression names, or an item in it.
+#[cycle(direct)]
+fn item<'a>(
+    code: &'a Code,
+    store: &'a Store,
+    current: &'a Current,
+    expr: &Expr,
+    levels: u32,
+) -> Option<&'a Value>
+    ensures { IfSome result (λ v. direct_there code.now store.now current.now expr.now ≡ Some (seen v.now)) }
+{
+    if levels == 0 {
+        return None;
+    }
+    match expr {
+        Expr::Name(x) => variable(code, store, current, &x.name),
+        Expr::Paren(inner) => item(code, store, current, inner, levels - 1),
+        Expr::Post(first, places) => {
+            let list = item(code, store, current, first, levels - 1)?;
+            item_in(code, store, current, list, places, levels - 1)
+        }
+        _ => None,
+    }
+}
+
+/// An item of an item and so on, by the places in a row.
+#[cycle(direct)]
+fn item_in<'a>(
+    code: &'a Code,
+    store: &'a Store,
+    current: &'a Current,
+    list: &'a Value,
+    places: &[Expr],
+    levels: u32,
+) -> Option<&'a Value>
+    ensures { IfSome result (λ v.
+        direct_item (names_there code.now store.now current.now) (seen_exprs places.now) (seen list.now) ≡ Some (seen v.now)) }
+{
+    let mut value = list;
+    let mut rest = places;
+    while let Some((place, more)) = rest.split_first() {
+        let n = int(code, store, current, place, levels)?;
+        let items = as_list(value)?;
+        value = item_of(items.items(), n)?;
+        rest = more;
+    }
+    Some(value)
+}
+
+/// An integer.
+#[cycle(direct)]
+fn int(code: &Code, store: &Store, current: &Current, expr: &Expr, levels: u32) -> Option<i64>
+    ensures { IfSome result (λ n. direct_there code.now store.now current.now expr.now ≡ Some (IntValue n)) }
+{
+    if levels == 0 {
+        return None;
+    }
+    match expr {
+        Expr::Number(n) => Some(*n),
+        Expr::Paren(inner) => int(code, store, current, inner, levels - 1),
+        Expr::Sum(first, parts) => {
+            let total = int(code, store, current, first, levels - 1)?;
+            sum_in(code, store, current, total, parts, levels - 1)
+        }
+        Expr::Product(first, parts) => {
+            let total = int(code, store, current, first, levels - 1)?;
+            product_in(code, store, current, total, parts, levels - 1)
+        }
+        Expr::Name(_) => as_int(item(code, store, current, expr, levels - 1)?),
+        Expr::Post(_, _) => as_int(item(code, store, current, expr, levels - 1)?),
+        _ => None,
+    }
+}
+
+/// A sum or a difference within 64 bits.
+fn int_sum(sign: SumSign, x: i64, y: i64) -> Option<i64>
+    ensures { IfSome result (λ n. sum_answer sign (IntValue x) (IntValue y) ≡ Ok (IntValue n)) }
+{
+    match sign {
+        SumSign::Plus => x.checked_add(y),
+        SumSign::Minus => x.checked_sub(y),
+    }
+}
+
+/// The sum so far with the further terms.
+#[cycle(direct)]
+fn sum_in(
+    code: &Code,
+    store: &Store,
+    current: &Current,
+    first: i64,
+    terms: &[(SumSign, Expr)],
+    levels: u32,
+) -> Option<i64>
+    ensures { IfSome result (λ n.
+        direct_sum (names_there code.now store.now current.now) (seen_terms terms.now) (IntValue first) ≡ Some (IntValue n)) }
+{
+    let mut total = first;
+    let mut rest = terms;
+    while let Some((term, more)) = rest.split_first() {
+        let n = int(code, store, current, &term.1, levels)?;
+        total = int_sum(term.0, total, n)?;
+        rest = more;
+    }
+    Some(total)
+}
+
+/// The product so far with the further factors.
+#[cycle(direct)]
+fn product_in(
+    code: &Code,
+    store: &Store,
+    current: &Current,
+    first: i64,
+    factors: &[(ProductSign, Expr)],
+    levels: u32,
+) -> Option<i64>
+    ensures { IfSome result (λ n.
+        direct_product (names_there code.now store.now current.now) (seen_factors factors.now) (IntValue first) ≡ Some (IntValue n)) }
+{
+    let mut total = first;
+    let mut rest = factors;
+    while let Some((factor, more)) = rest.split_first() {
+        let n = int(code, store, current, &factor.1, levels)?;
+        total = int_product(factor.0, total, n)?;
+        rest = more;
+    }
+    Some(total)
+}
+
+/// How two integers compare.
+fn compared(sign: CompareSign, x: i64, y: i64) -> bool
+    ensures { compare_answer sign (IntValue x) (IntValue y) ≡ Ok (BoolValue result) }
+{
+    match sign {
+        CompareSign::Equals => x == y,
+        CompareSign::Differs => x != y,
+        CompareSign::Less => x < y,
+        CompareSign::AtMost => x <= y,
+        CompareSign::Greater => y < x,
+        CompareSign::AtLeast => y <= x,
+    }
+}
+
+/// The value of an expression of integers or of an item, where it calls nothing and throws nothing.
+pub fn direct_value(
+    code: &Code,
+    store: &Store,
+    current: &Current,
+    expr: &Expr,
+) -> Result<Option<Value>, MemoryFault>
+    ensures { IfOk result (λ o. IfSome o (λ v. direct_there code.now store.now current.now expr.now ≡ Some (seen v))) }
+{
+    match expr {
+        Expr::Sum(_, _) => Ok(int_value(int(code, store, current, expr, LEVELS))),
+        Expr::Product(_, _) => Ok(int_value(int(code, store, current, expr, LEVELS))),
+        Expr::Compare(left, sign, right) => {
+            let Some(x) = int(code, store, current, left, LEVELS) else {
+                return Ok(None);
+            };
+            let Some(y) = int(code, store, current, right, LEVELS) else {
+                return Ok(None);
+            };
+            Ok(Some(Value::Bool(compared(*sign, x, y))))
+        }
+        Expr::Post(_, _) => match item(code, store, current, expr, LEVELS) {
+            Some(value) => Ok(Some(copy(code.alloc(), value)?)),
+            None => Ok(None),
+        },
+        _ => Ok(None),
+    }
+}
+
+fn int_value(n: Option<i64>) -> Option<Value>
+    ensures { option_map seen result ≡ option_map IntValue n }
+{
+    match n {
+        Some(n) => Some(Value::Int(n)),
+        None => None,
+    }
+}
