@@ -1,0 +1,9 @@
+pub mod AddingFolds
+pub mod RulesAdd
+pub mod FollowingRules
+pub mod Lining
+pub mod Ending
+pub mod Stopping
+pub mod DoingState
+pub mod Invoking
+pub mod Called
