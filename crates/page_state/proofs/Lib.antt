@@ -1,0 +1,11 @@
+pub mod Acting
+pub mod Answering
+pub mod Telling
+pub mod Taking
+pub mod Items
+pub mod Waiting
+pub mod Lifted
+pub mod Handled
+pub mod Combined
+pub mod Priorities
+pub mod Signalled

@@ -1,0 +1,84 @@
+-- What is asked of hosts, and by which priorities scheduler tasks are selected.
+use Rattle.std.proofs.Common.{◌≡◌, ◌≤◌, ◌<◌, ℕ, zero, suc, length, arith, Bool, true, false, cond, List, [], ◌∷◌, map, refl, ap, subst, Option, Some, None}
+use Rattle.std.specs.Prelude.{find, ◌==◌, ◌||◌, slice_get, unwrap_or, is_some}
+use Rattle.std.specs.Option.{option_map, option_map_or}
+use Rattle.page_base.specs.declared.moment.Micros.{Micros}
+use Rattle.page_parts.specs.Words.{is_there, numbered}
+use Rattle.page_model.specs.State.{Registration, no_registration, Task, HostTask}
+use Rattle.page_model.specs.PageSignals.{is_for, host_task_of, task_in_net}
+use Rattle.page_model.specs.Operations.{latency_of}
+use Rattle.page_tasks.specs.Queued.{Queued, IsOf}
+use Rattle.page_state.specs.declared.latencies.Latency.{Latency}
+use Rattle.page_state.specs.Seen.{latency_seen}
+use Rattle.page_state.specs.Selecting.{AreSelectedBy}
+use Rattle.page_state.specs.Standing.{Standing, TaskFields, page_of}
+
+-- the latency of the first line that gives it
+pub latency_found : (k : ℕ) (ls : List Latency) → latency_of (map latency_seen ls) k ≡ option_map_or (λ (m : Micros). m.0) (option_map (λ (l : Latency). l.latency) (find (λ (l : Latency). l.closure == k) ls)) 0
+latency_found k [] = refl
+latency_found k (l ∷ ls) = by (l.closure == k) (latency_found k ls)
+  where
+    by : (b : Bool) → latency_of (map latency_seen ls) k ≡ option_map_or (λ (m : Micros). m.0) (option_map (λ (l : Latency). l.latency) (find (λ (l : Latency). l.closure == k) ls)) 0
+        → cond b l.latency.0 (latency_of (map latency_seen ls) k) ≡ option_map_or (λ (m : Micros). m.0) (option_map (λ (l : Latency). l.latency) (cond b (Some l) (find (λ (l : Latency). l.closure == k) ls))) 0
+    by true rest = refl
+    by false rest = rest
+
+pub none_there : {X : Type 0} (o : Option X) → is_there o ≡ false → o ≡ None
+none_there None none = refl
+none_there (Some x) none = Prim.cc
+
+-- a page has the tasks that are queued
+pub is_of : (q : Queued) (s : Standing) {view : Standing} → view ≡ s → view.tasks ≡ record { tasks = q.tasks; sched_tasks = q.sched_tasks; tasks_made = q.tasks_made }
+    → AreSelectedBy view.signals.prios q.priorities → IsOf q (page_of s)
+is_of q s {view = view} e tasks selected =
+    let P : Standing → Type 0 = λ t. IsOf q (page_of t) in
+    subst P e (record {
+      tasks = ap (λ (t : TaskFields). t.tasks) tasks;
+      sched_tasks = ap (λ (t : TaskFields). t.sched_tasks) tasks;
+      tasks_made = ap (λ (t : TaskFields). t.tasks_made) tasks;
+      priorities = selected.each;
+    })
+
+-- ---- a registration that was never made has no signal
+
+beyond : (xs : List Registration) (n : ℕ) → length xs ≤ n → slice_get xs n ≡ None
+beyond [] n h = refl
+beyond (x ∷ xs) zero h = absurd (omega arith)
+beyond (x ∷ xs) (suc n) h = beyond xs n (omega arith)
+
+pub unregistered : (xs : List Registration) (r : ℕ) → ((0 < r) × (r ≤ length xs) → ⊥) → numbered xs r no_registration ≡ no_registration
+unregistered xs zero never = refl
+unregistered xs (suc n) never =
+    let more : suc n ≤ length xs → ⊥ = λ h. never (omega arith, h) in
+    let few : length xs ≤ n = omega (arith, more) in
+    ap (λ (o : Option Registration). unwrap_or o no_registration) (beyond xs n few)
+
+-- ---- what waits for a registration
+
+pub some_there : {X : Type 0} (o : Option X) → is_some o ≡ is_there o
+some_there None = refl
+some_there (Some x) = refl
+
+pub mapped_there : {X Y : Type 0} (f : X → Y) (o : Option X) → is_there (option_map f o) ≡ is_there o
+mapped_there f None = refl
+mapped_there f (Some x) = refl
+
+for_there : (r : ℕ) (o : Option HostTask) → is_for r o ≡ true → is_there o ≡ true
+for_there r None for = Prim.cc
+for_there r (Some t) for = refl
+
+-- what is found has a host task
+pub asked_there : (r : ℕ) (ts : List Task) → is_there (task_in_net (find (λ t. is_for r (host_task_of t.steps)) ts)) ≡ is_there (find (λ t. is_for r (host_task_of t.steps)) ts)
+asked_there r [] = refl
+asked_there r (t ∷ ts) = by (is_for r (host_task_of t.steps)) refl (asked_there r ts)
+  where
+    by : (b : Bool) → is_for r (host_task_of t.steps) ≡ b
+        → is_there (task_in_net (find (λ t. is_for r (host_task_of t.steps)) ts)) ≡ is_there (find (λ t. is_for r (host_task_of t.steps)) ts)
+        → is_there (task_in_net (cond b (Some t) (find (λ t. is_for r (host_task_of t.steps)) ts)))
+        ≡ is_there (cond b (Some t) (find (λ t. is_for r (host_task_of t.steps)) ts))
+    by true e rest = for_there r (host_task_of t.steps) e
+    by false e rest = rest
+
+pub or_second : (a b c : Bool) → a ≡ false → c ≡ b → c ≡ (a || b)
+or_second true b c e same = Prim.cc
+or_second false b c e same = same

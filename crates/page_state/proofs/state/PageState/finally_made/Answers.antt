@@ -1,0 +1,20 @@
+use Rattle.std.proofs.Common.{true, ap, ◌∙◌}
+use Rattle.std.specs.Option.{option_map}
+use Rattle.page_parts.specs.Kinds.{func_in}
+use Rattle.page_values.specs.declared.Value.{Value}
+use Rattle.page_values.specs.Seen.{seen}
+use Rattle.page_script.specs.Seen.{function_seen}
+use Rattle.page_model.specs.Operations.{finally_made}
+use Rattle.page_state.proofs.Handled.{Does-same_handlers}
+use Rattle.page_state.proofs.Telling.{Does-wanted}
+use Rattle.page_state.proofs.state.PageState.finally_made.Goals as goal
+
+pub returns-in_err-second_handler-clause-does : goal.returns-in_err-second_handler-clause-does
+returns-in_err-second_handler-clause-does g c =
+    Does-wanted g.L.Lines.keeping (finally_made c.args.p (seen c.args.handler)) c.args.self.now c.args.self.now _ _ c.from_residual.ensures.1 c.in_err-second_handler.ensures.memory
+
+pub returns-clause-does : goal.returns-clause-does
+returns-clause-does g c =
+    let f = func_in (seen c.args.handler) in
+    Does-same_handlers c.args.p (option_map function_seen c.function_of-first.result) (option_map function_seen c.function_of-second.result) f f true _ c.args.self.now
+    c.handlers.ensures c.function_of-first.ensures (c.function_of-second.ensures ∙ ap (λ (v : Value). func_in (seen v)) c.in_ok-second_handler.ensures.copy) c.handlers_made.ensures.does

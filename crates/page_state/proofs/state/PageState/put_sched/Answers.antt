@@ -1,0 +1,19 @@
+use Rattle.std.proofs.Common.{List, ap, sym, subst, ◌∙◌}
+use Rattle.page_parts.specs.TaskSignals.{priority_of}
+use Rattle.page_tasks.specs.Queued.{Queued, SignalPriority}
+use Rattle.page_state.specs.Standing.{Standing}
+use Rattle.page_state.specs.Selecting.{AreSelectedBy}
+use Rattle.page_state.proofs.state.PageState.put_sched.Goals as goal
+use Rattle.page_state.proofs.state.PageState.put_sched.Goals.{in-Ok, in-Err}
+
+pub invariant_of-self-2 : goal.invariant_of-self-2
+invariant_of-self-2 g c =
+    let prios = c.self.inside.signals.prios in
+    let P : List SignalPriority → Type 0 = λ ps. AreSelectedBy prios ps in
+    let kept : P c.make_room.new.tasks.priorities =
+    c.in_ok-make_room.ensures.selected prios
+    (λ s is. c.source_priority-priority.ensures s is ∙ sym (ap (λ (t : Standing). priority_of t.signals.prios s) c.self.view_is)) c.self.invariant in
+    elim c.match-enqueue.branch [
+      | in-Ok w ↦ subst P (sym (ap (λ (q : Queued). q.priorities) w.in-Ok.ensures.enqueued)) kept
+      | in-Err w ↦ subst P (sym (ap (λ (q : Queued). q.priorities) w.in-Err.ensures.err)) kept
+    ]

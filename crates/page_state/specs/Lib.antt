@@ -1,0 +1,11 @@
+pub mod Standing
+pub mod PageActs
+pub mod Seen
+pub mod Answers
+pub mod TimeActs
+pub mod HostActs
+pub mod Selecting
+pub mod ItemActs
+pub mod Handling
+pub mod Codes
+pub mod SignalActs

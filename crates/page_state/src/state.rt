@@ -1,0 +1,124 @@
+ghost use Rattle.std.specs.Prelude.{◌≡◌, ◌+◌, ◌^◌, ◌<◌, ◌≤◌, length, IfOk, IfErr, OnOk, OnErr};
+ghost use Rattle.std.specs.Result.{result_err};
+ghost use Rattle.page_model.specs.State as model;
+ghost use Rattle.page_model.specs.PageTime as model_time;
+ghost use Rattle.page_model.specs.Invoke as model_invoke;
+ghost use Rattle.trace_text.specs.declared.lines.NoLine.TheVariants.{OutOfMemory};
+ghost use Rattle.trace_text.specs.Acts.{Does};
+ghost use Rattle.trace_text.specs.EventSeen.{event_seen};
+ghost use Rattle.page_tasks.specs.Seen.{steps_of};
+ghost use Rattle.parallel_items.specs.Seen.{completion_seen};
+ghost use Rattle.page_state.specs.PageActs.{at, on_page, changed_by, read_by};
+ghost use Rattle.page_types.specs.declared.Source.TheVariants.{Sched};
+ghost use Rattle.std.specs.Prelude.{◌≢◌};
+
+mod aborts;
+mod callbacks;
+mod combinators;
+mod combined;
+mod frames;
+mod handlers;
+mod hosts;
+mod idle;
+mod jobs;
+mod listeners;
+mod parallel;
+mod promises;
+mod running;
+mod signals;
+mod tasks;
+mod timers;
+
+use crate::latencies::Latency;
+use page_base::{Micros, Source};
+use page_frames::PageFrames;
+use page_hosts::{HostPort, PageHosts};
+use page_script::PageScript;
+use page_signals::PageSignals;
+use page_tasks::{PageTasks, TaskSteps};
+use parallel_items::{Completion, ParallelItems};
+use std::alloc::Global;
+use std::marker::Model;
+use std::sync::ledger::Ledger;
+use trace_text::{Event, Lines, NoLine};
+
+/// All that a page keeps besides the lines that it writes and the fuel of its script.
+#[derive(Drop)]
+pub struct PageState<P: HostPort, M: Ledger> {
+    alloc: Global,
+    script: PageScript,
+    tasks: PageTasks<M>,
+    items: ParallelItems,
+    frames: PageFrames,
+    signals: PageSignals,
+    hosts: PageHosts<P>,
+    latencies: Vec<Latency>,
+}
+
+impl<P: HostPort, M: Ledger> Model for PageState<P, M> {
+    ghost use Rattle.std.specs.Prelude.{map};
+    ghost use Rattle.page_state.specs.Standing.{Standing};
+    ghost use Rattle.page_state.specs.Codes.{coded_standing};
+    ghost use Rattle.page_state.specs.Seen.{latency_seen};
+
+    ghost Value = { Standing };
+
+    ghost coded = { coded_standing };
+
+    ghost view = { λ a. record {
+      script = a.script;
+      tasks = record { tasks = a.tasks.tasks; sched_tasks = a.tasks.sched_tasks; tasks_made = a.tasks.tasks_made };
+      waiting = a.items.waiting;
+      frames = a.frames;
+      signals = record { signals = a.signals.signals; prios = a.signals.prios; listeners = a.signals.listeners };
+      hosts = a.hosts.closures;
+      latencies = map latency_seen a.latencies.items;
+      folds = a.signals.folds;
+      kept = a.hosts.kept;
+      refusals = a.hosts.refusals;
+    } };
+
+    ghost use Rattle.page_state.specs.Selecting.{AreSelectedBy};
+
+    ghost invariant = { λ a. AreSelectedBy a.signals.prios a.tasks.priorities };
+}
+
+impl<P: HostPort, M: Ledger> PageState<P, M> {
+    /// Writes the line of an event, at the time now.
+    pub fn emit<L: Lines>(&self, event: Event, lines: &mut L) -> Result<(), NoLine>
+        ensures { Does L.keeping (at self.now (L.seen lines.old)) (on_page (model.emit (event_seen event)))
+            (result_err result) (at self.now (L.seen lines.new)) }
+    {
+        self.script.emit(event, lines)
+    }
+
+    /// The call of a registration's callback begins, with its line.
+    pub fn call_begun<L: Lines>(&mut self, r: u32, lines: &mut L) -> Result<(), NoLine>
+        ensures { Does L.keeping (at self.old (L.seen lines.old)) (on_page (model_invoke.call_begun r))
+            (result_err result) (at self.new (L.seen lines.new)) }
+    {
+        self.script.call_begun(r, lines)
+    }
+
+    /// Queues a task, with the next number.
+    pub fn queue(&mut self, source: Source, steps: TaskSteps) -> Result<(), NoLine>
+        requires { source ≢ Sched }
+        ensures queued { OnOk result (self.new ≡ changed_by (model.queue_task source (steps_of steps)) self.old) }
+        ensures memory { IfErr result (λ why. why ≡ OutOfMemory) }
+    {
+        if self.tasks.made() == u64::MAX {
+            return Err(NoLine::OutOfMemory);
+        }
+        match self.tasks.queue(source, steps) {
+            Ok(()) => Ok(()),
+            Err(_) => Err(NoLine::OutOfMemory),
+        }
+    }
+
+    /// `clearTimeout()` and `clearInterval()`: the id leaves the map.
+    pub fn clear_id(&mut self, id: u32)
+        ensures { self.new ≡ changed_by (model_time.clear_id id) self.old }
+    {
+        self.items.clear(id);
+    }
+}

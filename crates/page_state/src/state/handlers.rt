@@ -1,0 +1,127 @@
+//! The handlers that a script gives promises.
+
+ghost use Rattle.std.specs.Prelude.{◌≡◌, Option, None, true, false, IfOk};
+ghost use Rattle.std.specs.Option.{option_map};
+ghost use Rattle.std.specs.Result.{result_err};
+ghost use Rattle.page_types.specs.declared.RegKind.TheVariants.{Then};
+ghost use Rattle.page_parts.specs.Kinds.{func_in};
+ghost use Rattle.page_values.specs.Seen.{seen};
+ghost use Rattle.page_model.specs.State as model;
+ghost use Rattle.page_model.specs.PagePromises.{last_promise, subscribe};
+ghost use Rattle.page_model.specs.Invoke.{register_as};
+ghost use Rattle.page_model.specs.Operations.{then_made, finally_made};
+ghost use Rattle.page_script.specs.Seen.{function_seen, registration_seen};
+ghost use Rattle.trace_text.specs.Acts.{Does};
+ghost use Rattle.page_state.specs.PageActs.{at, on_page, read_by};
+ghost use Rattle.page_state.specs.Handling.{handlers_made, last_reaction, then_with};
+
+use super::PageState;
+use page_hosts::HostPort;
+use page_script::{Reaction, Registration, Role};
+use page_values::{Func, Value};
+use std::sync::ledger::Ledger;
+use trace_text::{Lines, NoLine, RegKind};
+
+impl<P: HostPort, M: Ledger> PageState<P, M> {
+    /// Makes the derived promise and the registration of a `then`, with its line, and gives a promise the reaction (ECMA-262,
+    /// "Promise.prototype.then"). A handler that is no function is absent. Answers the number of the derived promise.
+    pub fn then_made<L: Lines>(
+        &mut self,
+        p: u32,
+        fulfilled: Value,
+        rejected: Value,
+        lines: &mut L,
+    ) -> Result<u32, NoLine>
+        ensures does { Does L.keeping (at self.old (L.seen lines.old)) (on_page (then_made p (seen fulfilled) (seen rejected)))
+            (result_err result) (at self.new (L.seen lines.new)) }
+        ensures number { IfOk result (λ n. n ≡ read_by last_promise self.new) }
+    {
+        let first = function_of(fulfilled);
+        let second = function_of(rejected);
+        self.handlers_made(p, handlers(first, second, false), lines)
+    }
+
+    /// Makes the derived promise and the registration of a `finally`, with its line, and gives a promise the reaction
+    /// (ECMA-262, "Promise.prototype.finally"). A handler that is no function is absent. Answers the number of the derived
+    /// promise.
+    pub fn finally_made<L: Lines>(
+        &mut self,
+        p: u32,
+        handler: Value,
+        lines: &mut L,
+    ) -> Result<u32, NoLine>
+        ensures does { Does L.keeping (at self.old (L.seen lines.old)) (on_page (finally_made p (seen handler)))
+            (result_err result) (at self.new (L.seen lines.new)) }
+        ensures number { IfOk result (λ n. n ≡ read_by last_promise self.new) }
+    {
+        let second_handler = self.copied(&handler)?;
+        let first = function_of(handler);
+        let second = function_of(second_handler);
+        self.handlers_made(p, handlers(first, second, true), lines)
+    }
+
+    // Makes a derived promise and a registration of handlers, with its line, gives a promise the reaction, and answers the number
+    // of the derived promise.
+    fn handlers_made<L: Lines>(
+        &mut self,
+        p: u32,
+        registration: Registration,
+        lines: &mut L,
+    ) -> Result<u32, NoLine>
+        ensures does { Does L.keeping (at self.old (L.seen lines.old)) (on_page (handlers_made p (registration_seen registration)))
+            (result_err result) (at self.new (L.seen lines.new)) }
+        ensures number { IfOk result (λ n. n ≡ read_by last_promise self.new) }
+    {
+        let into = self.new_promise()?;
+        self.handle(p, registration, into, lines)?;
+        Ok(into)
+    }
+
+    // Makes a registration of handlers, with its line, and gives a promise the reaction, into the last promise.
+    fn handle<L: Lines>(
+        &mut self,
+        p: u32,
+        registration: Registration,
+        into: u32,
+        lines: &mut L,
+    ) -> Result<(), NoLine>
+        requires { into ≡ read_by last_promise self.old }
+        ensures does { Does L.keeping (at self.old (L.seen lines.old))
+            (on_page (λ q. let made = register_as Then (registration_seen registration) q in subscribe p (last_reaction made) made))
+            (result_err result) (at self.new (L.seen lines.new)) }
+        ensures kept { IfOk result (λ _. into ≡ read_by last_promise self.new) }
+    {
+        let r = self.register_as(RegKind::Then, registration, lines)?;
+        let reaction = Reaction {
+            registration: Some(r),
+            into,
+            state: self.scheduling(),
+        };
+        self.subscribe(p, reaction, lines)
+    }
+}
+
+// The registration of handlers.
+fn handlers(first: Option<Func>, second: Option<Func>, finally: bool) -> Registration
+    ensures { registration_seen result ≡ then_with (option_map function_seen first) (option_map function_seen second) finally }
+{
+    Registration {
+        role: Role::Of(RegKind::Then),
+        callback: first,
+        second_callback: second,
+        timer_id: 0,
+        promise: 0,
+        signal: None,
+        finally,
+    }
+}
+
+// The function that a value is.
+fn function_of(value: Value) -> Option<Func>
+    ensures { option_map function_seen result ≡ func_in (seen value) }
+{
+    match value {
+        Value::Fun(function) => Some(function),
+        _ => None,
+    }
+}
