@@ -4,6 +4,3 @@ pub mod FollowingRules
 pub mod Lining
 pub mod Ending
 pub mod Stopping
-pub mod DoingState
-pub mod Invoking
-pub mod Called

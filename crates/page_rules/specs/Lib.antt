@@ -1,4 +1,3 @@
 pub mod FoldActs
 pub mod Lined
 pub mod Ends
-pub mod StateActs

@@ -1,5 +1,4 @@
 pub mod Acting
-pub mod Answering
 pub mod Telling
 pub mod Taking
 pub mod Items

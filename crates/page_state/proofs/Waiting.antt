@@ -1,6 +1,6 @@
 -- What is asked of hosts, and by which priorities scheduler tasks are selected.
 use Rattle.std.proofs.Common.{◌≡◌, ◌≤◌, ◌<◌, ℕ, zero, suc, length, arith, Bool, true, false, cond, List, [], ◌∷◌, map, refl, ap, subst, Option, Some, None}
-use Rattle.std.specs.Prelude.{find, ◌==◌, ◌||◌, slice_get, unwrap_or, is_some}
+use Rattle.std.specs.Prelude.{find, ◌==◌, ◌||◌, slice_get, unwrap_or}
 use Rattle.std.specs.Option.{option_map, option_map_or}
 use Rattle.page_base.specs.declared.moment.Micros.{Micros}
 use Rattle.page_parts.specs.Words.{is_there, numbered}
@@ -54,10 +54,6 @@ unregistered xs (suc n) never =
     ap (λ (o : Option Registration). unwrap_or o no_registration) (beyond xs n few)
 
 -- ---- what waits for a registration
-
-pub some_there : {X : Type 0} (o : Option X) → is_some o ≡ is_there o
-some_there None = refl
-some_there (Some x) = refl
 
 pub mapped_there : {X Y : Type 0} (f : X → Y) (o : Option X) → is_there (option_map f o) ≡ is_there o
 mapped_there f None = refl

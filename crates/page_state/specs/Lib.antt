@@ -1,7 +1,6 @@
 pub mod Standing
 pub mod PageActs
 pub mod Seen
-pub mod Answers
 pub mod TimeActs
 pub mod HostActs
 pub mod Selecting

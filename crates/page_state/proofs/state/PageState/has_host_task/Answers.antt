@@ -3,9 +3,10 @@ use Rattle.page_parts.specs.Words.{is_there}
 use Rattle.page_model.specs.State.{HostTask, HostAnswer}
 use Rattle.page_model.specs.PageSignals.{waiting_answer, waiting_net_task}
 use Rattle.parallel_items.specs.Steps.{pending_answer}
+use Rattle.parallel_items.proofs.TimerLemmas.{some_is_there}
 use Rattle.page_tasks.specs.Seen.{host_task}
 use Rattle.page_state.specs.Standing.{Standing, page_of}
-use Rattle.page_state.proofs.Waiting.{is_of, some_there, mapped_there, asked_there, or_second}
+use Rattle.page_state.proofs.Waiting.{is_of, mapped_there, asked_there, or_second}
 use Rattle.page_state.proofs.state.PageState.has_host_task.Goals as goal
 
 pub returns-else-is_some : goal.returns-else-is_some
@@ -17,7 +18,7 @@ returns-else-is_some g c =
     ∙ ap (λ (t : Standing). is_there (pending_answer r t.waiting)) (sym c.self.view_is)
     ∙ ap (λ (o : Option HostTask). is_there o) (sym c.pending_answer.ensures)
     ∙ mapped_there host_task c.pending_answer.result
-    ∙ sym (some_there c.pending_answer.result)
+    ∙ sym (some_is_there c.pending_answer.result)
     ∙ sym c.is_some.ensures
     ∙ c.if-is_some.false
     in
@@ -26,7 +27,7 @@ returns-else-is_some g c =
     sym (asked_there r s.tasks.tasks)
     ∙ ap (λ (o : Option HostTask). is_there o) (sym net)
     ∙ mapped_there host_task c.net_task_of.result
-    ∙ sym (some_there c.net_task_of.result)
+    ∙ sym (some_is_there c.net_task_of.result)
     ∙ sym c.is_some-else-is_some.ensures
     in
     or_second (is_there (waiting_answer r (page_of s))) (is_there (waiting_net_task r (page_of s))) c.is_some-else-is_some.result pending (sym waits)
