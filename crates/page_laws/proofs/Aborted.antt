@@ -72,7 +72,7 @@ moves-aborted (arming a c d w) s h = change-aborted d s (change-aborted c s (mov
 moves-aborted (calling {q = q} a b w i) s h = begins-aborted b q s (moves-aborted a s h)
 moves-aborted (ending a e x) s h = moves-aborted a s h
 moves-aborted (flagging a x y z w u v t j) s h = ap {A = Signals Value} {B = Bool} (λ ss. is_aborted ss s) t ∙ moves-aborted a s h
-moves-aborted (running a j others x y) s h = moves-aborted a s h
+moves-aborted (running a j others x y nm) s h = moves-aborted a s h
 moves-aborted (framing a t) s h = moves-aborted a s h
 moves-aborted (idling a none) s h = moves-aborted a s h
 

@@ -4,6 +4,7 @@ use Rattle.lang_meaning.specs.Evaluation.{call_from_outside}
 use Rattle.lang_meaning.specs.Machine.{Caller}
 use Rattle.page_laws.proofs.Ready.{first-ready}
 use Rattle.page_laws.proofs.Arming.{first-tidy}
+use Rattle.page_laws.proofs.Numbered.{first-numbered}
 use Rattle.page_laws.proofs.Operations.{outside-goes}
 use Rattle.page_laws.proofs.Runs.{CallsGo}
 use Rattle.page_laws.proofs.Turns.{Lands, Rests, Stops, at_time-comes, choose-lands, clock-lands, ends-lands, idle_step-comes, lands-then, next_turn-stops, step_one-comes, step_three-lands}
@@ -65,4 +66,4 @@ module _ {C : Type 0} (program : Program) where
 pub gaps_are_moves : {C : Type 0} (rules : Rules C) (program : Program) (setup : Setup) (c : C) (list : List Act) → HoldsNoNumbers setup → Moves (first_page program setup []) (state_of (run_gaps_by rules program setup list c)).host
 unfolding run_gaps_by
 gaps_are_moves rules program setup c list h =
-    acts-stop program rules (call_from_outside program page_operations) (outside-goes program) setup.until list (first_state program setup []) c (first_state-good program setup [] h) ((refl, refl, tt), refl, ((λ c i. elim i [ ]), first-ready program setup [], first-tidy program setup []))
+    acts-stop program rules (call_from_outside program page_operations) (outside-goes program) setup.until list (first_state program setup []) c (first_state-good program setup [] h) ((refl, refl, tt), refl, ((λ c i. elim i [ ]), first-ready program setup [], first-tidy program setup [], first-numbered program setup []))

@@ -13,7 +13,7 @@ use Rattle.page_parts.specs.Promises as Promises
 use Rattle.page_parts.specs.Notices.{Context, Notices, Noticed, changed, subscribe_promise, queue_micro}
 use Rattle.page_parts.specs.Setup.{Setup}
 use Rattle.page_parts.specs.Sources.{same_source}
-use Rattle.page_parts.specs.Words.{and_last, without}
+use Rattle.page_parts.specs.Words.{without}
 use Rattle.page_types.specs.declared.RegKind.TheVariants as kind
 use Rattle.page_model.specs.Invoke.{register_as}
 use Rattle.page_model.specs.Numbers.{Each}
@@ -23,7 +23,7 @@ use Rattle.page_model.specs.State.{IdleTimeout, Registration, Page, Task, HostTa
 use Rattle.page_model.specs.Turns.{first_page}
 use Rattle.page_laws.specs.CallLaws.{is_answer_of, keeps_once}
 use Rattle.page_laws.specs.History.{History, count_lines, some_line, is_rest}
-use Rattle.page_laws.specs.Moves.{is_aside, is_end, is_free, fired_at, promise_changes, Places, places, PlaceChange, places_stay, task_queued, task_left, armed_again, signal_armed, timer_due, completed, idle_started, idle_queued, answer_due, id_cleared, idle_armed, idle_due, Dropping, timer_dropped, idle_dropped, listener_dropped, task_dropped, FirstPlace, nowhere, at_listener, at_timer, at_delay, at_idle, at_host, AsBefore, PageChange, elsewhere, told, arm_told, rested, answered, dropped, frame_dropped, registered, frame_asked, promised, settled, followed, adopted, subscribed, then_asked, micro_asked, rejected_taken, noted, Beginning, TheScript, ATimer, AFrame, AnIdle, ALateIdle, AListener, APost, AContinuation, AMicro, AReaction, called_by, taken, Moves, here, changing, arming, calling, ending, flagging, running, framing, idling, enqueued_anew, fell_due, post_fell_due, delay_due, signal_due, DueChange, without_queued, without_answer, prio_told}
+use Rattle.page_laws.specs.Moves.{with_task, is_aside, is_end, is_free, fired_at, promise_changes, Places, places, PlaceChange, places_stay, task_queued, task_left, armed_again, signal_armed, timer_due, completed, idle_started, idle_queued, answer_due, id_cleared, idle_armed, idle_due, Dropping, timer_dropped, idle_dropped, listener_dropped, task_dropped, FirstPlace, nowhere, at_listener, at_timer, at_delay, at_idle, at_host, AsBefore, PageChange, elsewhere, told, arm_told, rested, answered, dropped, frame_dropped, registered, frame_asked, promised, settled, followed, adopted, subscribed, then_asked, micro_asked, rejected_taken, noted, Beginning, TheScript, ATimer, AFrame, AnIdle, ALateIdle, AListener, APost, AContinuation, AMicro, AReaction, called_by, taken, Moves, here, changing, arming, calling, ending, flagging, running, framing, idling, enqueued_anew, fell_due, post_fell_due, delay_due, signal_due, DueChange, without_queued, without_answer, prio_told}
 use Rattle.page_laws.proofs.Lines.{changed-each, added, emit_each-events}
 use Rattle.page_laws.proofs.Once.{keeps_calls, once_calls}
 use Rattle.page_laws.proofs.Scans.{Test, Kept}
@@ -183,9 +183,9 @@ free-claims k steps h = refl
 place-fits : {made : List Registration} {x y : Places} → PlaceChange made x y → (past : History) → HostsFit x past → HostsFit y past
 place-fits places_stay past f = f
 place-fits {x = x} {y = y} (task_queued t h plain) past f =
-    lessen-fits x (record x { tasks = and_last x.tasks t }) past (λ k. let a = total-last (net_claims k) x.tasks t in let b = free-claims k t.steps h in omega (arith, a, b)) (same-live x.hosts) f
+    lessen-fits x (with_task t x) past (λ k. let a = total-last (net_claims k) x.tasks t in let b = free-claims k t.steps h in omega (arith, a, b)) (same-live x.hosts) f
 place-fits {x = x} {y = y} (idle_queued t e from) past f =
-    lessen-fits x (record x { tasks = and_last x.tasks t }) past (λ k. let a = total-last (net_claims k) x.tasks t in let b = free-claims k t.steps (ap is_free e) in omega (arith, a, b)) (same-live x.hosts) f
+    lessen-fits x (with_task t x) past (λ k. let a = total-last (net_claims k) x.tasks t in let b = free-claims k t.steps (ap is_free e) in omega (arith, a, b)) (same-live x.hosts) f
 place-fits {x = x} (task_left number) past f =
     lessen-fits x (record x { tasks = without (λ t. t.number == number) x.tasks }) past (λ k. let a = total-without (net_claims k) (λ t. t.number == number) x.tasks in omega (arith, a)) (same-live x.hosts) f
 place-fits (armed_again a t role there next) past f = record { once = f.once; live = f.live; kept = f.kept }
@@ -205,9 +205,9 @@ due-fits (signal_due start s e role) past f = record { once = f.once; live = f.l
 due-fits {x = x} {y = y} (idle_due t number source i e role) past f =
     lessen-fits x y past
     (λ k. let a = total-last (net_claims k) x.tasks (record { number = number; source = source; steps = IdleTimeout t.handle }) in omega (arith, a)) (same-live x.hosts) f
-due-fits {x = x} (answer_due before a after number source e i role) past f =
+due-fits {x = x} {y = y} (answer_due before a after number source e i role) past f =
     let gone : HostAnswer → Bool = λ b. b.task.registration == a.task.registration in
-    lessen-fits x (record x { host_answers = without gone x.host_answers; tasks = and_last x.tasks (record { number = number; source = source; steps = AnswerHost a.task }) }) past
+    lessen-fits x y past
     (λ k.
     let b = total-last (net_claims k) x.tasks (record { number = number; source = source; steps = AnswerHost a.task }) in
     let c : IsLess (answer_claims k) gone x.host_answers a =
@@ -367,7 +367,7 @@ moves-fit (arming a c e w) f = change-fits e (change-fits c (moves-fit a f))
 moves-fit (calling {q = q} a b w i) f = silent-fits (Call (called_by b)) (taken b q).now (places (taken b q)) (taken b q).events refl (begins-fit b q (moves-fit a f))
 moves-fit (ending {q = q} a e h) f = silent-fits e q.now (places q) q.events (end-silent e h) (moves-fit a f)
 moves-fit (flagging {q = q} {r = r} a x y z w u v t j) f = subst (λ (x : Places). HostsFit x r.events) (sym u) (subst (HostsFit (places q)) (sym y) (moves-fit a f))
-moves-fit (running {q = q} a j others x y) f = let g = moves-fit a f in record { once = g.once; live = g.live; kept = (refl, g.kept) }
+moves-fit (running {q = q} a j others x y nm) f = let g = moves-fit a f in record { once = g.once; live = g.live; kept = (refl, g.kept) }
 moves-fit (framing a t) f = let g = moves-fit a f in record { once = g.once; live = g.live; kept = (refl, g.kept) }
 moves-fit (idling a none) f = moves-fit a f
 

@@ -402,7 +402,7 @@ moves-armed (ending {q = q} a e h) f = said e q (end-quiet e h) (moves-armed a f
 moves-armed (flagging {q = q} {r = r} a x y z w u v t j) f =
     subst (λ (k : Places). ArmedFit r.registrations k r.events) (sym u)
     (subst (λ (xs : List Registration). ArmedFit xs (places q) r.events) (sym z) (subst (ArmedFit q.registrations (places q)) (sym y) (moves-armed a f)))
-moves-armed (running {q = q} a j others x y) f = said (Run j.number) q refl (moves-armed a f)
+moves-armed (running {q = q} a j others x y nm) f = said (Run j.number) q refl (moves-armed a f)
 moves-armed (framing {q = q} a t) f = said (Frame t) q refl (moves-armed a f)
 moves-armed (idling a none) f = moves-armed a f
 

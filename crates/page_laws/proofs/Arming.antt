@@ -302,16 +302,16 @@ other-arms xs q k x y role apart none h e l =
 -- ---- changes of the places
 
 -- other tasks, of which none is a timer's, or fewer
-tasks-arms : (xs : List Registration) (x : Places) (ts : List Task) → ((r : ℕ) → total (task_runs r) ts ≤ total (task_runs r) x.tasks) → Arms xs x xs (record x { tasks = ts })
-tasks-arms xs x ts h = fewer-arms xs x (record x { tasks = ts }) (λ r. let a = h r in omega (arith, a)) refl (λ id n l. l)
+tasks-arms : (xs : List Registration) (x : Places) (made : ℕ) (ts : List Task) → ((r : ℕ) → total (task_runs r) ts ≤ total (task_runs r) x.tasks) → Arms xs x xs (record x { tasks = ts; tasks_made = made })
+tasks-arms xs x made ts h = fewer-arms xs x (record x { tasks = ts; tasks_made = made }) (λ r. let a = h r in omega (arith, a)) refl (λ id n l. l)
 
 one-more : (r : ℕ) (ts : List Task) (t : Task) → is_free t.steps ≡ true → total (task_runs r) (and_last ts t) ≤ total (task_runs r) ts
 one-more r ts t h = let a = total-last (task_runs r) ts t in let b = free-runs r t.steps h in omega (arith, a, b)
 
 place-arms : {xs : List Registration} {x y : Places} (p : Page) (c : PlaceChange xs x y) → IsMade c p → xs ≡ p.registrations → x ≡ places p → Arms xs x xs y
 place-arms {xs = xs} {x = x} p places_stay k f e = same-arms xs x
-place-arms {xs = xs} {x = x} p (task_queued t h plain) k f e = tasks-arms xs x (and_last x.tasks t) (λ r. one-more r x.tasks t h)
-place-arms {xs = xs} {x = x} p (task_left number) k f e = tasks-arms xs x (without (λ t. t.number == number) x.tasks) (λ r. total-without (task_runs r) (λ t. t.number == number) x.tasks)
+place-arms {xs = xs} {x = x} p (task_queued t h plain) k f e = tasks-arms xs x t.number (and_last x.tasks t) (λ r. one-more r x.tasks t h)
+place-arms {xs = xs} {x = x} p (task_left number) k f e = tasks-arms xs x x.tasks_made (without (λ t. t.number == number) x.tasks) (λ r. total-without (task_runs r) (λ t. t.number == number) x.tasks)
 place-arms {xs = xs} {x = x} {y = y} p (armed_again a t role there next) k f e =
     record {
       arms = Some t.registration;
@@ -338,7 +338,7 @@ place-arms {xs = xs} {x = x} {y = y} p (idle_armed t most own) k f e =
 place-arms {xs = xs} {x = x} {y = y} p (completed start gone) k f e =
     fewer-arms xs x y (λ r. let b = total-without (steps_wait r) (λ c. c.start == start) x.completions in omega (arith, b)) refl (λ id h l. l)
 place-arms {xs = xs} {x = x} {y = y} p idle_started k f e = fewer-arms xs x y (λ r. omega arith) refl (λ id h l. l)
-place-arms {xs = xs} {x = x} p (idle_queued t s from) k f e = tasks-arms xs x (and_last x.tasks t) (λ r. one-more r x.tasks t (ap is_free s))
+place-arms {xs = xs} {x = x} p (idle_queued t s from) k f e = tasks-arms xs x t.number (and_last x.tasks t) (λ r. one-more r x.tasks t (ap is_free s))
 
 first-arms : {xs : List Registration} {ps : Prios} {x y : Places} → FirstPlace xs ps (suc (length xs)) x y → (e : Registration) → Arms xs x (and_last xs e) y
 first-arms {xs = xs} {x = x} nowhere e = grown-arms xs e x x (same-arms xs x)
@@ -426,8 +426,8 @@ change-arms {p = p} rejected_taken = same-arms p.registrations (places p)
 change-arms {p = p} (noted n) = same-arms p.registrations (places p)
 
 begins-arms : (b : Beginning) (p : Page) → ArmsOn p (call_begun (called_by b) (taken b p))
-begins-arms (TheScript source task) p = tasks-arms p.registrations (places p) _ (λ r. total-without (task_runs r) (λ t. t.number == task.number) p.tasks)
-begins-arms (ATimer source task t) p = tasks-arms p.registrations (places p) _ (λ r. total-without (task_runs r) (λ t. t.number == task.number) p.tasks)
+begins-arms (TheScript source task) p = tasks-arms p.registrations (places p) p.tasks_made _ (λ r. total-without (task_runs r) (λ t. t.number == task.number) p.tasks)
+begins-arms (ATimer source task t) p = tasks-arms p.registrations (places p) p.tasks_made _ (λ r. total-without (task_runs r) (λ t. t.number == task.number) p.tasks)
 begins-arms (AFrame key c) p = same-arms p.registrations (places p)
 begins-arms (AnIdle c others) p = fewer-arms p.registrations (places p) _ (λ r. omega arith) refl (λ id h l. l)
 begins-arms (ALateIdle handle c) p = fewer-arms p.registrations (places p) _ (λ r. omega arith) refl (λ id h l. l)
@@ -535,7 +535,7 @@ moves-both {p = p} (arming {q = q} {r = r} {s = s} a c d w) = both-then p r s (b
 moves-both {p = p} (calling {q = q} a b w i) = both-then p q _ (moves-both a) (begins-arms b q)
 moves-both {p = p} (ending {q = q} a e h) = both-then p q _ (moves-both a) (same-arms q.registrations (places q))
 moves-both {p = p} (flagging {q = q} {r = r} a x y z w u v t j) = both-then p q r (moves-both a) (arms-to q r q.registrations (places q) z u (same-arms q.registrations (places q)))
-moves-both {p = p} (running {q = q} a j others x y) = both-then p q _ (moves-both a) (same-arms q.registrations (places q))
+moves-both {p = p} (running {q = q} a j others x y nm) = both-then p q _ (moves-both a) (same-arms q.registrations (places q))
 moves-both {p = p} (framing {q = q} a t) = both-then p q _ (moves-both a) (same-arms q.registrations (places q))
 moves-both {p = p} (idling {q = q} a none) = both-then p q _ (moves-both a) (same-arms q.registrations (places q))
 

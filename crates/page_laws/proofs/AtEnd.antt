@@ -54,11 +54,11 @@ module _ (goal : History → Bool) where
       notices-kept (subscribe_promise (context p) n r) p
       (changed-passes (context p) [] n (Promises.subscribe n (the_promise p.notices.promises n) r) (record p.notices { rejected = without (λ m. m == n) p.notices.rejected; outstanding = without (λ m. m == n) p.notices.outstanding })) k
 
-  change-kept : {p q : Page} → PageChange p q → (IsAtEnd p → goal p.events ≡ true) → Kept done_test p.events → Kept done_test q.events
+  change-kept : {p q : Page} → PageChange p q → (IsAtEnd p → p.notices.jobs ≡ [] → goal p.events ≡ true) → Kept done_test p.events → Kept done_test q.events
   change-kept (elsewhere c b within) end k = subst (Kept done_test) (sym b.events) k
   change-kept {p = p} (told e h) end k = (aside-passes e h p.events, k)
   change-kept (arm_told r due level w well) end k = (refl, k)
-  change-kept {p = p} (rested e h x y z over begun done) end k = (rest-passes e p.events (λ z. end (done z)), k)
+  change-kept {p = p} (rested e h x y z over begun done) end k = (rest-passes e p.events (λ z. end (done z) y), k)
   change-kept (answered source task t answer x y live z b) end k = subst (Kept done_test) (sym b.events) (refl, k)
   change-kept (registered kind x e unframed u b at) end k = subst (Kept done_test) (sym b.events) (refl, k)
   change-kept (dropped r d b) end k = subst (Kept done_test) (sym b.events) (refl, k)
@@ -97,13 +97,13 @@ module _ (goal : History → Bool) where
   arm-kept (elsewhere c b within) (arm_told r due level w well) h k = (refl, k)
   arm-kept c d h k = elim h [ ]
 
-  pub moves-kept : {p q : Page} → Moves p q → ((r : Page) → Moves p r → IsAtEnd r → goal r.events ≡ true) → Kept done_test p.events → Kept done_test q.events
+  pub moves-kept : {p q : Page} → Moves p q → ((r : Page) → Moves p r → IsAtEnd r → r.notices.jobs ≡ [] → goal r.events ≡ true) → Kept done_test p.events → Kept done_test q.events
   moves-kept here h k = k
   moves-kept (changing {q = q} a c plain) h k = change-kept c (h q a) (moves-kept a h k)
   moves-kept (arming {q = q} {r = r} a c d w) h k = arm-kept c d w (change-kept c (h q a) (moves-kept a h k))
   moves-kept (calling {q = q} a b w i) h k = (refl, begins-kept b q (moves-kept a h k))
   moves-kept (ending {q = q} a e h') h k = (end-passes e h' q.events, moves-kept a h k)
   moves-kept (flagging a x y z w u v t j) h k = subst (Kept done_test) (sym y) (moves-kept a h k)
-  moves-kept (running a j others x y) h k = (refl, moves-kept a h k)
+  moves-kept (running a j others x y nm) h k = (refl, moves-kept a h k)
   moves-kept (framing a t) h k = (refl, moves-kept a h k)
   moves-kept (idling a none) h k = moves-kept a h k

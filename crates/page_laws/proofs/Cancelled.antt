@@ -680,7 +680,7 @@ moves-fit (flagging {q = q} {r = r} a x y z w u v t j) o f =
     (subst (λ (fr : Frames). Cancels r.registrations (waits (places q) fr.callbacks (is_aborted q)) r.events) (sym w)
     (subst (λ (xs : List Registration). Cancels xs (page_waits q) r.events) (sym z)
     (subst (Cancels q.registrations (page_waits q)) (sym y) g))))
-moves-fit (running {q = q} a j others x y) o f = silent-fits (Run j.number) q.now q.registrations (page_waits q) q.events refl (moves-fit a o f)
+moves-fit (running {q = q} a j others x y nm) o f = silent-fits (Run j.number) q.now q.registrations (page_waits q) q.events refl (moves-fit a o f)
 moves-fit (framing {q = q} a t) o f = silent-fits (Frame t) q.now q.registrations (page_waits q) q.events refl (moves-fit a o f)
 moves-fit (idling a none) o f = moves-fit a o f
 

@@ -242,7 +242,7 @@ moves-fit (ending {q = q} a e h) o d f = silent-fits e q.now q.registrations q.t
 moves-fit (flagging {q = q} {r = r} a x y z w u v t j) o d f =
     subst (λ (x : Places). AnswersAt r.registrations x r.events) (sym u)
     (subst (λ (xs : List Registration). AnswersAt xs (places q) r.events) (sym z) (subst (AnswersAt q.registrations (places q)) (sym y) (moves-fit a o d f)))
-moves-fit (running {q = q} a j others x y) o d f = silent-fits (Run j.number) q.now q.registrations q.tasks q.host_answers q.hosts q.events refl (moves-fit a o d f)
+moves-fit (running {q = q} a j others x y nm) o d f = silent-fits (Run j.number) q.now q.registrations q.tasks q.host_answers q.hosts q.events refl (moves-fit a o d f)
 moves-fit (framing {q = q} a t) o d f = silent-fits (Frame t) q.now q.registrations q.tasks q.host_answers q.hosts q.events refl (moves-fit a o d f)
 moves-fit (idling a none) o d f = moves-fit a o d f
 

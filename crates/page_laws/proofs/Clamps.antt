@@ -167,7 +167,7 @@ moves-kept (arming a c d w) g k = arms-kept c d w (grounds-later a g) (moves-kep
 moves-kept (calling {q = q} a b w i) g k = (refl, begins-kept b q (moves-kept a g k))
 moves-kept (ending {q = q} a e h) g k = (end-passes e h q.now q.events, moves-kept a g k)
 moves-kept (flagging a x y z w u v t j) g k = subst (Kept clamps) (sym y) (moves-kept a g k)
-moves-kept (running a j others x y) g k = (refl, moves-kept a g k)
+moves-kept (running a j others x y nm) g k = (refl, moves-kept a g k)
 moves-kept (framing a t) g k = (refl, moves-kept a g k)
 moves-kept (idling a none) g k = moves-kept a g k
 

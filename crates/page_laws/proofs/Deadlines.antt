@@ -578,7 +578,7 @@ moves-fit (ending {q = q} a e h) o t f = said e q (end-plain e h) (moves-fit a o
 moves-fit (flagging {q = q} {r = r} a x y z w u v t j) o k f =
     same-idle r.registrations q.idle r.idle r.events (idle_of (places r) (places q) u)
     (subst (λ (xs : List Registration). IdleFit xs q.idle r.events) (sym z) (subst (IdleFit q.registrations q.idle) (sym y) (moves-fit a o k f)))
-moves-fit (running {q = q} a j others x y) o t f = said (Run j.number) q refl (moves-fit a o t f)
+moves-fit (running {q = q} a j others x y nm) o t f = said (Run j.number) q refl (moves-fit a o t f)
 moves-fit (framing {q = q} a n) o t f = said (Frame n) q refl (moves-fit a o t f)
 moves-fit (idling a none) o t f = moves-fit a o t f
 

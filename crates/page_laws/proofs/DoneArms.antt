@@ -342,12 +342,12 @@ place-handles c p k e h t u i j same = h t u i j same
 -- ---- the end
 
 -- nothing that waits is left where nothing is pending
-record Empties (p : Page) : Type 0 where
-  hosts : is_empty p.host_answers ≡ true
-  active : is_empty p.timers.active ≡ true
-  idles : is_empty p.idle_timers ≡ true
+pub record Empties (p : Page) : Type 0 where
+  pub hosts : is_empty p.host_answers ≡ true
+  pub active : is_empty p.timers.active ≡ true
+  pub idles : is_empty p.idle_timers ≡ true
 
-nothing-pending : (p : Page) → is_pending p ≡ false → Empties p
+pub nothing-pending : (p : Page) → is_pending p ≡ false → Empties p
 nothing-pending p h = by_tests (is_empty p.arrivals) (is_empty p.host_answers) refl (is_empty p.timers.active) refl (is_empty p.idle_timers) refl (is_empty p.frames.callbacks) h
   where
     by_tests : (a : Bool) (b : Bool) → is_empty p.host_answers ≡ b → (c : Bool) → is_empty p.timers.active ≡ c → (d : Bool) → is_empty p.idle_timers ≡ d → (e : Bool) → not (a && b && c && d && e) || IdleCallbacks.waits p.idle ≡ false → Empties p
@@ -361,7 +361,7 @@ total-empty : {X : Type 0} (w : X → ℕ) (xs : List X) → is_empty xs ≡ tru
 total-empty w [] h = refl
 total-empty w (x ∷ xs) h = absurd (false_true h)
 
-none-in : {X : Type 0} (x : X) (xs : List X) → is_empty xs ≡ true → IsIn x xs → ⊥
+pub none-in : {X : Type 0} (x : X) (xs : List X) → is_empty xs ≡ true → IsIn x xs → ⊥
 none-in x [] h i = i
 none-in x (y ∷ ys) h i = false_true h
 
@@ -582,7 +582,7 @@ moves-fit (calling {q = q} a b w i) g f = begins-fit b q (moves-fit a g f)
 moves-fit (ending {q = q} a e h) g f = said e q (end-quiet e h) (end-passes e q.events h) (moves-fit a g f)
 moves-fit (flagging {q = q} {r = r} a x y z w u v k j) g f =
     replaced r.registrations (places r) (places q) r.events u (subst (λ (xs : List Registration). EndFit xs (places q) r.events) (sym z) (subst (EndFit q.registrations (places q)) (sym y) (moves-fit a g f)))
-moves-fit (running {q = q} a j others x y) g f = said (Run j.number) q refl refl (moves-fit a g f)
+moves-fit (running {q = q} a j others x y nm) g f = said (Run j.number) q refl refl (moves-fit a g f)
 moves-fit (framing {q = q} a n) g f = said (Frame n) q refl refl (moves-fit a g f)
 moves-fit (idling a none) g f = moves-fit a g f
 

@@ -32,4 +32,4 @@ abbrev pub frames_over_test : Test
 frames_over_test = done_test frames_are_over
 
 pub frames_over_at_end : (program : Program) (setup : Setup) (hosts : List HostClosure) {q : Page} → Moves (first_page program setup hosts) q → Kept frames_over_test q.events
-frames_over_at_end program setup hosts a = moves-kept frames_are_over a (λ r b z. frames_over program setup hosts b (no-frames r z.1)) tt
+frames_over_at_end program setup hosts a = moves-kept frames_are_over a (λ r b z none. frames_over program setup hosts b (no-frames r z.1)) tt

@@ -34,7 +34,7 @@ use Rattle.page_laws.proofs.DueOrder.{Grounds, first-grounds, grounds-later}
 use Rattle.page_laws.proofs.Registered.{at_number, kind_in_role, some-line}
 use Rattle.page_laws.proofs.Totals.{without-append}
 use Rattle.page_laws.proofs.Ready.{in-last, in-fewer, in-left, in-right}
-use Rattle.page_laws.specs.Moves.{role_at, IsIn, Places, places, PlaceChange, armed_again, signal_armed, idle_armed, DueChange, timer_due, delay_due, signal_due, idle_due, answer_due, AsBefore, PageChange, elsewhere, told, arm_told, rested, registered as made_one, promised, settled, followed, adopted, subscribed, micro_asked, then_asked, answered, dropped, frame_dropped, frame_asked, rejected_taken, noted, Beginning, TheScript, ATimer, AFrame, AnIdle, ALateIdle, AListener, APost, AContinuation, AMicro, AReaction, called_by, taken, task_dropped, enqueued_anew, fell_due, post_fell_due, prio_told, Moves, here, changing, arming, calling, ending, flagging, running, framing, idling, FirstPlace, nowhere, at_listener, at_timer, at_delay, at_idle, at_host, places_stay, task_queued, task_left, id_cleared, completed, idle_started, idle_queued, Dropping, timer_dropped, idle_dropped, listener_dropped, IsAtIdle, Waited}
+use Rattle.page_laws.specs.Moves.{role_at, IsIn, Places, places, PlaceChange, armed_again, signal_armed, idle_armed, DueChange, timer_due, delay_due, signal_due, idle_due, answer_due, AsBefore, PageChange, elsewhere, told, arm_told, rested, registered as made_one, promised, settled, followed, adopted, subscribed, micro_asked, then_asked, answered, dropped, frame_dropped, frame_asked, rejected_taken, noted, Beginning, TheScript, ATimer, AFrame, AnIdle, ALateIdle, AListener, APost, AContinuation, AMicro, AReaction, called_by, taken, task_dropped, enqueued_anew, fell_due, post_fell_due, prio_told, Moves, here, changing, arming, calling, ending, flagging, running, framing, idling, FirstPlace, nowhere, at_listener, at_timer, at_delay, at_idle, at_host, places_stay, task_queued, task_left, id_cleared, completed, idle_started, idle_queued, Dropping, timer_dropped, idle_dropped, listener_dropped, IsAtIdle, fits_first, Waited}
 use Rattle.page_laws.proofs.Framed.{false_true}
 use Rattle.page_laws.proofs.Lines.{added, emit_each-events}
 use Rattle.page_laws.proofs.Ready.{in-fewer}
@@ -258,6 +258,20 @@ place-over {x = x} idle_started xs past f =
     moved-over xs x.idle (IdleCallbacks.started x.idle) past (λ c i. subst (IsIn c) (sym (append-nil (Listed x.idle))) i) (λ c i. subst (IsIn c) (append-nil (Listed x.idle)) i) refl f
 place-over (idle_queued t e from) xs past f = f
 
+-- an idle callback waits first among those
+first-idle : {made : List Registration} {ps : Prios} {r : ℕ} {x y : Places} (u : FirstPlace made ps r x y) (k : RegKind) → fits_first k u ≡ true → is_idle k ≡ true → IsAtIdle u
+first-idle (at_idle q e) k at h = tt
+first-idle nowhere kind.Idle at h = false_true at
+first-idle nowhere k at h = false_true h
+first-idle (at_listener target name q e) kind.Idle at h = false_true at
+first-idle (at_listener target name q e) k at h = false_true h
+first-idle (at_timer a t e first) kind.Idle at h = false_true at
+first-idle (at_timer a t e first) k at h = false_true h
+first-idle (at_delay ms now q source e z) kind.Idle at h = false_true at
+first-idle (at_delay ms now q source e z) k at h = false_true h
+first-idle (at_host c a e there live) kind.Idle at h = false_true at
+first-idle (at_host c a e there live) k at h = false_true h
+
 first-over : {xs : List Registration} {ps : Prios} {x y : Places} (u : FirstPlace xs ps (suc (length xs)) x y) → (k : RegKind) (e : Registration) → e.role ≡ OfKind k → (is_idle k ≡ true → IsAtIdle u) → (past : History) → IdleOver xs x.idle past → IdleOver (and_last xs e) y.idle past
 first-over {xs = xs} {x = x} (at_idle q z) k e role at past f = asked-over q e xs x.idle past z f
 first-over {xs = xs} {x = x} nowhere k e role at past f = grown-over k e xs x.idle past role (not_idle (is_idle k) at) f
@@ -312,7 +326,7 @@ change-fits {p = p} (arm_told r due level w well) f = said (Arm r due level) p f
 change-fits {p = p} (rested e h x y z over begun done) f = said e p f
 change-fits {p = p} {q = q} (answered source task u answer x y live z b) f = before-fits b (idle-as p.registrations p.idle q.idle _ (idle_of (places q) _ z) (said (Host u.closure u.number answer) p f))
 change-fits {p = p} {q = q} (made_one k x e unframed u b at) f =
-    before-fits b (line-over (record { time = p.now; event = Reg (suc (length p.registrations)) k (caller p) }) (and_last p.registrations x) q.idle p.events (first-over u k x e at p.events f))
+    before-fits b (line-over (record { time = p.now; event = Reg (suc (length p.registrations)) k (caller p) }) (and_last p.registrations x) q.idle p.events (first-over u k x e (first-idle u k at.0) p.events f))
 change-fits {p = p} {q = q} (enqueued_anew k x u queue e i s n b) f =
     before-fits b
     (idle-as (and_last p.registrations x) p.idle q.idle _ (idle_of (places q) _ s) (said (Enq u.registration queue u.continuation u.order) (register_as k x p) (registered-fits k x p e (not_scheduled k n.2) f)))
@@ -365,7 +379,7 @@ moves-fit (ending {q = q} a e h) f = said e q (moves-fit a f)
 moves-fit (flagging {q = q} {r = r} a x y z w u v k j) f =
     idle-as r.registrations q.idle r.idle r.events (idle_of (places r) (places q) u)
     (subst (λ (xs : List Registration). IdleOver xs q.idle r.events) (sym z) (subst (IdleOver q.registrations q.idle) (sym y) (moves-fit a f)))
-moves-fit (running {q = q} a j others x y) f = said (Run j.number) q (moves-fit a f)
+moves-fit (running {q = q} a j others x y nm) f = said (Run j.number) q (moves-fit a f)
 moves-fit (framing {q = q} a n) f = said (Frame n) q (moves-fit a f)
 moves-fit (idling a none) f = moves-fit a f
 
@@ -428,4 +442,4 @@ idles_over_test = done_test idles_are_over
 
 pub idles_over_at_end : (program : Program) (setup : Setup) (hosts : List HostClosure) {q : Page} → Moves (first_page program setup hosts) q → Kept idles_over_test q.events
 idles_over_at_end program setup hosts a =
-    moves-kept idles_are_over a (λ r b z. all-over r (grounds-later b (first-grounds program setup hosts)) (moves-fit b (first-fits program setup hosts)) z.1) tt
+    moves-kept idles_are_over a (λ r b z none. all-over r (grounds-later b (first-grounds program setup hosts)) (moves-fit b (first-fits program setup hosts)) z.1) tt

@@ -290,7 +290,7 @@ no_left : (a : ActiveTimer) → None ≡ Some a.start → ⊥
 no_left a k = Prim.cc
 
 due-order : {xs : List Registration} {r : ℕ} {x y : Places} (d : DueChange xs r x y) → (now : ℕ) (past : History) → KindsFit xs past → some_line (is_reg_of 0) past ≡ false → IsDueBy now d → waits r x ≤ 1 → OrderFit x past → OrderFit y (record { time = now; event = Due r } ∷ past)
-due-order {r = r} {x = x} {y = y} (timer_due start number source t e i role) now past n z by once f = timer-order r now start (QueueTimer t) x y past e i by (within-start x y start refl refl refl refl refl) refl refl refl once f
+due-order {r = r} {x = x} {y = y} (timer_due start number source t e i role) now past n z by once f = timer-order r now start (QueueTimer t) x y past e i by.0 (within-start x y start refl refl refl refl refl) refl refl refl once f
 due-order {r = r} {x = x} {y = y} (delay_due start source e role) now past n z by once f = timer-order r now start (EnqueuePost r source) x y past e refl by (within-start x y start refl refl refl refl refl) refl refl refl once f
 due-order {r = r} {x = x} {y = y} (signal_due start s e role) now past n z by once f = timer-order r now start (QueueSignal r s) x y past e refl by (within-start x y start refl refl refl refl refl) refl refl refl once f
 due-order {xs = xs} {r = r} {x = x} {y = y} (idle_due t number source i e role) now past n z by once f =
@@ -539,7 +539,7 @@ moves-fit (arming a c d w) t f = arms-fit c d w (grounds-later a t) (moves-fit a
 moves-fit (calling {q = q} a b w i) t f = begins-fit b q (moves-fit a t f)
 moves-fit (ending {q = q} a e h) t f = said e q (end-quiet e h) (moves-fit a t f)
 moves-fit (flagging {q = q} {r = r} a x y z w u v k j) t f = replaced (places r) (places q) r.events u (subst (OrderFit (places q)) (sym y) (moves-fit a t f))
-moves-fit (running {q = q} a j others x y) t f = said (Run j.number) q refl (moves-fit a t f)
+moves-fit (running {q = q} a j others x y nm) t f = said (Run j.number) q refl (moves-fit a t f)
 moves-fit (framing {q = q} a n) t f = said (Frame n) q refl (moves-fit a t f)
 moves-fit (idling a none) t f = moves-fit a t f
 

@@ -271,7 +271,7 @@ timer-times r now start c x y past e own by w u v z once f =
     (ap (armed_for past) (sym own) ∙ f.timers by.timer c (first-in by.timer x.timers.active by.first) (ap (completion_of x.completions) by.own ∙ e)) by.time f
 
 due-times : {made : List Registration} {r : ℕ} {x y : Places} (d : DueChange made r x y) → (now : ℕ) (past : History) → IsDueBy now d → waits r x ≤ 1 → TimesFit x past → TimesFit y (record { time = now; event = Due r } ∷ past)
-due-times {r = r} {x = x} {y = y} (timer_due start number source t e i role) now past by once f = timer-times r now start (QueueTimer t) x y past e i by (within-start x y start refl refl refl refl refl) refl refl refl once f
+due-times {r = r} {x = x} {y = y} (timer_due start number source t e i role) now past by once f = timer-times r now start (QueueTimer t) x y past e i by.0 (within-start x y start refl refl refl refl refl) refl refl refl once f
 due-times {r = r} {x = x} {y = y} (delay_due start source e role) now past by once f = timer-times r now start (EnqueuePost r source) x y past e refl by (within-start x y start refl refl refl refl refl) refl refl refl once f
 due-times {r = r} {x = x} {y = y} (signal_due start s e role) now past by once f = timer-times r now start (QueueSignal r s) x y past e refl by (within-start x y start refl refl refl refl refl) refl refl refl once f
 due-times {r = r} {x = x} {y = y} (idle_due t number source i e role) now past by once f =
@@ -279,14 +279,14 @@ due-times {r = r} {x = x} {y = y} (idle_due t number source i e role) now past b
     let one = counts_one t.registration r e in
     due-fits r now t.due None x y past
     (record { active = λ a j. j; found = λ n c k. k; completions = λ c j. j; idles = λ u j. in-fewer u (λ u. u.handle == t.handle) x.idle_timers j; hosts = λ a j. j; made = refl; stays = λ a c h. inr h; sorted = λ h. h })
-    (omega (arith, less, one, once)) (ap (armed_for past) (sym e) ∙ f.idles t i) by f
+    (omega (arith, less, one, once)) (ap (armed_for past) (sym e) ∙ f.idles t i) by.0 f
 due-times {r = r} {x = x} {y = y} (answer_due before a after number source e i role) now past by once f =
     let there : IsIn a x.host_answers = subst (λ (ks : List HostAnswer). IsIn a ks) (sym e) (in-middle before) in
     let less = in-less (answer_waits r) (λ u. u.task.registration == a.task.registration) x.host_answers a there (eq-eqb a.task.registration a.task.registration refl) in
     let one = counts_one a.task.registration r i in
     due-fits r now a.due None x y past
     (record { active = λ a j. j; found = λ n c k. k; completions = λ c j. j; idles = λ u j. j; hosts = λ u j. in-fewer u (λ u. u.task.registration == a.task.registration) x.host_answers j; made = refl; stays = λ a c h. inr h; sorted = λ h. h })
-    (omega (arith, less, one, once)) (ap (armed_for past) (sym i) ∙ f.hosts a there) by f
+    (omega (arith, less, one, once)) (ap (armed_for past) (sym i) ∙ f.hosts a there) by.0 f
   where
     in-middle : (ks : List HostAnswer) → IsIn a (ks ++ a ∷ after)
     in-middle [] = inl refl
@@ -576,7 +576,7 @@ moves-fit (arming a c d w) t f = arms-fit c d w (moves-tidy a t) (moves-fit a t 
 moves-fit (calling {q = q} a b w i) t f = begins-fit b q (moves-fit a t f)
 moves-fit (ending {q = q} a e h) t f = said e q (end-quiet e h) (moves-fit a t f)
 moves-fit (flagging {q = q} {r = r} a x y z w u v k j) t f = replaced (places r) (places q) r.events u (subst (TimesFit (places q)) (sym y) (moves-fit a t f))
-moves-fit (running {q = q} a j others x y) t f = said (Run j.number) q refl (moves-fit a t f)
+moves-fit (running {q = q} a j others x y nm) t f = said (Run j.number) q refl (moves-fit a t f)
 moves-fit (framing {q = q} a n) t f = said (Frame n) q refl (moves-fit a t f)
 moves-fit (idling a none) t f = moves-fit a t f
 

@@ -400,7 +400,7 @@ moves-fit (ending {q = q} a e h) o f = said e q (end-still e h) (moves-fit a o f
 moves-fit (flagging {q = q} {r = r} a x y z w u v t j) o f =
     same-tasks r.registrations q.tasks r.tasks r.events (tasks_of (places r) (places q) u)
     (subst (λ (xs : List Registration). FiringFit xs q.tasks r.events) (sym z) (subst (FiringFit q.registrations q.tasks) (sym y) (moves-fit a o f)))
-moves-fit (running {q = q} a j others x y) o f = said (Run j.number) q refl (moves-fit a o f)
+moves-fit (running {q = q} a j others x y nm) o f = said (Run j.number) q refl (moves-fit a o f)
 moves-fit (framing {q = q} a n) o f = said (Frame n) q refl (moves-fit a o f)
 moves-fit (idling a none) o f = moves-fit a o f
 

@@ -680,7 +680,7 @@ moves-fit (ending {q = q} a e h) o x f = said e q (end-silent e h) (moves-fit a 
 moves-fit (flagging {q = q} {r = r} a x y z w u v t j) o k f =
     subst (λ (fr : Frames). FitsBy r.registrations fr r.events) (sym w)
     (subst (λ (xs : List Registration). FitsBy xs q.frames r.events) (sym z) (subst (FitsBy q.registrations q.frames) (sym y) (moves-fit a o k f)))
-moves-fit (running {q = q} a j others x y) o k f = said (Run j.number) q refl (moves-fit a o k f)
+moves-fit (running {q = q} a j others x y nm) o k f = said (Run j.number) q refl (moves-fit a o k f)
 moves-fit (framing {q = q} a t) o x f = said (Frame t) q refl (moves-fit a o x f)
 moves-fit (idling a none) o x f = moves-fit a o x f
 

@@ -377,6 +377,6 @@ moves-ordered (arming a c d w) o = (change-kept d).ordered ((change-kept c).orde
 moves-ordered (calling {q = q} a b w i) o = (begins-kept b q w).ordered (moves-ordered a o)
 moves-ordered (ending a e h) o = moves-ordered a o
 moves-ordered (flagging {q = q} {r = r} a x y z w u v t j) o = (kept-same q r w z y).ordered (moves-ordered a o)
-moves-ordered (running a j others x y) o = moves-ordered a o
+moves-ordered (running a j others x y nm) o = moves-ordered a o
 moves-ordered (framing a t) o = moves-ordered a o
 moves-ordered (idling a none) o = moves-ordered a o

@@ -24,7 +24,7 @@ use Rattle.page_laws.proofs.Moved.{due-changes, placed, queue_task-changes, quie
 -- the steps of an active timer complete, which were found by its start
 complete-changes : (start : ℕ) (c : Completion) (p : Page) → completion_of p.completions start ≡ Some c → CompletionIsGiven (made_by p) c → IsTimerDue (places p) start p.now → Changes p (complete c (without_timer start p))
 complete-changes start (QueueTimer t) p e x by =
-    due-changes t.registration p (complete (QueueTimer t) (without_timer start p)) (timer_due start (suc p.tasks_made) Timer t e refl x.registration.role) (record { notices = refl; performing = refl; events = refl; registrations = refl; frames = refl; calls = refl; aborted = λ s h. h; scheduling = record { priorities = λ s. refl; states = refl; tasks_made = omega arith; idle_start = refl } }) by
+    due-changes t.registration p (complete (QueueTimer t) (without_timer start p)) (timer_due start (suc p.tasks_made) Timer t e refl x.registration.role) (record { notices = refl; performing = refl; events = refl; registrations = refl; frames = refl; calls = refl; aborted = λ s h. h; scheduling = record { priorities = λ s. refl; states = refl; tasks_made = omega arith; idle_start = refl } }) (by, refl, refl)
 complete-changes start (EnqueuePost r source) p e x by = by_abort (is_aborted_source p (the_registration p r).signal) refl
   where
     t : SchedTask
@@ -60,14 +60,14 @@ take_item-changes (ArrivalItem n a) due p h le k x =
     changes-then (quietly p q refl refl refl refl refl refl refl refl refl) (queue_task-changes a.source (FireAtWindow a.name a.value) q refl refl)
 take_item-changes (HostItem a) due p h le k x =
     let same = h.1 in
-    due-changes a.task.registration p (take_item (HostItem a) p) (answer_due h.0.before a h.0.after (suc p.tasks_made) Net h.0.whole refl x.kind.role) (record { notices = refl; performing = refl; events = refl; registrations = refl; frames = refl; calls = refl; aborted = λ s h. h; scheduling = record { priorities = λ s. refl; states = refl; tasks_made = omega arith; idle_start = refl } }) (omega (arith, le, same))
+    due-changes a.task.registration p (take_item (HostItem a) p) (answer_due h.0.before a h.0.after (suc p.tasks_made) Net h.0.whole refl x.kind.role) (record { notices = refl; performing = refl; events = refl; registrations = refl; frames = refl; calls = refl; aborted = λ s h. h; scheduling = record { priorities = λ s. refl; states = refl; tasks_made = omega arith; idle_start = refl } }) (omega (arith, le, same), refl)
 take_item-changes (TimerItem t) due p h le k x =
     let same = h.1 in
     complete_at-changes t.start (completion_of p.completions t.start) p refl (completion_of-given (made_by p) p.completions t.start (k InCompletions))
     (record { timer = t; first = h.0; own = refl; time = omega (arith, le, same) })
 take_item-changes (IdleItem t) due p h le k x =
     let same = h.1 in
-    due-changes t.registration p (take_item (IdleItem t) p) (idle_due t (suc p.tasks_made) IdleSource h.0 refl x.registration.role) (record { notices = refl; performing = refl; events = refl; registrations = refl; frames = refl; calls = refl; aborted = λ s h. h; scheduling = record { priorities = λ s. refl; states = refl; tasks_made = omega arith; idle_start = refl } }) (omega (arith, le, same))
+    due-changes t.registration p (take_item (IdleItem t) p) (idle_due t (suc p.tasks_made) IdleSource h.0 refl x.registration.role) (record { notices = refl; performing = refl; events = refl; registrations = refl; frames = refl; calls = refl; aborted = λ s h. h; scheduling = record { priorities = λ s. refl; states = refl; tasks_made = omega arith; idle_start = refl } }) (omega (arith, le, same), refl)
 take_item-changes FrameItem due p h le k x =
     let q : Page = record p { last_opportunity = p.now } in
     changes-then (quietly p q refl refl refl refl refl refl refl refl refl) (queue_task-changes Render (RunFrame p.now) q refl refl)

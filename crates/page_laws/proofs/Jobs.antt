@@ -25,16 +25,16 @@ abbrev pub in_order : Test
 in_order past e = keeps_jobs past e.event
 
 -- jobs in a row: their numbers follow each other behind k, up to the last one
-abbrev Row : (k last : ℕ) → List WaitingJob → Type 0
+abbrev pub Row : (k last : ℕ) → List WaitingJob → Type 0
 Row k last [] = k ≡ last
 Row k last (j ∷ js) = j.number ≡ suc k × Row (suc k) last js
 
 -- the promises and jobs fit the lines: as many jobs were made as have lines; those that wait are numbered behind those that ran
-record JobsFit (s : Notices) (past : History) : Type 0 where
-  made : s.jobs_made ≡ count_lines is_job past
-  row : Row (count_lines is_run past) s.jobs_made s.jobs
-  there : (j : ℕ) → 1 ≤ j → j ≤ count_lines is_job past → some_line (is_job_number j) past ≡ true
-  kept : Kept in_order past
+pub record JobsFit (s : Notices) (past : History) : Type 0 where
+  pub made : s.jobs_made ≡ count_lines is_job past
+  pub row : Row (count_lines is_run past) s.jobs_made s.jobs
+  pub there : (j : ℕ) → 1 ≤ j → j ≤ count_lines is_job past → some_line (is_job_number j) past ≡ true
+  pub kept : Kept in_order past
 
 Row-last : (k last : ℕ) (js : List WaitingJob) (j : WaitingJob) → j.number ≡ suc last → Row k last js → Row k (suc last) (and_last js j)
 Row-last k last [] j e h = (e ∙ ap suc (sym h), ap suc h)
@@ -160,7 +160,7 @@ run-fits now s past j others x f =
 
 -- ---- moves
 
-abbrev Fits : Page → Type 0
+abbrev pub Fits : Page → Type 0
 Fits p = JobsFit p.notices p.events
 
 notices-fit : (f : Notices → Noticed) (p : Page) → JobsFit (f p.notices).notices (added p.now (f p.notices).lines p.events) → Fits (on_notices f p)
@@ -238,13 +238,13 @@ moves-fit (arming a c e w) f = change-fits e (change-fits c (moves-fit a f))
 moves-fit (calling {q = q} a b w i) f = silent-fits (Call (called_by b)) (taken b q).now (taken b q).notices (taken b q).events refl (begins-fit b q w (moves-fit a f))
 moves-fit (ending {q = q} a e h) f = silent-fits e q.now q.notices q.events (end-silent e h) (moves-fit a f)
 moves-fit (flagging {q = q} {r = r} a x y z w u v t j) f = subst (λ (s : Notices). JobsFit s r.events) (sym x) (subst (JobsFit q.notices) (sym y) (moves-fit a f))
-moves-fit (running {q = q} a j others x y) f = run-fits q.now q.notices q.events j others x (moves-fit a f)
+moves-fit (running {q = q} a j others x y nm) f = run-fits q.now q.notices q.events j others x (moves-fit a f)
 moves-fit (framing {q = q} a t) f = silent-fits (Frame t) q.now q.notices q.events refl (moves-fit a f)
 moves-fit (idling a none) f = moves-fit a f
 
--- from a page with no lines and no jobs on, jobs go in order
-pub jobs_in_order : {p q : Page} → Moves p q → p.events ≡ [] → p.notices.jobs ≡ [] → p.notices.jobs_made ≡ 0 → Kept in_order q.events
-jobs_in_order {p = p} a x y z = (moves-fit a (begin p.notices p.events x y z)).kept
+-- from a page with no lines and no jobs on, they fit, and jobs go in order
+pub fits_later : {p q : Page} → Moves p q → p.events ≡ [] → p.notices.jobs ≡ [] → p.notices.jobs_made ≡ 0 → Fits q
+fits_later {p = p} a x y z = moves-fit a (begin p.notices p.events x y z)
   where
     begin : (s : Notices) (past : History) → past ≡ [] → s.jobs ≡ [] → s.jobs_made ≡ 0 → JobsFit s past
     begin s past x y z =
@@ -254,3 +254,6 @@ jobs_in_order {p = p} a x y z = (moves-fit a (begin p.notices p.events x y z)).k
           there = λ j one le. absurd (omega (arith, one, le));
           kept = tt;
         })
+
+pub jobs_in_order : {p q : Page} → Moves p q → p.events ≡ [] → p.notices.jobs ≡ [] → p.notices.jobs_made ≡ 0 → Kept in_order q.events
+jobs_in_order a x y z = (fits_later a x y z).kept

@@ -7,8 +7,8 @@ use Rattle.page_types.specs.declared.Priority.TheVariants.{Background, UserVisib
 use Rattle.page_types.specs.Events.{MicroJob, ReactJob, FixedQueue, SignalQueue, Turn, Call, Ret, Throw, Log, Reg, Arm, Due, Drop, Job, Run, Settle, Period, IdleLine, Frame, Enq, Prio, Host, EndLine, Stamped}
 use Rattle.page_laws.proofs.LawExamples.{at}
 use Rattle.page_laws.specs.CallLaws.{holds_once, holds_cancel, holds_settle_once, holds_jobs_in_order, holds_no_nesting}
-use Rattle.page_laws.specs.TimerLaws.{holds_due_in_order, holds_due_when_armed, holds_timers_clamped, holds_timers_in_order, holds_frames_in_order, holds_idle_deadlines}
-use Rattle.page_laws.specs.SchedulerLaws.{holds_arms_due, holds_ends_truly, holds_frames_over, holds_idles_over, holds_priority_order}
+use Rattle.page_laws.specs.TimerLaws.{holds_levels, holds_due_in_order, holds_due_when_armed, holds_timers_clamped, holds_timers_in_order, holds_frames_in_order, holds_idle_deadlines}
+use Rattle.page_laws.specs.SchedulerLaws.{holds_hosts_answered, holds_intervals_over, holds_posts_over, holds_arms_due, holds_continuations_over, holds_ends_truly, holds_micros_over, holds_frames_over, holds_idles_over, holds_limits, holds_priority_order, holds_timeouts_over}
 
 registered_twice : holds_once (at 0 (Reg 2 kind.Timeout None) ∷ at 0 (Reg 2 kind.Micro None) ∷ []) ≡ false
 registered_twice = refl
@@ -322,6 +322,27 @@ an_idle_callback_is_left = refl
 a_dropped_idle_callback_is_over : holds_idles_over (at 0 (Reg 2 kind.Idle None) ∷ at 0 (Drop 2) ∷ at 0 (EndLine end.Done) ∷ []) ≡ true
 a_dropped_idle_callback_is_over = refl
 
+a_microtask_callback_is_left : holds_micros_over (at 0 (Reg 2 kind.Micro None) ∷ at 0 (EndLine end.Done) ∷ []) ≡ false
+a_microtask_callback_is_left = refl
+
+a_job_is_left : holds_micros_over (at 0 (Reg 2 kind.Micro None) ∷ at 0 (Job 1 (MicroJob 2)) ∷ at 0 (Call 2) ∷ at 0 Ret ∷ at 0 (EndLine end.Done) ∷ []) ≡ false
+a_job_is_left = refl
+
+a_job_is_left_for_fuel : holds_micros_over (at 0 (Reg 2 kind.Micro None) ∷ at 0 (Job 1 (MicroJob 2)) ∷ at 0 (EndLine end.Fuel) ∷ []) ≡ true
+a_job_is_left_for_fuel = refl
+
+a_continuation_is_left : holds_continuations_over (at 0 (Reg 2 kind.Yield None) ∷ at 0 (EndLine end.Done) ∷ []) ≡ false
+a_continuation_is_left = refl
+
+a_dropped_continuation_is_over : holds_continuations_over (at 0 (Reg 2 kind.Yield None) ∷ at 0 (Drop 2) ∷ at 0 (EndLine end.Done) ∷ []) ≡ true
+a_dropped_continuation_is_over = refl
+
+a_timeout_is_left : holds_timeouts_over (at 0 (Reg 2 kind.Timeout None) ∷ at 0 (Arm 2 0 1) ∷ at 0 (Due 2) ∷ at 0 (EndLine end.Done) ∷ []) ≡ false
+a_timeout_is_left = refl
+
+a_dropped_timeout_is_over : holds_timeouts_over (at 0 (Reg 2 kind.Timeout None) ∷ at 0 (Arm 2 0 1) ∷ at 0 (Drop 2) ∷ at 0 (EndLine end.Done) ∷ []) ≡ true
+a_dropped_timeout_is_over = refl
+
 done_with_an_interval : holds_ends_truly 10000 100 (at 0 (Reg 2 kind.Interval None) ∷ at 0 (Arm 2 0 1) ∷ at 0 (Due 2) ∷ at 0 (Call 2) ∷ at 0 Ret ∷ at 0 (EndLine end.Done) ∷ []) ≡ false
 done_with_an_interval = refl
 
@@ -359,3 +380,36 @@ turn_at_until = refl
 
 more_turns_and_jobs_than_fuel : holds_ends_truly 10000 2 (at 0 (Turn 1 (Some Dom)) ∷ at 0 (Run 1) ∷ at 0 (Turn 2 None) ∷ []) ≡ false
 more_turns_and_jobs_than_fuel = refl
+
+an_end_by_the_clock_before_until : holds_limits 10000 100 (at 9999 (EndLine end.Clock) ∷ []) ≡ false
+an_end_by_the_clock_before_until = refl
+
+a_turn_at_until : holds_limits 10000 100 (at 10000 (Turn 1 (Some Dom)) ∷ []) ≡ false
+a_turn_at_until = refl
+
+a_turn_too_many : holds_limits 10000 2 (at 0 (Turn 1 (Some Dom)) ∷ at 0 (Run 1) ∷ at 0 (Turn 2 None) ∷ []) ≡ false
+a_turn_too_many = refl
+
+a_job_too_many : holds_limits 10000 1 (at 0 (Turn 1 (Some Dom)) ∷ at 0 (Run 1) ∷ []) ≡ false
+a_job_too_many = refl
+
+an_interval_is_left : holds_intervals_over (at 0 (Reg 2 kind.Interval None) ∷ at 0 (Arm 2 0 1) ∷ at 0 (Due 2) ∷ at 0 (Call 2) ∷ at 0 Ret ∷ at 0 (EndLine end.Done) ∷ []) ≡ false
+an_interval_is_left = refl
+
+a_dropped_interval_is_over : holds_intervals_over (at 0 (Reg 2 kind.Interval None) ∷ at 0 (Arm 2 0 1) ∷ at 0 (Drop 2) ∷ at 0 (EndLine end.Done) ∷ []) ≡ true
+a_dropped_interval_is_over = refl
+
+a_posted_task_is_left : holds_posts_over (at 0 (Reg 2 kind.Post None) ∷ at 0 (EndLine end.Done) ∷ []) ≡ false
+a_posted_task_is_left = refl
+
+a_dropped_post_is_over : holds_posts_over (at 0 (Reg 2 kind.Post None) ∷ at 0 (Drop 2) ∷ at 0 (EndLine end.Done) ∷ []) ≡ true
+a_dropped_post_is_over = refl
+
+a_host_has_not_answered : holds_hosts_answered (at 0 (Reg 2 kind.Host None) ∷ at 0 (Arm 2 0 0) ∷ at 0 (Due 2) ∷ at 0 (EndLine end.Done) ∷ []) ≡ false
+a_host_has_not_answered = refl
+
+a_dropped_host_need_not_answer : holds_hosts_answered (at 0 (Reg 2 kind.Host None) ∷ at 0 (Arm 2 0 0) ∷ at 0 (Drop 2) ∷ at 0 (EndLine end.Done) ∷ []) ≡ true
+a_dropped_host_need_not_answer = refl
+
+a_level_skips_one : holds_levels 1 (at 0 (Call 1) ∷ at 0 (Reg 2 kind.Timeout None) ∷ at 0 (Arm 2 0 2) ∷ []) ≡ false
+a_level_skips_one = refl

@@ -6,8 +6,8 @@ use Rattle.page_types.specs.declared.RegKind.TheVariants as kind
 use Rattle.page_types.specs.declared.Priority.TheVariants.{UserVisible}
 use Rattle.page_types.specs.Events.{MicroJob, ReactJob, FixedQueue, Event, Turn, Call, Ret, Log, Reg, Arm, Due, Drop, Job, Run, Settle, Period, IdleLine, Frame, Enq, Abort, Wait, Host, Unhandled, EndLine, Stamped}
 use Rattle.page_laws.specs.CallLaws.{holds_once, holds_cancel, holds_settle_once, holds_jobs_in_order, holds_no_nesting}
-use Rattle.page_laws.specs.TimerLaws.{holds_timers_in_order, holds_frames_in_order, holds_idle_deadlines}
-use Rattle.page_laws.specs.SchedulerLaws.{holds_priority_order, holds_ends_truly}
+use Rattle.page_laws.specs.TimerLaws.{holds_levels, holds_timers_in_order, holds_frames_in_order, holds_idle_deadlines}
+use Rattle.page_laws.specs.SchedulerLaws.{holds_hosts_answered, holds_intervals_over, holds_posts_over, holds_continuations_over, holds_ends_truly, holds_limits, holds_micros_over, holds_priority_order, holds_timeouts_over}
 
 abbrev pub at : ℕ → Event → Stamped
 at time event = record { time = time; event = event }
@@ -122,6 +122,9 @@ host_answers-idle_deadlines = refl
 
 host_answers-priority_order : holds_priority_order host_answers ≡ true
 host_answers-priority_order = refl
+
+host_answers-hosts_answered : holds_hosts_answered host_answers ≡ true
+host_answers-hosts_answered = refl
 
 host_answers-ends_truly : holds_ends_truly 10000000 1000000 host_answers ≡ true
 host_answers-ends_truly = refl
@@ -241,6 +244,9 @@ yields-idle_deadlines = refl
 yields-priority_order : holds_priority_order yields ≡ true
 yields-priority_order = refl
 
+yields-continuations_over : holds_continuations_over yields ≡ true
+yields-continuations_over = refl
+
 yields-ends_truly : holds_ends_truly 10000000 1000000 yields ≡ true
 yields-ends_truly = refl
 
@@ -287,6 +293,9 @@ abort_in_task-idle_deadlines = refl
 
 abort_in_task-priority_order : holds_priority_order abort_in_task ≡ true
 abort_in_task-priority_order = refl
+
+abort_in_task-posts_over : holds_posts_over abort_in_task ≡ true
+abort_in_task-posts_over = refl
 
 abort_in_task-ends_truly : holds_ends_truly 10000000 1000000 abort_in_task ≡ true
 abort_in_task-ends_truly = refl
@@ -337,6 +346,12 @@ handled_in_time-idle_deadlines = refl
 
 handled_in_time-priority_order : holds_priority_order handled_in_time ≡ true
 handled_in_time-priority_order = refl
+
+handled_in_time-micros_over : holds_micros_over handled_in_time ≡ true
+handled_in_time-micros_over = refl
+
+handled_in_time-limits : holds_limits 1 3 handled_in_time ≡ true
+handled_in_time-limits = refl
 
 handled_in_time-ends_truly : holds_ends_truly 10000000 1000000 handled_in_time ≡ true
 handled_in_time-ends_truly = refl
@@ -503,6 +518,15 @@ together-idle_deadlines = refl
 
 together-priority_order : holds_priority_order together ≡ true
 together-priority_order = refl
+
+together-levels : holds_levels 1 together ≡ true
+together-levels = refl
+
+together-intervals_over : holds_intervals_over together ≡ true
+together-intervals_over = refl
+
+together-timeouts_over : holds_timeouts_over together ≡ true
+together-timeouts_over = refl
 
 together-ends_truly : holds_ends_truly 10000000 1000000 together ≡ true
 together-ends_truly = refl

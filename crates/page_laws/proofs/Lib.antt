@@ -9,6 +9,7 @@ pub mod Moved
 pub mod Items
 pub mod Idling
 pub mod Ready
+pub mod Numbered
 pub mod Aborted
 pub mod Evaluating
 pub mod Onto
@@ -22,6 +23,15 @@ pub mod Operations
 pub mod Drawing
 pub mod Tasks
 pub mod Turns
+pub mod Spent
+pub mod Spending
+pub mod SpendingRuns
+pub mod SpendingOperations
+pub mod SpendingTasks
+pub mod SpendingTurns
+pub mod TimersLive
+pub mod TimersStand
+pub mod Parts
 pub mod RunLaws
 pub mod Acts
 pub mod Registered
@@ -44,8 +54,13 @@ pub mod DueOrder
 pub mod Clamps
 pub mod DoneArms
 pub mod AtEnd
+pub mod Over
 pub mod DoneFrames
 pub mod DoneIdle
+pub mod DoneMicro
+pub mod DoneYield
+pub mod Paired
+pub mod DoneTimeout
 pub mod First
 pub mod Priorities
 pub mod OpenCalls

@@ -6,7 +6,7 @@ use Rattle.page_laws.proofs.Finding.{found-passes}
 use Rattle.page_model.proofs.NumbersSignals.{with-by_number, last-by_number, with_reason-by_number, any-by_number}
 use Rattle.page_model.proofs.NumbersPages.{the_registration-given}
 use Rattle.std.proofs.lemmas.Bool.{eqb-true, eq-eqb}
-use Rattle.std.proofs.Common.{◌≡◌, ℕ, suc, ◌+◌, ◌*◌, ◌⊎◌, inl, inr, Bool, true, false, List, [], ◌∷◌, Option, Some, None, refl, ap, sym, subst, ◌∙◌, ◌++◌, cond, ℤ, Result, Ok, Err, length, slice_get, ◌&&◌, nat_lt, nat_le, map, ◌≤◌, unwrap_or, arith, ◌||◌}
+use Rattle.std.proofs.Common.{◌≡◌, ℕ, suc, ◌+◌, ◌*◌, ◌⊎◌, inl, inr, Bool, true, false, List, [], ◌∷◌, Option, Some, None, refl, ap, sym, subst, ◌∙◌, ◌++◌, cond, ℤ, Result, Ok, Err, length, slice_get, ◌&&◌, nat_lt, nat_le, map, ◌≤◌, unwrap_or, arith, ◌||◌, not}
 use Rattle.std.specs.Prelude.{◌==◌, slice_set, find, option_map}
 use Rattle.page_types.specs.Values.{Value, IntValue}
 use Rattle.page_types.specs.declared.FaultName.TheVariants.{TypeError}
@@ -48,8 +48,8 @@ use Rattle.page_model.specs.PageSignals.{waiting_answer, waiting_net_task, has_n
 use Rattle.page_model.specs.Operations.{latency_of, queued_mark, micro_registered, script_promise, then_made, timer_set, frame_requested, idle_requested, with_signals, task_signal_made, any_made, last_signal, timeout_signal_made, listener_added, listener_removed, promised, post_delayed, post_queued, continuation_queued, host_queued, finally_made, posted}
 use Rattle.page_model.specs.Tasks.{invoke_idle_again, outstanding_if_unhandled, fire_closure, settle_answer, answer_host}
 use Rattle.page_model.specs.Numbers.{IsGiven, Each, IfThere, made_by, Made, is_abortable, timer_role, is_timer_role, TimerIdIsGiven, CallbackIsGiven, IdleIsGiven, IdleTimerIsGiven, ListenerIsGiven, CompletionIsGiven, SchedTaskIsGiven, CompletingIsGiven, sched_role}
-use Rattle.page_laws.specs.History.{is_frame, is_idle, open_registrations, is_scheduled}
-use Rattle.page_laws.specs.Moves.{PlaceIsPlain, FirstArms, with_arm, is_delayed_role, is_aside, is_idle_task, role_at, IsIn, PeriodGoesOn, IsMade, IsUnarmed, IsArmedWell, IsDueBy, ArmedAt, by_timer, by_idle, by_host, completes_for, with_timer, idle_queued, FrameIsOver, promise_changes, Places, places, is_free, PlaceChange, places_stay, task_queued, completed, idle_started, id_cleared, Dropping, timer_dropped, idle_dropped, listener_dropped, FirstPlace, nowhere, at_listener, at_timer, at_delay, at_idle, at_host, AsBefore, fired_at, PageChange, elsewhere, frame_asked, registered, answered, dropped, frame_dropped, then_asked, micro_asked, told, rested, settled, followed, adopted, subscribed, rejected_taken, noted, Changes, nothing, with_change, with_arm, armed_again, signal_armed, idle_armed, timer_due, delay_due, signal_due, idle_due, answer_due, DueChange, StaysAborted, fell_due, post_fell_due, enqueued_anew, task_dropped, role_at, id_at, signal_at, Scheduling, scheduling_of, SchedulingAfter, HasPriority, Sourced, known, prio_told}
+use Rattle.page_laws.specs.History.{is_frame, is_timer, open_registrations, is_scheduled}
+use Rattle.page_laws.specs.Moves.{FirstOwns, IsCleared, fits_first, is_placed, PlaceIsPlain, FirstArms, with_arm, is_delayed_role, is_aside, is_idle_task, role_at, IsIn, PeriodGoesOn, IsMade, IsUnarmed, IsArmedWell, IsDueBy, ArmedAt, by_timer, by_idle, by_host, completes_for, with_timer, idle_queued, FrameIsOver, promise_changes, Places, places, is_free, PlaceChange, places_stay, task_queued, completed, idle_started, id_cleared, Dropping, timer_dropped, idle_dropped, listener_dropped, FirstPlace, nowhere, at_listener, at_timer, at_delay, at_idle, at_host, AsBefore, fired_at, PageChange, elsewhere, frame_asked, registered, answered, dropped, frame_dropped, then_asked, micro_asked, told, rested, settled, followed, adopted, subscribed, rejected_taken, noted, Changes, nothing, with_change, with_arm, armed_again, signal_armed, idle_armed, timer_due, delay_due, signal_due, idle_due, answer_due, DueChange, StaysAborted, fell_due, post_fell_due, enqueued_anew, task_dropped, role_at, id_at, signal_at, Scheduling, scheduling_of, SchedulingAfter, HasPriority, Sourced, known, prio_told}
 use Rattle.page_laws.specs.Moves as moves
 use Rattle.page_laws.proofs.Moving.{changes-then}
 use Rattle.page_laws.proofs.Delays.{timer-well, other-well}
@@ -167,11 +167,11 @@ follow-changes n how p x = by_outcome (the_promise p.notices.promises n).outcome
     by_outcome (Some before) e = unchanged n p
 
 pub queue_task-changes : (source : Source) (steps : Steps) (p : Page) → is_free steps ≡ true → is_idle_task steps ≡ false → Changes p (queue_task source steps p)
-queue_task-changes source steps p h plain = with_change nothing (elsewhere (task_queued (record { number = suc p.tasks_made; source = source; steps = steps }) h plain) (record { notices = refl; performing = refl; events = refl; registrations = refl; frames = refl; calls = refl; aborted = λ s h. h; scheduling = record { priorities = λ s. refl; states = refl; tasks_made = omega arith; idle_start = refl } }) tt) tt
+queue_task-changes source steps p h plain = with_change nothing (elsewhere (task_queued (record { number = suc p.tasks_made; source = source; steps = steps }) h plain) (record { notices = refl; performing = refl; events = refl; registrations = refl; frames = refl; calls = refl; aborted = λ s h. h; scheduling = record { priorities = λ s. refl; states = refl; tasks_made = omega arith; idle_start = refl } }) refl) tt
 
 -- the task that invokes idle callbacks, in the period that goes on
 queue_idle-changes : (p : Page) → PeriodGoesOn p → Changes p (queue_task IdleSource InvokeIdle p)
-queue_idle-changes p k = with_change nothing (elsewhere (idle_queued (record { number = suc p.tasks_made; source = IdleSource; steps = InvokeIdle }) refl refl) (record { notices = refl; performing = refl; events = refl; registrations = refl; frames = refl; calls = refl; aborted = λ s h. h; scheduling = record { priorities = λ s. refl; states = refl; tasks_made = omega arith; idle_start = refl } }) k) tt
+queue_idle-changes p k = with_change nothing (elsewhere (idle_queued (record { number = suc p.tasks_made; source = IdleSource; steps = InvokeIdle }) refl refl) (record { notices = refl; performing = refl; events = refl; registrations = refl; frames = refl; calls = refl; aborted = λ s h. h; scheduling = record { priorities = λ s. refl; states = refl; tasks_made = omega arith; idle_start = refl } }) (k, refl)) tt
 
 -- a reaction was added, and where the promise was outstanding a task is queued
 handled-changes : (n : ℕ) (b : Bool) (p q : Page) → Changes p q → Changes p (cond b (queue_task Dom (NotifyHandled n)) (λ q. q) q)
@@ -231,12 +231,12 @@ false_true : false ≡ true → ⊥
 false_true e = Prim.cc
 
 -- a registration is made and waits nowhere
-pub register-changes : (kind : RegKind) (x : Registration) (p : Page) → x.role ≡ OfKind kind → is_frame kind ≡ false → is_idle kind ≡ false → Changes p (register_as kind x p)
-register-changes kind x p e unframed other = with_change nothing (registered kind x e unframed nowhere (record { notices = refl; performing = refl; events = refl; registrations = refl; frames = refl; calls = refl; aborted = λ s h. h; scheduling = record { priorities = λ s. refl; states = refl; tasks_made = omega arith; idle_start = refl } }) (λ h. absurd (false_true (sym other ∙ h)))) tt
+pub register-changes : (kind : RegKind) (x : Registration) (p : Page) → x.role ≡ OfKind kind → is_frame kind ≡ false → is_placed kind ≡ false → Changes p (register_as kind x p)
+register-changes kind x p e unframed other = with_change nothing (registered kind x e unframed nowhere (record { notices = refl; performing = refl; events = refl; registrations = refl; frames = refl; calls = refl; aborted = λ s h. h; scheduling = record { priorities = λ s. refl; states = refl; tasks_made = omega arith; idle_start = refl } }) (ap not other, tt)) tt
 
 -- it is made, waits at its first place, and is armed
-register_at-changes : (kind : RegKind) (x : Registration) (r due level : ℕ) (p q : Page) → x.role ≡ OfKind kind → is_frame kind ≡ false → is_idle kind ≡ false → ArmedAt q.registrations (places q) r due → IsArmedWell q r due level → r ≡ suc (length p.registrations) → (u : FirstPlace p.registrations p.prios (suc (length p.registrations)) (places p) (places q)) → FirstArms u due → AsBefore (register_as kind x p) q → Changes p (emit (Arm r due level) q)
-register_at-changes kind x r due level p q role unframed other w well e u arms b = with_arm {r = q} nothing (registered kind x role unframed u b (λ h. absurd (false_true (sym other ∙ h)))) (moves.arm_told r due level w well) (e, arms)
+register_at-changes : (kind : RegKind) (x : Registration) (r due level : ℕ) (p q : Page) → x.role ≡ OfKind kind → is_frame kind ≡ false → ArmedAt q.registrations (places q) r due → IsArmedWell q r due level → r ≡ suc (length p.registrations) → (u : FirstPlace p.registrations p.prios (suc (length p.registrations)) (places p) (places q)) → FirstArms u due → fits_first kind u ≡ true × FirstOwns u x → AsBefore (register_as kind x p) q → Changes p (emit (Arm r due level) q)
+register_at-changes kind x r due level p q role unframed w well e u arms at b = with_arm {r = q} nothing (registered kind x role unframed u b at) (moves.arm_told r due level w well) (e, arms)
 
 -- ---- time
 
@@ -249,8 +249,8 @@ init_again-changes id r timeout p h e there own free =
     with_arm {r = set} nothing (elsewhere (armed_again a t e there (record { same_id = refl; same_handle = refl; own = own; handle = refl; start = refl })) (record { notices = refl; performing = refl; events = refl; registrations = refl; frames = refl; calls = refl; aborted = λ s h. h; scheduling = record { priorities = λ s. refl; states = refl; tasks_made = omega arith; idle_start = refl } }) free)
     (moves.arm_told r a.due a.level (timer_armed p.registrations (places p) r a.due (with_armed (Some id) a p.timers) (QueueTimer t) refl (started p h) refl (ap is_delayed_role e)) (timer-well set r p.level (Timers.milliseconds timeout) a.due refl (ap is_timer_role e))) (refl, refl)
 
-pub clear_id-changes : (id : ℕ) (p : Page) → Changes p (clear_id id p)
-clear_id-changes id p = placed p (clear_id id p) (id_cleared id) tt tt refl refl refl refl refl refl refl refl
+pub clear_id-changes : (id : ℕ) (p : Page) → IsCleared id p → Changes p (clear_id id p)
+clear_id-changes id p k = placed p (clear_id id p) (id_cleared id) tt k refl refl refl refl refl refl refl refl
 
 -- the registration that is found by a timer id has it
 found_id : (id k : ℕ) (before xs : List Registration) → k ≡ suc (length before) → 1 ≤ registration_with_id id k xs → id_at (before ++ xs) (registration_with_id id k xs) ≡ id
@@ -552,18 +552,18 @@ no_frame false kind e = ap {A = Role} {B = Bool} frames e
     frames ScriptRole = false
     frames (OfKind k) = is_frame k
 
--- nor for an idle callback
-no_idle : (repeats : Bool) (kind : RegKind) → OfKind kind ≡ timer_role repeats → is_idle kind ≡ false
-no_idle true kind e = ap {A = Role} {B = Bool} idles e
+-- it is a timer
+timer_kind : (repeats : Bool) (kind : RegKind) → OfKind kind ≡ timer_role repeats → is_timer kind ≡ true
+timer_kind true kind e = ap {A = Role} {B = Bool} timers e
   where
-    idles : Role → Bool
-    idles ScriptRole = false
-    idles (OfKind k) = is_idle k
-no_idle false kind e = ap {A = Role} {B = Bool} idles e
+    timers : Role → Bool
+    timers ScriptRole = false
+    timers (OfKind k) = is_timer k
+timer_kind false kind e = ap {A = Role} {B = Bool} timers e
   where
-    idles : Role → Bool
-    idles ScriptRole = false
-    idles (OfKind k) = is_idle k
+    timers : Role → Bool
+    timers ScriptRole = false
+    timers (OfKind k) = is_timer k
 
 pub timer_set-changes : (kind : RegKind) (repeats : Bool) (f : Func) (timeout : ℤ) (p : Page) → OfKind kind ≡ timer_role repeats → Held (made_by p) p → Changes p (timer_set kind repeats f timeout p)
 timer_set-changes kind repeats f timeout p role h =
@@ -574,7 +574,7 @@ timer_set-changes kind repeats f timeout p role h =
     let t : TimerTask = record { registration = r; id = a.id; handle = a.handle; level = a.level; repeats = repeats; timeout = timeout } in
     let fresh : (q : ℕ) → id_at p.registrations q ≡ a.id → ⊥ = λ q e. let le = (the_registration-given p q h).timer_id in absurd (omega (arith, le, e)) in
     let set : Page = record made { timers = with_armed None a made.timers; completions = and_last made.completions (record { start = a.start; completion = QueueTimer t }) } in
-    register_at-changes kind x r a.due a.level p set refl (no_frame repeats kind role) (no_idle repeats kind role) (timer_armed made.registrations (places made) r a.due (with_armed None a made.timers) (QueueTimer t) refl (started p h) refl (ap is_delayed_role (new_role kind x p refl ∙ role) ∙ delayed_timer repeats)) (timer-well set r p.level (Timers.milliseconds timeout) a.due refl (ap is_timer_role (new_role kind x p refl ∙ role) ∙ timer_there repeats)) (made_last kind x p) (at_timer a t (made_last kind x p) (record { fresh = fresh; handle = refl; start = refl })) refl (record { notices = refl; performing = refl; events = refl; registrations = refl; frames = refl; calls = refl; aborted = λ s h. h; scheduling = record { priorities = λ s. refl; states = refl; tasks_made = omega arith; idle_start = refl } })
+    register_at-changes kind x r a.due a.level p set refl (no_frame repeats kind role) (timer_armed made.registrations (places made) r a.due (with_armed None a made.timers) (QueueTimer t) refl (started p h) refl (ap is_delayed_role (new_role kind x p refl ∙ role) ∙ delayed_timer repeats)) (timer-well set r p.level (Timers.milliseconds timeout) a.due refl (ap is_timer_role (new_role kind x p refl ∙ role) ∙ timer_there repeats)) (made_last kind x p) (at_timer a t (made_last kind x p) (record { fresh = fresh; same_id = refl; same_handle = refl; handle = refl; start = refl })) refl (timer_kind repeats kind role, refl) (record { notices = refl; performing = refl; events = refl; registrations = refl; frames = refl; calls = refl; aborted = λ s h. h; scheduling = record { priorities = λ s. refl; states = refl; tasks_made = omega arith; idle_start = refl } })
 
 pub frame_requested-changes : (f : Func) (p : Page) → Changes p (frame_requested f p)
 frame_requested-changes f p = with_change nothing (frame_asked f) tt
@@ -585,7 +585,7 @@ idle_requested-changes f ms p h =
     let made = register_as IdleKind x p in
     let r = last_registration made in
     let q : Page = record made { idle = IdleCallbacks.request r made.idle } in
-    let first : Changes p q = with_change nothing (registered IdleKind x refl refl (at_idle r (made_last IdleKind x p)) (record { notices = refl; performing = refl; events = refl; registrations = refl; frames = refl; calls = refl; aborted = λ s h. h; scheduling = record { priorities = λ s. refl; states = refl; tasks_made = omega arith; idle_start = refl } }) (λ h. tt)) tt in
+    let first : Changes p q = with_change nothing (registered IdleKind x refl refl (at_idle r (made_last IdleKind x p)) (record { notices = refl; performing = refl; events = refl; registrations = refl; frames = refl; calls = refl; aborted = λ s h. h; scheduling = record { priorities = λ s. refl; states = refl; tasks_made = omega arith; idle_start = refl } }) (refl, tt)) tt in
     cond_of-changes (ms == 0) (λ q. q) (idle_timeout ms r) q p first
     (changes-then first
     (idle_timeout-changes ms r q (new_role IdleKind x p refl) (λ c i e. own c (in-either c p.idle.runnable (and_last p.idle.pending (record { handle = suc p.idle.made; registration = r })) i) e)
@@ -642,7 +642,7 @@ pub listener_added-changes : (target : Target) (name : List ℕ) (f : Func) (p :
 listener_added-changes target name f p =
     let x : Registration = record { role = OfKind ListenerKind; callback = Some f; second_callback = None; timer_id = 0; promise = 0; signal = None; finally = false } in
     let made = register_as ListenerKind x p in
-    with_change nothing (registered ListenerKind x refl refl (at_listener target name (last_registration made) (made_last ListenerKind x p)) (record { notices = refl; performing = refl; events = refl; registrations = refl; frames = refl; calls = refl; aborted = λ s h. h; scheduling = record { priorities = λ s. refl; states = refl; tasks_made = omega arith; idle_start = refl } }) (λ h. absurd (false_true h))) tt
+    with_change nothing (registered ListenerKind x refl refl (at_listener target name (last_registration made) (made_last ListenerKind x p)) (record { notices = refl; performing = refl; events = refl; registrations = refl; frames = refl; calls = refl; aborted = λ s h. h; scheduling = record { priorities = λ s. refl; states = refl; tasks_made = omega arith; idle_start = refl } }) (refl, tt)) tt
 
 listening_role : (n : Made) (r : ℕ) (ls : List Listener) → Each (ListenerIsGiven n) ls → is_listening r ls ≡ true → role_at n.registrations r ≡ OfKind ListenerKind
 listening_role n r [] h e = Prim.cc
@@ -703,7 +703,7 @@ delayed-changes x source ms p h e from =
     let r = last_registration made in
     let timers = Timers.run_after ms made.now made.timers in
     let q : Page = record made { timers = timers; completions = and_last made.completions (record { start = timers.starts_made; completion = EnqueuePost r source }) } in
-    register_at-changes PostKind x r (made.now + ms * 1000) 0 p q e refl refl (timer_armed made.registrations (places made) r (made.now + ms * 1000) timers (EnqueuePost r source) refl h refl (ap is_delayed_role (new_role PostKind x p e))) (other-well q r (made.now + ms * 1000) (ap is_timer_role (new_role PostKind x p e))) (made_last PostKind x p) (at_delay ms made.now r source (made_last PostKind x p) from) refl (record { notices = refl; performing = refl; events = refl; registrations = refl; frames = refl; calls = refl; aborted = λ s h. h; scheduling = record { priorities = λ s. refl; states = refl; tasks_made = omega arith; idle_start = refl } })
+    register_at-changes PostKind x r (made.now + ms * 1000) 0 p q e refl (timer_armed made.registrations (places made) r (made.now + ms * 1000) timers (EnqueuePost r source) refl h refl (ap is_delayed_role (new_role PostKind x p e))) (other-well q r (made.now + ms * 1000) (ap is_timer_role (new_role PostKind x p e))) (made_last PostKind x p) (at_delay ms made.now r source (made_last PostKind x p) from) refl (refl, tt) (record { notices = refl; performing = refl; events = refl; registrations = refl; frames = refl; calls = refl; aborted = λ s h. h; scheduling = record { priorities = λ s. refl; states = refl; tasks_made = omega arith; idle_start = refl } })
 
 pub post_queued-changes : (f : Func) (source : PrioSource) (signal : Option ℕ) (ms : ℕ) (p : Page) → Held (made_by p) p → HasPriority p.prios source → Changes p (post_queued f source signal ms p)
 post_queued-changes f source signal ms p h from =
@@ -739,7 +739,7 @@ asked-changes k c x e p role there live =
     let due = made.now + latency_of made.latencies k in
     let a : HostAnswer = record { due = due; task = record { registration = r; closure = k; number = x } } in
     let q : Page = record made { hosts = slice_set made.hosts k (queued_mark c); host_answers = and_last made.host_answers a } in
-    register_at-changes HostKind e r due 0 p q role refl refl (by_host a (is-last a made.host_answers) refl refl (new_role HostKind e p role)) (other-well q r due (ap is_timer_role (new_role HostKind e p role))) (made_last HostKind e p) (at_host c a (made_last HostKind e p) there live) refl (record { notices = refl; performing = refl; events = refl; registrations = refl; frames = refl; calls = refl; aborted = λ s h. h; scheduling = record { priorities = λ s. refl; states = refl; tasks_made = omega arith; idle_start = refl } })
+    register_at-changes HostKind e r due 0 p q role refl (by_host a (is-last a made.host_answers) refl refl (new_role HostKind e p role)) (other-well q r due (ap is_timer_role (new_role HostKind e p role))) (made_last HostKind e p) (at_host c a (made_last HostKind e p) there live) refl (refl, tt) (record { notices = refl; performing = refl; events = refl; registrations = refl; frames = refl; calls = refl; aborted = λ s h. h; scheduling = record { priorities = λ s. refl; states = refl; tasks_made = omega arith; idle_start = refl } })
 
 ready-hosts : (kind : RegKind) (f : Option Func) (signal : Option ℕ) (p : Page) → (ready kind f signal p).hosts ≡ p.hosts
 ready-hosts kind f None p = refl

@@ -9,7 +9,7 @@ moves-then a (arming b c d w) = arming (moves-then a b) c d w
 moves-then a (calling b c h k) = calling (moves-then a b) c h k
 moves-then a (ending b e h) = ending (moves-then a b) e h
 moves-then a (flagging b x y z w u v t j) = flagging (moves-then a b) x y z w u v t j
-moves-then a (running b j others x y) = running (moves-then a b) j others x y
+moves-then a (running b j others x y nm) = running (moves-then a b) j others x y nm
 moves-then a (framing b t) = framing (moves-then a b) t
 moves-then a (idling b none) = idling (moves-then a b) none
 

@@ -96,6 +96,6 @@ moves-kept (arming a c d w) k = change-kept d (change-kept c (moves-kept a k))
 moves-kept (calling {q = q} a b w i) k = (refl, begins-kept b q w (moves-kept a k))
 moves-kept (ending {q = q} a e h) k = (end-passes e h q.events, moves-kept a k)
 moves-kept (flagging a x y z w u v t j) k = subst (Kept nesting) (sym y) (moves-kept a k)
-moves-kept (running {q = q} a j others x y) k = (ap is_nil y, moves-kept a k)
+moves-kept (running {q = q} a j others x y nm) k = (ap is_nil y, moves-kept a k)
 moves-kept (framing a t) k = (refl, moves-kept a k)
 moves-kept (idling a none) k = moves-kept a k

@@ -19,7 +19,7 @@ use Rattle.page_model.specs.Numbers.{Each, IsFor, made_by, timer_role}
 use Rattle.page_model.proofs.NumbersGrow.{length-last}
 use Rattle.page_laws.specs.History.{History, count_lines, has_kind, is_some_and, is_call_of, kind_of, was_called}
 use Rattle.page_laws.specs.CallLaws.{is_one_shot, has_no_callback, was_made, runs_once, may_be_called, may_be_registered}
-use Rattle.page_laws.specs.Moves.{is_free, promise_changes, Places, places, PlaceChange, places_stay, task_queued, task_left, armed_again, signal_armed, timer_due, completed, idle_started, idle_queued, answer_due, id_cleared, idle_armed, idle_due, Dropping, timer_dropped, idle_dropped, listener_dropped, task_dropped, AsBefore, PageChange, elsewhere, told, arm_told, rested, answered, dropped, frame_dropped, registered, frame_asked, promised, settled, followed, adopted, subscribed, then_asked, micro_asked, rejected_taken, noted, Beginning, TheScript, ATimer, AFrame, AnIdle, ALateIdle, AListener, APost, AContinuation, AMicro, AReaction, called_by, role_of, taken, Waited, Moves, here, changing, arming, calling, ending, flagging, running, framing, idling, enqueued_anew, fell_due, post_fell_due, delay_due, signal_due, DueChange, prio_told}
+use Rattle.page_laws.specs.Moves.{with_task, is_free, promise_changes, Places, places, PlaceChange, places_stay, task_queued, task_left, armed_again, signal_armed, timer_due, completed, idle_started, idle_queued, answer_due, id_cleared, idle_armed, idle_due, Dropping, timer_dropped, idle_dropped, listener_dropped, task_dropped, AsBefore, PageChange, elsewhere, told, arm_told, rested, answered, dropped, frame_dropped, registered, frame_asked, promised, settled, followed, adopted, subscribed, then_asked, micro_asked, rejected_taken, noted, Beginning, TheScript, ATimer, AFrame, AnIdle, ALateIdle, AListener, APost, AContinuation, AMicro, AReaction, called_by, role_of, taken, Waited, Moves, here, changing, arming, calling, ending, flagging, running, framing, idling, enqueued_anew, fell_due, post_fell_due, delay_due, signal_due, DueChange, prio_told}
 use Rattle.page_types.specs.Tree.{Program}
 use Rattle.page_parts.specs.Setup.{Setup}
 use Rattle.page_parts.specs.HostClosures.{HostClosure}
@@ -325,11 +325,11 @@ registered-fits k x p y s cs e h f = made-fits k (caller p) x p.now p.registrati
 place-fits : {xs : List Registration} {x y : Places} → PlaceChange xs x y → (s : Notices) (cs : List Callback) (past : History) → FitsBy xs x s cs past → FitsBy xs y s cs past
 place-fits places_stay s cs past f = f
 place-fits {xs = xs} {x = x} (task_queued t h plain) s cs past f =
-    let y : Places = record x { tasks = and_last x.tasks t } in
+    let y : Places = with_task t x in
     lessen-fits xs (claims_of x s cs) (claims_of y s cs) past
     (λ r. let a = total-last (task_claims r) x.tasks t in let b = free-claims r t.steps h in omega (arith, a, b)) f
 place-fits {xs = xs} {x = x} (idle_queued t e from) s cs past f =
-    let y : Places = record x { tasks = and_last x.tasks t } in
+    let y : Places = with_task t x in
     lessen-fits xs (claims_of x s cs) (claims_of y s cs) past
     (λ r. let a = total-last (task_claims r) x.tasks t in let b = free-claims r t.steps (ap is_free e) in omega (arith, a, b)) f
 place-fits {xs = xs} {x = x} (task_left number) s cs past f =
@@ -547,7 +547,7 @@ moves-fit (flagging {q = q} {r = r} a x y z w u v t j) f =
     (subst (λ (s : Notices). FitsBy r.registrations (places q) s q.frames.callbacks r.events) (sym x)
     (subst (λ (xs : List Registration). FitsBy xs (places q) q.notices q.frames.callbacks r.events) (sym z)
     (subst (λ (past : History). FitsBy q.registrations (places q) q.notices q.frames.callbacks past) (sym y) (moves-fit a f)))))
-moves-fit (running {q = q} a j others x y) f =
+moves-fit (running {q = q} a j others x y nm) f =
     silent-fits (Run j.number) q.now q.registrations (claims_of (places q) (record q.notices { jobs = others }) q.frames.callbacks) q.events refl (job-fits q j others x (moves-fit a f))
 moves-fit (framing {q = q} a t) f = silent-fits (Frame t) q.now q.registrations (claims_of (places q) q.notices q.frames.callbacks) q.events refl (moves-fit a f)
 moves-fit (idling a none) f = moves-fit a f

@@ -4,7 +4,7 @@ use Rattle.page_laws.proofs.Evaluating.{Onto}
 use Rattle.page_laws.proofs.Items.{parallel-changes}
 use Rattle.page_laws.proofs.Moved.{abort_registration-changes, any_made-changes, cancel_frame-changes, cancel_idle-changes, change_begun-changes, change_ended-changes, clear_id-changes, clear_timer-changes, continuation_queued-changes, follow-changes, frame_requested-changes, host_queued-changes, idle_requested-changes, init_again-changes, listener_added-changes, listener_removed-changes, micro_registered-changes, new_promise-changes, post_queued-changes, reason_set-changes, script_promise-changes, settle-changes, subscribe-changes, task_signal_made-changes, then_made-changes, timeout_signal_made-changes, timer_set-changes, unwatch-changes, finally_made-changes, posted-changes, make-changes, make_aborted-changes, any-changes, Aborts, signals-changes, with_algorithms-aborted}
 use Rattle.page_laws.proofs.Moving.{changes-then}
-use Rattle.page_laws.specs.Moves.{Changes, nothing, IsUnarmed, places, id_at, HasPriority, Sourced}
+use Rattle.page_laws.specs.Moves.{IsCleared, Changes, nothing, IsUnarmed, places, id_at, HasPriority, Sourced}
 use Rattle.page_model.proofs.NumbersGrow.{Each-more, HasPromise-grows, Held, InSignals, IsKnown-grows, Onward, last-given, promise-grows, IsAbortedBy-grows, InAlgorithms}
 use Rattle.page_model.proofs.NumbersMaking.{any-held, any_made-held, continuation_queued-held, frame_requested-held, host_queued-held, idle_requested-held, listener_added-held, listener_removed-held, make-held, make_aborted-held, micro_registered-held, new_settled-held, post_queued-held, script_promise-held, task_signal_made-held, then_made-held, timeout_signal_made-held, timer_set-held, finally_made-held, posted-held}
 use Rattle.page_model.proofs.NumbersPages.{abort_registration-held, cancel_frame-held, cancel_idle-held, change_begun-held, change_ended-held, clear_id-held, clear_timer-held, follow-held, init_again-held, new_promise-held, reason_set-held, reason_value-known, reject-held, resolve-held, run_algorithms-held, settle-held, subscribe-held, unwatch-held, with_algorithms-held}
@@ -57,8 +57,8 @@ subscribe-onto k r p h x y e = (subscribe-held k r p h x y, subscribe-changes k 
 pub init_again-onto : (id r : ℕ) (timeout : ℤ) (p : Page) → Held (made_by p) p → IsGiven p.timers.ids_made id → IsFor (timer_role true) (made_by p) r → id_at p.registrations r ≡ id → has_id id p.timers ≡ true → IsUnarmed r (places p) → Onto p (init_timer (Some id) r true timeout p)
 init_again-onto id r timeout p h i x own there free = (init_again-held id r true timeout p h i x own, init_again-changes id r timeout p h x.role there own free)
 
-pub clear_id-onto : (id : ℕ) (p : Page) → Held (made_by p) p → Onto p (clear_id id p)
-clear_id-onto id p h = (clear_id-held id p h, clear_id-changes id p)
+pub clear_id-onto : (id : ℕ) (p : Page) → Held (made_by p) p → IsCleared id p → Onto p (clear_id id p)
+clear_id-onto id p h k = (clear_id-held id p h, clear_id-changes id p k)
 
 pub clear_timer-onto : (id : ℕ) (p : Page) → Held (made_by p) p → Onto p (clear_timer id p)
 clear_timer-onto id p h = (clear_timer-held id p h, clear_timer-changes id p h)

@@ -27,7 +27,7 @@ moves-fit (arming a c e w) f = change-calls e ∙ ((change-calls c ∙ (moves-fi
 moves-fit (calling {q = q} a b w i) f = ap (called_by b ∷◌) (begins-calls b q ∙ (moves-fit a f ∙ sym (begins-same b q).0))
 moves-fit (ending {q = q} a e h) f = ap Evaluation.without_first (moves-fit a f) ∙ (left-first (open_registrations q.events) ∙ sym (ends e h (open_registrations q.events)))
 moves-fit (flagging a x y z w u v t j) f = v ∙ (moves-fit a f ∙ sym (ap open_registrations y))
-moves-fit (running a j others x y) f = moves-fit a f
+moves-fit (running a j others x y nm) f = moves-fit a f
 moves-fit (framing a t) f = moves-fit a f
 moves-fit (idling a none) f = moves-fit a f
 

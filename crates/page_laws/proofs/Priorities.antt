@@ -566,7 +566,7 @@ moves-fit (flagging {q = q} {r = r} a x y z w u v t j) o d f =
     subst (λ (g : Scheduling). ScheduledAt r.registrations (places r) g r.events) (sym j)
     (subst (λ (x : Places). ScheduledAt r.registrations x (scheduling_of q) r.events) (sym u)
     (subst (λ (xs : List Registration). ScheduledAt xs (places q) (scheduling_of q) r.events) (sym z) (subst (ScheduledAt q.registrations (places q) (scheduling_of q)) (sym y) (moves-fit a o d f))))
-moves-fit (running {q = q} a j others x y) o d f = said (Run j.number) q refl (moves-fit a o d f)
+moves-fit (running {q = q} a j others x y nm) o d f = said (Run j.number) q refl (moves-fit a o d f)
 moves-fit (framing {q = q} a t) o d f = said (Frame t) q refl (moves-fit a o d f)
 moves-fit (idling {q = q} a none) o d f =
     let g = moves-fit a o d f in

@@ -25,7 +25,7 @@ use Rattle.page_parts.specs.Setup.{Setup}
 use Rattle.page_types.specs.Tree.{Program}
 use Rattle.page_model.specs.View.{runnable_at, view}
 use Rattle.page_laws.specs.History.{History, is_due_of, was_due}
-use Rattle.page_laws.specs.Moves.{IsIn, HasSteps, PeriodGoesOn, IsMade, is_idle_task, Places, places, PlaceChange, places_stay, task_queued, task_left, armed_again, signal_armed, id_cleared, idle_armed, completed, idle_started, idle_queued, DueChange, timer_due, delay_due, signal_due, idle_due, answer_due, Dropping, timer_dropped, idle_dropped, listener_dropped, FirstPlace, nowhere, at_listener, at_timer, at_delay, at_idle, at_host, AsBefore, PageChange, elsewhere, told, arm_told, rested, registered, promised, settled, followed, adopted, subscribed, micro_asked, then_asked, answered, dropped, frame_dropped, frame_asked, rejected_taken, noted, Beginning, TheScript, ATimer, AFrame, AnIdle, ALateIdle, AListener, APost, AContinuation, AMicro, AReaction, called_by, taken, task_dropped, enqueued_anew, fell_due, post_fell_due, prio_told, Moves, here, changing, arming, calling, ending, flagging, running, framing, idling}
+use Rattle.page_laws.specs.Moves.{with_task, IsIn, HasSteps, PeriodGoesOn, IsMade, is_idle_task, Places, places, PlaceChange, places_stay, task_queued, task_left, armed_again, signal_armed, id_cleared, idle_armed, completed, idle_started, idle_queued, DueChange, timer_due, delay_due, signal_due, idle_due, answer_due, Dropping, timer_dropped, idle_dropped, listener_dropped, FirstPlace, nowhere, at_listener, at_timer, at_delay, at_idle, at_host, AsBefore, PageChange, elsewhere, told, arm_told, rested, registered, promised, settled, followed, adopted, subscribed, micro_asked, then_asked, answered, dropped, frame_dropped, frame_asked, rejected_taken, noted, Beginning, TheScript, ATimer, AFrame, AnIdle, ALateIdle, AListener, APost, AContinuation, AMicro, AReaction, called_by, taken, task_dropped, enqueued_anew, fell_due, post_fell_due, prio_told, Moves, here, changing, arming, calling, ending, flagging, running, framing, idling}
 use Rattle.page_laws.proofs.Framed.{false_true}
 use Rattle.page_laws.proofs.Idling.{made-goes, notices-goes, subscribed-goes, begins-go, change-goes, ended-goes, frame-goes_on, goes-same, job-goes_on}
 use Rattle.page_laws.proofs.Lines.{added, emit_each-events}
@@ -143,8 +143,8 @@ same-places : (x : Places) → Less x x
 same-places x = record { made = omega arith; callbacks = λ c i. i; timers = λ t i. i; tasks = λ t i. inl i }
 
 -- other tasks
-tasks-less : (x : Places) (ts : List Task) → ((t : Task) → IsIn t ts → IsIn t x.tasks ⊎ (is_idle_task t.steps ≡ false)) → Less x (record x { tasks = ts })
-tasks-less x ts h = record { made = omega arith; callbacks = λ c i. i; timers = λ t i. i; tasks = h }
+tasks-less : (x : Places) (made : ℕ) (ts : List Task) → ((t : Task) → IsIn t ts → IsIn t x.tasks ⊎ (is_idle_task t.steps ≡ false)) → Less x (record x { tasks = ts; tasks_made = made })
+tasks-less x made ts h = record { made = omega arith; callbacks = λ c i. i; timers = λ t i. i; tasks = h }
 
 one-more : (x : Places) (t : Task) → is_idle_task t.steps ≡ false → (u : Task) → IsIn u (and_last x.tasks t) → IsIn u x.tasks ⊎ (is_idle_task u.steps ≡ false)
 one-more x t plain u i = by_place (in-last u t x.tasks i)
@@ -195,7 +195,7 @@ armed-late x t past most own f =
     by_own u c j e (inr same) = own c j (e ∙ ap {A = IdleTimer} {B = ℕ} (λ v. v.handle) same) ∙ sym (ap {A = IdleTimer} {B = ℕ} (λ v. v.registration) same)
 
 -- the task that invokes idle callbacks is queued
-queued-late : (x : Places) (t : Task) (past : History) → t.steps ≡ InvokeIdle → t.source ≡ IdleSource → Late x past → Late (record x { tasks = and_last x.tasks t }) past
+queued-late : (x : Places) (t : Task) (past : History) → t.steps ≡ InvokeIdle → t.source ≡ IdleSource → Late x past → Late (with_task t x) past
 queued-late x t past e from f =
     record {
       callbacks = f.callbacks;
@@ -222,7 +222,7 @@ queued-late x t past e from f =
 
 -- an idle timeout is over, with its line, and its task is queued
 over-late : (x : Places) (t : IdleTimer) (number now r : ℕ) (source : Source) (past : History) → IsIn t x.idle_timers → t.registration ≡ r → Late x past
-    → Late (record x { tasks = and_last x.tasks (record { number = number; source = source; steps = IdleTimeout t.handle }); idle_timers = without (λ u. u.handle == t.handle) x.idle_timers }) (record { time = now; event = Due r } ∷ past)
+    → Late (with_task (record { number = number; source = source; steps = IdleTimeout t.handle }) (record x { idle_timers = without (λ u. u.handle == t.handle) x.idle_timers })) (record { time = now; event = Due r } ∷ past)
 over-late x t number now r source past i e f =
     record {
       callbacks = f.callbacks;
@@ -307,8 +307,8 @@ asked-late x q past f =
 
 place-late : {made : List Registration} {x y : Places} → PlaceChange made x y → (past : History) → Late x past → Late y past
 place-late places_stay past f = f
-place-late {x = x} (task_queued t h plain) past f = late-less x _ past past (tasks-less x (and_last x.tasks t) (one-more x t plain)) (same-due past) f
-place-late {x = x} (task_left number) past f = late-less x _ past past (tasks-less x (without (λ t. t.number == number) x.tasks) (fewer-tasks x number)) (same-due past) f
+place-late {x = x} (task_queued t h plain) past f = late-less x _ past past (tasks-less x t.number (and_last x.tasks t) (one-more x t plain)) (same-due past) f
+place-late {x = x} (task_left number) past f = late-less x _ past past (tasks-less x x.tasks_made (without (λ t. t.number == number) x.tasks) (fewer-tasks x number)) (same-due past) f
 place-late {x = x} (armed_again a t role there next) past f = late-less x _ past past (record { made = omega arith; callbacks = λ c i. i; timers = λ t i. i; tasks = λ t i. inl i }) (same-due past) f
 place-late {x = x} (signal_armed ms now r s) past f = late-less x _ past past (record { made = omega arith; callbacks = λ c i. i; timers = λ t i. i; tasks = λ t i. inl i }) (same-due past) f
 place-late {x = x} (id_cleared id) past f = late-less x _ past past (record { made = omega arith; callbacks = λ c i. i; timers = λ t i. i; tasks = λ t i. inl i }) (same-due past) f
@@ -319,15 +319,15 @@ place-late {x = x} (idle_queued t e from) past f = queued-late x t past e from f
 
 place-invokes : {made : List Registration} {p : Page} {x y : Places} (c : PlaceChange made x y) → IsMade c p → (HasSteps InvokeIdle x.tasks → PeriodGoesOn p) → HasSteps InvokeIdle y.tasks → PeriodGoesOn p
 place-invokes places_stay k f h = f h
-place-invokes {x = x} (task_queued t h plain) k f s = f (of_steps (tasks-less x (and_last x.tasks t) (one-more x t plain)) InvokeIdle refl s)
-place-invokes {x = x} (task_left number) k f s = f (of_steps (tasks-less x (without (λ t. t.number == number) x.tasks) (fewer-tasks x number)) InvokeIdle refl s)
+place-invokes {x = x} (task_queued t h plain) k f s = f (of_steps (tasks-less x t.number (and_last x.tasks t) (one-more x t plain)) InvokeIdle refl s)
+place-invokes {x = x} (task_left number) k f s = f (of_steps (tasks-less x x.tasks_made (without (λ t. t.number == number) x.tasks) (fewer-tasks x number)) InvokeIdle refl s)
 place-invokes (armed_again a t role there next) k f h = f h
 place-invokes (signal_armed ms now r s) k f h = f h
 place-invokes (id_cleared id) k f h = f h
 place-invokes (idle_armed t most own) k f h = f h
 place-invokes (completed start gone) k f h = f h
 place-invokes idle_started k f h = f h
-place-invokes (idle_queued t e from) k f h = k
+place-invokes (idle_queued t e from) k f h = k.0
 
 -- what is due
 due-late : {made : List Registration} {r : ℕ} {x y : Places} → DueChange made r x y → (now : ℕ) (past : History) → Late x past → Late y (record { time = now; event = Due r } ∷ past)
@@ -341,7 +341,7 @@ due-late {r = r} {x = x} (answer_due before a after number source e i role) now 
 
 due-invokes : {made : List Registration} {r : ℕ} {x y : Places} → DueChange made r x y → HasSteps InvokeIdle y.tasks → HasSteps InvokeIdle x.tasks
 due-invokes {x = x} (timer_due start number source t e i role) s =
-    of_steps (tasks-less x (and_last x.tasks (record { number = number; source = source; steps = RunTimer t })) (one-more x (record { number = number; source = source; steps = RunTimer t }) refl)) InvokeIdle refl s
+    of_steps (tasks-less x number (and_last x.tasks (record { number = number; source = source; steps = RunTimer t })) (one-more x (record { number = number; source = source; steps = RunTimer t }) refl)) InvokeIdle refl s
 due-invokes (delay_due start source e role) s = s
 due-invokes (signal_due start k e role) s = s
 due-invokes {x = x} (idle_due t number source i e role) s = by_task (tasked InvokeIdle (and_last x.tasks (record { number = number; source = source; steps = IdleTimeout t.handle })) s)
@@ -356,7 +356,7 @@ due-invokes {x = x} (idle_due t number source i e role) s = by_task (tasked Invo
     by_task : Tasked InvokeIdle (and_last x.tasks (record { number = number; source = source; steps = IdleTimeout t.handle })) → HasSteps InvokeIdle x.tasks
     by_task k = by_place k (in-last k.task (record { number = number; source = source; steps = IdleTimeout t.handle }) x.tasks k.there)
 due-invokes {x = x} (answer_due before a after number source e i role) s =
-    of_steps (tasks-less x (and_last x.tasks (record { number = number; source = source; steps = AnswerHost a.task })) (one-more x (record { number = number; source = source; steps = AnswerHost a.task }) refl)) InvokeIdle refl s
+    of_steps (tasks-less x number (and_last x.tasks (record { number = number; source = source; steps = AnswerHost a.task })) (one-more x (record { number = number; source = source; steps = AnswerHost a.task }) refl)) InvokeIdle refl s
 
 drop-less : {made : List Registration} {r : ℕ} {x y : Places} → Dropping made r x y → Less x y
 drop-less (timer_dropped id there e own) = record { made = omega arith; callbacks = λ c i. i; timers = λ t i. i; tasks = λ t i. inl i }
@@ -479,9 +479,9 @@ change-ready {p = p} {q = q} (noted n) r = same-ready p q refl (same-due p.event
 
 begins-ready : (b : Beginning) (p : Page) → Ready p → Ready (call_begun (called_by b) (taken b p))
 begins-ready (TheScript source task) p r =
-    lines-ready p _ _ refl (tasks-less (places p) (without (λ t. t.number == task.number) p.tasks) (fewer-tasks (places p) task.number)) (more-due _ p.now p.events) (begins-go (TheScript source task) p) r
+    lines-ready p _ _ refl (tasks-less (places p) p.tasks_made (without (λ t. t.number == task.number) p.tasks) (fewer-tasks (places p) task.number)) (more-due _ p.now p.events) (begins-go (TheScript source task) p) r
 begins-ready (ATimer source task t) p r =
-    lines-ready p _ _ refl (tasks-less (places p) (without (λ t. t.number == task.number) p.tasks) (fewer-tasks (places p) task.number)) (more-due _ p.now p.events) (begins-go (ATimer source task t) p) r
+    lines-ready p _ _ refl (tasks-less (places p) p.tasks_made (without (λ t. t.number == task.number) p.tasks) (fewer-tasks (places p) task.number)) (more-due _ p.now p.events) (begins-go (ATimer source task t) p) r
 begins-ready (AFrame key c) p r = same-ready p _ refl (more-due _ p.now p.events) (begins-go (AFrame key c) p) r
 begins-ready (AnIdle c others) p r = lines-ready p _ _ refl (idle-less (places p) c.handle) (two-due _ _ p.now p.events) (begins-go (AnIdle c others) p) r
 begins-ready (ALateIdle handle c) p r = lines-ready p _ _ refl (idle-less (places p) c.handle) (more-due _ p.now p.events) (begins-go (ALateIdle handle c) p) r
@@ -498,7 +498,7 @@ moves-ready (arming a c d w) r = change-ready d (change-ready c (moves-ready a r
 moves-ready (calling {q = q} a b w i) r = begins-ready b q (moves-ready a r)
 moves-ready (ending {q = q} a e h) r = same-ready q _ refl (more-due e q.now q.events) (ended-goes e q h) (moves-ready a r)
 moves-ready (flagging {q = q} {r = s} a x y z w u v t j) r = same-ready q s u (subst (Dues q.events) (sym y) (same-due q.events)) (goes-same q s j z y u) (moves-ready a r)
-moves-ready (running {q = q} a j others x y) r = same-ready q _ refl (more-due _ q.now q.events) (job-goes_on q j others) (moves-ready a r)
+moves-ready (running {q = q} a j others x y nm) r = same-ready q _ refl (more-due _ q.now q.events) (job-goes_on q j others) (moves-ready a r)
 moves-ready (framing {q = q} a t) r = same-ready q _ refl (more-due _ q.now q.events) (frame-goes_on t q) (moves-ready a r)
 moves-ready (idling {q = q} a none) r = let b = moves-ready a r in record { invoking = λ h. absurd (none h); late = b.late }
 
@@ -518,7 +518,7 @@ task-there source steps (t ∷ ts) task e own = by_test (same_source t.source so
     by_test false e rest = inr (rest e own)
 
 -- where no task is runnable, none waits that invokes idle callbacks
-empty-none : (f : Source → Option Runnable) (xs : List Source) (s : Source) → is_empty (filter_map f xs) ≡ true → IsIn s xs → is_there (f s) ≡ false
+pub empty-none : (f : Source → Option Runnable) (xs : List Source) (s : Source) → is_empty (filter_map f xs) ≡ true → IsIn s xs → is_there (f s) ≡ false
 empty-none f [] s h i = elim i [ ]
 empty-none f (x ∷ xs) s h i = by_place i (by_first (f x) refl h) (λ j k. empty-none f xs s k j)
   where

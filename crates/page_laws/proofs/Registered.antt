@@ -291,7 +291,7 @@ moves-fit (calling {q = q} a b w i) f =
     (call-fits b (taken b q).now q (taken b q).events i (subst (λ (xs : List Registration). KindsFit xs (taken b q).events) same (begins-fit b q (moves-fit a f))))
 moves-fit (ending {q = q} a e h) f = silent-fits e q.now q.registrations q.events (end-silent e h) (moves-fit a f)
 moves-fit (flagging {q = q} {r = r} a x y z w u v t j) f = subst (λ (xs : List Registration). KindsFit xs r.events) (sym z) (subst (KindsFit q.registrations) (sym y) (moves-fit a f))
-moves-fit (running {q = q} a j others x y) f = silent-fits (Run j.number) q.now q.registrations q.events refl (moves-fit a f)
+moves-fit (running {q = q} a j others x y nm) f = silent-fits (Run j.number) q.now q.registrations q.events refl (moves-fit a f)
 moves-fit (framing {q = q} a t) f = silent-fits (Frame t) q.now q.registrations q.events refl (moves-fit a f)
 moves-fit (idling a none) f = moves-fit a f
 

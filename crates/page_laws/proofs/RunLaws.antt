@@ -12,7 +12,7 @@ use Rattle.page_laws.proofs.Cancelled.{dropped_stay_gone}
 use Rattle.page_laws.proofs.CancelledHosts.{answers_stand, cancel_test, cancel-parts}
 use Rattle.page_laws.proofs.Priorities.{in_priority, priorities_kept}
 use Rattle.page_laws.proofs.FrameOrder.{frames_in_order, framing_test}
-use Rattle.page_laws.specs.SchedulerLaws.{ArmsAreDueAtEnd, FramesAreOverAtEnd, IdlesAreOverAtEnd, PriorityOrder}
+use Rattle.page_laws.specs.SchedulerLaws.{ArmsAreDueAtEnd, ContinuationsAreOverAtEnd, FramesAreOverAtEnd, IdlesAreOverAtEnd, MicrosAreOverAtEnd, PriorityOrder, TimeoutsAreOverAtEnd}
 use Rattle.page_laws.specs.TimerLaws.{DueInOrder, DueWhenArmed, FramesInOrder, IdleDeadlines, TimersClamped, TimersFireWhenDue}
 use Rattle.page_laws.proofs.Firing.{fired_when_due, firing}
 use Rattle.page_laws.proofs.DueTimes.{due_when_armed, due_test}
@@ -21,6 +21,9 @@ use Rattle.page_laws.proofs.Clamps.{clamps, timers_clamped}
 use Rattle.page_laws.proofs.DoneArms.{arms_due_at_end, arms_due_test}
 use Rattle.page_laws.proofs.DoneFrames.{frames_over_at_end, frames_over_test}
 use Rattle.page_laws.proofs.DoneIdle.{idles_over_at_end, idles_over_test}
+use Rattle.page_laws.proofs.DoneMicro.{micros_over_at_end, micros_over_test}
+use Rattle.page_laws.proofs.DoneTimeout.{timeouts_over_at_end, timeouts_over_test}
+use Rattle.page_laws.proofs.DoneYield.{continuations_over_at_end, continuations_over_test}
 use Rattle.page_laws.proofs.Deadlines.{deadlines_kept, idle_test}
 use Rattle.page_laws.proofs.Turns.{run_is_moves}
 use Rattle.page_model.specs.Gaps.{Act, run_gaps_by}
@@ -37,7 +40,7 @@ use Rattle.page_laws.specs.CallLaws.{Once, Cancel, SettleOnce, JobsInOrder, NoNe
 
 -- the laws of a row of moves from a first page
 abbrev pub Laws : Page → Type 0
-Laws p = SettleOnce (reverse p.events) × JobsInOrder (reverse p.events) × NoNesting (reverse p.events) × Once (reverse p.events) × p.calls ≡ open_registrations p.events × Cancel (reverse p.events) × PriorityOrder (reverse p.events) × FramesInOrder (reverse p.events) × IdleDeadlines (reverse p.events) × TimersFireWhenDue (reverse p.events) × DueWhenArmed (reverse p.events) × DueInOrder (reverse p.events) × TimersClamped (reverse p.events) × ArmsAreDueAtEnd (reverse p.events) × FramesAreOverAtEnd (reverse p.events) × IdlesAreOverAtEnd (reverse p.events)
+Laws p = SettleOnce (reverse p.events) × JobsInOrder (reverse p.events) × NoNesting (reverse p.events) × Once (reverse p.events) × p.calls ≡ open_registrations p.events × Cancel (reverse p.events) × PriorityOrder (reverse p.events) × FramesInOrder (reverse p.events) × IdleDeadlines (reverse p.events) × TimersFireWhenDue (reverse p.events) × DueWhenArmed (reverse p.events) × DueInOrder (reverse p.events) × TimersClamped (reverse p.events) × ArmsAreDueAtEnd (reverse p.events) × FramesAreOverAtEnd (reverse p.events) × IdlesAreOverAtEnd (reverse p.events) × MicrosAreOverAtEnd (reverse p.events) × ContinuationsAreOverAtEnd (reverse p.events) × TimeoutsAreOverAtEnd (reverse p.events)
 
 pub laws_of_moves : (program : Program) (setup : Setup) (hosts : List HostClosure) (p : Page) → Moves (first_page program setup hosts) p → Laws p
 laws_of_moves program setup hosts p a = (
@@ -57,6 +60,9 @@ laws_of_moves program setup hosts p a = (
   kept-each arms_due_test p.events (arms_due_at_end program setup hosts a),
   kept-each frames_over_test p.events (frames_over_at_end program setup hosts a),
   kept-each idles_over_test p.events (idles_over_at_end program setup hosts a),
+  kept-each micros_over_test p.events (micros_over_at_end program setup hosts a),
+  kept-each continuations_over_test p.events (continuations_over_at_end program setup hosts a),
+  kept-each timeouts_over_test p.events (timeouts_over_at_end program setup hosts a),
 )
 
 pub laws_of_runs : {C : Type 0} (rules : Rules C) (program : Program) (setup : Setup) (hosts : List HostClosure) (c : C) → HoldsNoNumbers setup → Laws (state_of (run_by rules program setup hosts c)).host

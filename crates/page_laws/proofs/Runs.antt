@@ -13,7 +13,7 @@ use Rattle.page_laws.proofs.Framed.{FramesKept, Ordered, changes-kept, kept-same
 use Rattle.page_laws.proofs.Moved.{notify_rejected-changes, quietly, report_after-changes, report_before-changes}
 use Rattle.page_laws.proofs.Moving.{moves-then, moves_of}
 use Rattle.page_laws.proofs.Onto.{change_begun-onto, change_ended-onto, reason_set-onto, reject-onto, resolve-onto, run_algorithms-onto, settle-onto, subscribe-onto}
-use Rattle.page_laws.specs.Moves.{Changes, AListener, AMicro, AReaction, Beginning, Moves, Waited, called_by, calling, ending, flagging, here, role_of, running, taken}
+use Rattle.page_laws.specs.Moves.{is_micro, Changes, AListener, AMicro, AReaction, Beginning, Moves, Waited, called_by, calling, ending, flagging, here, role_of, running, taken}
 use Rattle.page_model.proofs.NumbersEvaluation as numbers
 use Rattle.page_model.proofs.NumbersEvaluation.{Good, each, every, on_page-good}
 use Rattle.page_model.proofs.NumbersGrow.{Each-append, Each-more, Grows-then, Held, InListeners, InNotices, InPrios, InScheduling, InSignals, IsFor-grows, IsKnown-grows, Onward, if_state-grows, promise-grows, signal-grows, signals-grow, stays, values-grow}
@@ -37,7 +37,7 @@ use Rattle.page_types.specs.Tree.{Program}
 use Rattle.page_types.specs.Values.{SignalValue, Value, items_of}
 use Rattle.page_types.specs.declared.Priority.{Priority}
 use Rattle.page_types.specs.declared.Source.TheVariants.{Dom}
-use Rattle.std.proofs.Common.{Bool, List, None, Option, Some, [], cond, false, length, refl, subst, suc, sym, true, zero, ℕ, ◌++◌, ◌||◌, ◌∙◌, ◌∷◌, ◌≡◌, map}
+use Rattle.std.proofs.Common.{Bool, List, None, Option, Some, [], ap, cond, false, length, refl, subst, suc, sym, true, zero, ℕ, ◌++◌, ◌||◌, ◌∙◌, ◌∷◌, ◌≡◌, map}
 use Rattle.std.specs.Prelude.{codes}
 use Rattle.page_laws.specs.History.{open_registrations}
 use Rattle.page_model.specs.PagePromises as promises
@@ -298,17 +298,17 @@ module _ (program : Program) where
   JobsGiven n jobs = Each (JobIsGiven n) jobs
 
   -- a job begins, where no call is open
-  job_begins : (waiting : WaitingJob) (others : List WaitingJob) (m : State) → Good m → NoneOpen m → m.host.notices.jobs ≡ waiting ∷ others → JobIsGiven (made_by m.host) waiting → JobsGiven (made_by m.host) others → Reached m (begin_job waiting others m)
-  job_begins waiting others m g z e y x =
+  job_begins : (waiting : WaitingJob) (others : List WaitingJob) (m : State) → is_micro waiting.what ≡ false → Good m → NoneOpen m → m.host.notices.jobs ≡ waiting ∷ others → JobIsGiven (made_by m.host) waiting → JobsGiven (made_by m.host) others → Reached m (begin_job waiting others m)
+  job_begins waiting others m nm g z e y x =
       let a = numbers.on_page-good m (job_begun waiting others) g (job_begun-held program waiting others m.host g.0 y x) in
-      ((a.0, running here waiting others e z, (refl, refl), step-kept (quiet refl refl (λ r. refl)), job-goes_on m.host waiting others), a.1)
+      ((a.0, running here waiting others e z nm, (refl, refl), step-kept (quiet refl refl (λ r. refl)), job-goes_on m.host waiting others), a.1)
 
   -- a job runs: where it calls, its callback is taken with the job
   job-goes : (call : Caller Page) → CallsGo call → (job : WaitingJob) (others : List WaitingJob) (m : State) → Good m → NoneOpen m → m.host.notices.jobs ≡ job ∷ others → JobIsGiven (made_by m.host) job → JobsGiven (made_by m.host) others → Goes m (run_job call job.what (begin_job job others m))
   job-goes call c job others m g z e x rest = by_what job.what refl x.what
     where
-      begun : Reached m (begin_job job others m)
-      begun = job_begins job others m g z e x rest
+      begun : is_micro job.what ≡ false → Reached m (begin_job job others m)
+      begun nm = job_begins job others m nm g z e x rest
 
       -- with another scheduling state
       state_held : (s : Option ℕ) → IfThere (IsGiven (made_by m.host).states) s → Onward (made_by m.host) (record (job_begun job others m.host) { scheduling = s })
@@ -316,7 +316,8 @@ module _ (program : Program) where
 
       by_handler : (of : ℕ) (y : Reaction) (how : Settled) (r : ℕ) (f : Option Func) → job.what ≡ OfPromise (React of y) → y.registration ≡ Some r → ReactionIsGiven (made_by m.host) y → IsKnown (made_by m.host) (settled_value how) → Goes m (react_then call r f y how (begin_job job others m))
       by_handler of y how r None e1 e2 k v =
-          wide m (begin_job job others m) (react_then call r None y how (begin_job job others m)) begun.0 (finish_page (begin_job job others m) (promises.settle y.into how) begun.1 (settle-onto y.into how (begin_job job others m).host begun.1.0 k.into v))
+          let b = begun (ap is_micro e1) in
+          wide m (begin_job job others m) (react_then call r None y how (begin_job job others m)) b.0 (finish_page (begin_job job others m) (promises.settle y.into how) b.1 (settle-onto y.into how (begin_job job others m).host b.1.0 k.into v))
       by_handler of y how r (Some f) e1 e2 k v =
           let registration = the_registration (begin_job job others m).host r in
           settle_by-goes (resolve_derived registration y.into how) y.into m (invoke (in_checkpoint call) r (has_failed how) (handler_arguments registration how) (with_scheduling y.state (begin_job job others m)))
@@ -325,19 +326,21 @@ module _ (program : Program) where
 
       by_registration : (of : ℕ) (y : Reaction) (how : Settled) (o : Option ℕ) → job.what ≡ OfPromise (React of y) → y.registration ≡ o → ReactionIsGiven (made_by m.host) y → IsKnown (made_by m.host) (settled_value how) → Goes m (react_by call o y how (begin_job job others m))
       by_registration of y how None e1 e2 k v =
-          wide m (begin_job job others m) (react_by call None y how (begin_job job others m)) begun.0 (finish_page (begin_job job others m) (lead_into y.into how) begun.1 (lead_into-onto y.into how (begin_job job others m).host begun.1.0 k.into v))
+          let b = begun (ap is_micro e1) in
+          wide m (begin_job job others m) (react_by call None y how (begin_job job others m)) b.0 (finish_page (begin_job job others m) (lead_into y.into how) b.1 (lead_into-onto y.into how (begin_job job others m).host b.1.0 k.into v))
       by_registration of y how (Some r) e1 e2 k v = by_handler of y how r (callback_of (has_failed how) (the_registration (begin_job job others m).host r)) e1 e2 k v
 
       by_outcome : (of : ℕ) (y : Reaction) (o : Option Settled) → job.what ≡ OfPromise (React of y) → ReactionIsGiven (made_by m.host) y → IfThere (λ how. IsKnown (made_by m.host) (settled_value how)) o → Goes m (react call y o (begin_job job others m))
-      by_outcome of y None e1 k v = wide m (begin_job job others m) (react call y None (begin_job job others m)) begun.0 (finish-goes (begin_job job others m) begun.1)
+      by_outcome of y None e1 k v = let b = begun (ap is_micro e1) in wide m (begin_job job others m) (react call y None (begin_job job others m)) b.0 (finish-goes (begin_job job others m) b.1)
       by_outcome of y (Some how) e1 k v = by_registration of y how y.registration e1 refl k v
 
       by_what : (what : Todo) → job.what ≡ what → TodoIsGiven (made_by m.host) what → Goes m (run_job call what (begin_job job others m))
       by_what (Micro r) e1 k = invoke-goes (in_checkpoint call) (in_checkpoint-goes call c) (AMicro job others r) false [] m g tt (e, e1, z) k (job_begun-held program job others m.host g.0 x rest) tt
       by_what (OfPromise (React of y)) e1 k = by_outcome of y (promise_at m.host of).outcome e1 k.1 (the_promise-given (made_by m.host) m.host.notices of (g.0 InNotices)).outcome
       by_what (OfPromise (Adopt into from)) e1 k =
-          wide m (begin_job job others m) (run_job call (OfPromise (Adopt into from)) (begin_job job others m)) begun.0
-          (finish_page (begin_job job others m) (promises.subscribe from (inner_subscription into)) begun.1 (subscribe-onto from (inner_subscription into) (begin_job job others m).host begun.1.0 k.1 (record { registration = tt; into = k.0; state = tt }) refl))
+          let b = begun (ap is_micro e1) in
+          wide m (begin_job job others m) (run_job call (OfPromise (Adopt into from)) (begin_job job others m)) b.0
+          (finish_page (begin_job job others m) (promises.subscribe from (inner_subscription into)) b.1 (subscribe-onto from (inner_subscription into) (begin_job job others m).host b.1.0 k.1 (record { registration = tt; into = k.0; state = tt }) refl))
 
   -- a unit is taken, and nothing else
   take_unit-goes : (m : State) (next : State → Done Page) → Good m → ((left : ℕ) → Goes (record m { fuel = left }) (next (record m { fuel = left }))) → Goes m (take_unit m next)

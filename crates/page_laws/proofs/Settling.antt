@@ -308,7 +308,7 @@ moves-fit (arming a c e w) f = change-fits e (change-fits c (moves-fit a f))
 moves-fit (calling {q = q} a b w i) f = silent-fits (Call (called_by b)) (taken b q).now (taken b q).notices.promises (taken b q).events refl (begins-fit b q (moves-fit a f))
 moves-fit (ending {q = q} a e h) f = silent-fits e q.now q.notices.promises q.events (end-silent e h) (moves-fit a f)
 moves-fit (flagging {q = q} {r = r} a x y z w u v t j) f = subst (λ (s : Notices). SettlesFit s.promises r.events) (sym x) (subst (SettlesFit q.notices.promises) (sym y) (moves-fit a f))
-moves-fit (running {q = q} a j others x y) f = silent-fits (Run j.number) q.now q.notices.promises q.events refl (moves-fit a f)
+moves-fit (running {q = q} a j others x y nm) f = silent-fits (Run j.number) q.now q.notices.promises q.events refl (moves-fit a f)
 moves-fit (framing {q = q} a t) f = silent-fits (Frame t) q.now q.notices.promises q.events refl (moves-fit a f)
 moves-fit (idling a none) f = moves-fit a f
 

@@ -4,12 +4,14 @@ use Rattle.lang_meaning.specs.Machine.{Caller, Done, afterwards, branch, finish}
 use Rattle.page_laws.proofs.Drawing.{found-in, run_frame-goes}
 use Rattle.page_laws.proofs.Framed.{Ordered}
 use Rattle.page_laws.proofs.Ready.{Ready, due-there, task-there}
+use Rattle.page_laws.proofs.Numbered.{Numbered, moves-given, only-task}
+use Rattle.page_laws.proofs.Over.{on_left}
 use Rattle.page_laws.proofs.Arming.{Tidy, moves-keep, none-unarmed, taken-unarmed}
 use Rattle.page_laws.proofs.Evaluating.{Le, Onto, Reached, entered, le-same, le-then, on_page-reached, told-onto, call_over}
 use Rattle.page_laws.proofs.Moved.{invoke_idle_again-changes, outstanding-changes, placed, quietly}
 use Rattle.page_laws.proofs.Onto.{clear_id-onto, init_again-onto, resolve-onto, unwatch-onto}
 use Rattle.page_laws.proofs.Runs.{AtTop, CallsGo, Goes, WaysGo, abort-goes, afterwards-comes, afterwards-goes, at_top-later, branch-goes, branch_when-goes, checkpoint-goes, dispatch-goes, each_in_turn-goes, finish-goes, finish_page, invoke-comes, invoke-goes, scheduling-onto, settle_derived-goes, then_page, wide}
-use Rattle.page_laws.specs.Moves.{IsIn, IsUnarmed, places, PeriodGoesOn, task_left, AContinuation, ALateIdle, APost, ATimer, AnIdle, TheScript, FrameIsOver, Waited, sched_begun, taken}
+use Rattle.page_laws.specs.Moves.{LeavesAlone, IsIn, IsUnarmed, places, PeriodGoesOn, task_left, AContinuation, ALateIdle, APost, ATimer, AnIdle, TheScript, FrameIsOver, Waited, sched_begun, taken}
 use Rattle.page_model.proofs.NumbersEvaluation as numbers
 use Rattle.page_model.proofs.NumbersEvaluation.{Good, on_page-good}
 use Rattle.page_model.proofs.NumbersGrow.{Each-append, Each-find, Each-last, Each-without, Held, InIdle, InNotices, InTasks, Onward, TimerTask-grows, onward-then, promise-grows, stays, IsFor-grows}
@@ -39,7 +41,8 @@ use Rattle.page_types.specs.declared.Source.{Source}
 use Rattle.page_types.specs.declared.Source.TheVariants.{Idle, Sched}
 use Rattle.std.proofs.Common.{Bool, List, None, Option, Some, [], ap, ◌∙◌, cond, false, length, nat_lt, refl, subst, sym, true, ℕ, ◌++◌, ◌∷◌, ◌≡◌}
 use Rattle.std.specs.Prelude.{codes, ◌==◌}
-use Rattle.page_laws.specs.History.{open_registrations, was_due}
+use Rattle.std.proofs.lemmas.Bool.{eq-eqb}
+use Rattle.page_laws.specs.History.{is_call_of, open_registrations, was_called, was_due}
 use Rattle.page_model.specs.PagePromises as promises
 
 -- ---- the page in tasks
@@ -76,8 +79,8 @@ pub without_task-held : (k : ℕ) (p : Page) → Held (made_by p) p → Onward (
 without_task-held k p h =
     stays (without_task k p) (put_tasks (made_by p) p (without (λ t. t.number == k) p.tasks) (Each-without (TaskIsGiven (made_by p)) (λ t. t.number == k) p.tasks (h InTasks)) h)
 
-pub without_task-onto : (k : ℕ) (p : Page) → Held (made_by p) p → Onto p (without_task k p)
-without_task-onto k p h = (without_task-held k p h, placed p (without_task k p) (task_left k) tt tt refl refl refl refl refl refl refl refl)
+pub without_task-onto : (k : ℕ) (p : Page) → Held (made_by p) p → ((t : Task) → IsIn t p.tasks → t.number ≡ k → LeavesAlone t.steps p.timers) → Onto p (without_task k p)
+without_task-onto k p h alone = (without_task-held k p h, placed p (without_task k p) (task_left k) tt alone refl refl refl refl refl refl refl refl)
 
 outstanding-onto : (k : ℕ) (p : Page) → Held (made_by p) p → IsGiven (length p.notices.promises) k → Onto p (outstanding_if_unhandled k p)
 outstanding-onto k p h x = (outstanding-held k p h x, outstanding-changes k p)
@@ -123,6 +126,11 @@ continued-reached t m g w i x =
     let last : Reached ended (on_page (continued r) n) = on_page-reached ended (unwatch r) good (unwatch-onto r ended.host good.0) in
     (le-then m ended (on_page (continued r) n) le last.0, last.1)
 
+-- where the task of a source is taken, only that one has its number, so that what it leaves is left by all
+pub left-alone : (p : Page) (source : Source) (task : Task) (steps : Steps) → Numbered p → first_task source p.tasks ≡ Some task → task.steps ≡ steps → LeavesAlone steps p.timers → (t : Task) → IsIn t p.tasks → t.number ≡ task.number → LeavesAlone t.steps p.timers
+left-alone p source task steps n e e1 alone t i same =
+    subst (λ (s : Steps). LeavesAlone s p.timers) (sym (ap {A = Task} {B = Steps} (λ u. u.steps) (only-task p source task n e t i same) ∙ e1)) alone
+
 -- an id that is in the map with some handle is there
 live_there : (id handle : ℕ) (t : Timers) → is_live id handle t ≡ true → has_id id t ≡ true
 live_there id handle t h = by_entry (id_entry id t) h
@@ -134,20 +142,20 @@ live_there id handle t h = by_entry (id_entry id t) h
 module _ (program : Program) where
   -- ---- timers
 
-  timer_goes_on-goes : (t : TimerTask) (m : State) → Good m → is_live t.id t.handle m.host.timers ≡ true → TimerTaskIsGiven (made_by m.host) t → (t.repeats ≡ true → IsUnarmed t.registration (places m.host)) → Goes program m (timer_goes_on t m)
-  timer_goes_on-goes t m g live x free =
+  timer_goes_on-goes : (t : TimerTask) (m : State) → Good m → is_live t.id t.handle m.host.timers ≡ true → TimerTaskIsGiven (made_by m.host) t → (t.repeats ≡ true → IsUnarmed t.registration (places m.host)) → was_called m.host.events t.registration ≡ true → Goes program m (timer_goes_on t m)
+  timer_goes_on-goes t m g live x free called =
       branch_when-goes program t.repeats m (initialised_again t) (λ m. finish (on_page (clear_id t.id) m))
       (λ e. subst (λ (b : Bool). Goes program m (finish (on_page (init_timer (Some t.id) t.registration b t.timeout) m))) (sym e)
       (finish_page program m (init_timer (Some t.id) t.registration true t.timeout) g
       (init_again-onto t.id t.registration t.timeout m.host g.0 x.id (subst (λ (b : Bool). IsFor (timer_role b) (made_by m.host) t.registration) e x.registration) x.own (live_there t.id t.handle m.host.timers live) (free e))))
-      (λ e. finish_page program m (clear_id t.id) g (clear_id-onto t.id m.host g.0))
+      (λ e. finish_page program m (clear_id t.id) g (clear_id-onto t.id m.host g.0 (record { registration = t.registration; role = x.registration.role ∙ ap timer_role e; own = x.own; called = called })))
 
   where_live-goes : (t : TimerTask) (next : State → Done Page) (m : State) → Good m → (is_live t.id t.handle m.host.timers ≡ true → Goes program m (next m)) → Goes program m (where_live t next m)
   where_live-goes t next m g q = branch_when-goes program (is_live t.id t.handle m.host.timers) m next finish q (λ gone. finish-goes program m g)
 
   -- the task of a timer, from before it leaves its queue
-  timer_task-goes : (w : Ways) (a : WaysGo program w) → (source : Source) (task : Task) (t : TimerTask) (m : State) → Good m → a.Here m → first_task source m.host.tasks ≡ Some task → task.steps ≡ RunTimer t → TimerTaskIsGiven (made_by m.host) t → Tidy m.host → Goes program m (run_timer w t (on_page (without_task task.number) m))
-  timer_task-goes w a source task t m g z e e1 x tidy =
+  timer_task-goes : (w : Ways) (a : WaysGo program w) → (source : Source) (task : Task) (t : TimerTask) (m : State) → Good m → a.Here m → first_task source m.host.tasks ≡ Some task → task.steps ≡ RunTimer t → TimerTaskIsGiven (made_by m.host) t → Tidy m.host → Numbered m.host → Goes program m (run_timer w t (on_page (without_task task.number) m))
+  timer_task-goes w a source task t m g z e e1 x tidy numbered =
       let begun = on_page (taken (ATimer source task t)) m in
       let o : Onward (made_by m.host) begun.host = without_task-held task.number m.host g.0 in
       branch_when-goes_from (is_live t.id t.handle m.host.timers) m begun (λ m. afterwards (invoke w t.registration false [] m) (where_live t (timer_goes_on t))) finish
@@ -157,12 +165,13 @@ module _ (program : Program) where
       (λ r le moved gr. where_live-goes t (timer_goes_on t) r gr
       (λ live. timer_goes_on-goes t r gr live (TimerTask-grows (made_by m.host) (made_by r.host) le.0 t x)
       (λ again. none-unarmed t.registration (places r.host)
-      ((moves-keep moved).unarmed t.registration t.handle (x.registration.role ∙ ap timer_role again) x.handle.to_last (ap (λ n. is_live n t.handle r.host.timers) x.own ∙ live) (taken-unarmed m.host source task t tidy e e1))))))
-      (let b = on_page-reached m (taken (ATimer source task t)) g (o, placed m.host begun.host (task_left task.number) tt tt refl refl refl refl refl refl refl refl) in (b.0, b.1, tt))
+      ((moves-keep moved).unarmed t.registration t.handle (x.registration.role ∙ ap timer_role again) x.handle.to_last (ap (λ n. is_live n t.handle r.host.timers) x.own ∙ live) (taken-unarmed m.host source task t tidy e e1)))
+      (moves-given (is_call_of t.registration) moved (on_left (t.registration == t.registration) _ (eq-eqb t.registration t.registration refl))))))
+      (λ gone. let b = on_page-reached m (taken (ATimer source task t)) g (o, placed m.host begun.host (task_left task.number) tt (left-alone m.host source task (RunTimer t) numbered e e1 gone) refl refl refl refl refl refl refl refl) in (b.0, b.1, tt))
     where
-      branch_when-goes_from : (b : Bool) (m n : State) (then else : State → Done Page) → (b ≡ true → Goes program m (then n)) → Goes program m (else n) → Goes program m (branch b n then else)
+      branch_when-goes_from : (b : Bool) (m n : State) (then else : State → Done Page) → (b ≡ true → Goes program m (then n)) → (b ≡ false → Goes program m (else n)) → Goes program m (branch b n then else)
       branch_when-goes_from true m n then else h k = h refl
-      branch_when-goes_from false m n then else h k = k
+      branch_when-goes_from false m n then else h k = k refl
 
   -- ---- idle callbacks
 
@@ -208,37 +217,37 @@ module _ (program : Program) where
   -- ---- steps of tasks
 
   -- a task, from before it leaves its queue
-  pub task-goes : (w : Ways) (a : WaysGo program w) → (source : Source) (task : Task) (m : State) → Good m → a.Here m → Ordered m.host → Ready m.host → Tidy m.host → first_task source m.host.tasks ≡ Some task → StepsAreGiven (made_by m.host) task.steps → Goes program m (perform_steps w task.steps (on_page (without_task task.number) m))
-  task-goes w a source task m g z o ready tidy e x = by_steps task.steps refl x
+  pub task-goes : (w : Ways) (a : WaysGo program w) → (source : Source) (task : Task) (m : State) → Good m → a.Here m → Ordered m.host → Ready m.host → Tidy m.host → Numbered m.host → first_task source m.host.tasks ≡ Some task → StepsAreGiven (made_by m.host) task.steps → Goes program m (perform_steps w task.steps (on_page (without_task task.number) m))
+  task-goes w a source task m g z o ready tidy numbered e x = by_steps task.steps refl x
     where
-      left : Reached m (on_page (without_task task.number) m)
-      left = on_page-reached m (without_task task.number) g (without_task-onto task.number m.host g.0)
+      leaves : (steps : Steps) → task.steps ≡ steps → LeavesAlone steps m.host.timers → Reached m (on_page (without_task task.number) m)
+      leaves steps e1 alone = on_page-reached m (without_task task.number) g (without_task-onto task.number m.host g.0 (left-alone m.host source task steps numbered e e1 alone))
 
       n : State
       n = on_page (without_task task.number) m
 
-      there : a.Here (on_page (without_task task.number) m)
-      there = a.later m (on_page (without_task task.number) m) left.0 z
+      there : Reached m (on_page (without_task task.number) m) → a.Here (on_page (without_task task.number) m)
+      there left = a.later m (on_page (without_task task.number) m) left.0 z
 
       by_steps : (steps : Steps) → task.steps ≡ steps → StepsAreGiven (made_by m.host) steps → Goes program m (perform_steps w steps (on_page (without_task task.number) m))
       by_steps RunScript e1 x = invoke-goes program w a (TheScript source task) false [] m g z (e, e1) x (without_task-held task.number m.host g.0) tt
-      by_steps (RunTimer t) e1 x = timer_task-goes w a source task t m g z e e1 x tidy
-      by_steps (TimeOutSignal s) e1 x = wide program m (on_page (without_task task.number) m) (perform_steps w (TimeOutSignal s) (on_page (without_task task.number) m)) left.0 (abort-goes program w a s (a_fault TimeoutError) (on_page (without_task task.number) m) left.1 there x tt)
-      by_steps (FireAtWindow name v) e1 x = wide program m (on_page (without_task task.number) m) (perform_steps w (FireAtWindow name v) (on_page (without_task task.number) m)) left.0 (dispatch-goes program w a Window name (v ∷ []) (on_page (without_task task.number) m) left.1 there (x, tt))
-      by_steps (AnswerHost t) e1 x = wide program m (on_page (without_task task.number) m) (perform_steps w (AnswerHost t) (on_page (without_task task.number) m)) left.0 (finish-goes program (on_page (without_task task.number) m) left.1)
-      by_steps (RunFrame t) e1 x = wide program m (on_page (without_task task.number) m) (perform_steps w (RunFrame t) (on_page (without_task task.number) m)) left.0 (run_frame-goes program w a t (on_page (without_task task.number) m) o left.1 there)
-      by_steps InvokeIdle e1 x = wide program m (on_page (without_task task.number) m) (perform_steps w InvokeIdle (on_page (without_task task.number) m)) left.0 (invoke_idle-goes w a (on_page (without_task task.number) m) (left.0.4 (ready.invoking (task-there source InvokeIdle m.host.tasks task e e1))) left.1 there)
-      by_steps (IdleTimeout handle) e1 x = wide program m (on_page (without_task task.number) m) (perform_steps w (IdleTimeout handle) (on_page (without_task task.number) m)) left.0 (timed_out-goes w a handle (idle_callback handle m.host) (on_page (without_task task.number) m) refl (λ c i same. due-there m.host handle c ready (task-there source (IdleTimeout handle) m.host.tasks task e e1) i same) left.1 there)
-      by_steps (NotifyRejected ks) e1 x =
+      by_steps (RunTimer t) e1 x = timer_task-goes w a source task t m g z e e1 x tidy numbered
+      by_steps (TimeOutSignal s) e1 x = let left = leaves (TimeOutSignal s) e1 tt in wide program m (on_page (without_task task.number) m) (perform_steps w (TimeOutSignal s) (on_page (without_task task.number) m)) left.0 (abort-goes program w a s (a_fault TimeoutError) (on_page (without_task task.number) m) left.1 (there left) x tt)
+      by_steps (FireAtWindow name v) e1 x = let left = leaves (FireAtWindow name v) e1 tt in wide program m (on_page (without_task task.number) m) (perform_steps w (FireAtWindow name v) (on_page (without_task task.number) m)) left.0 (dispatch-goes program w a Window name (v ∷ []) (on_page (without_task task.number) m) left.1 (there left) (x, tt))
+      by_steps (AnswerHost t) e1 x = let left = leaves (AnswerHost t) e1 tt in wide program m (on_page (without_task task.number) m) (perform_steps w (AnswerHost t) (on_page (without_task task.number) m)) left.0 (finish-goes program (on_page (without_task task.number) m) left.1)
+      by_steps (RunFrame t) e1 x = let left = leaves (RunFrame t) e1 tt in wide program m (on_page (without_task task.number) m) (perform_steps w (RunFrame t) (on_page (without_task task.number) m)) left.0 (run_frame-goes program w a t (on_page (without_task task.number) m) o left.1 (there left))
+      by_steps InvokeIdle e1 x = let left = leaves InvokeIdle e1 tt in wide program m (on_page (without_task task.number) m) (perform_steps w InvokeIdle (on_page (without_task task.number) m)) left.0 (invoke_idle-goes w a (on_page (without_task task.number) m) (left.0.4 (ready.invoking (task-there source InvokeIdle m.host.tasks task e e1))) left.1 (there left))
+      by_steps (IdleTimeout handle) e1 x = let left = leaves (IdleTimeout handle) e1 tt in wide program m (on_page (without_task task.number) m) (perform_steps w (IdleTimeout handle) (on_page (without_task task.number) m)) left.0 (timed_out-goes w a handle (idle_callback handle m.host) (on_page (without_task task.number) m) refl (λ c i same. due-there m.host handle c ready (task-there source (IdleTimeout handle) m.host.tasks task e e1) i same) left.1 (there left))
+      by_steps (NotifyRejected ks) e1 x = let left = leaves (NotifyRejected ks) e1 tt in
           wide program m (on_page (without_task task.number) m) (perform_steps w (NotifyRejected ks) (on_page (without_task task.number) m)) left.0
-          (each_in_turn-goes program (on_page (without_task task.number) m) IsPromise promise-grows (notify_one w) (λ k r le gr y. notify_one-goes w a k r gr (a.later (on_page (without_task task.number) m) r le there) y) ks (on_page (without_task task.number) m) (le-same (on_page (without_task task.number) m)) left.1 x)
-      by_steps (NotifyHandled k) e1 x =
+          (each_in_turn-goes program (on_page (without_task task.number) m) IsPromise promise-grows (notify_one w) (λ k r le gr y. notify_one-goes w a k r gr (a.later (on_page (without_task task.number) m) r le (there left)) y) ks (on_page (without_task task.number) m) (le-same (on_page (without_task task.number) m)) left.1 x)
+      by_steps (NotifyHandled k) e1 x = let left = leaves (NotifyHandled k) e1 tt in
           let n = on_page (without_task task.number) m in
           let told = on_page (emit (Handled k)) n in
           let args = PromiseValue k ∷ promise_reason n.host k ∷ [] in
           wide program m n (perform_steps w (NotifyHandled k) (on_page (without_task task.number) m)) left.0
           (then_page program n (emit (Handled k)) (dispatch w Window (codes "rejectionhandled") args told) left.1 (told-onto (Handled k) n.host refl left.1.0)
-          (λ b. dispatch-goes program w a Window (codes "rejectionhandled") args told b.1 (a.later n told b.0 there) (x, (promise_reason-known n.host k left.1.0, tt))))
+          (λ b. dispatch-goes program w a Window (codes "rejectionhandled") args told b.1 (a.later n told b.0 (there left)) (x, (promise_reason-known n.host k left.1.0, tt))))
 
   -- the scheduler's first task, from before the line of its turn
   pub sched_task-goes : (w : Ways) (a : WaysGo program w) → (t : SchedTask) (m : State) → Good m → a.Here m → first_sched m.host ≡ Some t → open_registrations m.host.events ≡ [] → m.host.notices.jobs ≡ [] → FrameIsOver m.host → SchedTaskIsGiven (made_by m.host) t → Goes program m (perform_sched w t (on_page (sched_begun t) m))

@@ -15,7 +15,8 @@ use Rattle.page_laws.proofs.Onto.{parallel-onto}
 use Rattle.page_model.proofs.NumbersTasks.{answer_host-held}
 use Rattle.page_laws.proofs.Operations.{outside-goes}
 use Rattle.page_laws.proofs.Runs.{AtTop, CallsGo, Clears, Goes, at_top-later, checkpoint-clears, finish-goes, finish_page, in_task-goes}
-use Rattle.page_laws.proofs.Tasks.{after_task-goes, sched_task-goes, task-goes, without_task-held, without_task-onto}
+use Rattle.page_laws.proofs.Numbered.{Numbered, first-numbered, moves-numbered}
+use Rattle.page_laws.proofs.Tasks.{left-alone, after_task-goes, sched_task-goes, task-goes, without_task-held, without_task-onto}
 use Rattle.page_laws.specs.Moves.{HasSteps, IsAtEnd, idling, FrameIsOver, marked, places_stay, Moves, changing, elsewhere, here, nothing, rested, sched_begun, told, with_change}
 use Rattle.page_model.proofs.NumbersEvaluation.{Good, on_page-good}
 use Rattle.page_model.proofs.NumbersGrow.{Each-find, Grows-same, InSchedTasks, InTasks, onward-then, stays}
@@ -143,9 +144,9 @@ idle_step-notices p = by_start (waits before.idle && nat_lt before.now (deadline
 
 -- ---- turns
 
--- no frame is in progress, tasks of idle callbacks find what they need, and no registration waits twice
+-- no frame is in progress, tasks of idle callbacks find what they need, no registration waits twice, and tasks have different numbers
 abbrev pub Calm : State → Type 0
-Calm m = FrameIsOver m.host × Ready m.host × Tidy m.host
+Calm m = FrameIsOver m.host × Ready m.host × Tidy m.host × Numbered m.host
 
 -- between turns no call is open, no checkpoint is performed and no job waits
 abbrev pub Rests : State → Type 0
@@ -160,7 +161,7 @@ over-later m r k o over c i = by_place (k.each o c i)
     by_place (inr n) = n.2
 
 pub calm-later : (m r : State) → Moves m.host r.host → FramesKept m.host r.host → Ordered m.host → Calm m → Calm r
-calm-later m r a k o x = (over-later m r k o x.0, moves-ready a x.1, moves-tidy a x.2)
+calm-later m r a k o x = (over-later m r k o x.0, moves-ready a x.1, moves-tidy a x.2, moves-numbered a x.3)
 
 -- a state between turns that is reached from another one
 abbrev pub Comes : State → State → Type 0
@@ -204,7 +205,7 @@ idle_step-comes m g x empty =
     now = (
       (Grows-same (made_by m.host), row, (refl, refl), kept-same m.host mid.host refl refl refl),
       (on_page-good m (λ p. record p { last_idle_start = p.now }) g (stays mid.host g.0)).1,
-      (x.0, x.1, (x.2.0, moves-ready row x.2.1, moves-tidy row x.2.2)),
+      (x.0, x.1, (x.2.0, moves-ready row x.2.1, moves-tidy row x.2.2, moves-numbered row x.2.3)),
     )
 
 step_five-comes : (m : State) → Good m → Rests m → Comes m (step_five m)
@@ -283,16 +284,19 @@ module _ {C : Type 0} (program : Program) where
     perform_first-lands source None m c e g z over x = here
     perform_first-lands source (Some task) m c e g z over x = by_host (host_task_of task.steps) refl (host_task_of-given (made_by m.host) task.steps x.steps)
       where
-        left : Reached m (on_page (without_task task.number) m)
-        left = on_page-reached m (without_task task.number) g (without_task-onto task.number m.host g.0)
+        leaves : (t : HostTask) → task.steps ≡ AnswerHost t → Reached m (on_page (without_task task.number) m)
+        leaves t e1 = on_page-reached m (without_task task.number) g (without_task-onto task.number m.host g.0 (left-alone m.host source task (AnswerHost t) over.3 e e1 tt))
 
         by_host : (t : Option HostTask) → host_task_of task.steps ≡ t → IfThere (λ (t : HostTask). HasPromise (made_by m.host) t.registration) t → Lands m (perform_task rules call task t (on_page (without_task task.number) m) c)
         by_host None k y =
-            task_done-lands c m (perform_steps (in_task call) task.steps (on_page (without_task task.number) m)) z over (task-goes program (in_task call) (in_task-goes program call calls_go) source task m g z z.2 over.1 over.2 e x.steps)
+            task_done-lands c m (perform_steps (in_task call) task.steps (on_page (without_task task.number) m)) z over (task-goes program (in_task call) (in_task-goes program call calls_go) source task m g z z.2 over.1 over.2 over.3 e x.steps)
         by_host (Some t) k y = by_closure (not_dropped (slice_get m.host.hosts t.closure)) refl
           where
             n : State
             n = on_page (without_task task.number) m
+
+            left : Reached m (on_page (without_task task.number) m)
+            left = leaves t (asks_host task.steps t k)
 
             answered-onto : is_there (not_dropped (slice_get m.host.hosts t.closure)) ≡ true → (answer : Result ℤ ℤ) → Onto m.host (answer_host t answer n.host)
             answered-onto live answer =
@@ -359,7 +363,7 @@ module _ {C : Type 0} (program : Program) where
     with_turn_fuel-lands (suc left) m c g x =
         let counted = counted_turn left m in
         let row : Moves m.host counted.host = changing here (elsewhere places_stay (record { notices = refl; performing = refl; events = refl; registrations = refl; frames = refl; calls = refl; aborted = λ s h. h; scheduling = record { priorities = λ s. refl; states = refl; tasks_made = omega arith; idle_start = refl } }) tt) tt in
-        lands-then m counted (step_four rules call (view m.host) counted c) (Grows-same (made_by m.host), row, (refl, refl), kept-same m.host counted.host refl refl refl) (step_four-lands (view m.host) counted c refl g (x.0, x.1, (x.2.0, moves-ready row x.2.1, moves-tidy row x.2.2)))
+        lands-then m counted (step_four rules call (view m.host) counted c) (Grows-same (made_by m.host), row, (refl, refl), kept-same m.host counted.host refl refl refl) (step_four-lands (view m.host) counted c refl g (x.0, x.1, (x.2.0, moves-ready row x.2.1, moves-tidy row x.2.2, moves-numbered row x.2.3)))
 
     pub step_three-lands : (until : ℕ) (c : C) (m : State) → Good m → Rests m → Lands m (step_three rules call until c m)
     step_three-lands until c m g x =
@@ -445,7 +449,7 @@ module _ {C : Type 0} (program : Program) where
 pub turns_are_moves : {C : Type 0} (rules : Rules C) (program : Program) (setup : Setup) (hosts : List HostClosure) (c : C) (until most : ℕ) → HoldsNoNumbers setup
     → Moves (first_page program setup hosts) (state_of (turns rules (call_from_outside program page_operations) until most (first_state program setup hosts) c)).host
 turns_are_moves rules program setup hosts c until most h =
-    turns-stop program rules (call_from_outside program page_operations) (outside-goes program) until most (first_state program setup hosts) c (first_state-good program setup hosts h) ((refl, refl, tt), refl, ((λ c i. elim i [ ]), first-ready program setup hosts, first-tidy program setup hosts))
+    turns-stop program rules (call_from_outside program page_operations) (outside-goes program) until most (first_state program setup hosts) c (first_state-good program setup hosts h) ((refl, refl, tt), refl, ((λ c i. elim i [ ]), first-ready program setup hosts, first-tidy program setup hosts, first-numbered program setup hosts))
 
 -- A whole run is a row of moves.
 pub run_is_moves : {C : Type 0} (rules : Rules C) (program : Program) (setup : Setup) (hosts : List HostClosure) (c : C) → HoldsNoNumbers setup → Moves (first_page program setup hosts) (state_of (run_by rules program setup hosts c)).host

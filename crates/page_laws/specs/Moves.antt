@@ -3,10 +3,10 @@ use Rattle.std.specs.Prelude.{◌≡◌, ◌⊎◌, ◌≤◌, ◌<◌, ◌+◌,
 use Rattle.page_types.specs.declared.End.TheVariants.{Done, Fuel}
 use Rattle.page_types.specs.Events.{QueueName, Event, Ret, Throw, Report, Log, Turn, Arm, Due, Drop, IdleLine, Frame, Reg, Enq, Prio, Abort, Host, Unhandled, Handled, EndLine, Send}
 use Rattle.page_types.specs.declared.Source.{Source}
-use Rattle.page_types.specs.declared.Source.TheVariants.{Sched, Idle as IdleSource}
+use Rattle.page_types.specs.declared.Source.TheVariants.{Sched, Timer, Idle as IdleSource}
 use Rattle.page_parts.specs.Promises.{Settled, Reaction, React}
 use Rattle.page_parts.specs.Promises as Promises
-use Rattle.page_parts.specs.Notices.{Micro, OfPromise, WaitingJob, changed, subscribe_promise, queue_micro, note_outstanding}
+use Rattle.page_parts.specs.Notices.{Todo, Micro, OfPromise, WaitingJob, changed, subscribe_promise, queue_micro, note_outstanding}
 use Rattle.page_parts.specs.Promises.{the_promise}
 use Rattle.page_model.specs.State.{Role, ScriptRole, OfKind, Registration, no_registration, Page, Task, TimerTask, HostTask, Steps, RunScript, RunTimer, AnswerHost, InvokeIdle, IdleTimeout, PrioSource, Fixed, OfSignal, SchedulingState, SchedTask, Completion, Completing, QueueTimer, EnqueuePost, QueueSignal, HostAnswer, IdleTimer, emit, on_notices, context}
 use Rattle.page_model.specs.PagePromises.{new_promise}
@@ -32,8 +32,9 @@ use Rattle.page_types.specs.declared.RegKind.{RegKind}
 use Rattle.page_types.specs.declared.RegKind.TheVariants as kind
 use Rattle.page_parts.specs.TaskSignals.{Prios, priority_of}
 use Rattle.page_types.specs.declared.Priority.{Priority}
+use Rattle.page_laws.specs.SchedulerLaws.{is_posted}
 use Rattle.page_laws.specs.TimerLaws.{is_delay, period_start}
-use Rattle.page_laws.specs.History.{is_delayed, History, is_frame, is_idle, is_period, is_reg_of, since_last, some_line, was_due, open_registrations, is_rest, is_sched_turn, is_scheduled}
+use Rattle.page_laws.specs.History.{was_called, is_host, is_timer, is_delayed, History, is_frame, is_idle, is_period, is_reg_of, since_last, some_line, was_due, open_registrations, is_rest, is_sched_turn, is_scheduled}
 
 -- ---- Ours: kinds of lines
 
@@ -104,10 +105,11 @@ pub record PeriodGoesOn (p : Page) : Type 0 where
 
 -- ---- Ours: where registrations wait
 
--- tasks, timers with their completion steps, idle callbacks and idle timeouts, listeners, scheduler tasks and pending answers of hosts;
--- and the host closures
+-- tasks, and how many task numbers were given, timers with their completion steps, idle callbacks and idle timeouts, listeners, scheduler
+-- tasks and pending answers of hosts; and the host closures
 pub record Places : Type 0 where
   pub tasks : List Task
+  pub tasks_made : ℕ
   pub timers : Timers
   pub completions : List Completing
   pub idle : Idle
@@ -126,6 +128,7 @@ abbrev pub places : Page → Places
 places p =
     record {
       tasks = p.tasks;
+      tasks_made = p.tasks_made;
       timers = p.timers;
       completions = p.completions;
       idle = p.idle;
@@ -138,7 +141,7 @@ places p =
 
 -- with a task more
 abbrev pub with_task : Task → Places → Places
-with_task t x = record x { tasks = and_last x.tasks t }
+with_task t x = record x { tasks = and_last x.tasks t; tasks_made = t.number }
 
 -- with another map of timers, and the completion steps of this start more
 abbrev pub with_timer : Timers → (start : ℕ) → Completion → Places → Places
@@ -158,7 +161,7 @@ without_queued r x = record x { sched_tasks = without (λ t. t.registration == r
 
 -- with a scheduler task more
 abbrev pub with_queued : SchedTask → Places → Places
-with_queued t x = record x { sched_tasks = and_last x.sched_tasks t }
+with_queued t x = record x { sched_tasks = and_last x.sched_tasks t; tasks_made = t.order }
 
 -- without the task of this number
 abbrev pub without_number : ℕ → Places → Places
@@ -237,6 +240,10 @@ pub record IsUnarmed (r : ℕ) (x : Places) : Type 0 where
   pub idle_timers : (t : IdleTimer) → IsIn t x.idle_timers → t.registration ≡ r → ⊥
   pub host_answers : (a : HostAnswer) → IsIn a x.host_answers → a.task.registration ≡ r → ⊥
 
+-- what a registration is for
+abbrev pub role_at : List Registration → ℕ → Role
+role_at made r = (numbered made r no_registration).role
+
 -- a change of the places, where these registrations were made
 pub data PlaceChange (made : List Registration) : Places → Places → Type 0 where
   -- none
@@ -262,11 +269,20 @@ pub data PlaceChange (made : List Registration) : Places → Places → Type 0 w
   idle_started : {x : Places} → PlaceChange made x (record x { idle = started x.idle })
   idle_queued : {x : Places} (t : Task) → t.steps ≡ InvokeIdle → t.source ≡ IdleSource → PlaceChange made x (with_task t x)
 
--- what a registration is for
-abbrev pub role_at : List Registration → ℕ → Role
-role_at made r = (numbered made r no_registration).role
+-- steps that do nothing any more where a task leaves its queue without a call: those of a timer whose id has another handle, or none
+abbrev pub LeavesAlone : Steps → Timers → Type 0
+LeavesAlone (RunTimer t) timers = is_live t.id t.handle timers ≡ false
+LeavesAlone steps timers = Unit {0}
 
--- what holds where the places are changed so: what is armed waits nowhere and is for its kind; the pending idle callbacks become runnable
+-- a timeout that has this id was called
+pub record IsCleared (id : ℕ) (p : Page) : Type 0 where
+  pub registration : ℕ
+  pub role : role_at p.registrations registration ≡ OfKind kind.Timeout
+  pub own : (numbered p.registrations registration no_registration).timer_id ≡ id
+  pub called : was_called p.events registration ≡ true
+
+-- what holds where the places are changed so: a new task has the next number; a task that leaves has nothing to do, and an id that leaves
+-- is that of a timer that was called; what is armed waits nowhere and is for its kind; the pending idle callbacks become runnable
 -- in the period that goes on, and the task that invokes them is queued in it
 abbrev pub IsMade : {made : List Registration} {x y : Places} → PlaceChange made x y → Page → Type 0
 IsMade (armed_again a t role there next) p = IsUnarmed t.registration (places p)
@@ -277,7 +293,10 @@ IsMade (idle_armed t most own) p =
 IsMade idle_started p =
     (c : Callback) → IsIn c p.idle.pending
     → some_line (is_reg_of c.registration) (since_last is_period p.events) ≡ false × c.registration ≤ length p.registrations
-IsMade (idle_queued t e from) p = PeriodGoesOn p
+IsMade (idle_queued t e from) p = PeriodGoesOn p × t.number ≡ suc p.tasks_made
+IsMade (task_queued t free plain) p = t.number ≡ suc p.tasks_made
+IsMade (task_left number) p = (t : Task) → IsIn t p.tasks → t.number ≡ number → LeavesAlone t.steps p.timers
+IsMade (id_cleared id) p = IsCleared id p
 IsMade c p = Unit {0}
 
 -- a registration's own timer id, 0 where it has none
@@ -320,13 +339,13 @@ pub record IsTimerDue (x : Places) (start now : ℕ) : Type 0 where
   pub own : timer.start ≡ start
   pub time : timer.due ≤ now
 
--- what is due so is due by now
+-- what is due so is due by now, and its task has the next number; that of a timer comes from the timers' source
 abbrev pub IsDueBy : {made : List Registration} {r : ℕ} {x y : Places} → (now : ℕ) → DueChange made r x y → Type 0
-IsDueBy {x = x} now (timer_due start number source t e i role) = IsTimerDue x start now
+IsDueBy {x = x} now (timer_due start number source t e i role) = IsTimerDue x start now × number ≡ suc x.tasks_made × source ≡ Timer
 IsDueBy {x = x} now (delay_due start source e role) = IsTimerDue x start now
 IsDueBy {x = x} now (signal_due start s e role) = IsTimerDue x start now
-IsDueBy now (idle_due t number source i e role) = t.due ≤ now
-IsDueBy now (answer_due before a after number source e i role) = a.due ≤ now
+IsDueBy {x = x} now (idle_due t number source i e role) = t.due ≤ now × number ≡ suc x.tasks_made
+IsDueBy {x = x} now (answer_due before a after number source e i role) = a.due ≤ now × number ≡ suc x.tasks_made
 
 -- what waits for its due time in an active timer
 abbrev pub is_delayed_role : Role → Bool
@@ -370,6 +389,8 @@ without_aborted r p =
 -- what initialising a new timer gave: an id that no registration has, the next start number and the next unique handle
 pub record IsFirstArmed (made : List Registration) (x : Places) (a : Armed) (t : TimerTask) : Type 0 where
   pub fresh : (q : ℕ) → id_at made q ≡ a.id → ⊥
+  pub same_id : t.id ≡ a.id
+  pub same_handle : t.handle ≡ a.handle
   pub handle : a.handle ≡ suc x.timers.handles_made
   pub start : a.start ≡ suc x.timers.starts_made
 
@@ -392,6 +413,33 @@ pub data FirstPlace (made : List Registration) (prios : Prios) (r : ℕ) : Place
       → c.mark ≡ Live
       → FirstPlace made prios r x
       (record x { hosts = slice_set x.hosts a.task.closure (queued_mark c); host_answers = and_last x.host_answers a })
+
+-- what waits from its registration on
+abbrev pub is_placed : RegKind → Bool
+is_placed kind.Timeout = true
+is_placed kind.Interval = true
+is_placed kind.Frame = true
+is_placed kind.Idle = true
+is_placed kind.Post = true
+is_placed kind.Yield = true
+is_placed kind.Micro = true
+is_placed kind.Host = true
+is_placed k = false
+
+-- whether a first place is one for a registration of this kind; frame callbacks, continuations and microtasks have none of these
+abbrev pub fits_first : {made : List Registration} {prios : Prios} {r : ℕ} {x y : Places} → RegKind → FirstPlace made prios r x y → Bool
+fits_first k nowhere = not (is_placed k)
+fits_first k (at_listener target name q e) = not (is_placed k)
+fits_first k (at_timer a t e first) = is_timer k
+fits_first k (at_delay ms now q source e h) = is_posted k
+fits_first k (at_idle q e) = is_idle k
+fits_first k (at_host c a e there live) = is_host k
+
+-- a timer's registration has the timer's id
+abbrev pub FirstOwns : {made : List Registration} {prios : Prios} {r : ℕ} {x y : Places}
+    → FirstPlace made prios r x y → Registration → Type 0
+FirstOwns (at_timer a t e first) new = new.timer_id ≡ a.id
+FirstOwns u new = Unit {0}
 
 -- whether a first place is among the idle callbacks
 abbrev pub IsAtIdle : {made : List Registration} {prios : Prios} {r : ℕ} {x y : Places} → FirstPlace made prios r x y → Type 0
@@ -452,7 +500,7 @@ pub data PageChange : Page → Page → Type 0 where
   -- a registration is made, for no frame, and waits at its first place
   registered : {p q : Page} (kind : RegKind) (x : Registration) → x.role ≡ OfKind kind → is_frame kind ≡ false
       → (u : FirstPlace p.registrations p.prios (suc (length p.registrations)) (places p) (places q))
-      → AsBefore (register_as kind x p) q → (is_idle kind ≡ true → IsAtIdle u) → PageChange p q
+      → AsBefore (register_as kind x p) q → fits_first kind u ≡ true × FirstOwns u x → PageChange p q
   -- a registration is made, and its scheduler task is enqueued, with its line
   enqueued_anew : {p q : Page} (kind : RegKind) (x : Registration) (t : SchedTask) (queue : QueueName) → x.role ≡ OfKind kind
       → t.registration ≡ suc (length p.registrations) → places q ≡ with_queued t (places p)
@@ -640,6 +688,11 @@ Waited (AReaction job others of x r) p =
 
 -- ---- Ours: moves
 
+-- a job that calls a microtask callback
+abbrev pub is_micro : Todo → Bool
+is_micro (Micro r) = true
+is_micro (OfPromise job) = false
+
 -- A row of moves: changes, calls and their ends, the begin and end of a checkpoint, the jobs that run in it, where no call is open, idle
 -- period starts, and the lines of frames.
 pub data Moves : Page → Page → Type 0 where
@@ -654,7 +707,7 @@ pub data Moves : Page → Page → Type 0 where
       → r.frames ≡ q.frames → places r ≡ places q → r.calls ≡ q.calls → r.signals ≡ q.signals
       → scheduling_of r ≡ scheduling_of q → Moves p r
   running : {p q : Page} → Moves p q → (job : WaitingJob) (others : List WaitingJob) → q.notices.jobs ≡ job ∷ others
-      → open_registrations q.events ≡ [] → Moves p (job_begun job others q)
+      → open_registrations q.events ≡ [] → is_micro job.what ≡ false → Moves p (job_begun job others q)
   -- the idle period start is now, where no task waits that invokes idle callbacks
   idling : {p q : Page} → Moves p q → (HasSteps InvokeIdle q.tasks → ⊥) → Moves p (record q { last_idle_start = q.now })
   -- the line of a frame

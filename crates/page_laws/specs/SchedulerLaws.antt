@@ -9,7 +9,7 @@ use Rattle.page_types.specs.declared.End.{End}
 use Rattle.page_types.specs.declared.End.TheVariants as end
 use Rattle.page_types.specs.Events.{QueueName, FixedQueue, SignalQueue, Event, Turn, Call, Arm, Run, Enq, Prio, EndLine, Stamped}
 use Rattle.page_laws.specs.History.{is_idle, History, each_line, count_lines, is_turn, is_run, is_sched_turn, is_arm_of, is_due_of, is_some_and, is_host, is_scheduled, has_kind, kind_of, registered, registered_for, was_called, was_dropped, last_line, is_frame}
-use Rattle.page_laws.specs.CallLaws.{is_answer}
+use Rattle.page_laws.specs.CallLaws.{is_answer, no_job_waits}
 
 -- ---- Prioritized Task Scheduling, "Selecting the Task Queue of the Next Scheduler Task"
 
@@ -195,3 +195,114 @@ holds_idles_over es = each_line (λ past e. at_done idles_are_over past e.event)
 -- And so was each idle callback.
 abbrev pub IdlesAreOverAtEnd : List Stamped → Type 0
 IdlesAreOverAtEnd es = holds_idles_over es ≡ true
+
+-- a callback of `queueMicrotask`
+abbrev pub is_micro : RegKind → Bool
+is_micro kind.Micro = true
+is_micro k = false
+
+abbrev pub micros_are_over : History → Bool
+micros_are_over past = no_job_waits past && list_all (λ r. was_called past r || was_dropped past r) (registered_for is_micro past)
+
+abbrev pub holds_micros_over : List Stamped → Bool
+holds_micros_over es = each_line (λ past e. at_done micros_are_over past e.event) [] es
+
+-- And each job that was queued was run, and so was each microtask callback.
+abbrev pub MicrosAreOverAtEnd : List Stamped → Type 0
+MicrosAreOverAtEnd es = holds_micros_over es ≡ true
+
+-- the continuation of a yield
+abbrev pub is_yield : RegKind → Bool
+is_yield kind.Yield = true
+is_yield k = false
+
+abbrev pub continuations_are_over : History → Bool
+continuations_are_over past = list_all (λ r. was_called past r || was_dropped past r) (registered_for is_yield past)
+
+abbrev pub holds_continuations_over : List Stamped → Bool
+holds_continuations_over es = each_line (λ past e. at_done continuations_are_over past e.event) [] es
+
+-- And so was each continuation of a yield.
+abbrev pub ContinuationsAreOverAtEnd : List Stamped → Type 0
+ContinuationsAreOverAtEnd es = holds_continuations_over es ≡ true
+
+abbrev pub keeps_limits : (until fuel : ℕ) → History → ℕ → Event → Bool
+keeps_limits until fuel past now (EndLine end.Clock) = nat_le until now
+keeps_limits until fuel past now (Turn n source) = nat_lt now until && has_fuel_for fuel past
+keeps_limits until fuel past now (Run j) = has_fuel_for fuel past
+keeps_limits until fuel past now e = true
+
+abbrev pub holds_limits : (until fuel : ℕ) → List Stamped → Bool
+holds_limits until fuel es = each_line (λ past e. keeps_limits until fuel past e.time e.event) [] es
+
+-- And a run that ends by the clock ends at `until` or later, and no turn begins then. Turns and jobs together are no more than the fuel.
+abbrev pub LimitsAreKept : (until fuel : ℕ) → List Stamped → Type 0
+LimitsAreKept until fuel es = holds_limits until fuel es ≡ true
+
+-- a callback of `setTimeout`
+abbrev pub is_timeout : RegKind → Bool
+is_timeout kind.Timeout = true
+is_timeout k = false
+
+abbrev pub timeouts_are_over : History → Bool
+timeouts_are_over past = list_all (λ r. was_called past r || was_dropped past r) (registered_for is_timeout past)
+
+abbrev pub holds_timeouts_over : List Stamped → Bool
+holds_timeouts_over es = each_line (λ past e. at_done timeouts_are_over past e.event) [] es
+
+-- And so was each timeout.
+abbrev pub TimeoutsAreOverAtEnd : List Stamped → Type 0
+TimeoutsAreOverAtEnd es = holds_timeouts_over es ≡ true
+
+-- a callback of `setInterval`
+abbrev pub is_interval : RegKind → Bool
+is_interval kind.Interval = true
+is_interval k = false
+
+abbrev pub intervals_are_over : History → Bool
+intervals_are_over past = list_all (was_dropped past) (registered_for is_interval past)
+
+abbrev pub holds_intervals_over : List Stamped → Bool
+holds_intervals_over es = each_line (λ past e. at_done intervals_are_over past e.event) [] es
+
+-- And each interval was dropped.
+abbrev pub IntervalsAreOverAtEnd : List Stamped → Type 0
+IntervalsAreOverAtEnd es = holds_intervals_over es ≡ true
+
+-- a task of `postTask`
+abbrev pub is_posted : RegKind → Bool
+is_posted kind.Post = true
+is_posted k = false
+
+abbrev pub posts_are_over : History → Bool
+posts_are_over past = list_all (λ r. was_called past r || was_dropped past r) (registered_for is_posted past)
+
+abbrev pub holds_posts_over : List Stamped → Bool
+holds_posts_over es = each_line (λ past e. at_done posts_are_over past e.event) [] es
+
+-- And each posted task was called or dropped.
+abbrev pub PostsAreOverAtEnd : List Stamped → Type 0
+PostsAreOverAtEnd es = holds_posts_over es ≡ true
+
+abbrev pub hosts_have_answered : History → Bool
+hosts_have_answered past = count_lines is_answer past == length (filter (λ r. not (was_dropped past r)) (registered_for is_host past))
+
+abbrev pub holds_hosts_answered : List Stamped → Bool
+holds_hosts_answered es = each_line (λ past e. at_done hosts_have_answered past e.event) [] es
+
+-- And each host that was not dropped has answered.
+abbrev pub HostsHaveAnsweredAtEnd : List Stamped → Type 0
+HostsHaveAnsweredAtEnd es = holds_hosts_answered es ≡ true
+
+-- All its parts.
+pub record EndParts (until fuel : ℕ) (es : List Stamped) : Type 0 where
+  pub arms : ArmsAreDueAtEnd es
+  pub timeouts : TimeoutsAreOverAtEnd es
+  pub intervals : IntervalsAreOverAtEnd es
+  pub frames : FramesAreOverAtEnd es
+  pub idles : IdlesAreOverAtEnd es
+  pub posts : PostsAreOverAtEnd es
+  pub continuations : ContinuationsAreOverAtEnd es
+  pub micros : MicrosAreOverAtEnd es
+  pub hosts : HostsHaveAnsweredAtEnd es
+  pub limits : LimitsAreKept until fuel es

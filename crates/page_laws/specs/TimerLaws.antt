@@ -149,6 +149,25 @@ holds_timers_clamped es = each_line (λ past e. keeps_clamps past e.time e.event
 abbrev pub TimersClamped : List Stamped → Type 0
 TimersClamped es = holds_timers_clamped es ≡ true
 
+abbrev pub keeps_levels : (form : ℕ) → History → Event → Bool
+keeps_levels form past (Arm r due level) = not (has_kind is_timer past r) || is_some_and (λ n. n == level) (level_due form past r)
+keeps_levels form past e = true
+
+abbrev pub holds_levels : (form : ℕ) → List Stamped → Bool
+holds_levels form es = each_line (λ past e. keeps_levels form past e.event) [] es
+
+-- A fifth part of it by itself: a timer's level is one more than that of its parent, or 1.
+abbrev pub LevelsFollow : (form : ℕ) → List Stamped → Type 0
+LevelsFollow form es = holds_levels form es ≡ true
+
+-- All its parts.
+pub record TimerParts (form : ℕ) (es : List Stamped) : Type 0 where
+  pub armed : DueWhenArmed es
+  pub order : DueInOrder es
+  pub firing : TimersFireWhenDue es
+  pub clamps : TimersClamped es
+  pub levels : LevelsFollow form es
+
 -- ---- HTML, "Animation frames": run the animation frame callbacks
 
 abbrev pub is_frame_line : Event → Bool

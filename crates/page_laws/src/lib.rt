@@ -3,6 +3,7 @@
 #![tactic(auto)]
 
 ghost use Rattle.std.specs.Prelude.{◌≡◌, ℕ, List, []};
+ghost use Rattle.page_types.specs.Events.{Stamped};
 ghost use Rattle.page_types.specs.Tree.{Program};
 ghost use Rattle.page_parts.specs.Setup.{Setup};
 ghost use Rattle.page_parts.specs.HostClosures.{HostClosure};
@@ -12,8 +13,10 @@ ghost use Rattle.page_model.specs.Turns.{turns, run_by, state_of, first_state, f
 ghost use Rattle.page_model.specs.Numbers.{HoldsNoNumbers};
 ghost use Rattle.page_laws.specs.CallLaws.{Once, Cancel, SettleOnce, JobsInOrder, NoNesting};
 ghost use Rattle.page_laws.specs.History.{open_registrations};
-ghost use Rattle.page_laws.specs.SchedulerLaws.{ArmsAreDueAtEnd, FramesAreOverAtEnd, IdlesAreOverAtEnd, PriorityOrder};
-ghost use Rattle.page_laws.specs.TimerLaws.{DueInOrder, DueWhenArmed, FramesInOrder, IdleDeadlines, TimersClamped, TimersFireWhenDue};
+ghost use Rattle.page_laws.specs.SchedulerLaws.{ArmsAreDueAtEnd, ContinuationsAreOverAtEnd, EndParts, EndsTruly, FramesAreOverAtEnd};
+ghost use Rattle.page_laws.specs.SchedulerLaws.{IdlesAreOverAtEnd, LimitsAreKept, MicrosAreOverAtEnd, PriorityOrder, TimeoutsAreOverAtEnd};
+ghost use Rattle.page_laws.specs.TimerLaws.{DueInOrder, DueWhenArmed, FramesInOrder, IdleDeadlines, TimerParts, TimersClamped};
+ghost use Rattle.page_laws.specs.TimerLaws.{TimersFireWhenDue, TimersInOrder};
 ghost use Rattle.page_laws.specs.Moves.{Moves};
 ghost use Rattle.page_model.specs.Gaps.{Act, run_gaps_by};
 
@@ -120,6 +123,40 @@ pub fn runs_end_with_nothing_armed<R: Choosing>()
         → IdlesAreOverAtEnd (events_of_run (run_by R.rules program setup hosts c)) }
 {}
 
+/// Where a run ends for nothing is left to do, each job that was queued was run, and each microtask callback was called: another part of
+/// the law of how runs end.
+pub fn runs_end_with_no_microtask<R: Choosing>()
+    ensures { (program : Program) (setup : Setup) (hosts : List HostClosure) (c : R.Held) → HoldsNoNumbers setup
+        → MicrosAreOverAtEnd (events_of_run (run_by R.rules program setup hosts c)) }
+{}
+
+/// Each continuation of a yield was called or dropped then: another part of the law of how runs end.
+pub fn runs_end_with_no_continuation<R: Choosing>()
+    ensures { (program : Program) (setup : Setup) (hosts : List HostClosure) (c : R.Held) → HoldsNoNumbers setup
+        → ContinuationsAreOverAtEnd (events_of_run (run_by R.rules program setup hosts c)) }
+{}
+
+/// Each timeout was called or dropped then: another part of the law of how runs end.
+pub fn runs_end_with_no_timeout<R: Choosing>()
+    ensures { (program : Program) (setup : Setup) (hosts : List HostClosure) (c : R.Held) → HoldsNoNumbers setup
+        → TimeoutsAreOverAtEnd (events_of_run (run_by R.rules program setup hosts c)) }
+{}
+
+/// Turns and jobs together are no more than the fuel, no turn begins at `until` or later, and a run that ends by the clock ends then:
+/// another part of the law of how runs end. It holds whatever values arrive.
+pub fn runs_keep_their_limits<R: Choosing>()
+    ensures in_runs { (program : Program) (setup : Setup) (hosts : List HostClosure) (c : R.Held)
+        → LimitsAreKept setup.until setup.fuel (events_of_run (run_by R.rules program setup hosts c)) }
+    ensures in_pieces { (program : Program) (setup : Setup) (c : R.Held) (list : List Act)
+        → LimitsAreKept setup.until setup.fuel (events_of_run (run_gaps_by R.rules program setup list c)) }
+{}
+
+/// The law of timers and the law of how runs end are their parts together, whatever the lines.
+pub fn laws_are_their_parts()
+    ensures timers { (form : ℕ) (es : List Stamped) → TimerParts form es → TimersInOrder form es }
+    ensures ends { (until fuel : ℕ) (es : List Stamped) → EndParts until fuel es → EndsTruly until fuel es }
+{}
+
 /// The open calls that a page keeps are those that its lines tell, the innermost first, wherever a run stops.
 pub fn open_calls_are_told<R: Choosing>()
     ensures in_runs { (program : Program) (setup : Setup) (hosts : List HostClosure) (c : R.Held) → HoldsNoNumbers setup
@@ -162,4 +199,10 @@ pub fn acts_keep_the_laws<R: Choosing>()
         → FramesAreOverAtEnd (events_of_run (run_gaps_by R.rules program setup list c)) }
     ensures idles_at_end { (program : Program) (setup : Setup) (c : R.Held) (list : List Act) → HoldsNoNumbers setup
         → IdlesAreOverAtEnd (events_of_run (run_gaps_by R.rules program setup list c)) }
+    ensures micros_at_end { (program : Program) (setup : Setup) (c : R.Held) (list : List Act) → HoldsNoNumbers setup
+        → MicrosAreOverAtEnd (events_of_run (run_gaps_by R.rules program setup list c)) }
+    ensures continuations_at_end { (program : Program) (setup : Setup) (c : R.Held) (list : List Act) → HoldsNoNumbers setup
+        → ContinuationsAreOverAtEnd (events_of_run (run_gaps_by R.rules program setup list c)) }
+    ensures timeouts_at_end { (program : Program) (setup : Setup) (c : R.Held) (list : List Act) → HoldsNoNumbers setup
+        → TimeoutsAreOverAtEnd (events_of_run (run_gaps_by R.rules program setup list c)) }
 {}

@@ -49,3 +49,12 @@ returns-clause-frames_at_end g c = λ program setup choices list h. (laws_of_gap
 
 pub returns-clause-idles_at_end : goal.returns-clause-idles_at_end
 returns-clause-idles_at_end g c = λ program setup choices list h. (laws_of_gaps g.R.Choosing.rules program setup choices list h).15
+
+pub returns-clause-micros_at_end : goal.returns-clause-micros_at_end
+returns-clause-micros_at_end g c = λ program setup choices list h. (laws_of_gaps g.R.Choosing.rules program setup choices list h).16
+
+pub returns-clause-continuations_at_end : goal.returns-clause-continuations_at_end
+returns-clause-continuations_at_end g c = λ program setup choices list h. (laws_of_gaps g.R.Choosing.rules program setup choices list h).17
+
+pub returns-clause-timeouts_at_end : goal.returns-clause-timeouts_at_end
+returns-clause-timeouts_at_end g c = λ program setup choices list h. (laws_of_gaps g.R.Choosing.rules program setup choices list h).18
