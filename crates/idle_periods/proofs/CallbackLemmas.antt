@@ -71,6 +71,22 @@ left_removed handle low high (e ∷ es) rise = by (is_at (nat_cmp handle) e.0) r
     by false t true f rest = let never : ⊥ = grind (arith, t, f) in absurd never
     by false t false f rest = ap (λ cs. record { handle = e.0; registration = e.1 } ∷ cs) rest
 
+-- a number above the handles has no callback
+pub above_absent : (handle low high : ℕ) (es : List (ℕ × ℕ)) → high < handle → HandlesRise low es high → callback_in (callbacks_of es) handle ≡ None
+above_absent handle low high [] above rise = refl
+above_absent handle low high (e ∷ es) above rise =
+    let le = rise_bound e.0 high es rise.1 in
+    let rest = above_absent handle e.0 high es above rise.1 in
+    grind (arith, le, above, rest)
+
+-- and nothing is left out
+above_stays : (handle low high : ℕ) (es : List (ℕ × ℕ)) → high < handle → HandlesRise low es high → without_handle handle (callbacks_of es) ≡ callbacks_of es
+above_stays handle low high [] above rise = refl
+above_stays handle low high (e ∷ es) above rise =
+    let le = rise_bound e.0 high es rise.1 in
+    let rest = above_stays handle e.0 high es above rise.1 in
+    grind (arith, le, above, rest)
+
 -- ---- the runnable ones and the pending ones
 
 -- the callback of a handle leaves some of them
@@ -84,6 +100,15 @@ filter_without test handle (c ∷ cs) = by (eqb c.handle handle) refl (test c) r
     by true e false t rest = rest
     by false e true t rest = rw (e, t, rest)
     by false e false t rest = rw t rest
+
+-- a number above the handles leaves both lists as they are
+pub above_kept : (handle last low high : ℕ) (es : List (ℕ × ℕ)) → high < handle → HandlesRise low es high
+    → (without_handle handle (beyond last (callbacks_of es)) ≡ beyond last (callbacks_of es)) × (without_handle handle (up_to last (callbacks_of es)) ≡ up_to last (callbacks_of es))
+above_kept handle last low high es above rise =
+    let stays = above_stays handle low high es above rise in (
+      sym (filter_without (λ callback. nat_lt last callback.handle) handle (callbacks_of es)) ∙ ap (beyond last) stays,
+      sym (filter_without (λ callback. nat_le callback.handle last) handle (callbacks_of es)) ∙ ap (up_to last) stays,
+    )
 
 none_up_to : (last low high : ℕ) (es : List (ℕ × ℕ)) → last ≤ low → HandlesRise low es high → up_to last (callbacks_of es) ≡ []
 none_up_to last low high [] le rise = refl

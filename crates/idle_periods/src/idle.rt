@@ -83,6 +83,18 @@ impl Idle {
         self.callbacks.remove(&handle)
     }
 
+    /// Takes the callback whose handle is this number out of both lists, as `cancel` does. Each handle is below 2^32, so that a
+    /// greater number is in neither. Takes no memory.
+    pub fn cancel_number(&mut self, number: u64) -> Option<u32>
+        ensures registration { result ≡ option_map (λ callback. callback.registration) (waiting_callback number self.old) }
+        ensures gone { self.new ≡ cancelled number self.old }
+    {
+        if number > u64::from(self.last_handle) {
+            return None;
+        }
+        self.cancel(number as u32)
+    }
+
     /// Takes the callback whose idle timeout came out of both lists, and answers its registration (requestIdleCallback,
     /// "Invoke idle callback timeout algorithm").
     ///
@@ -185,6 +197,7 @@ mod tests {
         assert_eq!(rt; idle.cancel(1), Some(2));
         assert_eq!(rt; idle.registration(1), None);
         assert_eq!(rt; idle.cancel(1), None);
+        assert_eq!(rt; idle.cancel_number(4_294_967_299), None);
         assert_eq!(rt; idle.find_timeout(3), Some(4));
         assert_eq!(rt; idle.find_timeout(3), None);
         assert_eq!(rt; idle.pop(), Some(3));

@@ -1,5 +1,5 @@
 -- Listeners by serial number, and their indexes.
-use Rattle.std.proofs.Common.{◌≡◌, ℕ, ◌<◌, ◌+◌, Bool, true, false, cond, not, ◌&&◌, ◌||◌, List, [], ◌∷◌, ◌++◌, filter, map, length, Option, Some, None, eqb, refl, sym, ap, subst, ◌∙◌, arith, nat_cmp}
+use Rattle.std.proofs.Common.{◌≡◌, ℕ, ◌<◌, ◌≤◌, ◌^◌, ◌+◌, Bool, true, false, cond, not, ◌&&◌, ◌||◌, List, [], ◌∷◌, ◌++◌, filter, map, length, Option, Some, None, eqb, refl, sym, ap, subst, ◌∙◌, arith, nat_cmp}
 use Rattle.std.proofs.lemmas.Bool.{eqb-true}
 use Rattle.std.proofs.lemmas.Bool.Decides.{nat_tests}
 use Rattle.std.specs.BTreeMap.{BTreeMap, get, is_at, insert_entry}
@@ -17,7 +17,7 @@ use Rattle.page_parts.specs.Listeners as parts
 use Rattle.page_parts.specs.Listeners.{snapshot, is_listening, same_target}
 use Rattle.page_events.specs.declared.listener.Kind.{Kind}
 use Rattle.page_events.specs.declared.listener.Listener.{Listener}
-use Rattle.page_events.specs.Indexed.{kind_cmp, is_for, serials_in, registrations_in, serials_of, registrations_of, AreBelow, AreOrdered, AreSerials, AreKinds, AddsSerial, AddsRegistration, RemovesRegistration, SameRegistrations, SameSerials, IsIndexed}
+use Rattle.page_events.specs.Indexed.{kind_cmp, is_for, serials_in, registrations_in, serials_of, registrations_of, AreBelow, AreSmall, AreOrdered, AreSerials, AreKinds, AddsSerial, AddsRegistration, RemovesRegistration, SameRegistrations, SameSerials, IsIndexed}
 use Rattle.page_events.specs.Removed.{remove_each}
 use Rattle.page_events.specs.Seen.{listener_seen, listeners_of, target_at}
 use Rattle.page_events.proofs.KindLemmas.{number_same, kind_same, signal_is, name_is, alike}
@@ -135,6 +135,10 @@ serials_put es s l old new serials adds r =
 pub below_put : (n : ℕ) (es : List (ℕ × Listener)) (l : Listener) → AreBelow n es → AreBelow (n + 1) (and_last es (n, l))
 below_put n [] l below = (omega arith, tt)
 below_put n (e ∷ es) l below = (omega (arith, below.0), below_put n es l below.1)
+
+pub small_put : (n : ℕ) (es : List (ℕ × Listener)) (l : Listener) → l.registration < 2 ^ 32 → AreSmall es → AreSmall (and_last es (n, l))
+small_put n [] l le small = (le, tt)
+small_put n (e ∷ es) l le small = (small.0, small_put n es l le small.1)
 
 pub seen_last : (es : List (ℕ × Listener)) (s : ℕ) (l : Listener) → listeners_of (and_last es (s, l)) ≡ and_last (listeners_of es) (listener_seen l)
 seen_last [] s l = refl
@@ -289,6 +293,14 @@ below_others n r (e ∷ es) below = by (eqb e.1.registration r) (below_others n 
     by true h = h
     by false h = (below.0, h)
 
+pub small_others : (r : ℕ) (es : List (ℕ × Listener)) → AreSmall es → AreSmall (others r es)
+small_others r [] small = tt
+small_others r (e ∷ es) small = by (eqb e.1.registration r) (small_others r es small.1)
+  where
+    by : (b : Bool) → AreSmall (others r es) → AreSmall (cond b (others r es) (e ∷ others r es))
+    by true h = h
+    by false h = (small.0, h)
+
 serials_others : (r q : ℕ) (es : List (ℕ × Listener)) → serials_in (others r es) q ≡ cond (eqb r q) [] (serials_in es q)
 serials_others r q [] = by (eqb r q)
   where
@@ -345,6 +357,13 @@ is_listed r (e ∷ es) = by (eqb e.1.registration r) (is_listed r es)
     by : (b : Bool) → not (is_empty (keys_of own)) ≡ is_listening r (listeners_of es) → not (is_empty (keys_of (cond b (e ∷ own) own))) ≡ (b || is_listening r (listeners_of es))
     by true h = refl
     by false h = h
+
+-- a number of 2 ^ 32 or more is no registration of a listener
+pub is_silent : (r : ℕ) (es : List (ℕ × Listener)) → 2 ^ 32 ≤ r → AreSmall es → is_listening r (listeners_of es) ≡ false
+is_silent r [] large small = refl
+is_silent r (e ∷ es) large small =
+    let differs : eqb e.1.registration r ≡ false = grind (arith, large, small.0) in
+    rw differs (is_silent r es large small.1)
 
 pub registrations_are : (es : List (ℕ × Listener)) (signal : Option ℕ) (name : List ℕ) → values_of (registrations_in es signal name) ≡ snapshot (target_at signal) name (listeners_of es)
 registrations_are [] signal name = refl

@@ -1,5 +1,5 @@
 -- How listeners are found. Ours: each has a serial number, which rise as listeners are added.
-use Rattle.std.specs.Prelude.{◌≡◌, ℕ, ◌<◌, Bool, if◌then◌else◌, List, [], filter, map, Option, None, Some, ◌==◌}
+use Rattle.std.specs.Prelude.{◌≡◌, ℕ, ◌<◌, ◌^◌, Bool, if◌then◌else◌, List, [], filter, map, Option, None, Some, ◌==◌}
 use Rattle.std.specs.BTreeMap.{BTreeMap, get, is_at, insert_entry}
 use Rattle.std.specs.Cmp.Lexicographic.{slice_cmp}
 use Rattle.std.specs.List.{AllByRecursion}
@@ -47,6 +47,10 @@ AreOrdered es = IsStrictlySortedBy nat_cmp (keys_of es)
 abbrev pub AreBelow : ℕ → List (ℕ × Listener) → Type 0
 AreBelow n es = AllByRecursion (λ (e : ℕ × Listener). e.0 < n) es
 
+-- each registration is below 2 ^ 32
+abbrev pub AreSmall : List (ℕ × Listener) → Type 0
+AreSmall es = AllByRecursion (λ (e : ℕ × Listener). e.1.registration < 2 ^ 32) es
+
 -- the index by registrations is that of these listeners
 abbrev pub AreSerials : List (ℕ × Listener) → BTreeMap ℕ (Vec ℕ Global) → Type 0
 AreSerials es m = (r : ℕ) → serials_of m r ≡ serials_in es r
@@ -55,11 +59,12 @@ AreSerials es m = (r : ℕ) → serials_of m r ≡ serials_in es r
 abbrev pub AreKinds : List (ℕ × Listener) → BTreeMap Kind (BTreeMap ℕ ℕ) → Type 0
 AreKinds es m = (q : Kind) → registrations_of m q ≡ registrations_in es q.signal q.name.items
 
--- listeners in the order of their serial numbers, all below the next one, and both indexes
+-- listeners in the order of their serial numbers, all below the next one, and both indexes; no registration is 2 ^ 32 or more
 pub record IsIndexed (es : List (ℕ × Listener)) (serials : BTreeMap ℕ (Vec ℕ Global)) (kinds : BTreeMap Kind (BTreeMap ℕ ℕ))
     (next : ℕ) : Type 0 where
   pub ordered : AreOrdered es
   pub below : AreBelow next es
+  pub small : AreSmall es
   pub by_registration : AreSerials es serials
   pub by_kind : AreKinds es kinds
 

@@ -108,6 +108,17 @@ impl Listeners {
         has_serials(&self.serials, registration)
     }
 
+    /// Whether a number is the registration of a live listener. Each registration is below 2^32. Takes no memory.
+    pub fn is_listening_number(&self, number: u64) -> bool
+        ensures { result ≡ is_live number self.now }
+    {
+        let serials = &self.serials;
+        match u32::try_from(number) {
+            Ok(registration) => has_serials(serials, registration),
+            Err(_) => false,
+        }
+    }
+
     /// Begins a dispatch to the listeners of this target and name as they are now, in the order in which they were added.
     ///
     /// It costs a look-up, and looks at these listeners alone.

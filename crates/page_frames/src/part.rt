@@ -103,14 +103,15 @@ impl PageFrames {
         Ok(handle)
     }
 
-    /// Takes the frame callback with this handle out of the map, and answers its registration.
+    /// Takes the frame callback whose handle is this number out of the map, and answers its registration.
     ///
-    /// None exactly where the handle is not in the map, and then nothing changes. Takes no memory.
-    pub fn cancel_frame(&mut self, handle: u32) -> Option<u32>
-        ensures registration { result ≡ frame_registration handle self.old }
-        ensures gone { self.new ≡ frame_gone handle self.old }
+    /// None exactly where the number is no handle in the map, as one of 2^32 or more never is, and then nothing changes. Takes no
+    /// memory.
+    pub fn cancel_frame(&mut self, number: u64) -> Option<u32>
+        ensures registration { result ≡ frame_registration number self.old }
+        ensures gone { self.new ≡ frame_gone number self.old }
     {
-        self.frames.cancel(handle)
+        self.frames.cancel_number(number)
     }
 
     /// Takes the frame callback with this handle out of the map for a frame that calls it, and answers its registration.
@@ -194,6 +195,17 @@ impl PageFrames {
         ensures gone { self.new ≡ idle_gone handle self.old }
     {
         self.idle.cancel(handle)
+    }
+
+    /// Takes the idle callback whose handle is this number out of both lists, and answers its registration.
+    ///
+    /// None exactly where the number is a handle in neither, as one of 2^32 or more never is, and then nothing changes. Takes no
+    /// memory.
+    pub fn cancel_idle(&mut self, number: u64) -> Option<u32>
+        ensures registration { result ≡ idle_registration number self.old }
+        ensures gone { self.new ≡ idle_gone number self.old }
+    {
+        self.idle.cancel_number(number)
     }
 
     /// Takes the first runnable idle callback out, and answers its registration.

@@ -217,6 +217,13 @@ impl ParallelItems {
         self.timers.has(id)
     }
 
+    /// Whether a number is an id in the map, with any handle. Each id is below 2^32. Takes no memory.
+    pub fn has_number(&self, number: u64) -> bool
+        ensures { result ≡ has_id number self.now.waiting.timers }
+    {
+        self.timers.has_number(number)
+    }
+
     /// The handle of the idle timeout that was started last, 0 where none was. Takes no memory.
     pub fn last_idle(&self) -> u32
         ensures { result ≡ self.now.last_idle }

@@ -1,5 +1,5 @@
 -- Callbacks as the entries of a map.
-use Rattle.std.proofs.Common.{◌≡◌, ℕ, suc, ◌+◌, ◌-◌, ◌≤◌, Bool, true, false, cond, List, [], ◌∷◌, ◌++◌, length, Option, Some, None, is_some, All, filter, nat_eq, eqb, refl, sym, subst, ◌∙◌, ap, arith}
+use Rattle.std.proofs.Common.{◌≡◌, ℕ, suc, ◌+◌, ◌-◌, ◌<◌, ◌≤◌, Bool, true, false, cond, List, [], ◌∷◌, ◌++◌, length, Option, Some, None, is_some, All, filter, nat_eq, eqb, refl, sym, subst, ◌∙◌, ap, arith}
 use Rattle.std.proofs.lemmas.Bool.{eqb-true}
 use Rattle.std.proofs.lemmas.List.{map-append}
 use Rattle.std.proofs.lemmas.List.Elements.{All-head, All-tail, All-cons, All-push, All-weaker}
@@ -102,6 +102,23 @@ module _ (handle : ℕ) where
           → callbacks_of (cond b ((k, None) ∷ es) ((k, Some r) ∷ set_value (nat_eq handle) es None)) ≡ record { handle = k; registration = r } ∷ callbacks_of es
       by true rest none = let never : ⊥ = cc in absurd never
       by false rest none = ap (λ cs. record { handle = k; registration = r } ∷ cs) (rest none)
+
+-- ---- a number above the last handle
+
+given_differs : (last handle : ℕ) (es : List (ℕ × Option ℕ)) → last < handle → All (λ n. n ≤ last) (keys_of es) → AllByRecursion (λ y. nat_eq handle y ≡ false) (keys_of es)
+given_differs last handle [] above given = tt
+given_differs last handle (e ∷ es) above given =
+    let head : e.0 ≤ last = All-head (λ n. n ≤ last) e.0 (keys_of es) given in
+    (grind (arith, above, head), given_differs last handle es above (All-tail (λ n. n ≤ last) e.0 (keys_of es) given))
+
+module _ (last waiting handle : ℕ) (es : List (ℕ × Option ℕ)) (kept : AreKept last waiting es) (above : last < handle) where
+  -- it has no callback
+  pub above_absent : callback_in (callbacks_of es) handle ≡ None
+  above_absent = absent handle es (given_differs last handle es above kept.given)
+
+  -- and nothing is left out
+  pub above_kept : without_handle handle (callbacks_of es) ≡ callbacks_of es
+  above_kept = kept_absent handle es (given_differs last handle es above kept.given)
 
 -- where the handle is not there, no entry changes
 pub set_absent : (handle : ℕ) (w : Option ℕ) (es : List (ℕ × Option ℕ)) → lookup (nat_eq handle) es ≡ None → set_value (nat_eq handle) es w ≡ es

@@ -73,6 +73,17 @@ impl CallbackMap {
         Some(registration)
     }
 
+    // The same with a number of any size. No handle is above the last one.
+    pub fn cancel_number(&mut self, number: u64) -> Option<u32>
+        ensures registration { result ≡ option_map (λ callback. callback.registration) (callback_in self.old.callbacks number) }
+        ensures gone { self.new ≡ cancelled number self.old }
+    {
+        if number > u64::from(self.last_handle) {
+            return None;
+        }
+        self.cancel(number as u32)
+    }
+
     // Takes the marks out, where they are more than half.
     fn forget_where_many(&mut self)
         ensures { self.new ≡ self.old }

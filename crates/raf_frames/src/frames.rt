@@ -64,6 +64,15 @@ impl Frames {
         self.map.cancel(handle)
     }
 
+    /// Takes the callback whose handle is this number out of the map, as `cancel` does. Each handle is below 2^32, so that a greater
+    /// number is in no map. Takes no memory.
+    pub fn cancel_number(&mut self, number: u64) -> Option<u32>
+        ensures registration { result ≡ option_map (λ callback. callback.registration) (callback_in self.old.map.callbacks number) }
+        ensures gone { self.new ≡ record self.old { map = cancelled number self.old.map } }
+    {
+        self.map.cancel_number(number)
+    }
+
     /// Begins a frame: it calls the callbacks whose handles are in the map now. A frame that was in progress is over.
     ///
     /// An error leaves all as it was.
@@ -131,6 +140,7 @@ mod tests {
         assert_eq!(rt; frames.keys()?.as_slice(), [2].as_slice());
         assert_eq!(rt; frames.cancel(2), Some(3));
         assert_eq!(rt; frames.cancel(2), None);
+        assert_eq!(rt; frames.cancel_number(4_294_967_298), None);
         assert_eq!(rt; frames.request(4)?, 3);
         assert_eq!(rt; frames.next_in_frame(), None);
         assert!(rt; !frames.is_empty());

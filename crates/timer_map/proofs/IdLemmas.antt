@@ -1,7 +1,8 @@
 -- The map of ids as the entries of the code's map.
-use Rattle.std.proofs.Common.{◌≡◌, ℕ, suc, ◌+◌, unwrap_or, add-one, Bool, true, false, cond, map, List, [], ◌∷◌, ◌++◌, Option, Some, None, is_some, find, nat_eq, eqb, refl, sym, subst, ◌∙◌, ap, arith}
+use Rattle.std.proofs.Common.{◌≡◌, ℕ, suc, ◌+◌, ◌<◌, ◌≤◌, ◌^◌, All, unwrap_or, add-one, Bool, true, false, cond, map, List, [], ◌∷◌, ◌++◌, Option, Some, None, is_some, find, nat_eq, eqb, refl, sym, subst, ◌∙◌, ap, arith}
 use Rattle.std.proofs.lemmas.Bool.{eqb-true}
-use Rattle.std.proofs.lemmas.List.Sorted.{IsPermutation-map}
+use Rattle.std.proofs.lemmas.List.Elements.{All-cons, All-from_recursion, recursion_from_All}
+use Rattle.std.proofs.lemmas.List.Sorted.{IsPermutation-map, All-permutation}
 use Rattle.std.proofs.lemmas.Map.Keys.{IsDistinct-head, IsDistinct-tail}
 use Rattle.std.specs.List.{AllByRecursion, IsDistinct}
 use Rattle.std.specs.List.Sorted.{IsPermutation}
@@ -12,13 +13,17 @@ use Rattle.page_parts.specs.Words.{is_there, without}
 use Rattle.timer_map.specs.InOrder.{in_order}
 use Rattle.timer_map.specs.Kept.{AreNumbered, AreIdsKept}
 use Rattle.timer_map.specs.Seen.{ids_of, ids_in_order}
-use Rattle.timer_map.proofs.OrderLemmas.{eqb_flip, without_none, only_one, find_in_order, order_permuted, order_pushed, order_without, distinct_pushed, distinct_without, numbered_permuted, numbered_pushed, numbered_without}
+use Rattle.timer_map.proofs.OrderLemmas.{eqb_flip, each_without, find_none, without_none, only_one, find_in_order, order_permuted, order_pushed, order_without, distinct_pushed, distinct_without, numbered_permuted, numbered_pushed, numbered_without}
 
 abbrev id_of : TimerId → ℕ
 id_of entry = entry.id
 
 abbrev handle_of : TimerId → ℕ
 handle_of entry = entry.handle
+
+-- an id below 2 ^ 32
+abbrev pub IsSmall : TimerId → Type 0
+IsSmall entry = entry.id < 2 ^ 32
 
 -- ---- an id in the map
 
@@ -46,6 +51,17 @@ found_in_order id last es kept =
 pub has_in_order : (id last : ℕ) (es : List (ℕ × ℕ)) → AreIdsKept last es
     → is_some (lookup (nat_eq id) es) ≡ is_there (find (λ (e : TimerId). eqb e.id id) (ids_in_order last es))
 has_in_order id last es kept = has_found id es ∙ ap is_there (sym (found_in_order id last es kept))
+
+-- one of 2 ^ 32 or more is not there
+large_differs : (id : ℕ) (ids : List TimerId) → 2 ^ 32 ≤ id → AllByRecursion IsSmall ids → AllByRecursion (λ (e : TimerId). eqb e.id id ≡ false) ids
+large_differs id [] large small = tt
+large_differs id (e ∷ ids) large small = (grind (arith, large, small.0), large_differs id ids large small.1)
+
+pub large_in_order : (id last : ℕ) (es : List (ℕ × ℕ)) → 2 ^ 32 ≤ id → AreIdsKept last es
+    → is_there (find (λ (e : TimerId). eqb e.id id) (ids_in_order last es)) ≡ false
+large_in_order id last es large kept =
+    let differs = large_differs id (ids_of es) large (recursion_from_All IsSmall (ids_of es) kept.small) in
+    ap is_there (found_in_order id last es kept ∙ find_none (λ (e : TimerId). eqb e.id id) (ids_of es) differs)
 
 -- whether it is there with a handle
 pub live_in_order : (id handle last : ℕ) (es : List (ℕ × ℕ)) → AreIdsKept last es
@@ -81,8 +97,10 @@ module _ (id last : ℕ) (es : List (ℕ × ℕ)) (kept : AreIdsKept last es) wh
   kept_rest =
       let is = without_removed id es kept.distinct in
       let distinct = distinct_without id_of (λ e. eqb e.id id) (ids_of es) (subst (IsDistinct nat_eq) (ids_distinct es) kept.distinct) in
+      let small = recursion_from_All IsSmall (ids_of es) kept.small in
       record {
         distinct = subst (IsDistinct nat_eq) (ap (map id_of) (sym is) ∙ sym (ids_distinct (remove_entry (nat_eq id) es))) distinct;
+        small = subst (All IsSmall) (sym is) (All-from_recursion IsSmall (without (λ e. eqb e.id id) (ids_of es)) (each_without IsSmall (λ e. eqb e.id id) (ids_of es) small));
         numbered = subst (AreNumbered handle_of last) (sym is) (numbered_without handle_of (λ e. eqb e.id id) last (ids_of es) kept.numbered);
       }
 
@@ -96,7 +114,11 @@ entry_of entry = record { id = entry.0; handle = entry.1 }
 
 pub kept_reordered : (last : ℕ) (old new : List (ℕ × ℕ)) → AreIdsKept last old → IsPermutation old new → IsDistinct nat_eq (keys_of new) → AreIdsKept last new
 kept_reordered last old new kept p distinct =
-    record { distinct = distinct; numbered = numbered_permuted handle_of last (ids_of old) (ids_of new) (IsPermutation-map entry_of old new p) kept.numbered }
+    record {
+      distinct = distinct;
+      small = All-permutation IsSmall (ids_of old) (ids_of new) (IsPermutation-map entry_of old new p) kept.small;
+      numbered = numbered_permuted handle_of last (ids_of old) (ids_of new) (IsPermutation-map entry_of old new p) kept.numbered;
+    }
 
 pub ids_reordered : (last : ℕ) (old new : List (ℕ × ℕ)) → AreIdsKept last old → IsPermutation old new → ids_in_order last new ≡ ids_in_order last old
 ids_reordered last old new kept p = order_permuted handle_of last (ids_of old) (ids_of new) (IsPermutation-map entry_of old new p) kept.numbered.distinct
@@ -104,12 +126,13 @@ ids_reordered last old new kept p = order_permuted handle_of last (ids_of old) (
 -- ---- an id is set, with the next handle
 
 module _ (id last : ℕ) (old new : List (ℕ × ℕ)) (kept : AreIdsKept last old) (p : IsPermutation ((id, last + 1) ∷ remove_entry (nat_eq id) old) new) where
-  pub kept_put : IsDistinct nat_eq (keys_of new) → AreIdsKept (last + 1) new
-  kept_put distinct =
+  pub kept_put : IsDistinct nat_eq (keys_of new) → id < 2 ^ 32 → AreIdsKept (last + 1) new
+  kept_put distinct small =
       let entry : TimerId = record { id = id; handle = last + 1 } in
       let rest = remove_entry (nat_eq id) old in
       record {
         distinct = distinct;
+        small = All-permutation IsSmall (entry ∷ ids_of rest) (ids_of new) (IsPermutation-map entry_of _ new p) (All-cons IsSmall entry (ids_of rest) small (kept_rest id last old kept).small);
         numbered = numbered_pushed handle_of last entry (ids_of rest) (ids_of new) refl (IsPermutation-map entry_of _ new p) (kept_rest id last old kept).numbered;
       }
 

@@ -1,5 +1,5 @@
 -- What the map of ids and the heap of active timers keep.
-use Rattle.std.specs.Prelude.{ℕ, ◌<◌, ◌≤◌, List, map, All, nat_eq}
+use Rattle.std.specs.Prelude.{ℕ, ◌<◌, ◌≤◌, ◌^◌, List, map, All, nat_eq}
 use Rattle.std.specs.BinaryHeap.{IsHeap}
 use Rattle.std.specs.List.{IsDistinct}
 use Rattle.std.specs.Map.{keys_of}
@@ -28,9 +28,10 @@ pub record IsKept (last : ℕ) (timers : List (Reverse waiting.ActiveTimer)) : T
   pub heap : IsHeap earlier timers
   pub numbered : AreNumbered (λ (t : ActiveTimer). t.start) last (timers_of timers)
 
--- the ids are distinct, and stand by their handles
+-- the ids are distinct and below 2 ^ 32, and stand by their handles
 pub record AreIdsKept (last : ℕ) (entries : List (ℕ × ℕ)) : Type 0 where
   pub distinct : IsDistinct nat_eq (keys_of entries)
+  pub small : All (λ (e : TimerId). e.id < 2 ^ 32) (ids_of entries)
   pub numbered : AreNumbered (λ (e : TimerId). e.handle) last (ids_of entries)
 
 -- both

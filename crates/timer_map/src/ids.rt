@@ -21,6 +21,7 @@ pub(crate) fn set_handle(ids: &mut HashMap<u32, u64>, id: u32, handle: u64)
 pub(crate) fn id_and_last(again: Option<u32>, last: u32) -> (u32, u32)
     requires { ForNone again (last + 1 < 2 ^ 32) }
     ensures id { result.0 ≡ unwrap_or again (last + 1) }
+    ensures small { result.0 < 2 ^ 32 }
     ensures last { result.1 ≡ option_map_or (λ _. last) again (last + 1) }
 {
     match again {

@@ -148,6 +148,17 @@ impl Timers {
         self.ids.contains_key(&id)
     }
 
+    /// Whether a number is an id in the map, with any handle. Each id is below 2^32. Takes no memory.
+    pub fn has_number(&self, number: u64) -> bool
+        ensures { result ≡ has_id number self.now }
+    {
+        let ids = &self.ids;
+        match u32::try_from(number) {
+            Ok(id) => ids.contains_key(&id),
+            Err(_) => false,
+        }
+    }
+
     /// The least due time of an active timer, none exactly where none is active. Takes no memory.
     pub fn next_due(&self) -> Option<Micros>
         ensures { option_map (λ moment. moment.0) result ≡ next_due_of self.now }

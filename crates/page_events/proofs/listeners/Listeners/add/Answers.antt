@@ -4,8 +4,8 @@ use Rattle.std.specs.Map.{remove_entry}
 use Rattle.page_parts.specs.Words.{and_last}
 use Rattle.page_events.specs.declared.listener.Listener.{Listener}
 use Rattle.page_events.specs.Seen.{listeners_of}
-use Rattle.page_events.specs.Indexed.{AreSerials, AreBelow, AddsSerial, serials_in}
-use Rattle.page_events.proofs.IndexLemmas.{remove_last, serials_put, below_put, seen_last}
+use Rattle.page_events.specs.Indexed.{AreSerials, AreBelow, AreSmall, AddsSerial, serials_in}
+use Rattle.page_events.proofs.IndexLemmas.{remove_last, serials_put, below_put, small_put, seen_last}
 use Rattle.page_events.proofs.listeners.Listeners.add.Goals as goal
 
 pub invariant_of-self-in-Err : goal.invariant_of-self-in-Err
@@ -17,6 +17,7 @@ invariant_of-self-in-Err c =
     record {
       ordered = c.take_out.ensures.ordered;
       below = subst (AreBelow s) (sym back) c.self.invariant.below;
+      small = subst AreSmall (sym back) c.self.invariant.small;
       by_registration = λ r. c.in-Err.ensures.err r ∙ c.self.invariant.by_registration r ∙ ap (λ fs. serials_in fs r) (sym back);
       by_kind = c.take_out.ensures.kinds;
     }
@@ -39,6 +40,7 @@ invariant_of-self-2 c =
     record {
       ordered = c.put.ensures.ordered;
       below = subst (λ n. AreBelow n c.put.new.listed.entries) next (subst (AreBelow (s + 1)) (sym c.in_ok-put.ensures.put) (below_put s es l c.self.invariant.below));
+      small = subst AreSmall (sym c.in_ok-put.ensures.put) (small_put s es l (search rules) c.self.invariant.small);
       by_registration = subst (λ fs. AreSerials fs c.note_serial.new.serials) (sym c.in_ok-put.ensures.put) (serials_put es s l c.self.inside.serials c.note_serial.new.serials c.self.invariant.by_registration noted);
       by_kind = c.put.ensures.kinds;
     }

@@ -5,9 +5,9 @@ use Rattle.std.specs.declared.vec.Vec.{Vec}
 use Rattle.page_parts.specs.Words.{is_empty}
 use Rattle.page_parts.specs.Listeners.{is_listening, off}
 use Rattle.page_events.specs.Seen.{listeners_of}
-use Rattle.page_events.specs.Indexed.{serials_of, serials_in, AreSerials, AreBelow}
+use Rattle.page_events.specs.Indexed.{serials_of, serials_in, AreSerials, AreBelow, AreSmall}
 use Rattle.page_events.specs.Removed.{remove_each}
-use Rattle.page_events.proofs.IndexLemmas.{is_listed, others, all_taken, below_others, serials_taken, seen_others, empty_len}
+use Rattle.page_events.proofs.IndexLemmas.{is_listed, others, all_taken, below_others, small_others, serials_taken, seen_others, empty_len}
 use Rattle.page_events.proofs.listeners.Listeners.off.Goals as goal
 
 pub returns-in_default-clause-was : goal.returns-in_default-clause-was
@@ -34,6 +34,7 @@ invariant_of-self-2 c =
     record {
       ordered = c.take_out_all.ensures.ordered;
       below = subst (AreBelow c.self.inside.next) (sym left) (below_others c.self.inside.next r es c.self.invariant.below);
+      small = subst AreSmall (sym left) (small_others r es c.self.invariant.small);
       by_registration = subst (λ fs. AreSerials fs c.remove.new.self) (sym left) (serials_taken r es c.self.inside.serials c.remove.new.self c.self.invariant.by_registration c.remove.ensures.updates.0);
       by_kind = c.take_out_all.ensures.kinds;
     }

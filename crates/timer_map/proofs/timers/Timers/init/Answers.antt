@@ -31,7 +31,7 @@ invariant_of-self-2 c =
     let e = c.in_ok-reserve.ensures in
     let room = kept_reordered c.self.inside.handles_made _ _ c.self.invariant.ids e.entries.0 e.unique in
     let active = kept_pushed c.self.inside.starts_made (c.args.now.0 + c.clamped.result * 1000) _ _ c.self.invariant.active c.in_ok-push.ensures.permutation c.in_ok-push.ensures.heap_order in
-    record { ids = kept_put c.id_and_last-id.result.0 _ _ _ room c.set_handle.ensures.set c.set_handle.ensures.unique; active = active }
+    record { ids = kept_put c.id_and_last-id.result.0 _ _ _ room c.set_handle.ensures.set c.set_handle.ensures.unique c.id_and_last-id.ensures.small; active = active }
 
 pub returns-clause-set : goal.returns-clause-set
 returns-clause-set c =
