@@ -1,3 +1,4 @@
 pub mod VisitLemmas
 pub mod ModelLemmas
 pub mod NumberLemmas
+pub mod RestLemmas

@@ -1,16 +1,16 @@
 -- The steps of a fold are those that a page takes.
-use Rattle.std.proofs.Common.{◌≡◌, ℕ, zero, suc, ◌-◌, Bool, true, false, cond, ◌||◌, List, [], ◌∷◌, length, map, Option, Some, None, refl, ap, sym, ◌∙◌, arith}
+use Rattle.std.proofs.Common.{◌≡◌, ℕ, zero, suc, ◌-◌, Bool, true, false, cond, ◌||◌, List, [], ◌∷◌, length, Option, Some, None, refl, ap, sym, ◌∙◌, arith}
 use Rattle.std.specs.Prelude.{◌==◌, codes, option_map, unwrap_or, slice_get, slice_set}
 use Rattle.std.proofs.lemmas.Bool.Decides.{nat_tests}
 use Rattle.page_types.specs.Values.{Value, UnitValue, SignalValue}
-use Rattle.page_types.specs.Events.{Ret, Abort}
+use Rattle.page_types.specs.Events.{Ret}
 use Rattle.page_types.specs.declared.Priority.{Priority}
 use Rattle.page_parts.specs.Kinds.{Func}
 use Rattle.page_parts.specs.Words.{is_there}
-use Rattle.page_parts.specs.AbortGraph.{SignalRecord, Signals, fresh_signal, the_signal, reason_of, marked, with_algorithms}
+use Rattle.page_parts.specs.AbortGraph.{SignalRecord, Signals, fresh_signal, the_signal, reason_of, with_algorithms}
 use Rattle.page_parts.specs.TaskSignals.{PrioRecord, Prios, same_priority, record_of, priority_of, is_changing, followers, changed_at, ended}
 use Rattle.page_parts.specs.Listeners.{Listener, AtSignal, snapshot, is_listening}
-use Rattle.page_model.specs.State.{Page, the_registration, emit_each}
+use Rattle.page_model.specs.State.{Page, the_registration}
 use Rattle.page_model.specs.Invoke.{when_reported, call_begun, call_ended}
 use Rattle.page_model.specs.PageSignals.{abort_registrations, run_algorithms, reason_value, priority_value, has_priority}
 use Rattle.page_model.specs.PageSignals as page

@@ -2,13 +2,12 @@
 use Rattle.std.proofs.Common.{◌≡◌, ℕ, List, [], ◌∷◌, Option, Some, None, refl, ap, sym, ◌∙◌}
 use Rattle.page_types.specs.Values.{Value}
 use Rattle.page_types.specs.declared.Priority.{Priority}
-use Rattle.page_parts.specs.AbortGraph.{SignalRecord, Signals, the_signal, with_algorithms}
-use Rattle.page_parts.specs.TaskSignals.{followers}
+use Rattle.page_parts.specs.AbortGraph.{SignalRecord, Signals, the_signal}
 use Rattle.abort_graph.specs.ByValue.{by_value}
 use Rattle.abort_graph.proofs.ByValueLemmas.{signal_by, with_algorithms_by}
 use Rattle.page_model.specs.Folds.{ChangePiece, ChangeOf, EndChange, Rest, AbortsLeft, ChangesLeft}
 use Rattle.page_folds.specs.declared.step.FoldStep.{FoldStep}
-use Rattle.page_folds.specs.Steps.{Parts, Stage, Algorithms, OpenFold, Came, stage_next, or_then, algorithms_taken, aborts_from, before_change, change_from, changes_from, change_begun, change_ended, rest_from, goes_on}
+use Rattle.page_folds.specs.Steps.{Parts, Stage, Algorithms, OpenFold, Came, stage_next, or_then, algorithms_taken, aborts_from, before_change, change_from, changes_from, change_ended, rest_from}
 use Rattle.page_folds.specs.OfModel.{parts_by, came_by, NumbersAre}
 
 module _ (f : ℕ → Value) where

@@ -1,8 +1,10 @@
-ghost use Rattle.std.specs.Prelude.{◌≡◌, IfOk, List, ℕ};
+ghost use Rattle.std.specs.Prelude.{◌≡◌, ◌<◌, ◌∷◌, IfOk, OnErr, OnOk, List, ℕ};
+ghost use Rattle.std.specs.VecDeque.{deque_len, deque_capacity};
 ghost use Rattle.page_parts.specs.Listeners.{Listener};
 ghost use Rattle.page_parts.specs.AbortGraph.{Signals};
 ghost use Rattle.page_folds.specs.Steps.{changes_from};
 ghost use Rattle.page_folds.specs.Seen.{IsBegun, came_to_told, pieces_of};
+ghost use Rattle.page_folds.specs.AtRest.{at_rest};
 
 use crate::MemoryFault;
 use std::collections::VecDeque;
@@ -42,11 +44,13 @@ pub(crate) struct Told {
 }
 
 impl Changes {
-    // Begins the next change that is not passed over, and ends those that are over on the way. None exactly where all are over.
+    // Begins the next change that is not passed over, and ends those that are over on the way. None exactly where all are over. For want
+    // of memory changes may have ended, and no priority is another.
     pub(crate) fn advance(self, prios: &mut Prios) -> Result<Option<Told>, MemoryFault>
-        ensures { IfOk result (λ told. (ls : List Listener) (ss : Signals ℕ) →
+        ensures told { IfOk result (λ told. (ls : List Listener) (ss : Signals ℕ) →
             came_to_told told (record { listeners = ls; signals = ss; prios = prios.new }) ≡
             changes_from self.priority (pieces_of self.levels.items) (record { listeners = ls; signals = ss; prios = prios.old })) }
+        ensures err { OnErr result (at_rest prios.new ≡ at_rest prios.old) }
     {
         let Changes {
             priority,
@@ -58,9 +62,9 @@ impl Changes {
                 continue;
             };
             let chain = level.chain;
-            levels.push_front(level)?;
+            put_back(&mut levels, level)?;
             if let Some(begun) = begin(chain, signal, priority, prios)? {
-                levels.push_front(begun.level)?;
+                levels.push_front_reserved(begun.level);
                 return Ok(Some(Told {
                     signal,
                     before: begun.before,
@@ -72,14 +76,25 @@ impl Changes {
     }
 }
 
-// Begins a change of a signal, none exactly where it is passed over.
+// A change is the innermost one again, with room for one more.
+fn put_back(levels: &mut VecDeque<Level>, level: Level) -> Result<(), MemoryFault>
+    ensures items { OnOk result (levels.new.items ≡ level ∷ levels.old.items) }
+    ensures room { OnOk result (deque_len levels.new < deque_capacity levels.new) }
+{
+    levels.reserve(2)?;
+    levels.push_front_reserved(level);
+    Ok(())
+}
+
+// Begins a change of a signal, none exactly where it is passed over. For want of memory nothing changes.
 fn begin(
     chain: usize,
     signal: u32,
     priority: Priority,
     prios: &mut Prios,
 ) -> Result<Option<Begun>, MemoryFault>
-    ensures { IfOk result (λ begun. IsBegun chain signal priority prios.old begun prios.new) }
+    ensures begun { IfOk result (λ begun. IsBegun chain signal priority prios.old begun prios.new) }
+    ensures err { OnErr result (prios.new ≡ prios.old) }
 {
     let Some(chain) = chain.checked_sub(1) else {
         return Ok(None);

@@ -1,10 +1,11 @@
-ghost use Rattle.std.specs.Prelude.{◌≡◌, ℕ, List, IfOk};
+ghost use Rattle.std.specs.Prelude.{◌≡◌, ℕ, List, IfOk, OnErr};
 ghost use Rattle.std.specs.Vec.Iter.{into_iter_items};
 ghost use Rattle.page_parts.specs.AbortGraph as signals;
 ghost use Rattle.page_parts.specs.Listeners.{Listener};
 ghost use Rattle.page_parts.specs.TaskSignals as priorities;
 ghost use Rattle.page_folds.specs.Steps.{aborts_from, changes_from, goes_on};
 ghost use Rattle.page_folds.specs.Seen.{came_to, fold_seen, pieces_of};
+ghost use Rattle.page_folds.specs.AtRest.{at_rest};
 
 use crate::changes::Changes;
 use crate::stage::Stage;
@@ -37,7 +38,7 @@ pub(crate) struct Next {
 }
 
 impl Fold {
-    // The next step, none exactly where nothing is left to visit.
+    // The next step, none exactly where nothing is left to visit. For want of memory changes may have ended, and no priority is another.
     pub(crate) fn advance(
         self,
         alloc: Global,
@@ -45,9 +46,10 @@ impl Fold {
         signals: &mut Signals<u32>,
         prios: &mut Prios,
     ) -> Result<Option<Next>, MemoryFault>
-        ensures { IfOk result (λ next.
+        ensures step { IfOk result (λ next.
             came_to next (record { listeners = listeners.now; signals = signals.new; prios = prios.new }) ≡
             goes_on (fold_seen self) (record { listeners = listeners.now; signals = signals.old; prios = prios.old })) }
+        ensures err { OnErr result (at_rest prios.new ≡ at_rest prios.old) }
     {
         let Fold { stage, rest } = self;
         if let Some(advance) = stage.advance(alloc, listeners)? {
@@ -98,9 +100,10 @@ fn next_abort(
 
 // The next change.
 fn next_change(changes: Changes, prios: &mut Prios) -> Result<Option<Next>, MemoryFault>
-    ensures { IfOk result (λ next. (ls : List Listener) (ss : signals.Signals ℕ) →
+    ensures step { IfOk result (λ next. (ls : List Listener) (ss : signals.Signals ℕ) →
         came_to next (record { listeners = ls; signals = ss; prios = prios.new }) ≡
         changes_from changes.priority (pieces_of changes.levels.items) (record { listeners = ls; signals = ss; prios = prios.old })) }
+    ensures err { OnErr result (at_rest prios.new ≡ at_rest prios.old) }
 {
     let told = changes.advance(prios)?;
     Ok(told.map(|told| Next {

@@ -5,6 +5,8 @@ ghost use Rattle.page_folds.specs.Steps.{IsInnermost, outer, dispatch_begun, abo
 ghost use Rattle.page_folds.specs.Begins.{AbortLeaves, IsChange, ChangeLeaves};
 ghost use Rattle.page_folds.specs.Visits.{Falls};
 ghost use Rattle.page_folds.specs.Seen.{fold_seen, parts_of, open_of, standing};
+ghost use Rattle.page_folds.specs.AtRest.{at_rest};
+ghost use Rattle.page_folds.specs.Calls.{calls_in};
 
 #[cfg(test)]
 mod tests;
@@ -128,14 +130,15 @@ impl Folds {
     /// listeners and changes that it has still to visit falls at each other step.
     ///
     /// It costs what it looks at, and look-ups: the algorithms or followers of a signal that it comes to, the listeners of a
-    /// dispatch that it begins, and what it passes over. After want of memory the ticket is closed, and the folds are not to be
-    /// used again.
+    /// dispatch that it begins, and what it passes over. After want of memory the ticket is closed, each signal has the priority that
+    /// it had, and the folds are not to be used again.
     pub fn step(&mut self, ticket: u64) -> Result<FoldStep, MemoryFault>
         requires { IsInnermost ticket (open_of self.old) }
         ensures step { IfOk result (λ step. (step, standing self.new) ≡ stepped (standing self.old)) }
         ensures falls { IfOk result (λ step. Falls step (standing self.old) (standing self.new)) }
         ensures listeners { self.new.listeners ≡ self.old.listeners }
         ensures err { OnErr result (open_of self.new ≡ outer (open_of self.old)) }
+        ensures prios { OnErr result (at_rest self.new.prios ≡ at_rest self.old.prios) }
     {
         let Some(fold) = self.open_folds.pop() else {
             return Ok(FoldStep::Finished);
@@ -155,6 +158,28 @@ impl Folds {
             }
             None => Ok(FoldStep::Finished),
         }
+    }
+
+    /// Whether the innermost fold calls listeners, false with no fold open. Takes no memory.
+    pub fn is_calling(&self) -> bool
+        ensures { result ≡ calls_in (open_of self.now) }
+    {
+        match self.open_folds.last() {
+            Some(fold) => fold.stage.is_calling(),
+            None => false,
+        }
+    }
+
+    /// No listener, no signal and no open fold is left, and the priorities stay. Takes no memory.
+    pub fn keep_priorities(&mut self)
+        ensures listeners { self.new.listeners ≡ [] }
+        ensures signals { self.new.signals ≡ [] }
+        ensures prios { self.new.prios ≡ self.old.prios }
+        ensures open { open_of self.new ≡ [] }
+    {
+        self.listeners = Listeners::new(self.alloc);
+        self.signals = Signals::new(self.alloc);
+        self.open_folds.clear();
     }
 
     // Opens a fold, with its ticket. For want of memory nothing changes.

@@ -3,6 +3,7 @@ ghost use Rattle.page_values.specs.Texts.{is_text};
 ghost use Rattle.std.specs.Vec.Iter.{into_iter_items};
 ghost use Rattle.page_folds.specs.Steps.{Algorithms, stage_next, listener_next, fired};
 ghost use Rattle.page_folds.specs.Seen.{stage_seen, advance_seen};
+ghost use Rattle.page_folds.specs.Calls.{calls};
 
 use crate::{FoldStep, MemoryFault};
 use page_events::{Dispatch, Listeners, Target};
@@ -62,6 +63,16 @@ impl Stage {
             })),
             Stage::ToFire { signal } => fire(alloc, listeners, signal, b"prioritychange"),
             Stage::Calling { target, left } => Ok(next_listener(listeners, target, left)),
+        }
+    }
+
+    // Whether listeners are called.
+    pub(crate) fn is_calling(&self) -> bool
+        ensures { result ≡ calls (stage_seen self.now) }
+    {
+        match self {
+            Stage::Calling { .. } => true,
+            _ => false,
         }
     }
 }

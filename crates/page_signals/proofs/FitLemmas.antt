@@ -8,11 +8,13 @@ use Rattle.page_model.specs.Folds.{Rest, AbortsLeft, ChangesLeft}
 use Rattle.abort_graph.specs.ByValue.{value_in}
 use Rattle.abort_graph.proofs.ByValueLemmas.{reason_by}
 use Rattle.page_folds.specs.Steps.{Parts, OpenFold, Standing}
+use Rattle.page_folds.specs.Calls.{calls_in}
 use Rattle.page_folds.specs.OfModel.{Fits, HaveReason as PageHasReason, page_with, parts_by}
 use Rattle.page_signals.specs.declared.opened.Kind.{Kind}
 use Rattle.page_signals.specs.declared.opened.Kind.TheVariants.{Dispatch, Abort, Change}
 use Rattle.page_signals.specs.declared.opened.Open as code
 use Rattle.page_signals.specs.Signalling.{Open, with_parts}
+use Rattle.page_signals.specs.Steps.{is_calling_in}
 use Rattle.page_signals.specs.Seen.{kind_seen, opens_of}
 use Rattle.page_signals.specs.Kept.{FoldFits, AreFitting, HaveReason, RestFits, AreOpen, IsKept}
 use Rattle.page_signals.proofs.StepLemmas.{seen_by}
@@ -64,3 +66,13 @@ opened-count n values os st kept = same-count n values st.parts os st.folds kept
 
 pub folds-count : (n : ℕ) (os : List code.Open) (st : Standing ℕ) → IsKept n st os → length st.folds ≡ length os
 folds-count n os st kept = fold-count n st.parts os st.folds kept.folds
+
+-- whether the innermost fold calls listeners
+pub calling-seen : (n : ℕ) (values : List Value) (os : List code.Open) (st : Standing ℕ) → IsKept n st os → calls_in st.folds ≡ is_calling_in (seen_by values os st).folds
+calling-seen n values os st kept = by os st.folds kept.folds
+  where
+    by : (os : List code.Open) (folds : List OpenFold) → AreOpen n st.parts os folds → calls_in folds ≡ is_calling_in (opens_of values os folds)
+    by [] [] fit = refl
+    by [] (fold ∷ folds) fit = absurd fit
+    by (o ∷ os) [] fit = absurd fit
+    by (o ∷ os) (fold ∷ folds) fit = refl

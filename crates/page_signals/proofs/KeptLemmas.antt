@@ -1,5 +1,5 @@
 -- What the part keeps, call by call.
-use Rattle.std.proofs.Common.{ℕ, ◌≤◌, List, [], ◌∷◌, arith}
+use Rattle.std.proofs.Common.{◌≡◌, ℕ, ◌≤◌, List, [], ◌∷◌, length, sym, subst, arith}
 use Rattle.page_parts.specs.AbortGraph.{Signals}
 use Rattle.page_parts.specs.TaskSignals.{Prios}
 use Rattle.page_model.specs.Folds.{Rest, AbortsLeft, ChangesLeft}
@@ -8,7 +8,7 @@ use Rattle.page_folds.specs.Steps.{Parts, OpenFold, Standing}
 use Rattle.page_signals.specs.declared.opened.Kind.{Kind}
 use Rattle.page_signals.specs.declared.opened.Kind.TheVariants.{Dispatch, Abort, Change}
 use Rattle.page_signals.specs.declared.opened.Open as code
-use Rattle.page_signals.specs.Kept.{FollowersHave, RestFits, StageFits, AreOpen, IsKept}
+use Rattle.page_signals.specs.Kept.{FollowersHave, RestFits, StageFits, AreOpen, AreSound, IsKept}
 use Rattle.page_signals.proofs.GraphLemmas.{Later, AreWell, have-later}
 use Rattle.page_signals.proofs.PrioLemmas.{StillHas, can-still}
 
@@ -61,3 +61,12 @@ pub kept-opened : (n : ℕ) (st : Standing ℕ) (os : List code.Open) (o : code.
     → StageFits o.kind fold.stage → IsKept n st os → IsKept n (record st { folds = fold ∷ st.folds }) (o ∷ os)
 kept-opened n st os o fold rest stage kept =
     record { among = kept.among; sound = kept.sound; followers = kept.followers; folds = (rest, stage, kept.folds) }
+
+-- the priorities alone
+pub kept-lost : (n : ℕ) (st : Standing ℕ) (os : List code.Open) → st.parts.signals ≡ [] → st.folds ≡ [] → os ≡ [] → FollowersHave st.parts.prios → IsKept n st os
+kept-lost n st os signals folds none have =
+    let A : Signals ℕ → Type 0 = AreAmong n in
+    let S : Signals ℕ → Type 0 = λ ss. AreSound (length ss) ss in
+    let F : List OpenFold → Type 0 = λ fs. AreOpen n st.parts os fs in
+    let O : List code.Open → Type 0 = λ xs. AreOpen n st.parts xs [] in
+    record { among = subst A (sym signals) tt; sound = subst S (sym signals) tt; followers = have; folds = subst F (sym folds) (subst O (sym none) tt) }

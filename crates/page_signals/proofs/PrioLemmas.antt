@@ -8,6 +8,7 @@ use Rattle.page_parts.specs.TaskSignals.{PrioRecord, Prios, record_of, followers
 use Rattle.page_model.specs.Folds.{ChangePiece, ChangeOf, EndChange, changes_of}
 use Rattle.page_model.specs.FoldBounds.{HasRecord, AllHaveRecords, CanChange}
 use Rattle.task_signal.specs.Changes.{HasPriority}
+use Rattle.page_folds.specs.AtRest.{still, at_rest}
 use Rattle.page_signals.specs.Kept.{FollowersHave}
 
 -- a signal that has a record has one later too
@@ -157,3 +158,30 @@ pub can-follow : (ps : Prios) (chain : ℕ) (ss : List ℕ) (more : List ChangeP
     → CanChange ps (changes_of chain ss more)
 can-follow ps chain [] more have can = can
 can-follow ps chain (s ∷ ss) more have can = (have.0, can-follow ps chain ss more have.1 can)
+
+-- ---- changes that have ended
+
+there-rest : (ps : Prios) (t : ℕ) → is_there (record_of (at_rest ps) t) ≡ is_there (record_of ps t)
+there-rest [] t = refl
+there-rest (r ∷ rs) t = by (r.signal == t) (there-rest rs t)
+  where
+    by : (b : Bool) → is_there (record_of (at_rest rs) t) ≡ is_there (record_of rs t)
+        → is_there (cond b (Some (still r)) (record_of (at_rest rs) t)) ≡ is_there (cond b (Some r) (record_of rs t))
+    by true again = refl
+    by false again = again
+
+followers-rest : (ps : Prios) (t : ℕ) → followers (at_rest ps) t ≡ followers ps t
+followers-rest [] t = refl
+followers-rest (r ∷ rs) t = by (r.signal == t) (followers-rest rs t)
+  where
+    by : (b : Bool) → followers (at_rest rs) t ≡ followers rs t
+        → elim (cond b (Some (still r)) (record_of (at_rest rs) t)) as (λ _. List ℕ) [ None ↦ [] | Some x ↦ x.followers ]
+        ≡ elim (cond b (Some r) (record_of rs t)) as (λ _. List ℕ) [ None ↦ [] | Some x ↦ x.followers ]
+    by true again = refl
+    by false again = again
+
+-- each signal that follows another has a priority, also where changes have ended
+pub followers-at_rest : (old new : Prios) → at_rest new ≡ at_rest old → FollowersHave old → FollowersHave new
+followers-at_rest old new e have =
+    followers-by old new (λ s h. sym (there-rest new s) ∙ ap (λ ps. is_there (record_of ps s)) e ∙ there-rest old s ∙ h)
+    (λ t. sym (followers-rest new t) ∙ ap (λ ps. followers ps t) e ∙ followers-rest old t) have

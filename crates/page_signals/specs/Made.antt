@@ -1,8 +1,9 @@
--- What the calls that open a fold leave where memory is wanting.
+-- What is left where memory is wanting.
 use Rattle.std.specs.Prelude.{◌≡◌, ◌⊎◌, ℕ, List, [], ◌∷◌, ◌++◌, length, Some, None}
 use Rattle.page_types.specs.Values.{Value}
 use Rattle.page_values.specs.declared.Value as code
 use Rattle.page_parts.specs.AbortGraph.{Signals, reason_of}
+use Rattle.page_folds.specs.AtRest.{at_rest}
 use Rattle.page_signals.specs.Signalling.{Signalling}
 use Rattle.page_signals.specs.Steps.{reason_set}
 
@@ -15,3 +16,11 @@ abbrev pub IsNumbered : ℕ → Signals ℕ → (old : List code.Value) → code
 IsNumbered s ss old reason number new =
     ((reason_of ss s ≡ Some number) × (new ≡ old))
     ⊎ ((reason_of ss s ≡ None) × (number ≡ length old) × (new ≡ old ++ reason ∷ []))
+
+-- Where a fold has no next step, no signal, no listener and no open fold is left. Each signal that had a priority has it, and changes may
+-- have ended.
+pub record LeavesPriorities (before after : Signalling) : Type 0 where
+  pub signals : after.signals ≡ []
+  pub listeners : after.listeners ≡ []
+  pub folds : after.folds ≡ []
+  pub prios : at_rest after.prios ≡ at_rest before.prios

@@ -1,5 +1,5 @@
 -- How folds are opened, and go on by single steps.
-use Rattle.std.specs.Prelude.{ℕ, ◌<◌, ◌≤◌, List, [], ◌∷◌, length, map, Option, Some, None, ⊤, if◌then◌else◌, unwrap_or}
+use Rattle.std.specs.Prelude.{ℕ, ◌<◌, ◌≤◌, Bool, false, List, [], ◌∷◌, length, map, Option, Some, None, ⊤, if◌then◌else◌, unwrap_or}
 use Rattle.page_types.specs.Values.{Value, UnitValue}
 use Rattle.page_types.specs.declared.Priority.{Priority}
 use Rattle.page_parts.specs.AbortGraph.{Signals, reason_of, marked, with_reason, with_algorithms}
@@ -11,6 +11,7 @@ use Rattle.page_folds.specs.declared.step.FoldStep.{FoldStep}
 use Rattle.page_folds.specs.declared.step.FoldStep.TheVariants as step
 use Rattle.page_folds.specs.Steps.{OpenFold, Came, Ends, Gives, goes_on, dispatch_fold, abort_fold, change_fold}
 use Rattle.page_folds.specs.Visits.{innermost_visits}
+use Rattle.page_folds.specs.Calls.{calls}
 use Rattle.page_folds.specs.OfModel.{Kind, OfDispatch, OfAbort, OfChange, arguments_of, reason_in}
 use Rattle.page_signals.specs.Signalling.{Open, Signalling, parts_of, with_parts}
 
@@ -66,6 +67,11 @@ reported when st = record st { folds = reported_in when st.folds }
 abbrev pub when_in : List Open → WhenReported
 when_in [] = Never
 when_in (o ∷ around) = o.when
+
+-- whether the innermost of these folds calls listeners
+abbrev pub is_calling_in : List Open → Bool
+is_calling_in [] = false
+is_calling_in (o ∷ around) = calls o.fold.stage
 
 -- ---- Ours: steps
 

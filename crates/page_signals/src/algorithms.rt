@@ -1,4 +1,4 @@
-ghost use Rattle.std.specs.Prelude.{◌≡◌, ◌++◌};
+ghost use Rattle.std.specs.Prelude.{◌≡◌, ◌++◌, [], IfNone};
 ghost use Rattle.std.specs.Option.{option_to_list};
 ghost use Rattle.page_signals.specs.Registrations.{AreRegistrations};
 
@@ -36,7 +36,8 @@ impl Algorithms {
 
     /// The next registration, none exactly where none is left. Takes no memory.
     pub fn next(&mut self) -> Option<u32>
-        ensures { self.old ≡ option_to_list result ++ self.new }
+        ensures first { self.old ≡ option_to_list result ++ self.new }
+        ensures none { IfNone result (self.old ≡ []) }
     {
         let registration = self.left.next()?;
         Some(registration as u32)

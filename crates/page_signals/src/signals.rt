@@ -13,8 +13,9 @@ ghost use Rattle.page_events.specs.Dispatching.{next_listening, behind_next};
 ghost use Rattle.page_events.specs.Seen.{seen_target};
 ghost use Rattle.task_signal.specs.Changes.{HasPriority, IsStill};
 ghost use Rattle.page_signals.specs.Signalling.{nothing, on_signals, on_prios, on_listeners};
-ghost use Rattle.page_signals.specs.Steps.{IsMade, dispatch_opened, reason_set, abort_opened, change_opened, algorithms_taken, reported, when_in, stepped, Falls};
-ghost use Rattle.page_signals.specs.Made.{AbortLeaves, IsNumbered};
+ghost use Rattle.page_signals.specs.Steps.{IsMade, dispatch_opened, reason_set, abort_opened, change_opened, algorithms_taken, reported, when_in, is_calling_in, stepped, Falls};
+ghost use Rattle.page_signals.specs.Made.{AbortLeaves, IsNumbered, LeavesPriorities};
+ghost use Rattle.page_folds.specs.AtRest.{at_rest};
 ghost use Rattle.page_folds.specs.Seen.{standing};
 ghost use Rattle.page_signals.specs.Seen.{when_seen, visit_seen, signalling_seen};
 ghost use Rattle.page_signals.specs.Kept.{AreFitting, IsKept};
@@ -264,6 +265,13 @@ impl PageSignals {
         self.folds.listeners.is_listening(r)
     }
 
+    /// Whether a number is the registration of a live listener. Each registration is below 2^32. Takes no memory.
+    pub fn is_listening_number(&self, number: u64) -> bool
+        ensures { result ≡ heard.is_listening number self.now.listeners }
+    {
+        self.folds.listeners.is_listening_number(number)
+    }
+
     /// Begins a dispatch that a task runs, to the listeners of this target and name as they are now (DOM, "Dispatching events").
     pub fn begin(&self, target: Target, name: &Str) -> Result<Dispatch, MemoryFault>
         ensures { IfOk result (λ dispatch.
@@ -373,23 +381,30 @@ impl PageSignals {
         }
     }
 
+    /// Whether the innermost fold calls listeners, false with no fold open. Takes no memory.
+    pub fn is_calling(&self) -> bool
+        ensures { result ≡ is_calling_in self.now.folds }
+    {
+        self.folds.is_calling()
+    }
+
     /// The next step of the innermost fold.
     ///
     /// [`Visit::Finished`] exactly where it has nothing left to visit, and then it is closed. The number of algorithms, listeners and
     /// changes that it has still to visit falls at each other step.
     ///
-    /// After want of memory nothing is left: no signal, no listener and no open fold.
+    /// After want of memory no signal, no listener and no open fold is left. Each signal that had a priority has it.
     pub fn step(&mut self) -> Result<Visit, MemoryFault>
         ensures step { IfOk result (λ visit. (visit_seen visit, self.new) ≡ stepped self.old) }
         ensures falls { IfOk result (λ visit. Falls (visit_seen visit) self.old self.new) }
         ensures before { AreFitting self.old }
         ensures after { AreFitting self.new }
-        ensures err { OnErr result (self.new ≡ nothing) }
+        ensures err { OnErr result (LeavesPriorities self.old self.new) }
     {
         match advance(self.alloc, &mut self.folds, &self.reasons, &mut self.opened) {
             Ok(visit) => Ok(visit),
             Err(fault) => {
-                self.folds = Folds::new(self.alloc);
+                self.folds.keep_priorities();
                 self.opened.clear();
                 Err(fault)
             }
@@ -430,7 +445,7 @@ fn reason_number(
     Ok(number)
 }
 
-// The next step of the innermost fold.
+// The next step of the innermost fold. For want of memory changes may have ended, and no priority is another.
 fn advance(
     alloc: Global,
     folds: &mut Folds,
@@ -443,6 +458,7 @@ fn advance(
         ≡ stepped (signalling_seen reasons.now folds.old opened.old.items)) }
     ensures kept { OnOk result
         (IsKept (length reasons.now) (standing folds.new) (reverse opened.new.items)) }
+    ensures err { OnErr result (at_rest folds.new.prios ≡ at_rest folds.old.prios) }
 {
     let Some(mut innermost) = opened.pop() else {
         return Ok(Visit::Finished);

@@ -1,8 +1,12 @@
-use Rattle.std.proofs.Common.{◌^◌, ◌<◌, List, [], ◌∷◌, ◌++◌, length, map, ap, sym, ◌∙◌, rules}
+use Rattle.std.proofs.Common.{◌^◌, ◌<◌, List, [], ◌∷◌, ◌++◌, length, map, ap, sym, subst, ◌∙◌, rules, Result, Ok, Err}
+use Rattle.std.specs.Prelude.{OnErr}
 use Rattle.page_types.specs.Values.{Value}
 use Rattle.page_types.specs.declared.Priority.{Priority}
 use Rattle.page_values.specs.Seen.{seen}
+use Rattle.page_folds.specs.declared.step.FoldStep.{FoldStep}
+use Rattle.page_folds.specs.AtRest.{at_rest, PriosAfter}
 use Rattle.page_folds.specs.Seen.{standing}
+use Rattle.page_folds.proofs.RestLemmas.{step-prios}
 use Rattle.page_signals.specs.declared.opened.Kind.TheVariants.{Change}
 use Rattle.page_signals.specs.declared.opened.Open as code
 use Rattle.page_signals.specs.Steps.{Algorithm, Listener, Changed}
@@ -10,6 +14,10 @@ use Rattle.page_signals.specs.Seen.{visit_seen, signalling_seen}
 use Rattle.page_signals.proofs.AdvanceLemmas.{step-of, close-step, close-kept, innermost-ticket}
 use Rattle.page_signals.proofs.signals.advance.Goals as goal
 use Rattle.page_signals.proofs.signals.advance.Goals.{in-Algorithm+in_ok-reason-in-Algorithm, in-Listener+in_ok-arguments-in-Listener, in-Changed}
+
+err-holds : {A E : Type 0} {P : Type 0} (r : Result A E) → P → OnErr r P
+err-holds (Ok x) p = tt
+err-holds (Err e) p = p
 
 pub step-requires : goal.step-requires
 step-requires c =
@@ -86,3 +94,19 @@ returns-clause-kept c =
           (c.push_reserved.ensures.items ∙ ap (λ (x : code.Open). left ++ x ∷ []) (w.innermost-is ∙ ap (λ (q : Priority). record o { kind = Change q own }) w.priority_to-priority.ensures))
           (step-of reasons c.args.folds.now new c.args.opened.now.items left o c.in_ok-a.field-0 _ c.in-Some.ensures.items c.requires c.in_ok-a.ensures.step w.in-Changed.is).kept
     ]
+
+pub returns-in_err-reason-in-Algorithm-clause-err : goal.returns-in_err-reason-in-Algorithm-clause-err
+returns-in_err-reason-in-Algorithm-clause-err c =
+    let old = standing c.args.folds.now in
+    let new = standing c.step.new.self in
+    let P : FoldStep → Type 0 = λ s. PriosAfter s old.parts.prios new.parts.prios in
+    let same = ap at_rest (subst P c.in-Algorithm.is (step-prios old new c.in_ok-a.field-0 c.in_ok-a.ensures.step)) in
+    err-holds c.from_residual-in_err-reason-in-Algorithm.result same
+
+pub returns-in_err-arguments-in-Listener-clause-err : goal.returns-in_err-arguments-in-Listener-clause-err
+returns-in_err-arguments-in-Listener-clause-err c =
+    let old = standing c.args.folds.now in
+    let new = standing c.step.new.self in
+    let P : FoldStep → Type 0 = λ s. PriosAfter s old.parts.prios new.parts.prios in
+    let same = ap at_rest (subst P c.in-Listener.is (step-prios old new c.in_ok-a.field-0 c.in_ok-a.ensures.step)) in
+    err-holds c.from_residual-in_err-arguments-in-Listener.result same
