@@ -4,3 +4,8 @@ pub mod FollowingRules
 pub mod Lining
 pub mod Ending
 pub mod Stopping
+pub mod KeepingPages
+pub mod KeepingOperations
+pub mod KeepingFolds
+pub mod KeepingTurns
+pub mod KeepingCalls

@@ -1,5 +1,5 @@
 -- A script around the page that hands its lines on does what it does around the page that keeps its events.
-use Rattle.std.proofs.Common.{◌≡◌, List, [], ◌∷◌, ◌++◌, map, Option, refl, sym, ap, ◌∙◌}
+use Rattle.std.proofs.Common.{◌≡◌, List, Option, sym, ap, ◌∙◌}
 use Rattle.page_types.specs.Events.{Stamped}
 use Rattle.page_types.specs.Tree.{Program}
 use Rattle.lang_meaning.specs.Evaluation.{call_from_outside}

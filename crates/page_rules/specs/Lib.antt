@@ -1,3 +1,4 @@
 pub mod FoldActs
 pub mod Lined
 pub mod Ends
+pub mod Steady

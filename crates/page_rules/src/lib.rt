@@ -1,6 +1,8 @@
 //! The page as a host of the script machine that hands its lines on and keeps none. Laws alone, as functions with empty bodies.
 #![tactic(auto)]
 
+mod steady;
+
 ghost use Rattle.std.specs.Prelude.{◌≡◌, ℕ, List, [], Option};
 ghost use Rattle.page_types.specs.Values.{Value};
 ghost use Rattle.page_types.specs.Events.{Stamped};
@@ -20,6 +22,12 @@ ghost use Rattle.trace_text.specs.Given.{StopsAmong};
 ghost use Rattle.page_rules.specs.Lined.{Lined, hosting_after, stepped_by, lined, lined_rules, RulesFollow, LeavesLines};
 ghost use Rattle.page_rules.specs.Ends.{with_lines, EndsLined, LeavesWhole, whole_lines};
 
+pub use steady::{
+    asks_but_busy_take_no_time, asks_leave_what_stays, calls_leave_what_stays, folds_take_no_time,
+    jobs_and_checkpoints_take_no_time, lined_pages_leave_what_stays,
+    lines_of_callbacks_take_no_time, parallel_items_and_idle_steps_take_no_time,
+    promises_take_no_time, taken_tasks_take_no_time,
+};
 use trace_text::Lines;
 
 /// As a host the page only adds lines: whatever events stand before them, it answers the same, and leaves those as they are.
