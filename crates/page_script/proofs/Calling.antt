@@ -11,7 +11,7 @@ use Rattle.trace_text.specs.Acts.{At, Does}
 use Rattle.page_script.specs.Script.{Script, holding}
 use Rattle.page_script.specs.ScriptActs.{on_script, on, read_by}
 use Rattle.page_types.specs.Values.{Value}
-use Rattle.page_types.specs.Events.{Throw, Report, Turn, Send, Run}
+use Rattle.page_types.specs.Events.{Throw, Report, Log, Turn, Send, Run}
 use Rattle.page_types.specs.declared.Source.{Source}
 use Rattle.page_parts.specs.Notices.{WaitingJob}
 use Rattle.page_model.specs.Operations.{posted}
@@ -19,6 +19,7 @@ use Rattle.page_script.specs.Jobs.{begun_of, oldest_begun, taken, IsTaken}
 use Rattle.page_parts.specs.Spelling.{spelled}
 use Rattle.lang_meaning.specs.Evaluation.{without_first}
 use Rattle.page_model.specs.Invoke.{thrown, report}
+use Rattle.page_script.specs.Reports.{logged}
 use Rattle.page_script.proofs.Lifting.{Does-asked, Does-line, Does-idle}
 
 -- a registration was kept, and then comes its line
@@ -47,6 +48,13 @@ pub Does-reported : {T : Type 0} {k : Keeping T} (v : Value) (text : List ℕ) (
 Does-reported {k = k} v text s {old = old} {new = new} {why = why} from h =
     let P : List ℕ → Type 0 = λ x. Does k (on s old) (on_script (emit (Report x))) why new in
     Does-asked (λ q. emit (Report (spelled q.names v))) (on s old) (subst P from h)
+
+-- the line of a log
+pub Does-logged : {T : Type 0} {k : Keeping T} (v : Value) (text : List ℕ) (s : Script) {old : Seen T} {new : At Script T} {why : Option NoLine}
+    → text ≡ spelled s.names v → Does k (on s old) (on_script (emit (Log text))) why new → Does k (on s old) (on_script (logged v)) why new
+Does-logged {k = k} v text s {old = old} {new = new} {why = why} from h =
+    let P : List ℕ → Type 0 = λ x. Does k (on s old) (on_script (emit (Log x))) why new in
+    Does-asked (λ q. emit (Log (spelled q.names v))) (on s old) (subst P from h)
 
 -- a message was kept, and then comes its line
 pub Does-posted : {T : Type 0} {k : Keeping T} (port : ℕ) (v : Value) (text : List ℕ) (s mid : Script) {old : Seen T} {new : At Script T} {why : Option NoLine}

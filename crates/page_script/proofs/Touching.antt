@@ -22,6 +22,7 @@ use Rattle.page_model.specs.Turns.{at_time}
 use Rattle.page_script.specs.Script.{Script, script_of}
 use Rattle.page_script.specs.PageActs.{OnlyScript}
 use Rattle.page_script.specs.Jobs.{begun_of, oldest_begun}
+use Rattle.page_script.specs.Reports.{logged}
 use Rattle.page_script.proofs.Lifting.{OnlyScript-then, OnlyScript-none, emit-only}
 
 -- ---- Ways to choose
@@ -51,6 +52,9 @@ thrown-only v p = refl
 
 pub report-only : (v : Value) → OnlyScript (report v)
 report-only v p = refl
+
+pub logged-only : (v : Value) → OnlyScript (logged v)
+logged-only v p = refl
 
 pub report_before-only : (when : WhenReported) (v : Value) → OnlyScript (report_before when v)
 report_before-only BeforeCheckpoint v p = refl

@@ -227,6 +227,13 @@ impl PageScript {
         is_numbered(value, self.names.names().len())
     }
 
+    /// The names of the script's functions. Takes no memory.
+    pub fn names(&self) -> &FunNames
+        ensures { result.now ≡ self.now.names }
+    {
+        &self.names
+    }
+
     // The registration of the innermost open call, which a trace of form 2 tells.
     fn caller(&self) -> Option<u64>
         ensures { result ≡ read_by model.caller self.now }

@@ -1,4 +1,5 @@
 pub mod Acting
+pub mod Firsts
 pub mod Telling
 pub mod Taking
 pub mod Items
@@ -8,3 +9,11 @@ pub mod Handled
 pub mod Combined
 pub mod Priorities
 pub mod Signalled
+pub mod FoldStepping
+pub mod Marking
+pub mod Listened
+pub mod FoldAdding
+pub mod Reaching
+pub mod Stepped
+pub mod Begun
+pub mod Visited

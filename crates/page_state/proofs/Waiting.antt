@@ -1,27 +1,38 @@
 -- What is asked of hosts, and by which priorities scheduler tasks are selected.
-use Rattle.std.proofs.Common.{◌≡◌, ◌≤◌, ◌<◌, ℕ, zero, suc, length, arith, Bool, true, false, cond, List, [], ◌∷◌, map, refl, ap, subst, Option, Some, None}
-use Rattle.std.specs.Prelude.{find, ◌==◌, ◌||◌, slice_get, unwrap_or}
+use Rattle.std.proofs.Common.{◌≡◌, ◌≤◌, ◌<◌, ℕ, zero, suc, length, arith, Bool, true, false, cond, List, [], ◌∷◌, ◌++◌, ◌+◌, map, append_assoc, drop, get_or, refl, sym, ◌∙◌, ap, subst, Option, Some, None, is_some}
+use Rattle.std.specs.Prelude.{find, ◌==◌, ◌||◌, slice_get, unwrap_or, nat_eq}
 use Rattle.std.specs.Option.{option_map, option_map_or}
+use Rattle.std.specs.Map.{lookup}
 use Rattle.page_base.specs.declared.moment.Micros.{Micros}
 use Rattle.page_parts.specs.Words.{is_there, numbered}
 use Rattle.page_model.specs.State.{Registration, no_registration, Task, HostTask}
 use Rattle.page_model.specs.PageSignals.{is_for, host_task_of, task_in_net}
 use Rattle.page_model.specs.Operations.{latency_of}
 use Rattle.page_tasks.specs.Queued.{Queued, IsOf}
-use Rattle.page_state.specs.declared.latencies.Latency.{Latency}
 use Rattle.page_state.specs.Seen.{latency_seen}
+use Rattle.arrivals_text.specs.SeenParts.{latency_of as given_latency}
+use Rattle.std.proofs.lemmas.List.{at_drop_more, map-append}
 use Rattle.page_state.specs.Selecting.{AreSelectedBy}
 use Rattle.page_state.specs.Standing.{Standing, TaskFields, page_of}
 
--- the latency of the first line that gives it
-pub latency_found : (k : ℕ) (ls : List Latency) → latency_of (map latency_seen ls) k ≡ option_map_or (λ (m : Micros). m.0) (option_map (λ (l : Latency). l.latency) (find (λ (l : Latency). l.closure == k) ls)) 0
+same-way : (a b : ℕ) → nat_eq a b ≡ (b == a)
+same-way a b = grind arith
+
+-- the latency at a number
+pub latency_found : (k : ℕ) (ls : List (ℕ × Micros)) → latency_of (map latency_seen ls) k ≡ option_map_or (λ (m : Micros). m.0) (lookup (nat_eq k) ls) 0
 latency_found k [] = refl
-latency_found k (l ∷ ls) = by (l.closure == k) (latency_found k ls)
+latency_found k (l ∷ ls) = by (nat_eq k l.0) (l.0 == k) (same-way k l.0) (latency_found k ls)
   where
-    by : (b : Bool) → latency_of (map latency_seen ls) k ≡ option_map_or (λ (m : Micros). m.0) (option_map (λ (l : Latency). l.latency) (find (λ (l : Latency). l.closure == k) ls)) 0
-        → cond b l.latency.0 (latency_of (map latency_seen ls) k) ≡ option_map_or (λ (m : Micros). m.0) (option_map (λ (l : Latency). l.latency) (cond b (Some l) (find (λ (l : Latency). l.closure == k) ls))) 0
-    by true rest = refl
-    by false rest = rest
+    by : (b c : Bool) → b ≡ c → latency_of (map latency_seen ls) k ≡ option_map_or (λ (m : Micros). m.0) (lookup (nat_eq k) ls) 0
+        → cond c l.1.0 (latency_of (map latency_seen ls) k) ≡ option_map_or (λ (m : Micros). m.0) (cond b (Some l.1) (lookup (nat_eq k) ls)) 0
+    by true true e rest = refl
+    by false false e rest = rest
+    by true false e rest = absurd (cc)
+    by false true e rest = absurd (cc)
+
+pub is-none : {X : Type 0} (o : Option X) → is_some o ≡ false → o ≡ None
+is-none None e = refl
+is-none (Some x) e = absurd (cc)
 
 pub none_there : {X : Type 0} (o : Option X) → is_there o ≡ false → o ≡ None
 none_there None none = refl
@@ -78,3 +89,16 @@ asked_there r (t ∷ ts) = by (is_for r (host_task_of t.steps)) refl (asked_ther
 pub or_second : (a b c : Bool) → a ≡ false → c ≡ b → c ≡ (a || b)
 or_second true b c e same = Prim.cc
 or_second false b c e same = same
+
+-- one more latency stands behind those so far
+pub one-more : (es : List (ℕ × Micros)) (hs : List (ℕ × ℕ)) (i : ℕ) (d : ℕ × ℕ) (new : List (ℕ × Micros)) → i < length hs
+    → new ≡ es ++ ((get_or hs i d).0, record { 0 = (get_or hs i d).1 }) ∷ []
+    → map latency_seen es ++ map given_latency (drop i hs) ≡ map given_latency hs
+    → map latency_seen new ++ map given_latency (drop (i + 1) hs) ≡ map given_latency hs
+one-more es hs i d new within pushed inv =
+    let rest = map given_latency (drop (i + 1) hs) in
+    let x : ℕ × Micros = ((get_or hs i d).0, record { 0 = (get_or hs i d).1 }) in
+    ap (λ ys. map latency_seen ys ++ rest) pushed
+    ∙ (ap (λ ys. ys ++ rest) (map-append latency_seen es (x ∷ []))
+    ∙ (append_assoc (map latency_seen es) (latency_seen x ∷ []) rest
+    ∙ (sym (at_drop_more (λ ys. map latency_seen es ++ map given_latency ys) hs i d within) ∙ inv)))

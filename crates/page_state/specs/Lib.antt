@@ -8,3 +8,7 @@ pub mod ItemActs
 pub mod Handling
 pub mod Codes
 pub mod SignalActs
+pub mod First
+pub mod FoldActs
+pub mod CodeFolds
+pub mod AbortActs

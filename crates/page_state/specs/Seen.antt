@@ -1,6 +1,8 @@
 -- The types of the code as those of the model.
-use Rattle.page_parts.specs.Setup as parts
-use Rattle.page_state.specs.declared.latencies.Latency.{Latency}
+use Rattle.std.specs.Prelude.{ℕ}
+use Rattle.page_base.specs.declared.moment.Micros.{Micros}
+use Rattle.page_parts.specs.Setup.{Latency}
 
-abbrev pub latency_seen : Latency → parts.Latency
-latency_seen l = record { closure = l.closure; latency = l.latency.0 }
+-- the number of a closure, and its latency
+abbrev pub latency_seen : ℕ × Micros → Latency
+latency_seen host = record { closure = host.0; latency = host.1.0 }

@@ -3,7 +3,8 @@ use Rattle.std.specs.Prelude.{ℕ, List, Option, None, Some}
 use Rattle.page_types.specs.declared.Priority.{Priority}
 use Rattle.page_parts.specs.Listeners.{Target, add, off}
 use Rattle.page_parts.specs.TaskSignals as prios
-use Rattle.page_model.specs.State.{Page}
+use Rattle.page_types.specs.Events.{Drop}
+use Rattle.page_model.specs.State.{Page, emit}
 
 -- ---- Prioritized Task Scheduling, "The TaskSignal Interface"
 
@@ -25,3 +26,7 @@ listening target name r p = record p { listeners = add target name r p.listeners
 -- a registration listens no more
 abbrev pub unlistened : (registration : ℕ) → Page → Page
 unlistened r p = record p { listeners = off r p.listeners }
+
+-- with its line
+abbrev pub listener_dropped : (registration : ℕ) → Page → Page
+listener_dropped r p = emit (Drop r) (unlistened r p)

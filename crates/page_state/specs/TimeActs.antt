@@ -4,7 +4,9 @@ use Rattle.std.specs.Option.{ForNone}
 use Rattle.page_parts.specs.Words.{and_last}
 use Rattle.page_parts.specs.Timers.{armed, with_armed, has_id}
 use Rattle.page_parts.specs.IdleCallbacks as idle
-use Rattle.page_model.specs.State.{QueueTimer, Completion, Page}
+use Rattle.page_types.specs.Events.{Drop}
+use Rattle.page_model.specs.State.{QueueTimer, Completion, Page, emit}
+use Rattle.page_model.specs.PageTime.{clear_id, registration_with_id}
 use Rattle.page_model.specs.PageSignals.{is_delay_of}
 use Rattle.parallel_items.specs.Steps.{is_delayed}
 use Rattle.page_state.specs.Standing.{Standing}
@@ -29,6 +31,10 @@ timer_set again r repeats timeout p =
         });
       });
     }
+
+-- an id leaves the map, with the line of the registration that has it
+abbrev pub timer_dropped : (id : ℕ) → Page → Page
+timer_dropped id p = emit (Drop (registration_with_id id 1 p.registrations)) (clear_id id p)
 
 -- every number is left that initialising a timer takes, and the id is in the map of ids under which it is initialised again
 pub record MayArm (again : Option ℕ) (s : Standing) : Type 0 where

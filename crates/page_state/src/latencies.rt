@@ -1,33 +1,42 @@
 //! How long the answers of host closures take.
-ghost use Rattle.std.specs.Prelude.{◌≡◌, ◌==◌, find, map};
-ghost use Rattle.std.specs.Option.{option_map};
-ghost use Rattle.page_model.specs.Operations.{latency_of};
+ghost use Rattle.std.specs.Prelude.{◌≡◌, map, IfOk};
+ghost use Rattle.page_model.specs.Operations as model;
+ghost use Rattle.arrivals_text.specs.SeenParts.{latency_of};
 ghost use Rattle.page_state.specs.Seen.{latency_seen};
 
+use indexmap::IndexMap;
 use page_base::Micros;
+use page_values::MemoryFault;
+use std::alloc::Global;
 
-/// The latency of a host closure, as a line of the arrivals file gives it.
-#[derive(Clone, Copy, Debug, PartialEq, Eq)]
-pub struct Latency {
-    /// The number of the closure, counted from 0.
-    pub closure: u32,
-    pub latency: Micros,
-}
-
-/// The latency of closure `k` by the first line that gives it, and 0 where none does. Takes no memory.
-pub(crate) fn latency_in(latencies: &[Latency], k: u32) -> Micros
-    ensures { result.0 ≡ latency_of (map latency_seen latencies.now) k }
+/// The latency of closure `k`, and 0 where no line of the arrivals file gives it. It costs a look-up. Takes no memory.
+pub(crate) fn latency_in(latencies: &IndexMap<u32, Micros>, k: u32) -> Micros
+    ensures { result.0 ≡ model.latency_of (map latency_seen latencies.now.entries) k }
 {
-    match first_latency(latencies, k) {
-        Some(latency) => latency,
+    match latencies.get(&k) {
+        Some(latency) => *latency,
         None => Micros(0),
     }
 }
 
-// The latency in the first line of closure `k`. Takes no memory.
-fn first_latency(latencies: &[Latency], k: u32) -> Option<Micros>
-    ensures { result ≡ option_map (λ line. line.latency) (find (λ line. line.closure == k) latencies.now) }
+/// The latencies that a setup gives, by the numbers of the closures.
+///
+/// Want of memory is told also where a closure has two of them, which no setup gives.
+pub(crate) fn latencies_given(
+    alloc: Global,
+    hosts: &[(u32, u64)],
+) -> Result<IndexMap<u32, Micros>, MemoryFault>
+    ensures { IfOk result (λ latencies. map latency_seen latencies.entries ≡ map latency_of hosts.now) }
 {
-    let line = latencies.iter().find(|line| line.closure == k)?;
-    Some(line.latency)
+    let mut latencies = IndexMap::new(alloc);
+    for host in hosts {
+        if latencies.contains_key(&host.0) {
+            return Err(MemoryFault::OutOfMemory);
+        }
+        match latencies.insert(host.0, Micros(host.1)) {
+            Ok(_) => {}
+            Err(_) => return Err(MemoryFault::OutOfMemory),
+        }
+    }
+    Ok(latencies)
 }

@@ -16,12 +16,15 @@ mod aborts;
 mod callbacks;
 mod combinators;
 mod combined;
+mod first;
+mod folds;
 mod frames;
 mod handlers;
 mod hosts;
 mod idle;
 mod jobs;
 mod listeners;
+mod marks;
 mod parallel;
 mod promises;
 mod running;
@@ -29,13 +32,15 @@ mod signals;
 mod tasks;
 mod timers;
 
-use crate::latencies::Latency;
+pub use folds::NextCallback;
+use indexmap::IndexMap;
 use page_base::{Micros, Source};
 use page_frames::PageFrames;
 use page_hosts::{HostPort, PageHosts};
 use page_script::PageScript;
 use page_signals::PageSignals;
 use page_tasks::{PageTasks, TaskSteps};
+use page_values::FunNames;
 use parallel_items::{Completion, ParallelItems};
 use std::alloc::Global;
 use std::marker::Model;
@@ -52,7 +57,7 @@ pub struct PageState<P: HostPort, M: Ledger> {
     frames: PageFrames,
     signals: PageSignals,
     hosts: PageHosts<P>,
-    latencies: Vec<Latency>,
+    latencies: IndexMap<u32, Micros>,
 }
 
 impl<P: HostPort, M: Ledger> Model for PageState<P, M> {
@@ -72,7 +77,7 @@ impl<P: HostPort, M: Ledger> Model for PageState<P, M> {
       frames = a.frames;
       signals = record { signals = a.signals.signals; prios = a.signals.prios; listeners = a.signals.listeners };
       hosts = a.hosts.closures;
-      latencies = map latency_seen a.latencies.items;
+      latencies = map latency_seen a.latencies.entries;
       folds = a.signals.folds;
       kept = a.hosts.kept;
       refusals = a.hosts.refusals;
@@ -84,6 +89,18 @@ impl<P: HostPort, M: Ledger> Model for PageState<P, M> {
 }
 
 impl<P: HostPort, M: Ledger> PageState<P, M> {
+    /// The allocator. Takes no memory.
+    pub fn alloc(&self) -> Global {
+        self.alloc
+    }
+
+    /// The names of the script's functions. Takes no memory.
+    pub fn names(&self) -> &FunNames
+        ensures { result.now ≡ self.now.script.names }
+    {
+        self.script.names()
+    }
+
     /// Writes the line of an event, at the time now.
     pub fn emit<L: Lines>(&self, event: Event, lines: &mut L) -> Result<(), NoLine>
         ensures { Does L.keeping (at self.now (L.seen lines.old)) (on_page (model.emit (event_seen event)))

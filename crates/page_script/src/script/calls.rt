@@ -10,7 +10,7 @@ ghost use Rattle.page_model.specs.Invoke as model;
 ghost use Rattle.trace_text.specs.declared.lines.NoLine.TheVariants.{OutOfMemory};
 ghost use Rattle.trace_text.specs.Acts.{Does};
 ghost use Rattle.page_script.specs.ScriptActs.{on, on_script};
-ghost use Rattle.page_script.specs.Reports.{when_seen};
+ghost use Rattle.page_script.specs.Reports.{when_seen, logged};
 
 use super::PageScript;
 use crate::parts::WhenReported;
@@ -55,6 +55,16 @@ impl PageScript {
     {
         let v = self.printed(value)?;
         self.emit(Event::Report { v }, lines)
+    }
+
+    /// Logs a value, with its line. It costs what the spelling of the value costs.
+    pub fn log<L: Lines>(&self, value: &Value, lines: &mut L) -> Result<(), NoLine>
+        requires { IsNumbered (length self.now.names) (seen value.now) }
+        ensures { Does L.keeping (on self.now (L.seen lines.old)) (on_script (logged (seen value.now)))
+            (result_err result) (on self.now (L.seen lines.new)) }
+    {
+        let v = self.printed(value)?;
+        self.emit(Event::Log { v }, lines)
     }
 
     /// The report of a throw before the checkpoint, where it belongs there.

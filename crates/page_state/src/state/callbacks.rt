@@ -4,10 +4,11 @@ ghost use Rattle.std.specs.Prelude.{◌≡◌, ◌↔◌, ◌<◌, ◌≤◌, le
 ghost use Rattle.std.specs.Result.{result_err};
 ghost use Rattle.page_types.specs.Events.{Ret};
 ghost use Rattle.page_values.specs.Seen.{seen};
+ghost use Rattle.page_values.specs.Written.{IsNumbered};
 ghost use Rattle.page_model.specs.State.{the_registration, last_registration};
 ghost use Rattle.page_model.specs.Invoke as model;
 ghost use Rattle.page_script.specs.Seen.{registration_seen, function_seen};
-ghost use Rattle.page_script.specs.Reports.{when_seen};
+ghost use Rattle.page_script.specs.Reports.{when_seen, logged};
 ghost use Rattle.trace_text.specs.Acts.{Does};
 ghost use Rattle.page_state.specs.PageActs.{at, on_page, read_by};
 
@@ -61,6 +62,13 @@ impl<P: HostPort, M: Ledger> PageState<P, M> {
         self.script.callback(r, second)
     }
 
+    /// Whether each function that a value names has a name here. Takes no memory, and costs at most the weight of the value.
+    pub fn is_numbered(&self, value: &Value) -> bool
+        ensures { IsTrue result ↔ IsNumbered (length self.now.script.names) (seen value.now) }
+    {
+        self.script.is_numbered(value)
+    }
+
     /// How many registrations were ever made. Takes no memory.
     pub fn registered(&self) -> usize
         ensures { result ≡ read_by last_registration self.now }
@@ -96,6 +104,17 @@ impl<P: HostPort, M: Ledger> PageState<P, M> {
             return Err(NoLine::OutOfMemory);
         }
         self.script.report(value, lines)
+    }
+
+    /// Logs a value, with its line. It costs what the spelling of the value costs.
+    pub fn log<L: Lines>(&self, value: &Value, lines: &mut L) -> Result<(), NoLine>
+        ensures { Does L.keeping (at self.now (L.seen lines.old)) (on_page (logged (seen value.now)))
+            (result_err result) (at self.now (L.seen lines.new)) }
+    {
+        if !self.script.is_numbered(value) {
+            return Err(NoLine::OutOfMemory);
+        }
+        self.script.log(value, lines)
     }
 
     /// The report of a throw before the checkpoint, where it belongs there.

@@ -39,15 +39,25 @@ impl<P: HostPort, M: Ledger> PageState<P, M> {
         }
     }
 
-    /// `cancelAnimationFrame()`: the callback with this handle leaves the map with its line, where it is there.
-    pub fn cancel_frame<L: Lines>(&mut self, handle: u32, lines: &mut L) -> Result<(), NoLine>
-        ensures { Does L.keeping (at self.old (L.seen lines.old)) (on_page (model.cancel_frame handle))
+    /// `cancelAnimationFrame()`: the callback with this handle leaves the map with its line, where it is there. A number of 2^32 or more
+    /// is no handle.
+    pub fn cancel_frame<L: Lines>(&mut self, number: u64, lines: &mut L) -> Result<(), NoLine>
+        ensures { Does L.keeping (at self.old (L.seen lines.old)) (on_page (model.cancel_frame number))
             (result_err result) (at self.new (L.seen lines.new)) }
     {
-        match self.take_frame(handle) {
+        match self.drop_frame(number) {
             Some(r) => self.emit(Event::Drop { r: r as u64 }, lines),
             None => Ok(()),
         }
+    }
+
+    // Takes the frame callback whose handle is this number out of the map, and answers its registration. Takes no memory.
+    fn drop_frame(&mut self, number: u64) -> Option<u32>
+        ensures registration { result
+            ≡ read_by (λ p. option_map (λ c. c.registration) (callback_in p.frames.callbacks number)) self.old }
+        ensures gone { self.new ≡ changed_by (model.without_frame number) self.old }
+    {
+        self.frames.cancel_frame(number)
     }
 
     /// Takes the frame callback with this handle out of the map, and answers its registration.

@@ -78,7 +78,6 @@ impl<P: HostPort, M: Ledger> PageState<P, M> {
     /// Closure `k` is asked on a number for a registration: its answer is pending until its latency has passed, with the line.
     ///
     /// Want of memory is told also where the closure was asked before, or where the moment is no number of 64 bits.
-    /// It costs the number of latencies that the arrivals file gives.
     pub fn await_answer<L: Lines>(
         &mut self,
         k: u32,

@@ -47,15 +47,25 @@ impl<P: HostPort, M: Ledger> PageState<P, M> {
         self.idle_timeout(ms, registration, lines)
     }
 
-    /// `cancelIdleCallback()`: the callback with this handle leaves both lists with its line, where it is there. Its timeout stays.
-    pub fn cancel_idle<L: Lines>(&mut self, handle: u32, lines: &mut L) -> Result<(), NoLine>
-        ensures { Does L.keeping (at self.old (L.seen lines.old)) (on_page (model.cancel_idle handle))
+    /// `cancelIdleCallback()`: the callback with this handle leaves both lists with its line, where it is there. Its timeout stays. A
+    /// number of 2^32 or more is no handle.
+    pub fn cancel_idle<L: Lines>(&mut self, number: u64, lines: &mut L) -> Result<(), NoLine>
+        ensures { Does L.keeping (at self.old (L.seen lines.old)) (on_page (model.cancel_idle number))
             (result_err result) (at self.new (L.seen lines.new)) }
     {
-        match self.take_idle(handle) {
+        match self.drop_idle(number) {
             Some(r) => self.emit(Event::Drop { r: r as u64 }, lines),
             None => Ok(()),
         }
+    }
+
+    // Takes the idle callback whose handle is this number out of both lists, and answers its registration. Takes no memory.
+    fn drop_idle(&mut self, number: u64) -> Option<u32>
+        ensures registration { result
+            ≡ read_by (λ p. option_map (λ c. c.registration) (model.idle_callback number p)) self.old }
+        ensures gone { self.new ≡ changed_by (model.without_idle number) self.old }
+    {
+        self.frames.cancel_idle(number)
     }
 
     /// Takes the idle callback with this handle out of both lists, and answers its registration.

@@ -10,7 +10,7 @@ ghost use Rattle.page_script.specs.Seen.{function_seen};
 ghost use Rattle.trace_text.specs.declared.lines.NoLine.TheVariants.{OutOfMemory};
 ghost use Rattle.trace_text.specs.Acts.{Does};
 ghost use Rattle.page_state.specs.PageActs.{at, on_page, changed_by, read_by};
-ghost use Rattle.page_state.specs.SignalActs.{listening, unlistened};
+ghost use Rattle.page_state.specs.SignalActs.{listening, unlistened, listener_dropped};
 
 use super::PageState;
 use page_hosts::HostPort;
@@ -48,14 +48,25 @@ impl<P: HostPort, M: Ledger> PageState<P, M> {
         Ok(r)
     }
 
-    /// A listener is removed, with its line. A number that is no listener's does nothing.
-    pub fn listener_removed<L: Lines>(&mut self, r: u32, lines: &mut L) -> Result<(), NoLine>
-        ensures { Does L.keeping (at self.old (L.seen lines.old)) (on_page (model.listener_removed r))
+    /// A listener is removed, with its line. A number that is no listener's does nothing, as none of 2^32 or more is.
+    pub fn listener_removed<L: Lines>(&mut self, number: u64, lines: &mut L) -> Result<(), NoLine>
+        ensures { Does L.keeping (at self.old (L.seen lines.old)) (on_page (model.listener_removed number))
             (result_err result) (at self.new (L.seen lines.new)) }
     {
-        if !self.signals.is_listening(r) {
+        if !self.signals.is_listening_number(number) {
             return Ok(());
         }
+        match u32::try_from(number) {
+            Ok(r) => self.drop_listener(r, lines),
+            Err(_) => Err(NoLine::OutOfMemory),
+        }
+    }
+
+    // A registration listens no more, with its line.
+    fn drop_listener<L: Lines>(&mut self, r: u32, lines: &mut L) -> Result<(), NoLine>
+        ensures { Does L.keeping (at self.old (L.seen lines.old)) (on_page (listener_dropped r))
+            (result_err result) (at self.new (L.seen lines.new)) }
+    {
         self.unlisten(r);
         self.emit(Event::Drop { r: r as u64 }, lines)
     }

@@ -9,7 +9,7 @@ ghost use Rattle.parallel_items.specs.Seen.{completion_seen};
 ghost use Rattle.trace_text.specs.declared.lines.NoLine.TheVariants.{OutOfMemory};
 ghost use Rattle.trace_text.specs.Acts.{Does};
 ghost use Rattle.page_state.specs.PageActs.{at, on_page, changed_by, read_by};
-ghost use Rattle.page_state.specs.TimeActs.{timer_set, MayArm, MayStart};
+ghost use Rattle.page_state.specs.TimeActs.{timer_set, timer_dropped, MayArm, MayStart};
 
 use super::PageState;
 use page_base::Micros;
@@ -91,14 +91,33 @@ impl<P: HostPort, M: Ledger> PageState<P, M> {
         )
     }
 
-    /// `clearTimeout()` and `clearInterval()`: the id leaves the map with the line of its registration, where it is there.
-    pub fn clear_timer<L: Lines>(&mut self, id: u32, lines: &mut L) -> Result<(), NoLine>
-        ensures { Does L.keeping (at self.old (L.seen lines.old)) (on_page (model.clear_timer id))
+    /// `clearTimeout()` and `clearInterval()`: the id leaves the map with the line of its registration, where it is there. A number of
+    /// 2^32 or more is no id.
+    pub fn clear_timer<L: Lines>(&mut self, number: u64, lines: &mut L) -> Result<(), NoLine>
+        ensures { Does L.keeping (at self.old (L.seen lines.old)) (on_page (model.clear_timer number))
             (result_err result) (at self.new (L.seen lines.new)) }
     {
-        if !self.has_timer_id(id) {
+        if !self.has_timer_number(number) {
             return Ok(());
         }
+        match u32::try_from(number) {
+            Ok(id) => self.drop_timer(id, lines),
+            Err(_) => Err(NoLine::OutOfMemory),
+        }
+    }
+
+    // Whether a number is an id in the map of ids. Takes no memory.
+    fn has_timer_number(&self, number: u64) -> bool
+        ensures { result ≡ read_by (λ p. parts.has_id number p.timers) self.now }
+    {
+        self.items.has_number(number)
+    }
+
+    // An id leaves the map, with the line of its registration.
+    fn drop_timer<L: Lines>(&mut self, id: u32, lines: &mut L) -> Result<(), NoLine>
+        ensures { Does L.keeping (at self.old (L.seen lines.old)) (on_page (timer_dropped id))
+            (result_err result) (at self.new (L.seen lines.new)) }
+    {
         let r = self.registration_with_id(id);
         self.clear_id(id);
         self.emit(Event::Drop { r }, lines)

@@ -1,28 +1,27 @@
-use Rattle.std.proofs.Common.{ap, refl, sym, ◌∙◌, cond, Bool}
-use Rattle.page_types.specs.Events.{Drop}
-use Rattle.page_model.specs.State.{emit}
-use Rattle.page_model.specs.PageTime.{clear_timer, clear_id, registration_with_id}
+use Rattle.std.proofs.Common.{◌≡◌, ap, sym, ◌∙◌, cond, Bool, ℕ, arith}
+use Rattle.page_model.specs.PageTime.{clear_timer}
 use Rattle.page_state.specs.Standing.{page_of}
 use Rattle.page_state.specs.PageActs.{at}
-use Rattle.page_state.proofs.Acting.{Does-idle, Does-is}
-use Rattle.page_state.proofs.Telling.{Does-told}
+use Rattle.page_state.specs.TimeActs.{timer_dropped}
+use Rattle.page_state.proofs.Acting.{Does-idle, Does-is, Does-wants}
 use Rattle.page_state.proofs.state.PageState.clear_timer.Goals as goal
 
-pub returns-then-not-has_timer_id : goal.returns-then-not-has_timer_id
-returns-then-not-has_timer_id g c =
+pub returns-then-not-has_timer_number : goal.returns-then-not-has_timer_number
+returns-then-not-has_timer_number g c =
     let s = c.args.self.now in
-    let id = c.args.id in
-    let none = sym c.has_timer_id.ensures ∙ c.if-not-has_timer_id.true in
-    Does-is (λ p. p) (clear_timer id) (at s _)
-    (sym (ap (λ (b : Bool). cond b (emit (Drop (registration_with_id id 1 (page_of s).registrations)) (clear_id id (page_of s))) (page_of s)) none))
-    (Does-idle g.L.Lines.keeping s _)
+    let number = c.args.number in
+    let none = sym c.has_timer_number.ensures ∙ c.if-not-has_timer_number.true in
+    Does-is (λ p. p) (clear_timer number) (at s _) (sym (ap (λ (b : Bool). cond b (timer_dropped number (page_of s)) (page_of s)) none)) (Does-idle g.L.Lines.keeping s _)
 
-pub returns : goal.returns
-returns g c =
+pub returns-in-Ok : goal.returns-in-Ok
+returns-in-Ok g c =
     let s = c.args.self.now in
-    let there : _ = sym c.has_timer_id.ensures ∙ c.if-not-has_timer_id.false in
-    let id = c.args.id in
-    Does-is (λ p. emit (Drop (registration_with_id id 1 p.registrations)) (clear_id id p)) (clear_timer id) (at s _)
-    (sym (ap (λ (b : Bool). cond b (emit (Drop (registration_with_id id 1 (page_of s).registrations)) (clear_id id (page_of s))) (page_of s)) there))
-    (Does-told (clear_id id) (λ p. Drop (registration_with_id id 1 p.registrations)) _ s c.clear_id.new.self refl c.clear_id.ensures
-    (ap Drop c.registration_with_id-r.ensures) c.emit.ensures)
+    let number = c.args.number in
+    let there = sym c.has_timer_number.ensures ∙ c.if-not-has_timer_number.false in
+    let same : c.in-Ok.id ≡ number = omega (arith, c.in-Ok.ensures) in
+    Does-is (timer_dropped c.in-Ok.id) (clear_timer number) (at s _)
+    (ap (λ (n : ℕ). timer_dropped n (page_of s)) same ∙ sym (ap (λ (b : Bool). cond b (timer_dropped number (page_of s)) (page_of s)) there))
+    c.drop_timer.ensures
+
+pub returns-in-Err : goal.returns-in-Err
+returns-in-Err g c = Does-wants g.L.Lines.keeping (clear_timer c.args.number) c.args.self.now c.args.self.now _

@@ -1,32 +1,33 @@
-use Rattle.std.proofs.Common.{◌≡◌, Bool, true, false, cond, refl, ap, sym, ◌∙◌}
-use Rattle.page_types.specs.Events.{Drop}
+use Rattle.std.proofs.Common.{◌≡◌, Bool, true, false, cond, ap, sym, ◌∙◌, ℕ, arith}
 use Rattle.page_parts.specs.Listeners.{is_listening}
-use Rattle.page_model.specs.State.{emit}
 use Rattle.page_model.specs.Operations.{listener_removed}
 use Rattle.page_state.specs.Standing.{Standing, page_of}
 use Rattle.page_state.specs.PageActs.{at}
-use Rattle.page_state.specs.SignalActs.{unlistened}
-use Rattle.page_state.proofs.Acting.{Does-idle, Does-is}
-use Rattle.page_state.proofs.Telling.{Does-told}
+use Rattle.page_state.specs.SignalActs.{listener_dropped}
+use Rattle.page_state.proofs.Acting.{Does-idle, Does-is, Does-wants}
 use Rattle.page_state.proofs.state.PageState.listener_removed.Goals as goal
 
-pub returns-then-not-is_listening : goal.returns-then-not-is_listening
-returns-then-not-is_listening g c =
-    let r = c.args.r in
+pub returns-then-not-is_listening_number : goal.returns-then-not-is_listening_number
+returns-then-not-is_listening_number g c =
+    let number = c.args.number in
     let s = c.args.self.now in
-    let is : is_listening r s.signals.listeners ≡ false =
-    ap (λ (t : Standing). is_listening r t.signals.listeners) (sym c.self.view_is) ∙ sym c.is_listening.ensures ∙ c.if-not-is_listening.true
+    let is : is_listening number s.signals.listeners ≡ false =
+    ap (λ (t : Standing). is_listening number t.signals.listeners) (sym c.self.view_is) ∙ sym c.is_listening_number.ensures ∙ c.if-not-is_listening_number.true
     in
-    Does-is (λ p. p) (listener_removed r) (at s (g.L.Lines.seen c.args.lines.now))
-    (ap (λ (b : Bool). cond b (emit (Drop r) (unlistened r (page_of s))) (page_of s)) (sym is)) (Does-idle g.L.Lines.keeping s (g.L.Lines.seen c.args.lines.now))
+    Does-is (λ p. p) (listener_removed number) (at s (g.L.Lines.seen c.args.lines.now))
+    (ap (λ (b : Bool). cond b (listener_dropped number (page_of s)) (page_of s)) (sym is)) (Does-idle g.L.Lines.keeping s (g.L.Lines.seen c.args.lines.now))
 
-pub returns : goal.returns
-returns g c =
-    let r = c.args.r in
+pub returns-in-Ok : goal.returns-in-Ok
+returns-in-Ok g c =
+    let number = c.args.number in
     let s = c.args.self.now in
-    let is : is_listening r s.signals.listeners ≡ true =
-    ap (λ (t : Standing). is_listening r t.signals.listeners) (sym c.self.view_is) ∙ sym c.is_listening.ensures ∙ c.if-not-is_listening.false
+    let is : is_listening number s.signals.listeners ≡ true =
+    ap (λ (t : Standing). is_listening number t.signals.listeners) (sym c.self.view_is) ∙ sym c.is_listening_number.ensures ∙ c.if-not-is_listening_number.false
     in
-    Does-is (λ p. emit (Drop r) (unlistened r p)) (listener_removed r) (at s (g.L.Lines.seen c.args.lines.now))
-    (ap (λ (b : Bool). cond b (emit (Drop r) (unlistened r (page_of s))) (page_of s)) (sym is))
-    (Does-told (unlistened r) (λ p. Drop r) (Drop r) s c.unlisten.new.self refl c.unlisten.ensures refl c.emit.ensures)
+    let same : c.in-Ok.r ≡ number = omega (arith, c.in-Ok.ensures) in
+    Does-is (listener_dropped c.in-Ok.r) (listener_removed number) (at s (g.L.Lines.seen c.args.lines.now))
+    (ap (λ (n : ℕ). listener_dropped n (page_of s)) same ∙ ap (λ (b : Bool). cond b (listener_dropped number (page_of s)) (page_of s)) (sym is))
+    c.drop_listener.ensures
+
+pub returns-in-Err : goal.returns-in-Err
+returns-in-Err g c = Does-wants g.L.Lines.keeping (listener_removed c.args.number) c.args.self.now c.args.self.now _
