@@ -1,0 +1,10 @@
+use Rattle.std.proofs.Common.{arith, ap}
+use Rattle.page_parts.specs.Kinds.{all_weights}
+use Rattle.page_script.proofs.Items.{weight-le}
+use Rattle.page_answers.proofs.known.+known.Goals as goal
+
+pub are_known-is_known-requires : goal.are_known-is_known-requires
+are_known-is_known-requires t c = (
+  omega (arith, weight-le c.items-value-items.result.now c.loop-value.value-index c.value-item.result c.loop-value-test.true c.value-item.is, ap all_weights c.items-value-items.ensures.items, c.decreases),
+  tt,
+)

@@ -1,0 +1,200 @@
+-- Aborts and priority changes that a script asks for, and what comes after their callbacks, as the page as a host answers them.
+use Rattle.std.proofs.Common.{◌≡◌, ℕ, Bool, true, false, cond, List, [], ◌++◌, length, map, refl, sym, ◌∙◌, ap, subst, Option, Some, None, Result, Ok, Err}
+use Rattle.std.specs.Prelude.{IfOk, IfErr, is_some}
+use Rattle.std.specs.Result.{IsErrAnd}
+use Rattle.page_types.specs.Values.{Value, FaultValue}
+use Rattle.page_types.specs.declared.FaultName.{FaultName}
+use Rattle.page_types.specs.declared.FaultName.TheVariants.{TypeError, NotAllowedError}
+use Rattle.page_types.specs.declared.Priority.{Priority}
+use Rattle.page_types.specs.declared.Op.TheVariants.{AbortOp, SetPriority}
+use Rattle.page_parts.specs.Words.{is_there}
+use Rattle.page_parts.specs.Kinds.{controller_in}
+use Rattle.page_parts.specs.TaskSignals.{priority_of, is_changing}
+use Rattle.lang_meaning.specs.HostSteps.{Ask, AskOp, Stepped, StepThrow, on_ask}
+use Rattle.lang_meaning.specs.PureOperations.{argument}
+use Rattle.lang_ast.specs.declared.host.HostStep as code
+use Rattle.lang_ast.specs.Steps.{seen_step, StepIsNumbered}
+use Rattle.page_model.specs.Operations.{may_operate, priority_in, reason_given}
+use Rattle.page_model.specs.Folds.{begin_abort, begin_change}
+use Rattle.page_model.specs.PageHost.{Hosting, page_rules, step_op, step_fault, step_given, step_change_by, reached_step}
+use Rattle.trace_text.specs.Line.{Line}
+use Rattle.trace_text.specs.declared.lines.NoLine.{NoLine}
+use Rattle.trace_text.specs.declared.lines.NoLine.TheVariants.{OutOfMemory}
+use Rattle.trace_text.specs.Given.{Keeping, Seen, Gives}
+use Rattle.trace_text.specs.Acts.{At, skip}
+use Rattle.trace_text.proofs.Giving.{Gives-none, Gives-then}
+use Rattle.page_notices.proofs.Timing.{Does-memory}
+use Rattle.page_script.proofs.Lifting.{append_none}
+use Rattle.page_rules.specs.Lined.{bare_hosting, lines_in}
+use Rattle.page_rules.proofs.KeepingFolds.{ask-soon}
+use Rattle.page_state.specs.Standing.{Standing, page_of}
+use Rattle.page_state.specs.PageActs.{at}
+use Rattle.page_state.specs.FoldActs.{Hosted, Reaches, stepping, hosting_of, abort_step, change_step}
+use Rattle.page_operations.specs.Asked.{Asked, asked_of, functions_of}
+use Rattle.page_operations.specs.Folding.{abort_asked, change_asked}
+
+-- ---- what is asked, by what is there
+
+abort-given : (o : Option ℕ) (reason : Value) → Hosting → Stepped Hosting
+abort-given o reason h = step_given h.folds o h.page (λ s. reached_step h.folds (begin_abort s (reason_given reason) h.page))
+
+change-given : Option ℕ → Option Priority → Hosting → Stepped Hosting
+change-given o p h = step_given h.folds o h.page (λ s. step_given h.folds p h.page (λ priority. step_change_by h.folds s priority h.page))
+
+module _ (s : Standing) (n : ℕ) (priority : Priority) (c v : Value) (some : Some n ≡ controller_in c) (named : Some priority ≡ priority_in v) where
+  change-is : change_asked c v (hosting_of s) ≡ step_change_by (hosting_of s).folds n priority (page_of s)
+  unfolding change-given
+  change-is = ap (λ o. change-given o (priority_in v) (hosting_of s)) (sym some) ∙ ap (λ o. change-given (Some n) o (hosting_of s)) (sym named)
+
+  chosen : (there changing : Bool) → Stepped Hosting
+  chosen there changing =
+      let h = hosting_of s in
+      cond there
+      (cond changing (step_fault h.folds NotAllowedError h.page) (reached_step h.folds (begin_change priority (length h.page.prios) n h.page)))
+      (step_fault h.folds TypeError h.page)
+
+  chosen-is : (there changing : Bool) → there ≡ is_there (priority_of s.signals.prios n) → changing ≡ is_changing s.signals.prios n
+      → change_asked c v (hosting_of s) ≡ chosen there changing
+  unfolding chosen
+  chosen-is there changing e f = change-is ∙ ap (λ b. chosen b (is_changing s.signals.prios n)) (sym e) ∙ ap (chosen there) (sym f)
+
+-- whether there is one
+pub there-is : (o p : Option Priority) (b : Bool) → is_some o ≡ b → o ≡ p → b ≡ is_there p
+there-is None p b e f = sym e ∙ ap is_there f
+there-is (Some x) p b e f = sym e ∙ ap is_there f
+
+-- ---- what the page's rules answer
+
+module _ {T : Type 0} {k : Keeping T} where
+  -- a call that does the step of the rules
+  pub Asked-reaches : (ask : Ask) (old : At Standing T) {new : At Standing T} (r : Result code.HostStep NoLine)
+      → Reaches k old (on_ask page_rules ask (hosting_of old.state)) r new → Asked k old ask r new
+  unfolding asked_of stepping
+  Asked-reaches ask old (Ok step) h =
+      let e = h.does.state refl in
+      record {
+        lines = h.does.lines;
+        host = ap (λ (x : Hosted). x.hosting) e;
+        step = h.answer;
+        kept = ap (λ (x : Hosted). x.kept) e;
+        refusals = ap (λ (x : Hosted). x.refusals) e;
+      }
+  Asked-reaches ask old (Err why) h = record { lines = h.does.lines; host = tt; step = tt; kept = tt; refusals = tt }
+
+  -- the exit of a `?`
+  pub Asked-stops : (ask : Ask) (old : At Standing T) {new : At Standing T} (e : Result code.HostStep NoLine) {why : NoLine} → IsErrAnd e (λ x. x ≡ why)
+      → Reaches k old (on_ask page_rules ask (hosting_of old.state)) (Err why) new → Asked k old ask e new
+  Asked-stops ask old (Ok x) err h = absurd err
+  Asked-stops ask old {new = new} (Err x) {why = why} err h =
+      let P : NoLine → Type 0 = λ w. Asked k old ask (Err w) new in subst P (sym err) (Asked-reaches ask old (Err why) h)
+
+  -- the script has the functions that it had
+  pub Asked-functions : (ask : Ask) (old : At Standing T) {new : At Standing T} {step : code.HostStep} → Asked k old ask (Ok step) new
+      → functions_of new.state ≡ functions_of old.state
+  unfolding asked_of
+  Asked-functions ask old h =
+      ap (λ (x : Hosting). length x.page.names) h.host ∙ ap length (ask-soon ask (hosting_of old.state)).0.stays.names
+
+  -- memory was wanting behind the last line
+  Gives-wants : {old new : Seen T} (lines : List Line) → Gives k old lines None new → Gives k old lines (Some OutOfMemory) new
+  Gives-wants {old = old} {new = new} lines h =
+      let P : List Line → Type 0 = λ ls. Gives k old ls (Some OutOfMemory) new in
+      subst P (append_none lines) (Gives-then [] h (Does-memory {S = ℕ} k skip 0 0 new).lines)
+
+  -- the step is given where its functions have names
+  pub Asked-numbered : (ask : Ask) (old : At Standing T) {new : At Standing T} (step : code.HostStep) (r : Result code.HostStep NoLine)
+      → IfOk r (λ given. seen_step given ≡ seen_step step) → IfErr r (λ why. why ≡ OutOfMemory) → Asked k old ask (Ok step) new → Asked k old ask r new
+  Asked-numbered ask old step (Ok given) same memory h =
+      record { lines = h.lines; host = h.host; step = same ∙ h.step; kept = h.kept; refusals = h.refusals }
+  Asked-numbered ask old {new = new} step (Err why) same memory h =
+      let P : NoLine → Type 0 = λ w. Gives k old.seen (lines_in (asked_of ask old.state)) (Some w) new.seen in
+      record { lines = subst P (sym memory) (Gives-wants (lines_in (asked_of ask old.state)) h.lines); host = tt; step = tt; kept = tt; refusals = tt }
+
+  -- as many as there were before
+  pub numbered-before : (ask : Ask) (old : At Standing T) {new : At Standing T} {step : code.HostStep} (r : Result code.HostStep NoLine)
+      → Asked k old ask (Ok step) new → IfOk r (λ given. StepIsNumbered (functions_of new.state) (seen_step given))
+      → IfOk r (λ given. StepIsNumbered (functions_of old.state) (seen_step given))
+  numbered-before ask old r h few =
+      let P : ℕ → Type 0 = λ n. IfOk r (λ given. StepIsNumbered n (seen_step given)) in subst P (Asked-functions ask old h) few
+
+  -- `abort` and `setPriority`, whose arguments hold no number that was not given out
+  pub Asked-abort : (args : List Value) (old : At Standing T) {new : At Standing T} (r : Result code.HostStep NoLine)
+      → may_operate (page_of old.state) AbortOp args ≡ true → Reaches k old (abort_asked (argument args 0) (argument args 1) (hosting_of old.state)) r new
+      → Asked k old (AskOp AbortOp args) r new
+  Asked-abort args old {new = new} r known h =
+      let s = hosting_of old.state in
+      let P : Stepped Hosting → Type 0 = λ x. Reaches k old x r new in
+      Asked-reaches (AskOp AbortOp args) old r
+      (subst P (ap (λ b. cond b (step_op s.folds AbortOp args s.page) (step_fault s.folds TypeError s.page)) (sym known)) h)
+
+  pub Asked-change : (args : List Value) (old : At Standing T) {new : At Standing T} (r : Result code.HostStep NoLine)
+      → may_operate (page_of old.state) SetPriority args ≡ true → Reaches k old (change_asked (argument args 0) (argument args 1) (hosting_of old.state)) r new
+      → Asked k old (AskOp SetPriority args) r new
+  Asked-change args old {new = new} r known h =
+      let s = hosting_of old.state in
+      let P : Stepped Hosting → Type 0 = λ x. Reaches k old x r new in
+      Asked-reaches (AskOp SetPriority args) old r
+      (subst P (ap (λ b. cond b (step_op s.folds SetPriority args s.page) (step_fault s.folds TypeError s.page)) (sym known)) h)
+
+  -- ---- a fault
+
+  fault-thrown : (s : Standing) (seen : Seen T) (name : FaultName) (step : code.HostStep) (x : Stepped Hosting) → x ≡ step_fault (hosting_of s).folds name (page_of s)
+      → seen_step step ≡ StepThrow (FaultValue name []) → Reaches k (at s seen) x (Ok step) (at s seen)
+  unfolding stepping
+  fault-thrown s seen name step x is answer =
+      let P : Stepped Hosting → Type 0 = λ x. Reaches k (at s seen) x (Ok step) (at s seen) in
+      subst P (sym is) (record { does = record { lines = Gives-none k seen; state = λ _. refl }; answer = answer })
+
+  -- ---- `abort`
+
+  -- it is no controller
+  pub abort-refused : (s : Standing) (seen : Seen T) (c reason : Value) (step : code.HostStep) → None ≡ controller_in c
+      → seen_step step ≡ StepThrow (FaultValue TypeError []) → Reaches k (at s seen) (abort_asked c reason (hosting_of s)) (Ok step) (at s seen)
+  unfolding abort-given
+  abort-refused s seen c reason step none answer =
+      fault-thrown s seen TypeError step _ (ap (λ o. abort-given o reason (hosting_of s)) (sym none)) answer
+
+  pub abort-reaches : (s : Standing) (n : ℕ) (c reason given : Value) {old : Seen T} {new : At Standing T} (r : Result code.HostStep NoLine)
+      → Some n ≡ controller_in c → given ≡ reason_given reason
+      → Reaches k (at s old) (abort_step n given (hosting_of s)) r new → Reaches k (at s old) (abort_asked c reason (hosting_of s)) r new
+  unfolding abort-given
+  abort-reaches s n c reason given {old = old} {new = new} r some is h =
+      let P : Stepped Hosting → Type 0 = λ x. Reaches k (at s old) x r new in
+      subst P (ap (λ v. abort_step n v (hosting_of s)) is ∙ ap (λ o. abort-given o reason (hosting_of s)) some) h
+
+  -- ---- `setPriority`
+
+  -- it is no controller
+  pub change-refused : (s : Standing) (seen : Seen T) (c v : Value) (step : code.HostStep) → None ≡ controller_in c
+      → seen_step step ≡ StepThrow (FaultValue TypeError []) → Reaches k (at s seen) (change_asked c v (hosting_of s)) (Ok step) (at s seen)
+  unfolding change-given
+  change-refused s seen c v step none answer =
+      fault-thrown s seen TypeError step _ (ap (λ o. change-given o (priority_in v) (hosting_of s)) (sym none)) answer
+
+  -- there is no such priority
+  pub priority-refused : (s : Standing) (seen : Seen T) (n : ℕ) (c v : Value) (step : code.HostStep) → Some n ≡ controller_in c → None ≡ priority_in v
+      → seen_step step ≡ StepThrow (FaultValue TypeError []) → Reaches k (at s seen) (change_asked c v (hosting_of s)) (Ok step) (at s seen)
+  unfolding change-given
+  priority-refused s seen n c v step some none answer =
+      fault-thrown s seen TypeError step _
+      (ap (λ o. change-given o (priority_in v) (hosting_of s)) (sym some) ∙ ap (λ o. change-given (Some n) o (hosting_of s)) (sym none)) answer
+
+  module _ (s : Standing) (n : ℕ) (priority : Priority) (c v : Value) (some : Some n ≡ controller_in c) (named : Some priority ≡ priority_in v) where
+    -- the signal has no priority
+    pub none-refused : (seen : Seen T) (step : code.HostStep) → false ≡ is_there (priority_of s.signals.prios n)
+        → seen_step step ≡ StepThrow (FaultValue TypeError []) → Reaches k (at s seen) (change_asked c v (hosting_of s)) (Ok step) (at s seen)
+    unfolding chosen
+    none-refused seen step none answer = fault-thrown s seen TypeError step _ (chosen-is s n priority c v some named false _ none refl) answer
+
+    -- a change of it is in progress
+    pub changing-refused : (seen : Seen T) (step : code.HostStep) → true ≡ is_there (priority_of s.signals.prios n) → true ≡ is_changing s.signals.prios n
+        → seen_step step ≡ StepThrow (FaultValue NotAllowedError []) → Reaches k (at s seen) (change_asked c v (hosting_of s)) (Ok step) (at s seen)
+    unfolding chosen
+    changing-refused seen step there changing answer = fault-thrown s seen NotAllowedError step _ (chosen-is s n priority c v some named true true there changing) answer
+
+    pub change-reaches : {old : Seen T} {new : At Standing T} (r : Result code.HostStep NoLine)
+        → true ≡ is_there (priority_of s.signals.prios n) → false ≡ is_changing s.signals.prios n
+        → Reaches k (at s old) (change_step n priority (hosting_of s)) r new → Reaches k (at s old) (change_asked c v (hosting_of s)) r new
+    unfolding chosen
+    change-reaches {old = old} {new = new} r there changing h =
+        let P : Stepped Hosting → Type 0 = λ x. Reaches k (at s old) x r new in subst P (sym (chosen-is s n priority c v some named true false there changing)) h

@@ -1,0 +1,3 @@
+pub mod Wanting
+pub mod Plain
+pub mod Aborting

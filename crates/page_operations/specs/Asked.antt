@@ -1,0 +1,37 @@
+-- What a page as a host answers when it is asked, and what it does then.
+use Rattle.std.specs.Prelude.{◌≡◌, ℕ, List, length, map, Result, IfOk}
+use Rattle.std.specs.Result.{result_err}
+use Rattle.lang_meaning.specs.HostSteps.{Ask, Stepped, on_ask}
+use Rattle.lang_ast.specs.declared.host.HostStep as code
+use Rattle.lang_ast.specs.Steps.{seen_step, StepIsNumbered}
+use Rattle.page_model.specs.PageHost.{Hosting, with_folds, page_rules}
+use Rattle.trace_text.specs.declared.lines.NoLine.{NoLine}
+use Rattle.trace_text.specs.Given.{Keeping, Gives}
+use Rattle.trace_text.specs.Acts.{At}
+use Rattle.page_signals.specs.Laws.{as_fold}
+use Rattle.page_rules.specs.Lined.{bare_hosting, lines_in}
+use Rattle.page_state.specs.Standing.{Standing, page_of}
+
+-- ---- Ours: a page in code as the model's page with its open folds
+
+-- the model's page, with no event, and its open folds
+abbrev pub hosting_of : Standing → Hosting
+hosting_of s = with_folds (map as_fold s.folds) (page_of s)
+
+-- what the page's rules say of an ask
+unfoldable pub asked_of : Ask → Standing → Stepped Hosting
+asked_of ask s = on_ask page_rules ask (hosting_of s)
+
+-- how many functions the script has
+abbrev pub functions_of : Standing → ℕ
+functions_of s = length s.script.names
+
+-- The call answers the ask as the page's rules say, all of it where there is no fault of the lines; else it stopped among the ask's
+-- lines. The host port is left alone.
+pub record Asked {T : Type 0} (k : Keeping T) (old : At Standing T) (ask : Ask) (result : Result code.HostStep NoLine)
+    (new : At Standing T) : Type 0 where
+  pub lines : Gives k old.seen (lines_in (asked_of ask old.state)) (result_err result) new.seen
+  pub host : IfOk result (λ step. hosting_of new.state ≡ bare_hosting (asked_of ask old.state).host)
+  pub step : IfOk result (λ step. seen_step step ≡ (asked_of ask old.state).step)
+  pub kept : IfOk result (λ step. new.state.kept ≡ old.state.kept)
+  pub refusals : IfOk result (λ step. new.state.refusals ≡ old.state.refusals)

@@ -1,0 +1,12 @@
+//! The page as a host that is asked: all operations of a script, those that call back among them.
+#![tactic(auto)]
+
+mod asking;
+mod folding;
+mod operating;
+mod promises;
+mod signals;
+mod times;
+
+pub use asking::{answer, go_on};
+pub use operating::operate;

@@ -1,0 +1,4 @@
+use Rattle.promise_operations.proofs.promises.resolve.Goals as goal
+
+pub returns : goal.returns
+returns g c = c.settle_own.ensures

@@ -1,0 +1,90 @@
+//! `host`: what a script asks a closure of its host. Ours
+
+ghost use Rattle.std.specs.Prelude.{◌≡◌, Some, slice_get};
+ghost use Rattle.page_parts.specs.HostClosures.{HostClosure};
+ghost use Rattle.page_values.specs.Seen.{seen};
+ghost use Rattle.page_model.specs.Operations as model;
+ghost use Rattle.page_state.specs.PageActs.{at};
+ghost use Rattle.page_answers.specs.Answers.{Answers};
+
+use crate::arguments::signal_or_unit;
+use crate::queueing::host_queued;
+use crate::refusing::reject_aborted;
+use lang_ast::HostStep;
+use page_answers::{are_both_left, give, reject_fault, throw};
+use page_hosts::HostPort;
+use page_state::PageState;
+use page_values::{FaultName, Value, as_int};
+use std::sync::ledger::Ledger;
+use trace_text::{Lines, NoLine};
+
+/// `host`: a closure, by its number from 0, is asked on a number, with a signal or unit. It answers a promise, which is rejected with
+/// TypeError where an argument is of another kind, with RangeError where there is no such closure or it does not take the number, with
+/// NotAllowedError where it was asked before, and with the reason of the signal where that is aborted. RangeError is thrown where no
+/// number is left.
+pub fn host<P: HostPort, M: Ledger, L: Lines>(
+    page: &mut PageState<P, M>,
+    closure: Value,
+    number: Value,
+    signal: Value,
+    lines: &mut L,
+) -> Result<HostStep, NoLine>
+    ensures { Answers L.keeping (at page.old (L.seen lines.old)) (model.host (seen closure) (seen number) (seen signal))
+        result (at page.new (L.seen lines.new)) }
+{
+    let Some(k) = as_int(&closure) else {
+        return reject_fault(page, FaultName::TypeError, lines);
+    };
+    let Some(x) = as_int(&number) else {
+        return reject_fault(page, FaultName::TypeError, lines);
+    };
+    let Some(signal) = signal_or_unit(&signal) else {
+        return reject_fault(page, FaultName::TypeError, lines);
+    };
+    host_asked(page, k, x, signal, lines)
+}
+
+// The same with arguments of the right kinds.
+fn host_asked<P: HostPort, M: Ledger, L: Lines>(
+    page: &mut PageState<P, M>,
+    k: i64,
+    x: i64,
+    signal: Option<u32>,
+    lines: &mut L,
+) -> Result<HostStep, NoLine>
+    ensures { Answers L.keeping (at page.old (L.seen lines.old)) (model.host_asked k x signal)
+        result (at page.new (L.seen lines.new)) }
+{
+    if !page.takes(k, x) {
+        return reject_fault(page, FaultName::RangeError, lines);
+    }
+    let Ok(k) = u32::try_from(k) else {
+        return Err(NoLine::OutOfMemory);
+    };
+    host_accepted(page, k, x, signal, lines)
+}
+
+// The same of closure `k`, which takes the number.
+fn host_accepted<P: HostPort, M: Ledger, L: Lines>(
+    page: &mut PageState<P, M>,
+    k: u32,
+    x: i64,
+    signal: Option<u32>,
+    lines: &mut L,
+) -> Result<HostStep, NoLine>
+    ensures { (c : HostClosure) → slice_get page.old.hosts k ≡ Some c
+        → Answers L.keeping (at page.old (L.seen lines.old)) (model.host_accepted k c x signal)
+        result (at page.new (L.seen lines.new)) }
+{
+    if !page.is_fresh(k) {
+        return reject_fault(page, FaultName::NotAllowedError, lines);
+    }
+    if page.is_aborted_source(signal) {
+        return reject_aborted(page, signal, lines);
+    }
+    if !are_both_left(page) {
+        return Ok(throw(page.alloc(), FaultName::RangeError));
+    }
+    host_queued(page, k, x, signal, lines)?;
+    Ok(give(Value::Promise(page.promises_made())))
+}

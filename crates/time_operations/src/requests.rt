@@ -1,0 +1,90 @@
+//! Timers, frame callbacks and idle callbacks that are registered and then requested (HTML, "Timers" and "Animation frames";
+//! requestIdleCallback).
+
+ghost use Rattle.std.specs.Prelude.{◌≡◌, ◌^◌, ◌<◌};
+ghost use Rattle.std.specs.Result.{result_err};
+ghost use Rattle.page_model.specs.Operations as model;
+ghost use Rattle.page_script.specs.Seen.{function_seen, registration_seen};
+ghost use Rattle.trace_text.specs.Acts.{Does};
+ghost use Rattle.page_state.specs.PageActs.{at, on_page};
+ghost use Rattle.time_operations.specs.Rows.{callback_of_kind};
+
+use page_hosts::HostPort;
+use page_script::{Registration, Role};
+use page_state::PageState;
+use page_values::Func;
+use std::sync::ledger::Ledger;
+use trace_text::{Lines, NoLine, RegKind};
+
+/// A timer is registered under the id that it gets, and initialised, with their lines.
+///
+/// The timeout is in milliseconds, as the script gave it. Want of memory is told also where no number that it takes is left.
+pub(crate) fn timer_set<P: HostPort, M: Ledger, L: Lines>(
+    page: &mut PageState<P, M>,
+    kind: RegKind,
+    repeats: bool,
+    callback: Func,
+    timeout: i64,
+    lines: &mut L,
+) -> Result<(), NoLine>
+    ensures { Does L.keeping (at page.old (L.seen lines.old))
+        (on_page (model.timer_set kind repeats (function_seen callback) timeout))
+        (result_err result) (at page.new (L.seen lines.new)) }
+{
+    let made = page.timer_ids_made();
+    if made == u32::MAX {
+        return Err(NoLine::OutOfMemory);
+    }
+    let registration = callback_of_kind(kind, callback, made + 1);
+    let r = page.register_as(kind, registration, lines)?;
+    page.init_timer(None, r, repeats, timeout, lines)
+}
+
+/// A frame callback is registered, with its line, and requested.
+///
+/// Want of memory is told also where no number that it takes is left.
+pub(crate) fn frame_requested<P: HostPort, M: Ledger, L: Lines>(
+    page: &mut PageState<P, M>,
+    callback: Func,
+    lines: &mut L,
+) -> Result<(), NoLine>
+    ensures { Does L.keeping (at page.old (L.seen lines.old)) (on_page (model.frame_requested (function_seen callback)))
+        (result_err result) (at page.new (L.seen lines.new)) }
+{
+    let registration = callback_of_kind(RegKind::Frame, callback, 0);
+    let r = page.register_as(RegKind::Frame, registration, lines)?;
+    page.request_frame(r)
+}
+
+/// An idle callback is registered and requested, with their lines; a positive number of milliseconds starts its timeout.
+///
+/// Want of memory is told also where no number that it takes is left.
+pub(crate) fn idle_requested<P: HostPort, M: Ledger, L: Lines>(
+    page: &mut PageState<P, M>,
+    callback: Func,
+    ms: u64,
+    lines: &mut L,
+) -> Result<(), NoLine>
+    requires { ms < 2 ^ 32 }
+    ensures { Does L.keeping (at page.old (L.seen lines.old)) (on_page (model.idle_requested (function_seen callback) ms))
+        (result_err result) (at page.new (L.seen lines.new)) }
+{
+    let registration = callback_of_kind(RegKind::Idle, callback, 0);
+    let r = page.register_as(RegKind::Idle, registration, lines)?;
+    page.request_idle(ms, r, lines)
+}
+
+// The registration of a callback of a kind, with this timer id, 0 where it has none.
+fn callback_of_kind(kind: RegKind, callback: Func, timer_id: u32) -> Registration
+    ensures { registration_seen result ≡ callback_of_kind kind (function_seen callback) timer_id }
+{
+    Registration {
+        role: Role::Of(kind),
+        callback: Some(callback),
+        second_callback: None,
+        timer_id,
+        promise: 0,
+        signal: None,
+        finally: false,
+    }
+}
