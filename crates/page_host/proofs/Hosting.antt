@@ -1,0 +1,202 @@
+-- What a page tells as a host where it is asked, from what it does.
+use Rattle.std.proofs.Common.{◌≡◌, inl, ℕ, suc, ◌+◌, ◌-◌, ◌/◌, ◌*◌, ◌^◌, ◌<◌, ◌≤◌, Bool, true, false, List, [], ◌∷◌, map, length, refl, sym, ◌∙◌, ap, subst, arith, Option, Some, None, is_some, Result, Ok, Err}
+use Rattle.std.specs.Result.{result_err}
+use Rattle.page_types.specs.Values.{Value}
+use Rattle.page_types.specs.declared.Op.{Op}
+use Rattle.page_types.specs.Tree.{Program}
+use Rattle.page_parts.specs.Setup.{Setup}
+use Rattle.page_parts.specs.HostClosures.{HostClosure}
+use Rattle.page_model.specs.Turns.{first_page}
+use Rattle.page_model.proofs.FirstBounds.{first-bounded}
+use Rattle.page_signals.specs.Laws.{as_fold}
+use Rattle.lang_meaning.specs.HostSteps.{HostStep, StepValue, StepThrow, StepInvoke, Stepped, Ask, AskOp, AskResume, CallbackEnd, on_ask, is_busy}
+use Rattle.lang_ast.specs.declared.host.HostStep as code
+use Rattle.lang_ast.specs.Steps.{seen_step, tickets_after, Falls, AreFew, room_taken}
+use Rattle.page_model.specs.State.{Page}
+use Rattle.page_model.specs.Folds.{Fold}
+use Rattle.page_model.specs.PageHost.{Hosting, open_tickets, tickets_then, step_known, resume_innermost}
+use Rattle.page_model.specs.FoldBounds.{IsBounded, FoldsAreBounded, HostIsBounded, FewerLeft, to_visit}
+use Rattle.page_model.proofs.HostBounds.{known-within, resume-within}
+use Rattle.page_model.proofs.Tickets.{known-accounts, resume-accounts}
+use Rattle.trace_text.specs.declared.lines.NoLine.{NoLine}
+use Rattle.trace_text.specs.declared.lines.NoLine.TheVariants.{OutOfMemory}
+use Rattle.trace_text.specs.Line.{Line}
+use Rattle.trace_text.specs.Given.{Keeping, Seen, after_all, StopsAmong}
+use Rattle.trace_text.specs.Acts.{At}
+use Rattle.page_rules.specs.Lined.{Lined, bare_hosting, asked_bare, lines_in, handed_on, lined_rules, LeavesLines}
+use Rattle.page_rules.specs.Steady.{asks_busy, asked_page}
+use Rattle.page_rules.proofs.KeepingFolds.{ask-steady, ask-soon}
+use Rattle.page_state.specs.Standing.{Standing, page_of}
+use Rattle.page_state.specs.PageActs.{at}
+use Rattle.page_operations.specs.Asked.{Asked, hosting_of, asked_of, functions_of}
+use Rattle.page_host.specs.PageNow.{told_at, room_at, room_of}
+
+module _ {T : Type 0} (k : Keeping T) (old s : Standing) (before after : Seen T) (stopped : Option NoLine) (step : code.HostStep) where
+  handed : (ask : Ask) → Asked k (at old before) ask (Ok step) (at s after)
+      → handed_on k (told_at old before.told stopped) (asked_of ask old) ≡ record { step = seen_step step; host = told_at s after.told stopped }
+  handed ask a =
+      let x = asked_of ask old in
+      let h = told_at old before.told stopped in
+      ap (λ (y : HostStep). record { step = y; host = record h { hosting = bare_hosting x.host; told = after_all k before.told (lines_in x) } }) (sym a.step)
+      ∙ (ap (λ (g : Hosting). record { step = seen_step step; host = record h { hosting = g; told = after_all k before.told (lines_in x) } }) (sym a.host)
+      ∙ ap (λ (t : Option T). record { step = seen_step step; host = record h { hosting = hosting_of s; told = t } }) (sym a.lines.told.0))
+
+  -- the rule of the host
+  pub rule : (ask : Ask) → Asked k (at old before) ask (Ok step) (at s after)
+      → on_ask (lined_rules k) ask (told_at old before.told stopped) ≡ record { step = seen_step step; host = told_at s after.told stopped }
+  unfolding asked_of
+  rule (AskOp op args) a = handed (AskOp op args) a
+  rule (AskResume ticket end) a = handed (AskResume ticket end) a
+
+few-of : (left : ℕ → ℕ) (most : ℕ) (y : HostStep) → FewerLeft left most y → Falls left most y
+few-of left most (StepValue v) h = tt
+few-of left most (StepThrow v) h = tt
+few-of left most (StepInvoke f args ticket) h = h
+
+are-few : (left : ℕ → ℕ) (y : HostStep) → FewerLeft left (2 ^ 64) y → AreFew left y
+are-few left (StepValue v) h = tt
+are-few left (StepThrow v) h = tt
+are-few left (StepInvoke f args ticket) h = h
+
+same-tickets : (y : HostStep) (tickets : List ℕ) → tickets_then y tickets ≡ tickets_after y tickets
+same-tickets (StepValue v) tickets = refl
+same-tickets (StepThrow v) tickets = refl
+same-tickets (StepInvoke f args ticket) tickets = refl
+
+-- ---- the room for `busy`
+
+room-same : (n m : ℕ) (b : Bool) → m ≡ n → room_at n ≤ room_at m + room_taken b
+room-same n m true e = omega (arith, ap room_at e)
+room-same n m false e = omega (arith, ap room_at e)
+
+room-less : (n m : ℕ) → m ≤ n + 1000000000 → room_at n ≤ room_at m + 1
+room-less n m h = omega (arith, h)
+
+pub not-stopped : (stopped : Option NoLine) → is_some stopped ≡ false → stopped ≡ None
+not-stopped None e = refl
+not-stopped (Some why) e = absurd (cc)
+
+-- where it goes on
+pub room-goes-on : (b : Bool) (old s : Standing) (stopped : Option NoLine) → stopped ≡ None
+    → room_at old.script.now ≤ room_at s.script.now + room_taken b → room_of stopped old.script.now ≤ room_of stopped s.script.now + room_taken b
+room-goes-on b old s None e h = h
+room-goes-on b old s (Some why) e h = absurd (cc)
+
+-- the same after a callback
+pub room-resumed : (old s : Standing) (stopped : Option NoLine) → stopped ≡ None
+    → room_at old.script.now ≤ room_at s.script.now + 0 → room_of stopped old.script.now ≤ room_of stopped s.script.now
+room-resumed old s None e h = omega (arith, h)
+room-resumed old s (Some why) e h = absurd (cc)
+
+-- where it stops
+pub room-after : (b : Bool) (old : Standing) (stopped : Option NoLine) → room_of stopped old.script.now ≤ 2 ^ 64 + room_taken b
+room-after b old None = omega arith
+room-after b old (Some why) = omega arith
+
+-- what the page's rules leave to any ask
+module _ {T : Type 0} (k : Keeping T) (ask : Ask) (old s : Standing) {before after : Seen T} (step : code.HostStep)
+    (a : Asked k (at old before) ask (Ok step) (at s after)) where
+  pub same-functions : functions_of s ≡ functions_of old
+  unfolding asked_of
+  same-functions = ap (λ (h : Hosting). length h.page.names) a.host ∙ ap length (ask-soon ask (hosting_of old)).0.stays.names
+
+  pub room-left : (b : Bool) → asks_busy ask ≡ b → room_at old.script.now ≤ room_at s.script.now + room_taken b
+  unfolding asked_of
+  room-left false e =
+      room-same old.script.now s.script.now false (ap (λ (h : Hosting). h.page.now) a.host ∙ (ask-steady ask (hosting_of old) e).now)
+  room-left true e =
+      let now : s.script.now ≡ (asked_page ask (hosting_of old)).now = ap (λ (h : Hosting). h.page.now) a.host in
+      room-less old.script.now s.script.now (omega (arith, now, (ask-soon ask (hosting_of old)).1.soon))
+
+-- ---- an operation
+
+module _ {T : Type 0} (k : Keeping T) (op : Op) (args : List Value) (old s : Standing) {before after : Seen T} (step : code.HostStep)
+    (a : Asked k (at old before) (AskOp op args) (Ok step) (at s after)) where
+  pub op-tickets : open_tickets (hosting_of s).folds ≡ tickets_after (seen_step step) (open_tickets (hosting_of old).folds)
+  unfolding asked_of
+  op-tickets =
+      let h = hosting_of old in
+      let x = asked_of (AskOp op args) old in
+      ap (λ (g : Hosting). open_tickets g.folds) a.host
+      ∙ (known-accounts h.folds op args h.page
+      ∙ (same-tickets x.step (open_tickets h.folds) ∙ ap (λ (y : HostStep). tickets_after y (open_tickets h.folds)) (sym a.step)))
+
+  pub op-bounded : HostIsBounded (hosting_of old) → HostIsBounded (hosting_of s)
+  unfolding asked_of
+  op-bounded b =
+      let h = hosting_of old in
+      subst HostIsBounded (sym a.host) (known-within h.folds h.page b.0 b.1 op args).0
+
+  pub op-few : HostIsBounded (hosting_of old) → AreFew (to_visit (hosting_of s)) (seen_step step)
+  unfolding asked_of
+  op-few b =
+      let h = hosting_of old in
+      let x = asked_of (AskOp op args) old in
+      subst (λ (y : HostStep). AreFew (to_visit (hosting_of s)) y) (sym a.step)
+      (subst (λ (g : Hosting). AreFew (to_visit g) x.step) (sym a.host) (are-few (to_visit x.host) x.step (known-within h.folds h.page b.0 b.1 op args).1))
+
+-- ---- a callback that has ended
+
+module _ {T : Type 0} (k : Keeping T) (ticket : ℕ) (end : CallbackEnd) (old s : Standing) {before after : Seen T} (step : code.HostStep)
+    (a : Asked k (at old before) (AskResume ticket end) (Ok step) (at s after)) where
+  pub resume-tickets : (rest : List ℕ) → open_tickets (hosting_of old).folds ≡ ticket ∷ rest
+      → open_tickets (hosting_of s).folds ≡ tickets_after (seen_step step) rest
+  unfolding asked_of
+  resume-tickets rest e =
+      let h = hosting_of old in
+      let x = asked_of (AskResume ticket end) old in
+      ap (λ (g : Hosting). open_tickets g.folds) a.host
+      ∙ (resume-accounts h.folds ticket end h.page rest e
+      ∙ (same-tickets x.step rest ∙ ap (λ (y : HostStep). tickets_after y rest) (sym a.step)))
+
+  pub resume-bounded : HostIsBounded (hosting_of old) → HostIsBounded (hosting_of s)
+  unfolding asked_of
+  resume-bounded b =
+      let h = hosting_of old in
+      subst HostIsBounded (sym a.host) (resume-within h.folds end h.page ticket b).0
+
+  pub resume-few : HostIsBounded (hosting_of old) → AreFew (to_visit (hosting_of s)) (seen_step step)
+  unfolding asked_of
+  resume-few b =
+      let h = hosting_of old in
+      let x = asked_of (AskResume ticket end) old in
+      subst (λ (y : HostStep). AreFew (to_visit (hosting_of s)) y) (sym a.step)
+      (subst (λ (g : Hosting). AreFew (to_visit g) x.step) (sym a.host) (are-few (to_visit x.host) x.step (resume-within h.folds end h.page ticket b).2))
+
+  pub resume-falls : HostIsBounded (hosting_of old) → Falls (to_visit (hosting_of s)) (to_visit (hosting_of old) ticket) (seen_step step)
+  unfolding asked_of
+  resume-falls b =
+      let h = hosting_of old in
+      let x = asked_of (AskResume ticket end) old in
+      subst (λ (y : HostStep). Falls (to_visit (hosting_of s)) (to_visit h ticket) y) (sym a.step)
+      (subst (λ (g : Hosting). Falls (to_visit g) (to_visit h ticket) x.step) (sym a.host)
+      (few-of (to_visit x.host) (to_visit h ticket) x.step (resume-within h.folds end h.page ticket b).1))
+
+-- ---- a stop
+
+-- where the ask was stopped among its lines
+pub stop-leaves : {T : Type 0} (k : Keeping T) (ask : Ask) (old s : Standing) (before after : Seen T) (stopped : Option NoLine) (why : NoLine)
+    → Asked k (at old before) ask (Err why) (at s after)
+    → LeavesLines k ask (told_at old before.told stopped) (told_at s after.told (Some why))
+unfolding asked_of
+stop-leaves k (AskOp op args) old s before after stopped why a = record { why = why; stopped = refl; among = a.lines.told }
+stop-leaves k (AskResume ticket end) old s before after stopped why a = record { why = why; stopped = refl; among = a.lines.told }
+
+nothing-taken : {T : Type 0} (k : Keeping T) (lines : List Line) (told : Option T) → StopsAmong k OutOfMemory told lines told
+nothing-taken k [] told = (tt, refl)
+nothing-taken k (line ∷ lines) told = inl refl
+
+-- where it was stopped before
+pub stopped-leaves : {T : Type 0} (k : Keeping T) (ask : Ask) (s : Standing) (told : Option T) (stopped : Option NoLine)
+    → LeavesLines k ask (told_at s told stopped) (told_at s told (Some OutOfMemory))
+stopped-leaves k ask s told stopped =
+    record { why = OutOfMemory; stopped = refl; among = nothing-taken k (lines_in (asked_bare ask (told_at s told stopped))) told }
+
+-- ---- before the first turn
+
+pub first-bounds : (program : Program) (setup : Setup) (hosts : List HostClosure) (s : Standing) → page_of s ≡ first_page program setup hosts → s.folds ≡ []
+    → HostIsBounded (hosting_of s)
+first-bounds program setup hosts s e none = (
+  subst IsBounded (sym e) (first-bounded program setup hosts),
+  subst (λ (folds : List Fold). FoldsAreBounded (page_of s).prios folds) (sym (ap (map as_fold) none)) tt,
+)

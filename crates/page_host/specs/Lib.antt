@@ -1,0 +1,2 @@
+pub mod PageNow
+pub mod Starts

@@ -1,0 +1,71 @@
+-- What a page in code is seen as, and what it tells as the host of the script machine.
+use Rattle.std.specs.Prelude.{◌≡◌, ◌≤◌, ◌<◌, ◌^◌, ◌-◌, ◌/◌, ℕ, List, Option, Some, None, length, map}
+use Rattle.std.specs.Option.{option_map}
+use Rattle.lang_ast.specs.Hosts.{HostNow}
+use Rattle.page_model.specs.PageHost.{open_tickets}
+use Rattle.page_model.specs.FoldBounds.{HostIsBounded, to_visit}
+use Rattle.trace_text.specs.declared.lines.NoLine.{NoLine}
+use Rattle.trace_text.specs.declared.lines.NoLine.TheVariants as no_line
+use Rattle.trace_text.specs.Given.{Seen}
+use Rattle.page_rules.specs.Lined.{Lined}
+use Rattle.page_state.specs.Standing.{Standing}
+use Rattle.page_operations.specs.Asked.{hosting_of, functions_of}
+use Rattle.page_host.specs.declared.stop.PageStop.{PageStop}
+use Rattle.page_host.specs.declared.stop.PageStop.TheVariants as stop
+
+-- ---- Ours: a page in code
+
+-- All that a page keeps, the object that takes its lines, how many functions the script has, the units of fuel that are left, when the
+-- run ends at the latest, why a line was not taken or that memory was wanting, where that came, and how often the page stopped.
+pub record PageNow (L : Type 0) : Type 0 where
+  pub state : Standing
+  pub lines : L
+  pub functions : ℕ
+  pub fuel : ℕ
+  pub until : ℕ
+  pub stopped : Option NoLine
+  pub stops : ℕ
+
+-- why a page stops where a line is not taken
+abbrev pub stop_of : NoLine → PageStop
+stop_of no_line.Failed = stop.WriteFault
+stop_of no_line.Differs = stop.Differs
+stop_of no_line.OutOfMemory = stop.OutOfMemory
+
+-- ---- Ours: the host of the script machine
+
+-- what it tells of what it does, by what is told of its lines
+abbrev pub told_at : {T : Type 0} → Standing → (lines : Option T) → (stopped : Option NoLine) → Lined T
+told_at s lines stopped = record { hosting = hosting_of s; told = lines; stopped = stopped }
+
+-- For so many calls of `busy` there is room, of at most 1,000,000,000 microseconds each, before the time is 2^63.
+abbrev pub room_at : (now : ℕ) → ℕ
+room_at now = (2 ^ 63 - now) / 1000000000
+
+-- once it has stopped, there is always room
+abbrev pub room_of : (stopped : Option NoLine) → (now : ℕ) → ℕ
+room_of None now = room_at now
+room_of (Some why) now = 2 ^ 64
+
+-- all that it tells, where so much is seen of its lines
+abbrev pub host_now : {L T : Type 0} → (seen : L → Seen T) → PageNow L → HostNow (Lined T) PageStop
+host_now seen p =
+    record {
+      told = told_at p.state (seen p.lines).told p.stopped;
+      tickets = open_tickets (hosting_of p.state).folds;
+      room = room_of p.stopped p.state.script.now;
+      functions = p.functions;
+      refusals = p.stops;
+      last_stop = option_map stop_of p.stopped;
+    }
+
+-- how many callbacks may still come under a ticket
+abbrev pub callbacks_left : {T : Type 0} → Lined T → ℕ → ℕ
+callbacks_left told ticket = to_visit told.hosting ticket
+
+-- while it has not stopped, a page and its open folds are within the bounds of numbers, and its script has so many functions
+pub record IsWhole {L : Type 0} (p : PageNow L) : Type 0 where
+  pub bounded : p.stopped ≡ None → HostIsBounded (hosting_of p.state)
+  pub functions : p.stopped ≡ None → functions_of p.state ≡ p.functions
+  pub fuel : p.fuel ≤ 10000000
+  pub stops : p.stops < 2 ^ 64
