@@ -28,7 +28,8 @@ use Rattle.page_rules.specs.Steady.{asks_busy, asked_page}
 use Rattle.page_rules.proofs.KeepingFolds.{ask-steady, ask-soon}
 use Rattle.page_state.specs.Standing.{Standing, page_of}
 use Rattle.page_state.specs.PageActs.{at}
-use Rattle.page_operations.specs.Asked.{Asked, hosting_of, asked_of, functions_of}
+use Rattle.page_state.specs.FoldActs.{hosting_of}
+use Rattle.page_operations.specs.Asked.{Asked, asked_of}
 use Rattle.page_host.specs.PageNow.{told_at, room_at, room_of}
 
 module _ {T : Type 0} (k : Keeping T) (old s : Standing) (before after : Seen T) (stopped : Option NoLine) (step : code.HostStep) where
@@ -96,10 +97,6 @@ room-after b old (Some why) = omega arith
 -- what the page's rules leave to any ask
 module _ {T : Type 0} (k : Keeping T) (ask : Ask) (old s : Standing) {before after : Seen T} (step : code.HostStep)
     (a : Asked k (at old before) ask (Ok step) (at s after)) where
-  pub same-functions : functions_of s ≡ functions_of old
-  unfolding asked_of
-  same-functions = ap (λ (h : Hosting). length h.page.names) a.host ∙ ap length (ask-soon ask (hosting_of old)).0.stays.names
-
   pub room-left : (b : Bool) → asks_busy ask ≡ b → room_at old.script.now ≤ room_at s.script.now + room_taken b
   unfolding asked_of
   room-left false e =

@@ -9,7 +9,8 @@ use Rattle.trace_text.specs.declared.lines.NoLine.TheVariants as no_line
 use Rattle.trace_text.specs.Given.{Seen}
 use Rattle.page_rules.specs.Lined.{Lined}
 use Rattle.page_state.specs.Standing.{Standing}
-use Rattle.page_operations.specs.Asked.{hosting_of, functions_of}
+use Rattle.page_state.specs.FoldActs.{hosting_of}
+use Rattle.page_operations.specs.Asked.{functions_of}
 use Rattle.page_host.specs.declared.stop.PageStop.{PageStop}
 use Rattle.page_host.specs.declared.stop.PageStop.TheVariants as stop
 

@@ -27,7 +27,7 @@ pub struct NoPage<P: HostPort, L: Lines> {
 
 impl<P: HostPort, L: Lines, M: Ledger> Page<P, L, M> {
     /// The page before the first turn of a run of a program under a setup: the script is its one task, on the DOM source, the time is
-    /// 0, and no line is written. It has the setup's fuel, and as many tasks as the setup reserves cells are sure to find room.
+    /// 0, and no line is written. It has the setup's fuel.
     ///
     /// Want of memory is the one error, and hands back the port and the lines. It costs what the program's names, the setup's arrivals
     /// and its hosts cost.

@@ -81,42 +81,6 @@ module _ {T : Type 0} {k : Keeping T} where
       }
   Asked-reaches ask old (Err why) h = record { lines = h.does.lines; host = tt; step = tt; kept = tt; refusals = tt }
 
-  -- the exit of a `?`
-  pub Asked-stops : (ask : Ask) (old : At Standing T) {new : At Standing T} (e : Result code.HostStep NoLine) {why : NoLine} → IsErrAnd e (λ x. x ≡ why)
-      → Reaches k old (on_ask page_rules ask (hosting_of old.state)) (Err why) new → Asked k old ask e new
-  Asked-stops ask old (Ok x) err h = absurd err
-  Asked-stops ask old {new = new} (Err x) {why = why} err h =
-      let P : NoLine → Type 0 = λ w. Asked k old ask (Err w) new in subst P (sym err) (Asked-reaches ask old (Err why) h)
-
-  -- the script has the functions that it had
-  pub Asked-functions : (ask : Ask) (old : At Standing T) {new : At Standing T} {step : code.HostStep} → Asked k old ask (Ok step) new
-      → functions_of new.state ≡ functions_of old.state
-  unfolding asked_of
-  Asked-functions ask old h =
-      ap (λ (x : Hosting). length x.page.names) h.host ∙ ap length (ask-soon ask (hosting_of old.state)).0.stays.names
-
-  -- memory was wanting behind the last line
-  Gives-wants : {old new : Seen T} (lines : List Line) → Gives k old lines None new → Gives k old lines (Some OutOfMemory) new
-  Gives-wants {old = old} {new = new} lines h =
-      let P : List Line → Type 0 = λ ls. Gives k old ls (Some OutOfMemory) new in
-      subst P (append_none lines) (Gives-then [] h (Does-memory {S = ℕ} k skip 0 0 new).lines)
-
-  -- the step is given where its functions have names
-  pub Asked-numbered : (ask : Ask) (old : At Standing T) {new : At Standing T} (step : code.HostStep) (r : Result code.HostStep NoLine)
-      → IfOk r (λ given. seen_step given ≡ seen_step step) → IfErr r (λ why. why ≡ OutOfMemory) → Asked k old ask (Ok step) new → Asked k old ask r new
-  Asked-numbered ask old step (Ok given) same memory h =
-      record { lines = h.lines; host = h.host; step = same ∙ h.step; kept = h.kept; refusals = h.refusals }
-  Asked-numbered ask old {new = new} step (Err why) same memory h =
-      let P : NoLine → Type 0 = λ w. Gives k old.seen (lines_in (asked_of ask old.state)) (Some w) new.seen in
-      record { lines = subst P (sym memory) (Gives-wants (lines_in (asked_of ask old.state)) h.lines); host = tt; step = tt; kept = tt; refusals = tt }
-
-  -- as many as there were before
-  pub numbered-before : (ask : Ask) (old : At Standing T) {new : At Standing T} {step : code.HostStep} (r : Result code.HostStep NoLine)
-      → Asked k old ask (Ok step) new → IfOk r (λ given. StepIsNumbered (functions_of new.state) (seen_step given))
-      → IfOk r (λ given. StepIsNumbered (functions_of old.state) (seen_step given))
-  numbered-before ask old r h few =
-      let P : ℕ → Type 0 = λ n. IfOk r (λ given. StepIsNumbered n (seen_step given)) in subst P (Asked-functions ask old h) few
-
   -- `abort` and `setPriority`, whose arguments hold no number that was not given out
   pub Asked-abort : (args : List Value) (old : At Standing T) {new : At Standing T} (r : Result code.HostStep NoLine)
       → may_operate (page_of old.state) AbortOp args ≡ true → Reaches k old (abort_asked (argument args 0) (argument args 1) (hosting_of old.state)) r new

@@ -24,7 +24,8 @@ use Rattle.page_rules.proofs.KeepingFolds.{ask-soon}
 use Rattle.page_state.specs.Standing.{Standing, page_of, holding}
 use Rattle.page_state.specs.PageActs.{at}
 use Rattle.page_answers.specs.Answers.{Answers, done_by, page_then, step_then}
-use Rattle.page_operations.specs.Asked.{Asked, hosting_of, asked_of, functions_of}
+use Rattle.page_state.specs.FoldActs.{hosting_of}
+use Rattle.page_operations.specs.Asked.{Asked, asked_of, functions_of}
 use Rattle.page_operations.specs.Plain.{is_plain, plain_operation, IsSameOrWants}
 
 plain-is : (folds : List Fold) (op : Op) (args : List Value) (p : Page) → is_plain op ≡ true

@@ -1,22 +1,18 @@
 -- What a page as a host answers when it is asked, and what it does then.
-use Rattle.std.specs.Prelude.{◌≡◌, ℕ, List, length, map, Result, IfOk}
+use Rattle.std.specs.Prelude.{◌≡◌, ℕ, List, length, Result, IfOk}
 use Rattle.std.specs.Result.{result_err}
 use Rattle.lang_meaning.specs.HostSteps.{Ask, Stepped, on_ask}
 use Rattle.lang_ast.specs.declared.host.HostStep as code
 use Rattle.lang_ast.specs.Steps.{seen_step, StepIsNumbered}
-use Rattle.page_model.specs.PageHost.{Hosting, with_folds, page_rules}
+use Rattle.page_model.specs.PageHost.{Hosting, page_rules}
 use Rattle.trace_text.specs.declared.lines.NoLine.{NoLine}
 use Rattle.trace_text.specs.Given.{Keeping, Gives}
 use Rattle.trace_text.specs.Acts.{At}
-use Rattle.page_signals.specs.Laws.{as_fold}
 use Rattle.page_rules.specs.Lined.{bare_hosting, lines_in}
-use Rattle.page_state.specs.Standing.{Standing, page_of}
+use Rattle.page_state.specs.Standing.{Standing}
+use Rattle.page_state.specs.FoldActs.{hosting_of}
 
--- ---- Ours: a page in code as the model's page with its open folds
-
--- the model's page, with no event, and its open folds
-abbrev pub hosting_of : Standing → Hosting
-hosting_of s = with_folds (map as_fold s.folds) (page_of s)
+-- ---- Ours
 
 -- what the page's rules say of an ask
 unfoldable pub asked_of : Ask → Standing → Stepped Hosting

@@ -9,4 +9,3 @@ mod signals;
 mod times;
 
 pub use asking::{answer, go_on};
-pub use operating::operate;

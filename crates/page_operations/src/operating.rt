@@ -10,8 +10,6 @@ ghost use Rattle.page_operations.specs.Asked.{functions_of};
 ghost use Rattle.page_operations.specs.Plain.{plain_operation};
 
 use crate::promises::of_promises;
-use crate::signals::of_signals;
-use crate::times::of_time;
 use lang_ast::{HostStep, Op};
 use page_answers::first;
 use page_hosts::HostPort;
@@ -23,7 +21,7 @@ use trace_text::{Lines, NoLine};
 
 /// The answer of an operation that calls nothing back, to as many arguments as it has, with its lines. An operation that calls back has
 /// no answer here, only an error.
-pub fn operate<P: HostPort, M: Ledger, L: Lines>(
+pub(crate) fn operate<P: HostPort, M: Ledger, L: Lines>(
     page: &mut PageState<P, M>,
     op: Op,
     args: Vec<Value>,
@@ -45,30 +43,6 @@ pub fn operate<P: HostPort, M: Ledger, L: Lines>(
         | Op::FaultTextOf
         | Op::DidTimeout => pure_operation::<P, M, L>(page, op, args),
         Op::Log => log(page, first(args), lines),
-        Op::QueueMicrotask
-        | Op::MakePromise
-        | Op::ResolveOp
-        | Op::RejectOp
-        | Op::Resolved
-        | Op::Rejected
-        | Op::Then
-        | Op::FinallyOp
-        | Op::AllOp
-        | Op::RaceOp
-        | Op::AnyOp
-        | Op::AllSettled => of_promises(page, op, args, lines),
-        Op::NowOp
-        | Op::Busy
-        | Op::SetTimeout
-        | Op::SetInterval
-        | Op::ClearTimeout
-        | Op::ClearInterval
-        | Op::RequestFrame
-        | Op::CancelFrame
-        | Op::RequestIdle
-        | Op::CancelIdle
-        | Op::TimeRemaining
-        | Op::PostMessage => of_time(page, op, args, lines),
-        _ => of_signals(page, op, args, lines),
+        _ => of_promises(page, op, args, lines),
     }
 }

@@ -7,6 +7,7 @@ ghost use Rattle.page_answers.specs.Answers.{Answers};
 ghost use Rattle.page_state.specs.PageActs.{at};
 ghost use Rattle.page_operations.specs.Plain.{plain_operation};
 
+use crate::times::of_time;
 use lang_ast::{HostStep, Op};
 use page_answers::{first, first_three, first_two};
 use page_hosts::HostPort;
@@ -19,8 +20,8 @@ use promise_operations::{
 use std::sync::ledger::Ledger;
 use trace_text::{Lines, NoLine};
 
-/// What an operation of promises answers. Any other has no answer here, only an error.
-pub fn of_promises<P: HostPort, M: Ledger, L: Lines>(
+/// What an operation of promises answers, or one of those that come after them here. One that calls back has no answer, only an error.
+pub(crate) fn of_promises<P: HostPort, M: Ledger, L: Lines>(
     page: &mut PageState<P, M>,
     op: Op,
     args: Vec<Value>,
@@ -54,7 +55,7 @@ pub fn of_promises<P: HostPort, M: Ledger, L: Lines>(
         Op::RaceOp => race(page, first(args), lines),
         Op::AnyOp => any(page, first(args), lines),
         Op::AllSettled => all_settled(page, first(args), lines),
-        _ => Err(NoLine::OutOfMemory),
+        _ => of_time(page, op, args, lines),
     }
 }
 

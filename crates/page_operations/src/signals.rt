@@ -19,7 +19,7 @@ use std::sync::ledger::Ledger;
 use trace_text::{Lines, NoLine};
 
 /// What an operation of signals, listeners, scheduler tasks or host closures answers. Any other has no answer here, only an error.
-pub fn of_signals<P: HostPort, M: Ledger, L: Lines>(
+pub(crate) fn of_signals<P: HostPort, M: Ledger, L: Lines>(
     page: &mut PageState<P, M>,
     op: Op,
     args: Vec<Value>,

@@ -6,6 +6,7 @@ ghost use Rattle.page_answers.specs.Answers.{Answers};
 ghost use Rattle.page_state.specs.PageActs.{at};
 ghost use Rattle.page_operations.specs.Plain.{plain_operation};
 
+use crate::signals::of_signals;
 use lang_ast::{HostStep, Op};
 use page_answers::{first, first_two};
 use page_hosts::HostPort;
@@ -18,8 +19,8 @@ use time_operations::{
 };
 use trace_text::{Lines, NoLine};
 
-/// What an operation of time, or a message, answers. Any other has no answer here, only an error.
-pub fn of_time<P: HostPort, M: Ledger, L: Lines>(
+/// What an operation of time, or a message, answers, or one of signals. One that calls back has no answer, only an error.
+pub(crate) fn of_time<P: HostPort, M: Ledger, L: Lines>(
     page: &mut PageState<P, M>,
     op: Op,
     args: Vec<Value>,
@@ -52,6 +53,6 @@ pub fn of_time<P: HostPort, M: Ledger, L: Lines>(
             let (port, value) = first_two(args);
             post_message(page, port, value, lines)
         }
-        _ => Err(NoLine::OutOfMemory),
+        _ => of_signals(page, op, args, lines),
     }
 }

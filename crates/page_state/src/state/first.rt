@@ -35,7 +35,7 @@ struct FirstParts<M: Ledger> {
 
 impl<P: HostPort, M: Ledger> PageState<P, M> {
     /// The page before the first turn: the script, whose functions have these names, is its one task, on the DOM source, and the
-    /// time is 0. As many tasks as the setup reserves cells are sure to find room.
+    /// time is 0.
     ///
     /// Want of memory is the one error, and hands the port back as it was. It costs what the setup's arrivals and hosts cost.
     pub fn new(

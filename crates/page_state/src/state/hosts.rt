@@ -1,5 +1,5 @@
 //! Host closures, what was asked of them, and registrations that are dropped. Ours
-ghost use Rattle.std.specs.Prelude.{◌≡◌, ◌+◌, is_some, is_none, Some, IsTrue, IfErr, IfOk, OnOk, OnErr, IfSome, slice_get};
+ghost use Rattle.std.specs.Prelude.{◌≡◌, ◌+◌, is_some, is_none, map, Some, IsTrue, IfErr, IfOk, OnOk, OnErr, IfSome, slice_get};
 ghost use Rattle.std.specs.Option.{option_map};
 ghost use Rattle.std.specs.Result.{result_err};
 ghost use Rattle.page_types.specs.Counts.{refusals_after};
@@ -9,7 +9,7 @@ ghost use Rattle.page_model.specs.Operations.{closure_at, fitting, latency_of as
 ghost use Rattle.page_model.specs.PageSignals as model;
 ghost use Rattle.page_model.specs.Tasks.{fire_closure};
 ghost use Rattle.page_model.specs.Turns.{not_dropped};
-ghost use Rattle.page_hosts.specs.Hosts.{ask_at, is_fresh_at, IsUnfired, IsQueued};
+ghost use Rattle.page_hosts.specs.Hosts.{ask_at, is_fresh_at, unasked, IsUnfired, IsQueued};
 ghost use Rattle.page_tasks.specs.Seen.{host_task};
 ghost use Rattle.trace_text.specs.declared.lines.NoLine.TheVariants.{OutOfMemory};
 ghost use Rattle.trace_text.specs.Acts.{Does};
@@ -26,6 +26,15 @@ use std::sync::ledger::Ledger;
 use trace_text::{Event, Lines, NoLine};
 
 impl<P: HostPort, M: Ledger> PageState<P, M> {
+    /// The host port, as it stands: a closure that was asked and neither fired nor dropped is live there. Takes no memory.
+    pub fn into_port(self) -> P
+        ensures closures { P.closures result ≡ map unasked self.hosts }
+        ensures kept { P.kept result ≡ self.kept }
+        ensures refused { P.refusals result ≡ self.refusals }
+    {
+        self.hosts.into_port()
+    }
+
     /// Whether there is a closure of the number `k` that a script gives, with `x` in its range. Takes no memory.
     pub fn takes(&self, k: i64, x: i64) -> bool
         ensures { result ≡ read_by (λ p. is_some (fitting (closure_at p k) x)) self.now }

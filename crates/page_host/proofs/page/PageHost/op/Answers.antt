@@ -3,7 +3,8 @@ use Rattle.page_values.specs.Seen.{seen}
 use Rattle.lang_meaning.specs.HostSteps.{is_busy}
 use Rattle.lang_ast.specs.Hosts.{ask_op}
 use Rattle.trace_text.specs.declared.lines.NoLine.{NoLine}
-use Rattle.page_host.proofs.Hosting.{rule, op-tickets, op-bounded, op-few, same-functions, room-left, room-goes-on, room-after, stop-leaves, stopped-leaves, not-stopped}
+use Rattle.page_operations.proofs.Plain.{same-functions}
+use Rattle.page_host.proofs.Hosting.{rule, op-tickets, op-bounded, op-few, room-left, room-goes-on, room-after, stop-leaves, stopped-leaves, not-stopped}
 use Rattle.page_host.proofs.page.PageHost.op.Goals as goal
 
 pub returns-then-is_some-clause-leaves : goal.returns-then-is_some-clause-leaves

@@ -2,7 +2,8 @@ use Rattle.std.proofs.Common.{◌≡◌, refl, sym, ◌∙◌, ap, subst, arith,
 use Rattle.lang_ast.specs.Hosts.{ask_end}
 use Rattle.lang_ast.specs.Steps.{seen_outcome}
 use Rattle.trace_text.specs.declared.lines.NoLine.{NoLine}
-use Rattle.page_host.proofs.Hosting.{rule, resume-tickets, resume-bounded, resume-few, resume-falls, same-functions, room-left, room-resumed, room-after, stop-leaves, stopped-leaves, not-stopped}
+use Rattle.page_operations.proofs.Plain.{same-functions}
+use Rattle.page_host.proofs.Hosting.{rule, resume-tickets, resume-bounded, resume-few, resume-falls, room-left, room-resumed, room-after, stop-leaves, stopped-leaves, not-stopped}
 use Rattle.page_host.proofs.page.PageHost.resume.Goals as goal
 
 pub returns-then-is_some-clause-leaves : goal.returns-then-is_some-clause-leaves
