@@ -17,3 +17,4 @@ pub mod Reaching
 pub mod Stepped
 pub mod Begun
 pub mod Visited
+pub mod Pooled

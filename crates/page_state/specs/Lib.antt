@@ -12,3 +12,4 @@ pub mod First
 pub mod FoldActs
 pub mod CodeFolds
 pub mod AbortActs
+pub mod Pooled

@@ -17,13 +17,14 @@ ghost use Rattle.trace_text.specs.declared.lines.NoLine.TheVariants.{OutOfMemory
 ghost use Rattle.trace_text.specs.Acts.{Does};
 ghost use Rattle.trace_text.specs.EventSeen.{queue_seen};
 ghost use Rattle.page_state.specs.PageActs.{at, on_page, changed_by, read_by};
+ghost use Rattle.page_state.specs.Pooled.{HoldsTasks};
 ghost use Rattle.page_state.specs.Selecting.{sched_put};
 
 use super::PageState;
 use crate::scheduling::make_room;
 use page_base::Source;
 use page_hosts::HostPort;
-use page_tasks::{PrioSource, Priority, SchedTask, TaskSteps};
+use page_tasks::{PageTask, Pool, PrioSource, Priority, SchedTask, TaskSteps};
 use std::sync::ledger::Ledger;
 use trace_text::{Event, Lines, NoLine, QueueName};
 
@@ -94,6 +95,13 @@ impl<P: HostPort, M: Ledger> PageState<P, M> {
         ensures { result ≡ read_by (λ p. is_empty (view_of p)) self.now }
     {
         self.tasks.is_empty()
+    }
+
+    /// The pool that the tasks stand in. Takes no memory.
+    pub fn pool(&self) -> &Pool<PageTask>
+        ensures { HoldsTasks result.now self.now.tasks }
+    {
+        self.tasks.pool()
     }
 
     // Enqueues a scheduler task without its line, and gives its order.
