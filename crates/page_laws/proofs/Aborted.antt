@@ -51,7 +51,7 @@ change-aborted (noted n) s h = h
 pub changes-aborted : {p q : Page} → Changes p q → StaysAborted p q
 changes-aborted nothing s h = h
 changes-aborted (with_change a c plain) s h = change-aborted c s (changes-aborted a s h)
-changes-aborted (with_arm a b c w) s h = change-aborted c s (change-aborted b s (changes-aborted a s h))
+changes-aborted (with_arm a b c w new) s h = change-aborted c s (change-aborted b s (changes-aborted a s h))
 
 pub begins-aborted : (b : Beginning) (p : Page) → StaysAborted p (taken b p)
 begins-aborted (TheScript source task) p s h = h

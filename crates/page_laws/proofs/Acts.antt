@@ -2,13 +2,13 @@
 use Rattle.std.proofs.Common.{◌≡◌, Bool, true, false, ℕ, List, [], ◌∷◌, refl, nat_le}
 use Rattle.lang_meaning.specs.Evaluation.{call_from_outside}
 use Rattle.lang_meaning.specs.Machine.{Caller}
-use Rattle.page_laws.proofs.Ready.{first-ready}
-use Rattle.page_laws.proofs.Arming.{first-tidy}
-use Rattle.page_laws.proofs.Numbered.{first-numbered}
+use Rattle.page_laws.proofs.Intervals.{all-wait}
+use Rattle.page_laws.proofs.Following.{levels}
+use Rattle.page_laws.proofs.Scans.{Kept}
 use Rattle.page_laws.proofs.Operations.{outside-goes}
 use Rattle.page_laws.proofs.Runs.{CallsGo}
-use Rattle.page_laws.proofs.Turns.{Lands, Rests, Stops, at_time-comes, choose-lands, clock-lands, ends-lands, idle_step-comes, lands-then, next_turn-stops, step_one-comes, step_three-lands}
-use Rattle.page_laws.specs.Moves.{Moves, here}
+use Rattle.page_laws.proofs.Turns.{Lands, Rests, Stops, first-rests, at_time-comes, choose-lands, clock-lands, ends-lands, idle_step-comes, lands-then, next_turn-stops, step_one-comes, step_three-lands}
+use Rattle.page_laws.specs.Moves.{ComesTo, moved, here}
 use Rattle.page_model.proofs.NumbersEvaluation.{Good}
 use Rattle.page_model.proofs.NumbersTurns.{first_state-good}
 use Rattle.page_model.specs.Choosing.{Rules}
@@ -29,27 +29,27 @@ module _ {C : Type 0} (program : Program) where
     at_moment-lands : (t : ℕ) (next : C → State → Turned C) (c : C) (m : State) → ((r : State) → Good r → Rests r → Lands program r (next c r)) → Good m → Rests m → Lands program m (at_moment t (next c) c m)
     at_moment-lands t next c m k g x =
         choose-lands program (nat_le m.host.now t) (λ m. next c (on_page (at_time t) m)) (λ m. Stuck NoAct m c) m
-        (let a = at_time-comes program rules call calls_go t m g x in lands-then program m (on_page (at_time t) m) (next c (on_page (at_time t) m)) a.0 (k (on_page (at_time t) m) a.1 a.2)) here
+        (let a = at_time-comes program rules call calls_go t m g x in lands-then program m (on_page (at_time t) m) (next c (on_page (at_time t) m)) a.0 (k (on_page (at_time t) m) a.1 a.2)) (moved here, x.2.7.law)
 
     rest-lands : (c : C) (m : State) → Good m → Rests m → Lands program m (rest c m)
     rest-lands c m g x = by_view (is_empty (view m.host)) refl
       where
         by_view : (b : Bool) → is_empty (view m.host) ≡ b → Lands program m (choose_turned b (λ m. GoesOn (on_page idle_step m) c) (λ m. Stuck NoAct m c) m)
         by_view true e = idle_step-comes m g x e
-        by_view false e = here
+        by_view false e = (moved here, x.2.7.law)
 
     serve-lands : (until : ℕ) (c : C) (m : State) → Good m → Rests m → Lands program m (serve rules call until c m)
-    serve-lands until c m g x = choose-lands program (is_empty (view m.host)) (λ m. Stuck NoAct m c) (step_three rules call until c) m here (step_three-lands program rules call calls_go until c m g x)
+    serve-lands until c m g x = choose-lands program (is_empty (view m.host)) (λ m. Stuck NoAct m c) (step_three rules call until c) m (moved here, x.2.7.law) (step_three-lands program rules call calls_go until c m g x)
 
     stop_by_clock-lands : (until : ℕ) (c : C) (m : State) → Good m → Rests m → Lands program m (stop_by_clock until c m)
-    stop_by_clock-lands until c m g x = choose-lands program (nat_le until m.host.now) (ends ClockEnd c) (λ m. Stuck NoAct m c) m (clock-lands program c m g x) here
+    stop_by_clock-lands until c m g x = choose-lands program (nat_le until m.host.now) (ends ClockEnd c) (λ m. Stuck NoAct m c) m (clock-lands program c m g x) (moved here, x.2.7.law)
 
     stop-lands : (until : ℕ) (c : C) (m : State) → Good m → Rests m → Lands program m (stop until c m)
     stop-lands until c m g x = by_view (is_empty (view m.host)) refl (is_pending m.host) refl
       where
         by_view : (a : Bool) → is_empty (view m.host) ≡ a → (b : Bool) → is_pending m.host ≡ b → Lands program m (choose_turned a (choose_turned b (stop_by_clock until c) (ends DoneEnd c)) (stop_by_clock until c) m)
         by_view true e true k = stop_by_clock-lands until c m g x
-        by_view true e false k = ends-lands program DoneEnd c m (λ done. (e, k)) g x
+        by_view true e false k = ends-lands program DoneEnd c m (λ done. (e, k, all-wait m.host x.2.5)) g x
         by_view false e b k = stop_by_clock-lands until c m g x
 
     act-lands : (until : ℕ) (a : Act) (m : State) (c : C) → Good m → Rests m → Lands program m (act rules call until a m c)
@@ -59,11 +59,18 @@ module _ {C : Type 0} (program : Program) where
     act-lands until (Stop t) m c g x = at_moment-lands t (stop until) c m (stop-lands until c) g x
 
     acts-stop : (until : ℕ) (list : List Act) (m : State) (c : C) → Good m → Rests m → Stops program m (acts rules call until list m c)
-    acts-stop until [] m c g x = here
+    acts-stop until [] m c g x = (moved here, x.2.7.law)
     acts-stop until (a ∷ more) m c g x = next_turn-stops program rules call calls_go m (act rules call until a m c) (acts rules call until more) (act-lands until a m c g x) (acts-stop until more)
 
--- A run in pieces is a row of moves, wherever it stops.
-pub gaps_are_moves : {C : Type 0} (rules : Rules C) (program : Program) (setup : Setup) (c : C) (list : List Act) → HoldsNoNumbers setup → Moves (first_page program setup []) (state_of (run_gaps_by rules program setup list c)).host
+gaps_come_to : {C : Type 0} (rules : Rules C) (program : Program) (setup : Setup) (c : C) (list : List Act) → HoldsNoNumbers setup → Stops program (first_state program setup []) (run_gaps_by rules program setup list c)
 unfolding run_gaps_by
-gaps_are_moves rules program setup c list h =
-    acts-stop program rules (call_from_outside program page_operations) (outside-goes program) setup.until list (first_state program setup []) c (first_state-good program setup [] h) ((refl, refl, tt), refl, ((λ c i. elim i [ ]), first-ready program setup [], first-tidy program setup [], first-numbered program setup []))
+gaps_come_to rules program setup c list h =
+    acts-stop program rules (call_from_outside program page_operations) (outside-goes program) setup.until list (first_state program setup []) c (first_state-good program setup [] h) (first-rests program setup [])
+
+-- A run in pieces is a row of moves, wherever it stops.
+pub gaps_are_moves : {C : Type 0} (rules : Rules C) (program : Program) (setup : Setup) (c : C) (list : List Act) → HoldsNoNumbers setup → ComesTo (first_page program setup []) (state_of (run_gaps_by rules program setup list c)).host
+gaps_are_moves rules program setup c list h = (gaps_come_to rules program setup c list h).0
+
+-- and the levels of its timers follow
+pub gaps_keep_levels : {C : Type 0} (rules : Rules C) (program : Program) (setup : Setup) (c : C) (list : List Act) → HoldsNoNumbers setup → Kept (levels setup.form) (state_of (run_gaps_by rules program setup list c)).host.events
+gaps_keep_levels rules program setup c list h = (gaps_come_to rules program setup c list h).1

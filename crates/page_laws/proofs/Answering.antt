@@ -39,29 +39,29 @@ once_answers past e = keeps_answers past e.event
 
 -- ---- what each item counts for
 
-abbrev answer_claims : ℕ → HostAnswer → ℕ
+abbrev pub answer_claims : ℕ → HostAnswer → ℕ
 answer_claims k a = one_if (a.task.closure == k)
 
-abbrev steps_answer : ℕ → Steps → ℕ
+abbrev pub steps_answer : ℕ → Steps → ℕ
 steps_answer k (AnswerHost t) = one_if (t.closure == k)
 steps_answer k steps = 0
 
-abbrev net_claims : ℕ → Task → ℕ
+abbrev pub net_claims : ℕ → Task → ℕ
 net_claims k t = steps_answer k t.steps
 
 -- how often the answer of a closure is pending or due
-abbrev host_claims : ℕ → Places → ℕ
+abbrev pub host_claims : ℕ → Places → ℕ
 host_claims k x = total (answer_claims k) x.host_answers + total (net_claims k) x.tasks
 
 -- how often it was given
-abbrev answers : ℕ → History → ℕ
+abbrev pub answers : ℕ → History → ℕ
 answers k past = count_lines (is_answer_of k) past
 
 -- the places fit the lines
-record HostsFit (x : Places) (past : History) : Type 0 where
-  once : (k : ℕ) → host_claims k x + answers k past ≤ 1
-  live : (k : ℕ) (c : HostClosure) → slice_get x.hosts k ≡ Some c → c.mark ≡ Live → host_claims k x + answers k past ≤ 0
-  kept : Kept once_answers past
+pub record HostsFit (x : Places) (past : History) : Type 0 where
+  pub once : (k : ℕ) → host_claims k x + answers k past ≤ 1
+  pub live : (k : ℕ) (c : HostClosure) → slice_get x.hosts k ≡ Some c → c.mark ≡ Live → host_claims k x + answers k past ≤ 0
+  pub kept : Kept once_answers past
 
 -- ---- lines
 
@@ -158,7 +158,7 @@ drop-live (Some t) hosts k c e l = by_closure (slice_get hosts t.closure) e
     by_closure (Some d) e = set-live hosts t.closure (closure_dropped d) dropped_dead k c e l
 
 -- the closure that was set is there
-set-there : (hosts : List HostClosure) (j : ℕ) (b d : HostClosure) → slice_get hosts j ≡ Some b → slice_get (slice_set hosts j d) j ≡ Some d
+pub set-there : (hosts : List HostClosure) (j : ℕ) (b d : HostClosure) → slice_get hosts j ≡ Some b → slice_get (slice_set hosts j d) j ≡ Some d
 set-there [] j b d e = Prim.cc
 set-there (c ∷ hosts) zero b d e = refl
 set-there (c ∷ hosts) (suc j) b d e = set-there hosts j b d e
@@ -289,7 +289,7 @@ answered-fits x y find_test task t answer now past e e1 same f =
 
 -- ---- moves
 
-abbrev Fits : Page → Type 0
+abbrev pub Fits : Page → Type 0
 Fits p = HostsFit (places p) p.events
 
 before-fits : {p q : Page} → AsBefore p q → HostsFit (places q) p.events → Fits q
@@ -309,7 +309,7 @@ notices-fit f p h k =
 changes-fit : (n : ℕ) (c : Promises.Change) (p : Page) → Fits p → Fits (promise_changes n c p)
 changes-fit n c p f = notices-fit (λ s. changed (context p) p.names n c s) p (changed-silent (context p) p.names n c p.notices) f
 
-change-fits : {p q : Page} → PageChange p q → Fits p → Fits q
+pub change-fits : {p q : Page} → PageChange p q → Fits p → Fits q
 change-fits {p = p} (elsewhere c b k) f = before-fits b (place-fits c p.events f)
 change-fits {p = p} (told e h) f = silent-fits e p.now (places p) p.events (aside-silent e h) f
 change-fits {p = p} (arm_told r due level w well) f = silent-fits (Arm r due level) p.now (places p) p.events refl f
@@ -360,7 +360,7 @@ begins-fit (AContinuation t) p f = record { once = f.once; live = f.live; kept =
 begins-fit (AMicro job others r) p f = record { once = f.once; live = f.live; kept = (refl, f.kept) }
 begins-fit (AReaction job others of x r) p f = record { once = f.once; live = f.live; kept = (refl, f.kept) }
 
-moves-fit : {p q : Page} → Moves p q → Fits p → Fits q
+pub moves-fit : {p q : Page} → Moves p q → Fits p → Fits q
 moves-fit here f = f
 moves-fit (changing a c plain) f = change-fits c (moves-fit a f)
 moves-fit (arming a c e w) f = change-fits e (change-fits c (moves-fit a f))
@@ -371,9 +371,12 @@ moves-fit (running {q = q} a j others x y nm) f = let g = moves-fit a f in recor
 moves-fit (framing a t) f = let g = moves-fit a f in record { once = g.once; live = g.live; kept = (refl, g.kept) }
 moves-fit (idling a none) f = moves-fit a f
 
+pub first_fits : (program : Program) (setup : Setup) (hosts : List HostClosure) → Fits (first_page program setup hosts)
+first_fits program setup hosts = record { once = λ k. omega arith; live = λ k c e l. omega arith; kept = tt }
+
 -- from a first page on, no closure answers twice
 pub answered_once : (program : Program) (setup : Setup) (hosts : List HostClosure) {q : Page} → Moves (first_page program setup hosts) q → Kept once_answers q.events
-answered_once program setup hosts a = (moves-fit a (record { once = λ k. omega arith; live = λ k c e l. omega arith; kept = tt })).kept
+answered_once program setup hosts a = (moves-fit a (first_fits program setup hosts)).kept
 
 -- ---- the whole law
 

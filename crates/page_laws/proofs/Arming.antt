@@ -55,7 +55,7 @@ in-total w x [] i = elim i [ ]
 in-total {X = X} w x (y ∷ ys) (inl e) = let a = ap {A = X} {B = ℕ} w e in omega (arith, a)
 in-total w x (y ∷ ys) (inr i) = let a = in-total w x ys i in omega (arith, a)
 
-total-none : {X : Type 0} (w : X → ℕ) (xs : List X) → ((x : X) → IsIn x xs → w x ≤ 0) → total w xs ≤ 0
+pub total-none : {X : Type 0} (w : X → ℕ) (xs : List X) → ((x : X) → IsIn x xs → w x ≤ 0) → total w xs ≤ 0
 total-none w [] h = omega arith
 total-none w (x ∷ xs) h = let a = h x (inl refl) in let b = total-none w xs (λ y i. h y (inr i)) in omega (arith, a, b)
 

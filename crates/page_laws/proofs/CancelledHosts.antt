@@ -39,10 +39,10 @@ use Rattle.page_laws.proofs.HostAnswers.{answers_test, Answers, set-live, drop-s
 
 -- ---- pages
 
-abbrev AnswersAt : List Registration → Places → History → Type 0
+abbrev pub AnswersAt : List Registration → Places → History → Type 0
 AnswersAt xs x past = Answers xs x.tasks x.host_answers x.hosts past
 
-abbrev Fits : Page → Type 0
+abbrev pub Fits : Page → Type 0
 Fits p = AnswersAt p.registrations (places p) p.events
 
 before-fits : {p q : Page} → AsBefore p q → AnswersAt p.registrations (places q) p.events → Fits q
@@ -110,7 +110,7 @@ due-fits {xs = xs} {r = r} {x = x} {y = y} (answer_due before a after number sou
     (kind-there xs past a.task.registration kind.Host k own) (g a.task.registration own (omega (arith, l, one))) f)
 
 -- a host's registration that was dropped is not among the pending answers
-undropped : (p : Page) → cancelled.Fits p → (r : ℕ) → role_at p.registrations r ≡ OfKind kind.Host → 1 ≤ total (answer_claims r) p.host_answers → was_dropped p.events r ≡ false
+pub undropped : (p : Page) → cancelled.Fits p → (r : ℕ) → role_at p.registrations r ≡ OfKind kind.Host → 1 ≤ total (answer_claims r) p.host_answers → was_dropped p.events r ≡ false
 undropped p c r role le =
     unless (was_dropped p.events r)
     (λ d.
@@ -118,7 +118,7 @@ undropped p c r role le =
     absurd (omega (arith, le, none)))
 
 -- the role of what was dropped by its handle
-dropping-other : {xs : List Registration} {r : ℕ} {x y : Places} → Dropping xs r x y → is_host_role (role_at xs r) ≡ false
+pub dropping-other : {xs : List Registration} {r : ℕ} {x y : Places} → Dropping xs r x y → is_host_role (role_at xs r) ≡ false
 dropping-other {xs = xs} {r = r} (timer_dropped id there e own) = by_number r (λ one. (own one).1)
   where
     by_role : (role : Role) → is_timer_role role ≡ true → is_host_role role ≡ false
@@ -228,7 +228,7 @@ begins-fit (AContinuation t) p f = silent-fits (Turn p.turns (Some Sched)) p.now
 begins-fit (AMicro job others r) p f = silent-fits (Run job.number) p.now p.registrations p.tasks p.host_answers p.hosts p.events refl f
 begins-fit (AReaction job others of x r) p f = silent-fits (Run job.number) p.now p.registrations p.tasks p.host_answers p.hosts p.events refl f
 
-moves-fit : {p q : Page} → Moves p q → once.Fits p → cancelled.Fits p → Fits p → Fits q
+pub moves-fit : {p q : Page} → Moves p q → once.Fits p → cancelled.Fits p → Fits p → Fits q
 moves-fit here o d f = f
 moves-fit (changing a c plain) o d f = change-fits c (once.moves-fit a o) (cancelled.moves-fit a o d) (moves-fit a o d f)
 moves-fit (arming a c e w) o d f =
@@ -246,23 +246,23 @@ moves-fit (running {q = q} a j others x y nm) o d f = silent-fits (Run j.number)
 moves-fit (framing {q = q} a t) o d f = silent-fits (Frame t) q.now q.registrations q.tasks q.host_answers q.hosts q.events refl (moves-fit a o d f)
 moves-fit (idling a none) o d f = moves-fit a o d f
 
+pub first_fits : (program : Program) (setup : Setup) (hosts : List HostClosure) → Fits (first_page program setup hosts)
+first_fits program setup hosts =
+    record {
+      asked = λ r role. omega arith;
+      fresh = λ r le. omega arith;
+      due = λ r. omega arith;
+      waiting = (tt, tt);
+      once = λ r. omega arith;
+      new = λ r le. omega arith;
+      none = omega arith;
+      fits = omega arith;
+      kept = tt;
+    }
+
 -- from a first page on, each answer of a host stands for a registration that was due and not dropped
 pub answers_stand : (program : Program) (setup : Setup) (hosts : List HostClosure) {q : Page} → Moves (first_page program setup hosts) q → Kept answers_test q.events
-answers_stand program setup hosts a = (moves-fit a (once.first_fits program setup hosts) (cancelled.first_fits program setup hosts) first).kept
-  where
-    first : Fits (first_page program setup hosts)
-    first =
-        record {
-          asked = λ r role. omega arith;
-          fresh = λ r le. omega arith;
-          due = λ r. omega arith;
-          waiting = (tt, tt);
-          once = λ r. omega arith;
-          new = λ r le. omega arith;
-          none = omega arith;
-          fits = omega arith;
-          kept = tt;
-        }
+answers_stand program setup hosts a = (moves-fit a (once.first_fits program setup hosts) (cancelled.first_fits program setup hosts) (first_fits program setup hosts)).kept
 
 -- ---- the whole law
 

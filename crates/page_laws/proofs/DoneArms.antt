@@ -540,9 +540,9 @@ arms-fit {p = p} {q = q} (made_one k x e unframed u b at) (arm_told r due level 
     none : waits (suc (length p.registrations)) (places p) ≤ 0
     none = let a = g.tidy.fresh (suc (length p.registrations)) (omega arith) in omega (arith, a)
 arms-fit {p = p} {q = q} (elsewhere c b k) (arm_told r due level w well) h g f =
-    let adds = place-adds c p k refl r due h p.events g.times in
+    let adds = place-adds c p k refl r due h.0 p.events g.times in
     arm-ends r due level q.now q.registrations (places p) (places q) q.events w
-    (ap (λ (past : History). armed_for past r) b.events ∙ by_role (place-role c p k refl r due h) adds.none (armed_for p.events r) refl) (place-more c)
+    (ap (λ (past : History). armed_for past r) b.events ∙ by_role (place-role c p k refl r due h.0) adds.none (armed_for p.events r) refl) (place-more c)
     (place-handles c p k refl f.handles)
     (subst (λ (xs : List Registration). EndFit xs (places p) q.events) (sym b.registrations) (subst (EndFit p.registrations (places p)) (sym b.events) f))
   where

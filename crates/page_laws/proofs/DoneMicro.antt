@@ -88,7 +88,7 @@ ran job others r x s e plain v = by_job (behind r job others s.jobs e v)
     by_job (inl z) = absurd (false_true (sym plain ∙ ap moves.is_micro z))
     by_job (inr i) = i
 
-leaving : Leaving kind.Micro InJobs Always
+leaving : Leaving kind.Micro true InJobs Always
 leaving =
     record {
       first = no-first;
@@ -101,11 +101,10 @@ leaving =
       others_first = λ u r s w. w;
       others_queued = λ t r x s w. w;
       answer = λ p g source task t e e1 r s w. w;
-      due = λ p g d by r s role w. w;
-      post_due = λ p g start q source e t r s w. w;
+      due = λ p g d by r s role w. inr w;
+      post_due = λ p g start q source e t z r s w. w;
       cancel = λ d r s role w. inr w;
       aborted = λ q p r s w. inr w;
-      called = called;
       run = ran;
     }
 
@@ -125,7 +124,7 @@ both : (a b : Bool) → a ≡ true → b ≡ true → a && b ≡ true
 both true b x y = y
 both false b x y = absurd (false_true x)
 
-all-over : (p : Page) → Grounds p → Fits kind.Micro InJobs Always leaving p → jobs.Fits p → p.notices.jobs ≡ [] → micros_are_over p.events ≡ true
+all-over : (p : Page) → Grounds p → Fits kind.Micro true InJobs Always leaving p → jobs.Fits p → p.notices.jobs ≡ [] → micros_are_over p.events ≡ true
 all-over p g f j e = both (no_job_waits p.events) _ even (all-filter (has_kind is_micro p.events) (was_done p.events) (registered p.events) each)
   where
     even : count_lines is_job p.events == count_lines is_run p.events ≡ true
@@ -145,7 +144,7 @@ all-over p g f j e = both (no_job_waits p.events) _ even (all-filter (has_kind i
     each : (r : ℕ) → has_kind is_micro p.events r ≡ true → was_done p.events r ≡ true
     each r is = by_number r (micro_kind (kind_of p.events r) is)
 
-first-fits : (program : Program) (setup : Setup) (hosts : List HostClosure) → Fits kind.Micro InJobs Always leaving (first_page program setup hosts)
+first-fits : (program : Program) (setup : Setup) (hosts : List HostClosure) → Fits kind.Micro true InJobs Always leaving (first_page program setup hosts)
 first-fits program setup hosts r one role = absurd (none r one role)
   where
     no_script : ScriptRole ≡ OfKind kind.Micro → ⊥
@@ -162,4 +161,4 @@ micros_over_test = done_test micros_are_over
 pub micros_over_at_end : (program : Program) (setup : Setup) (hosts : List HostClosure) {q : Page} → Moves (first_page program setup hosts) q → Kept micros_over_test q.events
 micros_over_at_end program setup hosts a =
     moves-kept micros_are_over a
-    (λ r b z none. all-over r (grounds-later b (first-grounds program setup hosts)) (moves-over kind.Micro InJobs Always leaving (λ p q a g. tt) b tt (first-fits program setup hosts)) (jobs.fits_later b refl refl refl) none) tt
+    (λ r b z none. all-over r (grounds-later b (first-grounds program setup hosts)) (moves-over kind.Micro true InJobs Always leaving refl called (λ p q a g. tt) b tt (first-fits program setup hosts)) (jobs.fits_later b refl refl refl) none) tt

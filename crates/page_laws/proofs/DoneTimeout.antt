@@ -21,7 +21,7 @@ use Rattle.page_model.specs.View.{runnable_at, view}
 use Rattle.page_laws.specs.History.{has_kind, is_some_and, kind_of, registered, was_called, was_dropped}
 use Rattle.page_laws.specs.TimerLaws.{was_done}
 use Rattle.page_laws.specs.SchedulerLaws.{is_timeout, timeouts_are_over}
-use Rattle.page_laws.specs.Moves.{IsDueBy, IsMade, LeavesAlone, HasSteps, completions_but, PlaceChange, places_stay, task_queued, task_left, armed_again, signal_armed, id_cleared, idle_armed, completed, idle_started, idle_queued, DueChange, timer_due, delay_due, signal_due, idle_due, answer_due, Dropping, timer_dropped, idle_dropped, listener_dropped, role_at, IsIn, Places, places, Beginning, TheScript, ATimer, AFrame, AnIdle, ALateIdle, AListener, APost, AContinuation, AMicro, AReaction, called_by, taken, FirstPlace, nowhere, at_listener, at_timer, at_delay, at_idle, at_host, fits_first, Waited, Moves}
+use Rattle.page_laws.specs.Moves.{IsDueBy, IsMade, LeavesAlone, Awaits, in_steps, in_task, TimerWaits, HasSteps, completions_but, PlaceChange, places_stay, task_queued, task_left, armed_again, signal_armed, id_cleared, idle_armed, completed, idle_started, idle_queued, DueChange, timer_due, delay_due, signal_due, idle_due, answer_due, Dropping, timer_dropped, idle_dropped, listener_dropped, role_at, IsIn, Places, places, Beginning, TheScript, ATimer, AFrame, AnIdle, ALateIdle, AListener, APost, AContinuation, AMicro, AReaction, called_by, taken, FirstPlace, nowhere, at_listener, at_timer, at_delay, at_idle, at_host, fits_first, Waited, Moves}
 use Rattle.page_laws.proofs.AtEnd.{done_test, moves-kept}
 use Rattle.page_laws.proofs.Deadlines.{all-filter}
 use Rattle.page_laws.proofs.DoneArms.{none-in, nothing-pending}
@@ -36,48 +36,32 @@ use Rattle.page_laws.proofs.Scans.{Test, Kept}
 use Rattle.page_laws.proofs.TimersLive.{Found, found-steps, IsOver, Stands, lives, to_come, queued}
 use Rattle.page_laws.proofs.TimersStand.{TimersStand, first-stand, timers-stand}
 
--- timer t waits to be due, or its task waits
-record InTask (t : TimerTask) (ts : List Task) : Type 0 where
-  task : Task
-  there : IsIn task ts
-  steps : task.steps ≡ RunTimer t
-  source : task.source ≡ Timer
-
-data Awaits (t : TimerTask) (cs : List Completing) (ts : List Task) : Type 0 where
-  in_steps : (c : Completing) → IsIn c cs → c.completion ≡ QueueTimer t → Awaits t cs ts
-  in_task : InTask t ts → Awaits t cs ts
-
-record TimerWaits (r : ℕ) (cs : List Completing) (ts : List Task) : Type 0 where
-  timer : TimerTask
-  own : timer.registration ≡ r
-  place : Awaits timer cs ts
-
-abbrev InTimers : ℕ → Places → Notices → Type 0
+abbrev pub InTimers : ℕ → Places → Notices → Type 0
 InTimers r x s = TimerWaits r x.completions x.tasks
 
 -- timers stand well, and tasks have different numbers
-abbrev Kept_timers : Page → Type 0
+abbrev pub Kept_timers : Page → Type 0
 Kept_timers p = TimersStand p × Numbered p
 
-to-steps : (t : TimerTask) (ts : List Task) (u : Task) → IsIn u ts → u.steps ≡ RunTimer t → HasSteps (RunTimer t) ts
+pub to-steps : (t : TimerTask) (ts : List Task) (u : Task) → IsIn u ts → u.steps ≡ RunTimer t → HasSteps (RunTimer t) ts
 to-steps t [] u i e = i
 to-steps t (v ∷ ts) u (inl z) e = inl (ap {A = Task} {B = Steps} (λ w. w.steps) (sym z) ∙ e)
 to-steps t (v ∷ ts) u (inr i) e = inr (to-steps t ts u i e)
 
-stands : (t : TimerTask) (cs : List Completing) (ts : List Task) → Awaits t cs ts → Stands t cs ts
+pub stands : (t : TimerTask) (cs : List Completing) (ts : List Task) → Awaits t cs ts → Stands t cs ts
 stands t cs ts (in_steps c i e) = to_come c i e
 stands t cs ts (in_task w) = queued (to-steps t ts w.task w.there w.steps)
 
 -- ---- a wait goes on
 
-more_tasks : (r : ℕ) (cs : List Completing) (ts : List Task) (n : Task) → TimerWaits r cs ts → TimerWaits r cs (and_last ts n)
+pub more_tasks : (r : ℕ) (cs : List Completing) (ts : List Task) (n : Task) → TimerWaits r cs ts → TimerWaits r cs (and_last ts n)
 more_tasks r cs ts n w = record { timer = w.timer; own = w.own; place = by_place w.place }
   where
     by_place : Awaits w.timer cs ts → Awaits w.timer cs (and_last ts n)
     by_place (in_steps c i e) = in_steps c i e
     by_place (in_task k) = in_task (record { task = k.task; there = in_front k.task ts n k.there; steps = k.steps; source = k.source })
 
-more_steps : (r : ℕ) (cs : List Completing) (ts : List Task) (n : Completing) → TimerWaits r cs ts → TimerWaits r (and_last cs n) ts
+pub more_steps : (r : ℕ) (cs : List Completing) (ts : List Task) (n : Completing) → TimerWaits r cs ts → TimerWaits r (and_last cs n) ts
 more_steps r cs ts n w = record { timer = w.timer; own = w.own; place = by_place w.place }
   where
     by_place : Awaits w.timer cs ts → Awaits w.timer (and_last cs n) ts
@@ -85,7 +69,7 @@ more_steps r cs ts n w = record { timer = w.timer; own = w.own; place = by_place
     by_place (in_task k) = in_task k
 
 -- tasks of a number leave, of which the timer's is none
-fewer_tasks : (r number : ℕ) (cs : List Completing) (ts : List Task) → ((t : TimerTask) (u : Task) → IsIn u ts → u.steps ≡ RunTimer t → t.registration ≡ r → (u.number ≡ number) → ⊥) → TimerWaits r cs ts → TimerWaits r cs (without (λ t. t.number == number) ts)
+pub fewer_tasks : (r number : ℕ) (cs : List Completing) (ts : List Task) → ((t : TimerTask) (u : Task) → IsIn u ts → u.steps ≡ RunTimer t → t.registration ≡ r → (u.number ≡ number) → ⊥) → TimerWaits r cs ts → TimerWaits r cs (without (λ t. t.number == number) ts)
 fewer_tasks r number cs ts none w = record { timer = w.timer; own = w.own; place = by_place w.place }
   where
     by_place : Awaits w.timer cs ts → Awaits w.timer cs (without (λ t. t.number == number) ts)
@@ -97,7 +81,7 @@ fewer_tasks r number cs ts none w = record { timer = w.timer; own = w.own; place
         by_test false q = refl
 
 -- completion steps of a start leave, of which the timer's are none
-fewer_steps : (r start : ℕ) (cs : List Completing) (ts : List Task) → ((t : TimerTask) (c : Completing) → IsIn c cs → c.completion ≡ QueueTimer t → t.registration ≡ r → (c.start ≡ start) → ⊥) → TimerWaits r cs ts → TimerWaits r (completions_but start cs) ts
+pub fewer_steps : (r start : ℕ) (cs : List Completing) (ts : List Task) → ((t : TimerTask) (c : Completing) → IsIn c cs → c.completion ≡ QueueTimer t → t.registration ≡ r → (c.start ≡ start) → ⊥) → TimerWaits r cs ts → TimerWaits r (completions_but start cs) ts
 fewer_steps r start cs ts none w = record { timer = w.timer; own = w.own; place = by_place w.place }
   where
     by_place : Awaits w.timer cs ts → Awaits w.timer (completions_but start cs) ts
@@ -109,15 +93,15 @@ fewer_steps r start cs ts none w = record { timer = w.timer; own = w.own; place 
         by_test false q = refl
 
 -- where steps that are no timer's are found by a start, a timer has none of it
-other-start : (p : Page) → TimersStand p → (start : ℕ) (k : Completion) → completion_of p.completions start ≡ Some k → ((t : TimerTask) → k ≡ QueueTimer t → ⊥) → (r : ℕ) (t : TimerTask) (c : Completing) → IsIn c p.completions → c.completion ≡ QueueTimer t → t.registration ≡ r → (c.start ≡ start) → ⊥
+pub other-start : (p : Page) → TimersStand p → (start : ℕ) (k : Completion) → completion_of p.completions start ≡ Some k → ((t : TimerTask) → k ≡ QueueTimer t → ⊥) → (r : ℕ) (t : TimerTask) (c : Completing) → IsIn c p.completions → c.completion ≡ QueueTimer t → t.registration ≡ r → (c.start ≡ start) → ⊥
 other-start p f start k e other r t c i z own same =
     let found = found-steps start k p.completions e in
     other t (sym found.what ∙ (ap {A = Completing} {B = Completion} (λ d. d.completion) (f.apart found.steps c found.there i (found.own ∙ sym same)) ∙ z))
 
-no_timer : (r : ℕ) (source : PrioSource) (t : TimerTask) → EnqueuePost r source ≡ QueueTimer t → ⊥
+pub no_timer : (r : ℕ) (source : PrioSource) (t : TimerTask) → EnqueuePost r source ≡ QueueTimer t → ⊥
 no_timer r source t e = Prim.cc
 
-no_signal : (r s : ℕ) (t : TimerTask) → QueueSignal r s ≡ QueueTimer t → ⊥
+pub no_signal : (r s : ℕ) (t : TimerTask) → QueueSignal r s ≡ QueueTimer t → ⊥
 no_signal r s t e = Prim.cc
 
 first-waits : {xs : List Registration} {ps : Prios} {n : ℕ} {x y : Places} (u : FirstPlace xs ps n x y) → fits_first kind.Timeout u ≡ true → (s : Notices) → InTimers n y s
@@ -129,37 +113,33 @@ first-waits (at_delay ms now q source e h) at s = absurd (false_true at)
 first-waits (at_idle q e) at s = absurd (false_true at)
 first-waits (at_host c a e there live) at s = absurd (false_true at)
 
-others-first : {xs : List Registration} {ps : Prios} {n : ℕ} {x y : Places} (u : FirstPlace xs ps n x y) (r : ℕ) (s : Notices) → InTimers r x s → InTimers r y s
-others-first nowhere r s w = w
-others-first (at_listener target name q e) r s w = w
-others-first {x = x} (at_timer a t e first) r s w = more_steps r x.completions x.tasks (record { start = a.start; completion = QueueTimer t }) w
-others-first {x = x} (at_delay ms now q source e h) r s w = more_steps r x.completions x.tasks (record { start = suc x.timers.starts_made; completion = EnqueuePost q source }) w
-others-first (at_idle q e) r s w = w
-others-first (at_host c a e there live) r s w = w
+pub others-first : {xs : List Registration} {ps : Prios} {n : ℕ} {x y : Places} (u : FirstPlace xs ps n x y) (r : ℕ) → TimerWaits r x.completions x.tasks → TimerWaits r y.completions y.tasks
+others-first nowhere r w = w
+others-first (at_listener target name q e) r w = w
+others-first {x = x} (at_timer a t e first) r w = more_steps r x.completions x.tasks (record { start = a.start; completion = QueueTimer t }) w
+others-first {x = x} (at_delay ms now q source e h) r w = more_steps r x.completions x.tasks (record { start = suc x.timers.starts_made; completion = EnqueuePost q source }) w
+others-first (at_idle q e) r w = w
+others-first (at_host c a e there live) r w = w
 
 -- the task that leaves alone
-left-or : (p : Page) → Kept_timers p → (number : ℕ) → ((t : Task) → IsIn t p.tasks → t.number ≡ number → LeavesAlone t.steps p.timers) → (r : ℕ) → role_at p.registrations r ≡ OfKind kind.Timeout → TimerWaits r p.completions p.tasks → was_done p.events r ≡ true ⊎ TimerWaits r p.completions (without (λ t. t.number == number) p.tasks)
-left-or p g number alone r role w = by_place w.place
+left-or : (D : Type 0) (p : Page) → Kept_timers p → (number : ℕ) → ((t : Task) → IsIn t p.tasks → t.number ≡ number → LeavesAlone t.steps p.timers p.hosts) → (r : ℕ) → (IsOver p.registrations p.events r → D) → TimerWaits r p.completions p.tasks → D ⊎ TimerWaits r p.completions (without (λ t. t.number == number) p.tasks)
+left-or D p g number alone r done w = by_place w.place
   where
-    over : IsOver p.registrations p.events w.timer.registration → was_done p.events r ≡ true
-    over (inl d) = on_right (was_called p.events r) (was_dropped p.events r) (subst (λ (n : ℕ). was_dropped p.events n ≡ true) w.own d)
-    over (inr c) = on_left (was_called p.events r) (was_dropped p.events r) (subst (λ (n : ℕ). was_called p.events n ≡ true) w.own c.1)
+    by_live : (u : Task) → u.steps ≡ RunTimer w.timer → LeavesAlone u.steps p.timers p.hosts → IsOver p.registrations p.events w.timer.registration ⊎ lives w.timer.id w.timer.handle p.timers.ids ≡ true → D
+    by_live u e h (inl o) = done (subst (λ (n : ℕ). IsOver p.registrations p.events n) w.own o)
+    by_live u e h (inr l) = absurd (false_true (sym (subst (λ (s : Steps). LeavesAlone s p.timers p.hosts) e h) ∙ l))
 
-    by_live : (u : Task) → u.steps ≡ RunTimer w.timer → LeavesAlone u.steps p.timers → IsOver p.registrations p.events w.timer.registration ⊎ lives w.timer.id w.timer.handle p.timers.ids ≡ true → was_done p.events r ≡ true
-    by_live u e h (inl o) = over o
-    by_live u e h (inr l) = absurd (false_true (sym (subst (λ (s : Steps). LeavesAlone s p.timers) e h) ∙ l))
-
-    by_place : Awaits w.timer p.completions p.tasks → was_done p.events r ≡ true ⊎ TimerWaits r p.completions (without (λ t. t.number == number) p.tasks)
+    by_place : Awaits w.timer p.completions p.tasks → D ⊎ TimerWaits r p.completions (without (λ t. t.number == number) p.tasks)
     by_place (in_steps c i e) = inr (record { timer = w.timer; own = w.own; place = in_steps c i e })
     by_place (in_task k) = by_test (k.task.number == number) refl
       where
-        by_test : (b : Bool) → (k.task.number == number) ≡ b → was_done p.events r ≡ true ⊎ TimerWaits r p.completions (without (λ t. t.number == number) p.tasks)
+        by_test : (b : Bool) → (k.task.number == number) ≡ b → D ⊎ TimerWaits r p.completions (without (λ t. t.number == number) p.tasks)
         by_test true q =
             inl (by_live k.task k.steps (alone k.task k.there (eqb-true k.task.number number q)) (g.0.live w.timer (stands w.timer p.completions p.tasks (in_task k))))
         by_test false q = inr (record { timer = w.timer; own = w.own; place = in_task (record { task = k.task; there = in_still k.task (λ t. t.number == number) p.tasks k.there q; steps = k.steps; source = k.source }) })
 
 -- where none is found by a start, none has it
-none-found : (start : ℕ) (cs : List Completing) (c : Completing) → IsIn c cs → c.start ≡ start → completion_of cs start ≡ None → ⊥
+pub none-found : (start : ℕ) (cs : List Completing) (c : Completing) → IsIn c cs → c.start ≡ start → completion_of cs start ≡ None → ⊥
 none-found start [] c i same e = i
 none-found start (d ∷ cs) c i same e = by_test (d.start == start) refl i e (λ j k. none-found start cs c j same k)
   where
@@ -168,20 +148,21 @@ none-found start (d ∷ cs) c i same e = by_test (d.start == start) refl i e (λ
     by_test false q (inl z) e rest = false_true (sym q ∙ eq-eqb d.start start (ap {A = Completing} {B = ℕ} (λ x. x.start) (sym z) ∙ same))
     by_test false q (inr j) e rest = rest j e
 
-place-waits : (p : Page) → Kept_timers p → {y : Places} (c : PlaceChange p.registrations (places p) y) → IsMade c p → (r : ℕ) (s : Notices) → role_at p.registrations r ≡ OfKind kind.Timeout → InTimers r (places p) s → was_done p.events r ≡ true ⊎ InTimers r y s
-place-waits p g places_stay k r s role w = inr w
-place-waits p g (task_queued t h plain) k r s role w = inr (more_tasks r p.completions p.tasks t w)
-place-waits p g (task_left number) k r s role w = left-or p g number k r role w
-place-waits p g (armed_again a t at there next) k r s role w = inr (more_steps r p.completions p.tasks (record { start = a.start; completion = QueueTimer t }) w)
-place-waits p g (signal_armed ms now q n) k r s role w = inr (more_steps r p.completions p.tasks (record { start = suc p.timers.starts_made; completion = QueueSignal q n }) w)
-place-waits p g (id_cleared id) k r s role w = inr w
-place-waits p g (idle_armed t most own) k r s role w = inr w
-place-waits p g (completed start gone) k r s role w = inr (fewer_steps r start p.completions p.tasks (λ t c i e own same. none-found start p.completions c i same gone) w)
-place-waits p g idle_started k r s role w = inr w
-place-waits p g (idle_queued t e from) k r s role w = inr (more_tasks r p.completions p.tasks t w)
+-- a timer that waits goes on waiting, or is over
+pub place-waits : (D : Type 0) (p : Page) → Kept_timers p → {y : Places} (c : PlaceChange p.registrations (places p) y) → IsMade c p → (r : ℕ) → (IsOver p.registrations p.events r → D) → TimerWaits r p.completions p.tasks → D ⊎ TimerWaits r y.completions y.tasks
+place-waits D p g places_stay k r done w = inr w
+place-waits D p g (task_queued t h plain) k r done w = inr (more_tasks r p.completions p.tasks t w)
+place-waits D p g (task_left number) k r done w = left-or D p g number k r done w
+place-waits D p g (armed_again a t at there next) k r done w = inr (more_steps r p.completions p.tasks (record { start = a.start; completion = QueueTimer t }) w)
+place-waits D p g (signal_armed ms now q n) k r done w = inr (more_steps r p.completions p.tasks (record { start = suc p.timers.starts_made; completion = QueueSignal q n }) w)
+place-waits D p g (id_cleared id) k r done w = inr w
+place-waits D p g (idle_armed t most own) k r done w = inr w
+place-waits D p g (completed start gone) k r done w = inr (fewer_steps r start p.completions p.tasks (λ t c i e own same. none-found start p.completions c i same gone) w)
+place-waits D p g idle_started k r done w = inr w
+place-waits D p g (idle_queued t e from) k r done w = inr (more_tasks r p.completions p.tasks t w)
 
-due-waits : (p : Page) → Kept_timers p → {q : ℕ} {y : Places} (d : DueChange p.registrations q (places p) y) → IsDueBy p.now d → (r : ℕ) (s : Notices) → role_at p.registrations r ≡ OfKind kind.Timeout → InTimers r (places p) s → InTimers r y s
-due-waits p g (timer_due start number source t e i role) by r s is w = record { timer = w.timer; own = w.own; place = by_place w.place }
+pub due-waits : (p : Page) → Kept_timers p → {q : ℕ} {y : Places} (d : DueChange p.registrations q (places p) y) → IsDueBy p.now p.events d → (r : ℕ) → TimerWaits r p.completions p.tasks → TimerWaits r y.completions y.tasks
+due-waits p g (timer_due start number source t e i role) by r w = record { timer = w.timer; own = w.own; place = by_place w.place }
   where
     found : Found start (QueueTimer t) p.completions
     found = found-steps start (QueueTimer t) p.completions e
@@ -204,29 +185,29 @@ due-waits p g (timer_due start number source t e i role) by r s is w = record { 
         by_test true h =
             in_task (record { task = record { number = number; source = source; steps = RunTimer t }; there = is-last (record { number = number; source = source; steps = RunTimer t }) p.tasks; steps = ap RunTimer (same (eqb-true c.start start h)); source = by.2 })
         by_test false h = in_steps c (in_still c (λ d. d.start == start) p.completions j h) z
-due-waits p g (delay_due start source e role) by r s is w = fewer_steps r start p.completions p.tasks (other-start p g.0 start _ e (no_timer _ source) r) w
-due-waits p g (signal_due start n e role) by r s is w = fewer_steps r start p.completions p.tasks (other-start p g.0 start _ e (no_signal _ n) r) w
-due-waits p g (idle_due t number source i e role) by r s is w = more_tasks r p.completions p.tasks _ w
-due-waits p g (answer_due before a after number source e i role) by r s is w = more_tasks r p.completions p.tasks _ w
+due-waits p g (delay_due start source e role) by r w = fewer_steps r start p.completions p.tasks (other-start p g.0 start _ e (no_timer _ source) r) w
+due-waits p g (signal_due start n e role) by r w = fewer_steps r start p.completions p.tasks (other-start p g.0 start _ e (no_signal _ n) r) w
+due-waits p g (idle_due t number source i e role) by r w = more_tasks r p.completions p.tasks _ w
+due-waits p g (answer_due before a after number source e i role) by r w = more_tasks r p.completions p.tasks _ w
 
-cancel-waits : {xs : List Registration} {q : ℕ} {x y : Places} → Dropping xs q x y → (r : ℕ) (s : Notices) → InTimers r x s → InTimers r y s
-cancel-waits (timer_dropped id there e own) r s w = w
-cancel-waits (idle_dropped handle c e e1 role) r s w = w
-cancel-waits (listener_dropped there role) r s w = w
+pub cancel-waits : {xs : List Registration} {q : ℕ} {x y : Places} → Dropping xs q x y → (r : ℕ) → TimerWaits r x.completions x.tasks → TimerWaits r y.completions y.tasks
+cancel-waits (timer_dropped id there e own) r w = w
+cancel-waits (idle_dropped handle c e e1 role) r w = w
+cancel-waits (listener_dropped there role) r w = w
 
 -- where a task that is no timer's is taken, a timer's has another number
-taken-other : (p : Page) → Numbered p → (source : Source) (task : Task) (steps : Steps) → first_task source p.tasks ≡ Some task → task.steps ≡ steps → ((t : TimerTask) → steps ≡ RunTimer t → ⊥) → (r : ℕ) (t : TimerTask) (u : Task) → IsIn u p.tasks → u.steps ≡ RunTimer t → t.registration ≡ r → (u.number ≡ task.number) → ⊥
+pub taken-other : (p : Page) → Numbered p → (source : Source) (task : Task) (steps : Steps) → first_task source p.tasks ≡ Some task → task.steps ≡ steps → ((t : TimerTask) → steps ≡ RunTimer t → ⊥) → (r : ℕ) (t : TimerTask) (u : Task) → IsIn u p.tasks → u.steps ≡ RunTimer t → t.registration ≡ r → (u.number ≡ task.number) → ⊥
 taken-other p n source task steps e e1 other r t u i z own same = other t (sym e1 ∙ (ap {A = Task} {B = Steps} (λ v. v.steps) (sym (only-task p source task n e u i same)) ∙ z))
 
-no_script : (t : TimerTask) → RunScript ≡ RunTimer t → ⊥
+pub no_script : (t : TimerTask) → RunScript ≡ RunTimer t → ⊥
 no_script t e = Prim.cc
 
-no_host : (a : HostTask) (t : TimerTask) → AnswerHost a ≡ RunTimer t → ⊥
+pub no_host : (a : HostTask) (t : TimerTask) → AnswerHost a ≡ RunTimer t → ⊥
 no_host a t e = Prim.cc
 
-called : (b : Beginning) (p : Page) → Kept_timers p → Waited b p → (r : ℕ) → role_at p.registrations r ≡ OfKind kind.Timeout → TimerWaits r p.completions p.tasks → (called_by b ≡ r) ⊎ TimerWaits r (places (taken b p)).completions (taken b p).tasks
-called (TheScript source task) p g w r role v = inr (fewer_tasks r task.number p.completions p.tasks (taken-other p g.1 source task RunScript w.0 w.1 no_script r) v)
-called (ATimer source task t) p g w r role v = by_number (t.registration == r) refl
+pub called : (b : Beginning) (p : Page) → Kept_timers p → Waited b p → (r : ℕ) → TimerWaits r p.completions p.tasks → (called_by b ≡ r) ⊎ TimerWaits r (places (taken b p)).completions (taken b p).tasks
+called (TheScript source task) p g w r v = inr (fewer_tasks r task.number p.completions p.tasks (taken-other p g.1 source task RunScript w.0 w.1 no_script r) v)
+called (ATimer source task t) p g w r v = by_number (t.registration == r) refl
   where
     timers : Steps → TimerTask
     timers (RunTimer n) = n
@@ -239,16 +220,21 @@ called (ATimer source task t) p g w r role v = by_number (t.registration == r) r
         (λ n u i z own same.
         let e : RunTimer t ≡ RunTimer n = sym w.1 ∙ (ap {A = Task} {B = Steps} (λ x. x.steps) (sym (only-task p source task g.1 w.0 u i same)) ∙ z) in
         false_true (sym q ∙ eq-eqb t.registration r (ap {A = TimerTask} {B = ℕ} (λ x. x.registration) (ap timers e) ∙ own))) v)
-called (AFrame key c) p g w r role v = inr v
-called (AnIdle c others) p g w r role v = inr v
-called (ALateIdle handle c) p g w r role v = inr v
-called (AListener q) p g w r role v = inr v
-called (APost t) p g w r role v = inr v
-called (AContinuation t) p g w r role v = inr v
-called (AMicro job others q) p g w r role v = inr v
-called (AReaction job others of x q) p g w r role v = inr v
+called (AFrame key c) p g w r v = inr v
+called (AnIdle c others) p g w r v = inr v
+called (ALateIdle handle c) p g w r v = inr v
+called (AListener q) p g w r v = inr v
+called (APost t) p g w r v = inr v
+called (AContinuation t) p g w r v = inr v
+called (AMicro job others q) p g w r v = inr v
+called (AReaction job others of x q) p g w r v = inr v
 
-leaving : Leaving kind.Timeout InTimers Kept_timers
+-- a timer that is over was called or dropped
+over_done : (p : Page) (r : ℕ) → IsOver p.registrations p.events r → was_done p.events r ≡ true
+over_done p r (inl d) = on_right (was_called p.events r) (was_dropped p.events r) d
+over_done p r (inr c) = on_left (was_called p.events r) (was_dropped p.events r) c.1
+
+leaving : Leaving kind.Timeout true InTimers Kept_timers
 leaving =
     record {
       first = first-waits;
@@ -257,15 +243,14 @@ leaving =
       not_frame = λ e. Prim.cc;
       not_then = λ e. Prim.cc;
       jobs = λ r x s t h w. w;
-      place = place-waits;
-      others_first = others-first;
+      place = λ p g c made r s role w. place-waits (was_done p.events r ≡ true) p g c made r (over_done p r) w;
+      others_first = λ u r s w. others-first u r w;
       others_queued = λ t r x s w. w;
       answer = λ p g source task t e e1 r s w. fewer_tasks r task.number p.completions p.tasks (taken-other p g.1 source task (AnswerHost t) e e1 (no_host t) r) w;
-      due = due-waits;
-      post_due = λ p g start q source e t r s w. fewer_steps r start p.completions p.tasks (other-start p g.0 start (EnqueuePost q source) e (no_timer q source) r) w;
-      cancel = λ d r s role w. inr (cancel-waits d r s w);
+      due = λ p g d by r s role w. inr (due-waits p g d by r w);
+      post_due = λ p g start q source e t z r s w. fewer_steps r start p.completions p.tasks (other-start p g.0 start (EnqueuePost q source) e (no_timer q source) r) w;
+      cancel = λ d r s role w. inr (cancel-waits d r w);
       aborted = λ q p r s w. inr w;
-      called = called;
       run = λ job others r x s e plain w. w;
     }
   where
@@ -295,11 +280,11 @@ first-role program setup hosts (suc (suc i)) one e = no_kind e
     no_kind : ScriptRole ≡ OfKind kind.Timeout → ⊥
     no_kind e = Prim.cc
 
-first-fits : (program : Program) (setup : Setup) (hosts : List HostClosure) → Fits kind.Timeout InTimers Kept_timers leaving (first_page program setup hosts)
+first-fits : (program : Program) (setup : Setup) (hosts : List HostClosure) → Fits kind.Timeout true InTimers Kept_timers leaving (first_page program setup hosts)
 first-fits program setup hosts r one role = absurd (first-role program setup hosts r one role)
 
 -- no task of a timer waits where none is runnable
-none-runs : (p : Page) → is_empty (view p) ≡ true → (u : Task) → IsIn u p.tasks → u.source ≡ Timer → ⊥
+pub none-runs : (p : Page) → is_empty (view p) ≡ true → (u : Task) → IsIn u p.tasks → u.source ≡ Timer → ⊥
 none-runs p h u i e = false_true (sym (empty-none (runnable_at p) default_list Timer h (inr (inr (inr (inl refl))))) ∙ mapped (first_task Timer p.tasks) (found p.tasks i))
   where
     mapped : (o : Option Task) → is_there o ≡ true → is_there {X = Runnable} (option_map (λ n. record { source = Timer; first = n }) (option_map (λ (t : Task). t.number) o)) ≡ true
@@ -315,7 +300,7 @@ none-runs p h u i e = false_true (sym (empty-none (runnable_at p) default_list T
         by_test false q (inl z) rest = absurd (false_true (sym q ∙ ap {A = Source} {B = Bool} (λ s. same_source s Timer) (ap {A = Task} {B = Source} (λ x. x.source) (sym z) ∙ e)))
         by_test false q (inr j) rest = rest j
 
-all-over : (p : Page) → Grounds p → Paired p → Fits kind.Timeout InTimers Kept_timers leaving p → is_empty (view p) ≡ true → is_pending p ≡ false → timeouts_are_over p.events ≡ true
+all-over : (p : Page) → Grounds p → Paired p → Fits kind.Timeout true InTimers Kept_timers leaving p → is_empty (view p) ≡ true → is_pending p ≡ false → timeouts_are_over p.events ≡ true
 all-over p g paired f h pending = all-filter (has_kind is_timeout p.events) (was_done p.events) (registered p.events) each
   where
     none : (r : ℕ) → TimerWaits r p.completions p.tasks → ⊥
@@ -343,4 +328,4 @@ pub timeouts_over_at_end : (program : Program) (setup : Setup) (hosts : List Hos
 timeouts_over_at_end program setup hosts a =
     moves-kept timeouts_are_over a
     (λ r b z none. all-over r (grounds-later b (first-grounds program setup hosts)) (moves-paired b (first-paired program setup hosts))
-    (moves-over kind.Timeout InTimers Kept_timers leaving (λ p q c g. (timers-stand c g.0, moves-numbered c g.1)) b (first-stand program setup hosts, first-numbered program setup hosts) (first-fits program setup hosts)) z.0 z.1) tt
+    (moves-over kind.Timeout true InTimers Kept_timers leaving refl (λ b p g w r role v. called b p g w r v) (λ p q c g. (timers-stand c g.0, moves-numbered c g.1)) b (first-stand program setup hosts, first-numbered program setup hosts) (first-fits program setup hosts)) z.0 z.1) tt

@@ -30,10 +30,10 @@ use Rattle.page_laws.proofs.Registered.{kind_in_role, some-line}
 use Rattle.page_laws.proofs.Scans.{Test, Kept}
 
 -- a scheduler task of registration r waits
-record HasTask (r : ℕ) (ts : List SchedTask) : Type 0 where
-  task : SchedTask
-  there : IsIn task ts
-  own : task.registration ≡ r
+pub record HasTask (r : ℕ) (ts : List SchedTask) : Type 0 where
+  pub task : SchedTask
+  pub there : IsIn task ts
+  pub own : task.registration ≡ r
 
 abbrev InQueue : ℕ → Places → Notices → Type 0
 InQueue r x s = HasTask r x.sched_tasks
@@ -46,7 +46,7 @@ no-first (at_delay ms now q source e h) at s = absurd (false_true at)
 no-first (at_idle q e) at s = absurd (false_true at)
 no-first (at_host c a e there live) at s = absurd (false_true at)
 
-first-queue : {xs : List Registration} {ps : Prios} {n : ℕ} {x y : Places} → FirstPlace xs ps n x y → y.sched_tasks ≡ x.sched_tasks
+pub first-queue : {xs : List Registration} {ps : Prios} {n : ℕ} {x y : Places} → FirstPlace xs ps n x y → y.sched_tasks ≡ x.sched_tasks
 first-queue nowhere = refl
 first-queue (at_listener target name q e) = refl
 first-queue (at_timer a t e first) = refl
@@ -54,7 +54,7 @@ first-queue (at_delay ms now q source e h) = refl
 first-queue (at_idle q e) = refl
 first-queue (at_host c a e there live) = refl
 
-place-queue : {xs : List Registration} {x y : Places} → PlaceChange xs x y → y.sched_tasks ≡ x.sched_tasks
+pub place-queue : {xs : List Registration} {x y : Places} → PlaceChange xs x y → y.sched_tasks ≡ x.sched_tasks
 place-queue places_stay = refl
 place-queue (task_queued t h plain) = refl
 place-queue (task_left number) = refl
@@ -66,26 +66,26 @@ place-queue (completed start gone) = refl
 place-queue idle_started = refl
 place-queue (idle_queued t e from) = refl
 
-due-queue : {xs : List Registration} {q : ℕ} {x y : Places} → DueChange xs q x y → y.sched_tasks ≡ x.sched_tasks
+pub due-queue : {xs : List Registration} {q : ℕ} {x y : Places} → DueChange xs q x y → y.sched_tasks ≡ x.sched_tasks
 due-queue (timer_due start number source t e i role) = refl
 due-queue (delay_due start source e role) = refl
 due-queue (signal_due start s e role) = refl
 due-queue (idle_due t number source i e role) = refl
 due-queue (answer_due before a after number source e i role) = refl
 
-drop-queue : {xs : List Registration} {q : ℕ} {x y : Places} → Dropping xs q x y → y.sched_tasks ≡ x.sched_tasks
+pub drop-queue : {xs : List Registration} {q : ℕ} {x y : Places} → Dropping xs q x y → y.sched_tasks ≡ x.sched_tasks
 drop-queue (timer_dropped id there e own) = refl
 drop-queue (idle_dropped handle c e e1 role) = refl
 drop-queue (listener_dropped there role) = refl
 
-same : (r : ℕ) (ts us : List SchedTask) → us ≡ ts → HasTask r ts → HasTask r us
+pub same : (r : ℕ) (ts us : List SchedTask) → us ≡ ts → HasTask r ts → HasTask r us
 same r ts us e w = subst (HasTask r) (sym e) w
 
-more : (t : SchedTask) (r : ℕ) (ts : List SchedTask) → HasTask r ts → HasTask r (and_last ts t)
+pub more : (t : SchedTask) (r : ℕ) (ts : List SchedTask) → HasTask r ts → HasTask r (and_last ts t)
 more t r ts w = record { task = w.task; there = in_front w.task ts t w.there; own = w.own }
 
 -- the tasks of q leave
-behind : (q r : ℕ) (ts : List SchedTask) → HasTask r ts → (q ≡ r) ⊎ HasTask r (without (λ t. t.registration == q) ts)
+pub behind : (q r : ℕ) (ts : List SchedTask) → HasTask r ts → (q ≡ r) ⊎ HasTask r (without (λ t. t.registration == q) ts)
 behind q r ts w = by_test (w.task.registration == q) refl
   where
     by_test : (b : Bool) → (w.task.registration == q) ≡ b → (q ≡ r) ⊎ HasTask r (without (λ t. t.registration == q) ts)
@@ -104,7 +104,7 @@ called (AContinuation t) p g w r role v = behind t.registration r p.sched_tasks 
 called (AMicro job others q) p g w r role v = inr v
 called (AReaction job others of x q) p g w r role v = inr v
 
-leaving : Leaving kind.Yield InQueue Always
+leaving : Leaving kind.Yield true InQueue Always
 leaving =
     record {
       first = no-first;
@@ -117,11 +117,10 @@ leaving =
       others_first = λ {xs} {ps} {n} {x} {y} u r s w. same r x.sched_tasks y.sched_tasks (first-queue u) w;
       others_queued = λ t r x s w. more t r x.sched_tasks w;
       answer = λ p g source task t e e1 r s w. w;
-      due = λ p g {q} {y} d by r s role w. same r p.sched_tasks y.sched_tasks (due-queue d) w;
-      post_due = λ p g start q source e t r s w. more t r p.sched_tasks w;
+      due = λ p g {q} {y} d by r s role w. inr (same r p.sched_tasks y.sched_tasks (due-queue d) w);
+      post_due = λ p g start q source e t z r s w. more t r p.sched_tasks w;
       cancel = λ {xs} {q} {x} {y} d r s role w. inr (same r x.sched_tasks y.sched_tasks (drop-queue d) w);
       aborted = λ q p r s w. behind q r p.sched_tasks w;
-      called = called;
       run = λ job others r x s e plain w. w;
     }
   where
@@ -141,14 +140,14 @@ yield_role (OfKind kind.Yield) h = refl
 yield_role (OfKind k) h = Prim.cc
 
 -- no task of the scheduler waits where none is runnable
-none-queued : (p : Page) → is_empty (view p) ≡ true → (r : ℕ) → HasTask r p.sched_tasks → ⊥
+pub none-queued : (p : Page) → is_empty (view p) ≡ true → (r : ℕ) → HasTask r p.sched_tasks → ⊥
 none-queued p h r w = by_list p.sched_tasks (empty-none (runnable_at p) default_list Sched h (inr (inr (inl refl)))) w.there
   where
     by_list : (ts : List SchedTask) → is_there {X = Runnable} (option_map (λ n. record { source = Sched; first = n }) (option_map (λ (t : SchedTask). t.order) (first_of p ts))) ≡ false → IsIn w.task ts → ⊥
     by_list [] e i = i
     by_list (t ∷ ts) e i = false_true (sym e)
 
-all-over : (p : Page) → Grounds p → Fits kind.Yield InQueue Always leaving p → is_empty (view p) ≡ true → continuations_are_over p.events ≡ true
+all-over : (p : Page) → Grounds p → Fits kind.Yield true InQueue Always leaving p → is_empty (view p) ≡ true → continuations_are_over p.events ≡ true
 all-over p g f h = all-filter (has_kind is_yield p.events) (was_done p.events) (registered p.events) each
   where
     by_place : (r : ℕ) → was_done p.events r ≡ true ⊎ HasTask r p.sched_tasks → was_done p.events r ≡ true
@@ -162,7 +161,7 @@ all-over p g f h = all-filter (has_kind is_yield p.events) (was_done p.events) (
     each : (r : ℕ) → has_kind is_yield p.events r ≡ true → was_done p.events r ≡ true
     each r is = by_number r (yield_kind (kind_of p.events r) is)
 
-first-fits : (program : Program) (setup : Setup) (hosts : List HostClosure) → Fits kind.Yield InQueue Always leaving (first_page program setup hosts)
+first-fits : (program : Program) (setup : Setup) (hosts : List HostClosure) → Fits kind.Yield true InQueue Always leaving (first_page program setup hosts)
 first-fits program setup hosts r one role = absurd (none r one role)
   where
     no_script : ScriptRole ≡ OfKind kind.Yield → ⊥
@@ -179,4 +178,4 @@ continuations_over_test = done_test continuations_are_over
 pub continuations_over_at_end : (program : Program) (setup : Setup) (hosts : List HostClosure) {q : Page} → Moves (first_page program setup hosts) q → Kept continuations_over_test q.events
 continuations_over_at_end program setup hosts a =
     moves-kept continuations_are_over a
-    (λ r b z none. all-over r (grounds-later b (first-grounds program setup hosts)) (moves-over kind.Yield InQueue Always leaving (λ p q a g. tt) b tt (first-fits program setup hosts)) z.0) tt
+    (λ r b z none. all-over r (grounds-later b (first-grounds program setup hosts)) (moves-over kind.Yield true InQueue Always leaving refl called (λ p q a g. tt) b tt (first-fits program setup hosts)) z.0) tt

@@ -1,8 +1,10 @@
 -- A frame is a row of moves: its line, and the callbacks that wait then, in their order, but those cancelled meanwhile.
 use Rattle.page_types.specs.declared.RegKind.TheVariants as kind
 use Rattle.lang_meaning.specs.Machine.{afterwards, Done, Gives, OutOfFuel, Returns, Throws, and_then}
-use Rattle.page_laws.proofs.Evaluating.{Le, call_over, entered, le-then, le-same, on_page-reached}
+use Rattle.page_laws.proofs.Intervals.{timers-line, timers-then}
+use Rattle.page_laws.proofs.Evaluating.{Le, Loose, loose, loose-then, call_over, entered, le-then, le-same, on_page-reached}
 use Rattle.page_laws.proofs.Framed.{Ascends, FramesKept, Ordered, Stayed, CameAfter, ascends-both, ascends-in, begins-kept, changes-kept, ended-kept, in-without-stays, false_true}
+use Rattle.page_laws.proofs.Tracking.{frame-following, frame-tracks, told-then, tracks-then}
 use Rattle.page_laws.proofs.Idling.{frame-goes_on}
 use Rattle.page_laws.proofs.Moved.{report_after-changes}
 use Rattle.page_laws.proofs.Moving.{moves-then}
@@ -111,27 +113,27 @@ module _ (program : Program) where
   and_then-leaves key n (OutOfFuel r) next h x k = tt
 
   -- the key of the callback that is called is gone behind it
-  ended-leaves : (key : ℕ) (w : Ways) (a : WaysGo program w) → (b : Beginning) (when : WhenReported) (m : State) (d : Done Page) → Good m → a.Here m → Waited b m.host → IsFor (role_of b) (made_by m.host) (called_by b) → Grows (made_by m.host) (made_by (taken b m.host)) → Gone key (entered b m).host → Goes program (entered b m) d → Leaves key (end_of_callback w.after when d)
+  ended-leaves : (key : ℕ) (w : Ways) (a : WaysGo program w) → (b : Beginning) (when : WhenReported) (m : State) (d : Done Page) → Good m → a.There m → Waited b m.host → IsFor (role_of b) (made_by m.host) (called_by b) → Grows (made_by m.host) (made_by (taken b m.host)) → Gone key (entered b m).host → Goes program (entered b m) d → Leaves key (end_of_callback w.after when d)
   ended-leaves key w a b when m (Gives v s) g x y i gr z h =
       let ended = on_page (call_ended Ret) s in
       let good : Good ended = (numbers.on_page-good s (call_ended Ret) h.1 (call_ended-held Ret s.host h.1.0)).1 in
-      let le : Le m ended = call_over b m s Ret refl (λ calls. refl) gr y i h.0 in
-      and_then-leaves key ended (w.after ended) _ (a.after ended good (a.later m ended le x))
+      let le : Loose m ended = call_over b m s Ret refl (λ calls. refl) gr y i h.0 in
+      and_then-leaves key ended (w.after ended) _ (a.after ended good (a.over m ended le x))
       (gone-stays key s.host ended.host (ended-kept Ret s.host refl) (gone-stays key (entered b m).host s.host h.0.3 z)) (λ u t k. k)
   ended-leaves key w a b when m (Returns v s) g x y i gr z h =
       let ended = on_page (call_ended Ret) s in
       let good : Good ended = (numbers.on_page-good s (call_ended Ret) h.1 (call_ended-held Ret s.host h.1.0)).1 in
-      let le : Le m ended = call_over b m s Ret refl (λ calls. refl) gr y i h.0 in
-      and_then-leaves key ended (w.after ended) _ (a.after ended good (a.later m ended le x))
+      let le : Loose m ended = call_over b m s Ret refl (λ calls. refl) gr y i h.0 in
+      and_then-leaves key ended (w.after ended) _ (a.after ended good (a.over m ended le x))
       (gone-stays key s.host ended.host (ended-kept Ret s.host refl) (gone-stays key (entered b m).host s.host h.0.3 z)) (λ u t k. k)
   ended-leaves key w a b when m (Throws v s) g x y i gr z h =
       let ended = on_page (thrown v) s in
       let line : Event = Throw (spelled s.host.names v) in
       let good : Good ended = (numbers.on_page-good s (thrown v) h.1 (call_ended-held line s.host h.1.0)).1 in
-      let le : Le m ended = call_over b m s line refl (λ calls. refl) gr y i h.0 in
+      let le : Loose m ended = call_over b m s line refl (λ calls. refl) gr y i h.0 in
       let before = on_page (report_before when v) ended in
       let told_one = on_page-reached ended (report_before when v) good (report_before-onto when v ended.host good.0) in
-      and_then-leaves key before (w.after before) _ (a.after before told_one.1 (a.later m before (le-then m ended before le told_one.0) x))
+      and_then-leaves key before (w.after before) _ (a.after before told_one.1 (a.over m before (loose-then m ended before le (loose ended before told_one.0)) x))
       (gone-stays key ended.host before.host told_one.0.3 (gone-stays key s.host ended.host (ended-kept line s.host refl) (gone-stays key (entered b m).host s.host h.0.3 z)))
       (λ u t k. gone-stays key t.host (report_after when v t.host) (changes-kept (report_after-changes when v t.host)) k)
   ended-leaves key w a b when m (OutOfFuel s) g x y i gr z h = tt
@@ -160,8 +162,8 @@ module _ (program : Program) where
     one-goes key low ks None r e rise left le g z =
         (finish-goes program r g, record { ordered = le.3.ordered first; made = let x = le.3.made in let y = rise.1 in omega (arith, x, y); none = none-there key r.host.frames.callbacks e })
     one-goes key low ks (Some c) r e rise left le g z = (
-      invoke-goes program w a (AFrame key c) false (IntValue (pos t) ∷ []) r g z drawn role onto (tt, tt),
-      ended-leaves key w a (AFrame key c) (when_reported (the_registration (taken (AFrame key c) r.host) c.registration).role) r _ g z drawn role onto.0 gone
+      invoke-goes program w a (AFrame key c) tt false (IntValue (pos t) ∷ []) r g (a.there r z) drawn role onto (tt, tt) (a.fits r z),
+      ended-leaves key w a (AFrame key c) (when_reported (the_registration (taken (AFrame key c) r.host) c.registration).role) r _ g (a.there r z) drawn role onto.0 gone
           (entered-goes program w a (AFrame key c) false (IntValue (pos t) ∷ []) r g role onto (tt, tt)),
     )
       where
@@ -207,7 +209,7 @@ module _ (program : Program) where
     -- where every key was visited, nothing that was requested before the frame's line waits
     all-drawn : (r : State) → Left m.host.frames.made [] r.host → Le (Behind t m) r → Moves m.host r.host → Le m r
     all-drawn r left le row =
-        (le.0, row, le.2, record { made = le.3.made; grows = le.3.grows; each = λ o c i. by_place o c i (le.3.each o c i); ordered = le.3.ordered }, λ x. le.4 (frame-goes_on t m.host x))
+        (le.0, row, le.2, record { made = le.3.made; grows = le.3.grows; each = λ o c i. by_place o c i (le.3.each o c i); ordered = le.3.ordered }, λ x. le.4 (frame-goes_on t m.host x), timers-then (framing here t) (timers-line (Frame t) m.host) le.5, tracks-then m.host (Behind t m).host r.host (refl, refl, refl) (frame-tracks t m.host) le.6)
       where
         by_left : Ordered m.host → (c : Callback) → IsIn c m.host.frames.callbacks → (m.host.frames.made < c.handle) ⊎ ⊥ → ⊥
         by_left o c i (inl n) = let x = (ascends-in m.host.frames.made (length m.host.registrations) 0 0 c m.host.frames.callbacks o i).2 in absurd (omega (arith, n, x))
@@ -252,7 +254,7 @@ module _ (program : Program) where
         by_end others (Gives v s) h x = on others s h.0 h.1 x
         by_end others (Returns v s) h x = on others s h.0 h.1 x
         by_end others (Throws v s) h x = on others s h.0 h.1 x
-        by_end others (OutOfFuel s) h x = moves-then row h
+        by_end others (OutOfFuel s) h x = (moves-then row h.0, told-then m.host r.host s.host le.2 (λ f. le.6.follows (frame-following t m.host f)) h.1)
 
     pub run_frame-goes : Good m → a.Here m → Goes program m (run_frame w t m)
     run_frame-goes g z =

@@ -289,9 +289,9 @@ other-order xs past r k n z role h = by_kind (has_kind is_delayed past r) refl
 no_left : (a : ActiveTimer) → None ≡ Some a.start → ⊥
 no_left a k = Prim.cc
 
-due-order : {xs : List Registration} {r : ℕ} {x y : Places} (d : DueChange xs r x y) → (now : ℕ) (past : History) → KindsFit xs past → some_line (is_reg_of 0) past ≡ false → IsDueBy now d → waits r x ≤ 1 → OrderFit x past → OrderFit y (record { time = now; event = Due r } ∷ past)
+due-order : {xs : List Registration} {r : ℕ} {x y : Places} (d : DueChange xs r x y) → (now : ℕ) (past : History) → KindsFit xs past → some_line (is_reg_of 0) past ≡ false → IsDueBy now past d → waits r x ≤ 1 → OrderFit x past → OrderFit y (record { time = now; event = Due r } ∷ past)
 due-order {r = r} {x = x} {y = y} (timer_due start number source t e i role) now past n z by once f = timer-order r now start (QueueTimer t) x y past e i by.0 (within-start x y start refl refl refl refl refl) refl refl refl once f
-due-order {r = r} {x = x} {y = y} (delay_due start source e role) now past n z by once f = timer-order r now start (EnqueuePost r source) x y past e refl by (within-start x y start refl refl refl refl refl) refl refl refl once f
+due-order {r = r} {x = x} {y = y} (delay_due start source e role) now past n z by once f = timer-order r now start (EnqueuePost r source) x y past e refl by.0 (within-start x y start refl refl refl refl refl) refl refl refl once f
 due-order {r = r} {x = x} {y = y} (signal_due start s e role) now past n z by once f = timer-order r now start (QueueSignal r s) x y past e refl by (within-start x y start refl refl refl refl refl) refl refl refl once f
 due-order {xs = xs} {r = r} {x = x} {y = y} (idle_due t number source i e role) now past n z by once f =
     let less = in-less (idle_waits r) (λ u. u.handle == t.handle) x.idle_timers t i (eq-eqb t.handle t.handle refl) in
@@ -500,9 +500,9 @@ arms-fit {p = p} {q = q} (made_one k x e unframed u b at) (arm_told r due level 
     none : waits (suc (length p.registrations)) (places p) ≤ 0
     none = let a = t.tidy.fresh (suc (length p.registrations)) (omega arith) in omega (arith, a)
 arms-fit {p = p} {q = q} (elsewhere c b k) (arm_told r due level w well) h t f =
-    let adds = place-adds c p k refl r due h p.events t.times in
+    let adds = place-adds c p k refl r due h.0 p.events t.times in
     arm-fits r due level q.now (places p) (places q) q.events adds
-    (λ a d i own. ap (λ (past : History). armed_for past r) b.events ∙ by_role (place-delayed c p k refl r due h) adds.none a d i own)
+    (λ a d i own. ap (λ (past : History). armed_for past r) b.events ∙ by_role (place-delayed c p k refl r due h.0) adds.none a d i own)
     (λ n time other delayed armed. delayed-at p t n time (subst (λ (past : History). has_kind is_delayed past n ≡ true) b.events delayed) (subst (λ (past : History). armed_for past n ≡ Some time) b.events armed))
     (subst (TimesFit (places p)) (sym b.events) t.times)
     (subst (OrderFit (places p)) (sym b.events) f)

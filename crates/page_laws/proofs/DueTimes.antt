@@ -270,9 +270,9 @@ timer-times r now start c x y past e own by w u v z once f =
     due-fits r now by.timer.due (Some start) x y past w (omega (arith, less, one, same, same1, same2, once))
     (ap (armed_for past) (sym own) ∙ f.timers by.timer c (first-in by.timer x.timers.active by.first) (ap (completion_of x.completions) by.own ∙ e)) by.time f
 
-due-times : {made : List Registration} {r : ℕ} {x y : Places} (d : DueChange made r x y) → (now : ℕ) (past : History) → IsDueBy now d → waits r x ≤ 1 → TimesFit x past → TimesFit y (record { time = now; event = Due r } ∷ past)
+due-times : {made : List Registration} {r : ℕ} {x y : Places} (d : DueChange made r x y) → (now : ℕ) (past : History) → IsDueBy now past d → waits r x ≤ 1 → TimesFit x past → TimesFit y (record { time = now; event = Due r } ∷ past)
 due-times {r = r} {x = x} {y = y} (timer_due start number source t e i role) now past by once f = timer-times r now start (QueueTimer t) x y past e i by.0 (within-start x y start refl refl refl refl refl) refl refl refl once f
-due-times {r = r} {x = x} {y = y} (delay_due start source e role) now past by once f = timer-times r now start (EnqueuePost r source) x y past e refl by (within-start x y start refl refl refl refl refl) refl refl refl once f
+due-times {r = r} {x = x} {y = y} (delay_due start source e role) now past by once f = timer-times r now start (EnqueuePost r source) x y past e refl by.0 (within-start x y start refl refl refl refl refl) refl refl refl once f
 due-times {r = r} {x = x} {y = y} (signal_due start s e role) now past by once f = timer-times r now start (QueueSignal r s) x y past e refl by (within-start x y start refl refl refl refl refl) refl refl refl once f
 due-times {r = r} {x = x} {y = y} (idle_due t number source i e role) now past by once f =
     let less = in-less (idle_waits r) (λ u. u.handle == t.handle) x.idle_timers t i (eq-eqb t.handle t.handle refl) in
@@ -551,7 +551,7 @@ arms-fit {p = p} {q = q} (registered k x e unframed u b at) (arm_told r due leve
     none : waits (suc (length p.registrations)) (places p) ≤ 0
     none = let a = t.fresh (suc (length p.registrations)) (omega arith) in omega (arith, a)
 arms-fit {p = p} {q = q} (elsewhere c b k) (arm_told r due level w well) h t f =
-    arm-fits r due level q.now (places p) (places q) q.events (place-adds c p k refl r due h p.events f) (subst (TimesFit (places p)) (sym b.events) f)
+    arm-fits r due level q.now (places p) (places q) q.events (place-adds c p k refl r due h.0 p.events f) (subst (TimesFit (places p)) (sym b.events) f)
 arms-fit c d h t f = elim h [ ]
 
 called-fits : (p : Page) (r : ℕ) (x : Places) (past : History) → Within None (places p) x → TimesFit (places p) past → TimesFit x (record { time = p.now; event = Call r } ∷ past)

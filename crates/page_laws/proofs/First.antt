@@ -13,7 +13,7 @@ use Rattle.page_model.specs.SchedulerTasks as sched
 use Rattle.page_model.specs.Numbers.{Each}
 use Rattle.page_laws.specs.History.{History, is_some_and}
 use Rattle.page_laws.specs.SchedulerLaws.{Enqueued, rank_of, queue_priority, priority_now, effective, goes_first, precedes, has_task}
-use Rattle.page_laws.specs.Moves.{HasPriority}
+use Rattle.page_laws.specs.Scheduling.{HasPriority}
 use Rattle.page_laws.proofs.Finding.{false_true, true_false}
 
 -- ---- lists

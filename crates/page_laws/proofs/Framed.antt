@@ -347,7 +347,7 @@ change-kept (noted n) = step-kept (quiet refl refl (λ r. refl))
 pub changes-kept : {p q : Page} → Changes p q → FramesKept p q
 changes-kept {p = p} nothing = kept-same p p refl refl refl
 changes-kept {p = p} {q = r} (with_change {q = q} a b plain) = kept-then p q r (changes-kept a) (change-kept b)
-changes-kept {p = p} {q = s} (with_arm {q = q} {r = r} a b c w) = kept-then p q s (changes-kept a) (kept-then q r s (change-kept b) (change-kept c))
+changes-kept {p = p} {q = s} (with_arm {q = q} {r = r} a b c w new) = kept-then p q s (changes-kept a) (kept-then q r s (change-kept b) (change-kept c))
 
 -- ---- calls
 

@@ -18,7 +18,8 @@ use Rattle.page_model.specs.Numbers.{Each}
 use Rattle.page_model.proofs.NumbersGrow.{length-last}
 use Rattle.page_laws.specs.History.{History, is_period, is_reg_of, is_rest, since_last, some_line}
 use Rattle.page_laws.specs.TimerLaws.{period_in, period_start}
-use Rattle.page_laws.specs.Moves.{is_aside, is_end, IsIn, PeriodGoesOn, IsMade, Places, places, PlaceChange, places_stay, task_queued, task_left, armed_again, signal_armed, id_cleared, idle_armed, completed, idle_started, idle_queued, DueChange, timer_due, delay_due, signal_due, idle_due, answer_due, Dropping, timer_dropped, idle_dropped, listener_dropped, FirstPlace, nowhere, at_listener, at_timer, at_delay, at_idle, at_host, scheduling_of, Scheduling, promise_changes, AsBefore, PageChange, elsewhere, told, arm_told, rested, registered, promised, settled, followed, adopted, subscribed, micro_asked, then_asked, answered, dropped, frame_dropped, frame_asked, rejected_taken, noted, Changes, nothing, with_change, with_arm, Beginning, TheScript, ATimer, AFrame, AnIdle, ALateIdle, AListener, APost, AContinuation, AMicro, AReaction, called_by, taken, task_dropped, enqueued_anew, fell_due, post_fell_due, prio_told}
+use Rattle.page_laws.specs.Moves.{is_aside, is_end, IsIn, PeriodGoesOn, IsMade, Places, places, PlaceChange, places_stay, task_queued, task_left, armed_again, signal_armed, id_cleared, idle_armed, completed, idle_started, idle_queued, DueChange, timer_due, delay_due, signal_due, idle_due, answer_due, Dropping, timer_dropped, idle_dropped, listener_dropped, FirstPlace, nowhere, at_listener, at_timer, at_delay, at_idle, at_host, promise_changes, AsBefore, PageChange, elsewhere, told, arm_told, rested, registered, promised, settled, followed, adopted, subscribed, micro_asked, then_asked, answered, dropped, frame_dropped, frame_asked, rejected_taken, noted, Changes, nothing, with_change, with_arm, Beginning, TheScript, ATimer, AFrame, AnIdle, ALateIdle, AListener, APost, AContinuation, AMicro, AReaction, called_by, taken, task_dropped, enqueued_anew, fell_due, post_fell_due, prio_told}
+use Rattle.page_laws.specs.Scheduling.{scheduling_of, Scheduling}
 use Rattle.page_laws.proofs.Framed.{in-without, false_true}
 use Rattle.page_laws.proofs.Lines.{changed-each, added, emit_each-events}
 use Rattle.page_laws.proofs.Moved.{in-either}
@@ -226,7 +227,7 @@ change-goes {p = p} {q = q} (elsewhere c b within) =
     (subst (SamePeriod (length p.registrations) p.events) (sym b.events) (same-period (length p.registrations) p.events))
 change-goes {p = p} (told e h) = said-goes e p (aside-unperiodic e h)
 change-goes {p = p} (arm_told r due level w well) = said-goes _ p (refl, λ r. refl)
-change-goes {p = p} (rested e h x y z over begun done) = rest-goes e p h begun
+change-goes {p = p} (rested e h x y z over begun done) = rest-goes e p h begun.0
 change-goes {p = p} {q = q} (answered source task t answer x y live z b) =
     before-goes {p = p} b refl (omega arith) (quiet-period (length p.registrations) p.now _ p.events (refl, λ r. refl)) (fewer-places p q _ z (λ c i. i))
 change-goes {p = p} {q = q} (registered k x e unframed u b at) = before-goes {p = p} b refl (more p x) (reg-period k _ p.now (length p.registrations) p.events) (first-fewer u)
@@ -257,7 +258,7 @@ change-goes {p = p} (noted n) = goes-by p _ refl (omega arith) (same-period (len
 pub all-go : {p q : Page} → Changes p q → GoesOn p q
 all-go nothing g = g
 all-go (with_change a b plain) g = change-goes b (all-go a g)
-all-go (with_arm a b c w) g = change-goes c (change-goes b (all-go a g))
+all-go (with_arm a b c w new) g = change-goes c (change-goes b (all-go a g))
 
 -- ---- calls
 

@@ -6,40 +6,60 @@ use Rattle.page_types.specs.Events.{Due}
 use Rattle.page_parts.specs.Words.{without_numbered}
 use Rattle.page_parts.specs.Timers.{ActiveTimer}
 use Rattle.page_parts.specs.Setup.{Arrival}
-use Rattle.page_model.specs.State.{SchedTask, HostAnswer, IdleTimer, TimeOutSignal, FireAtWindow, RunFrame, Completion, QueueTimer, EnqueuePost, QueueSignal, Page, emit, the_registration}
+use Rattle.page_model.specs.State.{SchedTask, HostAnswer, IdleTimer, TimeOutSignal, FireAtWindow, RunFrame, Completion, QueueTimer, EnqueuePost, QueueSignal, PrioSource, Page, emit, the_registration}
 use Rattle.page_model.specs.PageTime.{next_frame, completion_of, without_timer}
 use Rattle.page_model.proofs.NumbersGrow.{Held, InCompletions}
 use Rattle.page_model.specs.SchedulerTasks.{enqueue, queue_name}
 use Rattle.page_model.specs.PageSignals.{is_aborted_source}
 use Rattle.page_model.specs.Parallel.{ItemKind, ArrivalItem, HostItem, TimerItem, IdleItem, FrameItem, Item, arrival_items, frame_items, items_in_order, first_item_from, first_item_of, complete, complete_at, take_item, due_item, first_item, take_due, item_count, parallel}
 use Rattle.page_model.specs.Numbers.{Each, IfThere, made_by, CompletionIsGiven}
-use Rattle.page_laws.specs.Moves.{IsIn, IsFirstDue, IsTimerDue, places, completed, Changes, nothing, with_change, timer_due, delay_due, signal_due, idle_due, answer_due, post_fell_due}
+use Rattle.page_laws.specs.Moves.{calmly, DelayWaits, IsIn, IsFirstDue, IsTimerDue, places, completed, Changes, nothing, with_change, timer_due, delay_due, signal_due, idle_due, answer_due, post_fell_due}
 use Rattle.std.proofs.lemmas.Bool.{leb-true, ltb-true, ltb-false}
 use Rattle.page_laws.proofs.Moving.{changes-then}
+use Rattle.page_laws.specs.TimerLaws.{was_done}
+use Rattle.page_laws.proofs.TimersLive.{found-steps}
 use Rattle.page_laws.proofs.Unarmed.{each-in}
+use Rattle.page_laws.proofs.Watching.{AbortedBy, PostsWatched, changes-posts, over-due}
 use Rattle.page_laws.proofs.Moved.{due-changes, placed, queue_task-changes, quietly}
 
 -- ---- parallel items
 
+-- where no abort is under way
+abbrev pub none_under_way : ℕ → Bool
+none_under_way s = false
+
+-- a delayed post that was found by a start
+delay-found : (p : Page) (start r : ℕ) (source : PrioSource) → completion_of p.completions start ≡ Some (EnqueuePost r source) → DelayWaits r p.completions
+delay-found p start r source e =
+    let found = found-steps start (EnqueuePost r source) p.completions e in
+    record { steps = found.steps; there = found.there; source = source; own = found.what }
+
+aborted-by : (p : Page) (o : Option ℕ) → is_aborted_source p o ≡ true → AbortedBy p o
+aborted-by p None a = absurd (no_abort a)
+  where
+    no_abort : false ≡ true → ⊥
+    no_abort e = Prim.cc
+aborted-by p (Some s) a = a
+
 -- the steps of an active timer complete, which were found by its start
-complete-changes : (start : ℕ) (c : Completion) (p : Page) → completion_of p.completions start ≡ Some c → CompletionIsGiven (made_by p) c → IsTimerDue (places p) start p.now → Changes p (complete c (without_timer start p))
-complete-changes start (QueueTimer t) p e x by =
-    due-changes t.registration p (complete (QueueTimer t) (without_timer start p)) (timer_due start (suc p.tasks_made) Timer t e refl x.registration.role) (record { notices = refl; performing = refl; events = refl; registrations = refl; frames = refl; calls = refl; aborted = λ s h. h; scheduling = record { priorities = λ s. refl; states = refl; tasks_made = omega arith; idle_start = refl } }) (by, refl, refl)
-complete-changes start (EnqueuePost r source) p e x by = by_abort (is_aborted_source p (the_registration p r).signal) refl
+complete-changes : (start : ℕ) (c : Completion) (p : Page) → completion_of p.completions start ≡ Some c → CompletionIsGiven (made_by p) c → IsTimerDue (places p) start p.now → ((r : ℕ) (source : PrioSource) → completion_of p.completions start ≡ Some (EnqueuePost r source) → is_aborted_source p (the_registration p r).signal ≡ true → was_done p.events r ≡ true) → Changes p (complete c (without_timer start p))
+complete-changes start (QueueTimer t) p e x by over =
+    due-changes t.registration p (complete (QueueTimer t) (without_timer start p)) (timer_due start (suc p.tasks_made) Timer t e refl x.registration.role) (record { notices = refl; performing = refl; events = refl; registrations = refl; frames = refl; calls = refl; aborted = λ s h. h; watched = calmly (λ s r i. inr (i, λ h. h)); level = refl; form = refl; scheduling = record { priorities = λ s. refl; states = refl; tasks_made = omega arith; idle_start = refl } }) (by, refl, refl) tt
+complete-changes start (EnqueuePost r source) p e x by over = by_abort (is_aborted_source p (the_registration p r).signal) refl
   where
     t : SchedTask
     t = record { registration = r; source = source; continuation = false; order = suc p.tasks_made }
 
     by_abort : (b : Bool) → is_aborted_source p (the_registration p r).signal ≡ b → Changes p (cond b (λ q. q) (enqueue r source false) (emit (Due r) (without_timer start p)))
-    by_abort true k = due-changes r p (emit (Due r) (without_timer start p)) (delay_due start source e x.2.role) (record { notices = refl; performing = refl; events = refl; registrations = refl; frames = refl; calls = refl; aborted = λ s h. h; scheduling = record { priorities = λ s. refl; states = refl; tasks_made = omega arith; idle_start = refl } }) by
-    by_abort false k = with_change nothing (post_fell_due start source t (queue_name source) e x.2.role k refl (record { order = refl; made = omega arith; named = refl }, refl, refl) (record { notices = refl; performing = refl; events = refl; registrations = refl; frames = refl; calls = refl; aborted = λ s h. h; scheduling = record { priorities = λ s. refl; states = refl; tasks_made = omega arith; idle_start = refl } }) by) tt
-complete-changes start (QueueSignal r s) p e x by =
+    by_abort true k = due-changes r p (emit (Due r) (without_timer start p)) (delay_due start source e x.2.role) (record { notices = refl; performing = refl; events = refl; registrations = refl; frames = refl; calls = refl; aborted = λ s h. h; watched = calmly (λ s r i. inr (i, λ h. h)); level = refl; form = refl; scheduling = record { priorities = λ s. refl; states = refl; tasks_made = omega arith; idle_start = refl } }) (by, over r source e k) tt
+    by_abort false k = with_change nothing (post_fell_due start source t (queue_name source) e x.2.role k refl (record { order = refl; made = omega arith; named = refl }, refl, refl) (record { notices = refl; performing = refl; events = refl; registrations = refl; frames = refl; calls = refl; aborted = λ s h. h; watched = calmly (λ s r i. inr (i, λ h. h)); level = refl; form = refl; scheduling = record { priorities = λ s. refl; states = refl; tasks_made = omega arith; idle_start = refl } }) by) tt
+complete-changes start (QueueSignal r s) p e x by over =
     let gone = emit (Due r) (without_timer start p) in
-    changes-then (due-changes r p gone (signal_due start s e x.0.role) (record { notices = refl; performing = refl; events = refl; registrations = refl; frames = refl; calls = refl; aborted = λ s h. h; scheduling = record { priorities = λ s. refl; states = refl; tasks_made = omega arith; idle_start = refl } }) by) (queue_task-changes Timer (TimeOutSignal s) gone refl refl)
+    changes-then (due-changes r p gone (signal_due start s e x.0.role) (record { notices = refl; performing = refl; events = refl; registrations = refl; frames = refl; calls = refl; aborted = λ s h. h; watched = calmly (λ s r i. inr (i, λ h. h)); level = refl; form = refl; scheduling = record { priorities = λ s. refl; states = refl; tasks_made = omega arith; idle_start = refl } }) by tt) (queue_task-changes Timer (TimeOutSignal s) gone refl refl)
 
-complete_at-changes : (start : ℕ) (c : Option Completion) (p : Page) → completion_of p.completions start ≡ c → IfThere (CompletionIsGiven (made_by p)) c → IsTimerDue (places p) start p.now → Changes p (complete_at c (without_timer start p))
-complete_at-changes start None p e x by = placed p (without_timer start p) (completed start e) tt tt refl refl refl refl refl refl refl refl
-complete_at-changes start (Some c) p e x by = complete-changes start c p e x by
+complete_at-changes : (start : ℕ) (c : Option Completion) (p : Page) → completion_of p.completions start ≡ c → IfThere (CompletionIsGiven (made_by p)) c → IsTimerDue (places p) start p.now → ((r : ℕ) (source : PrioSource) → completion_of p.completions start ≡ Some (EnqueuePost r source) → is_aborted_source p (the_registration p r).signal ≡ true → was_done p.events r ≡ true) → Changes p (complete_at c (without_timer start p))
+complete_at-changes start None p e x by over = placed p (without_timer start p) (completed start e) tt tt refl refl refl refl refl refl refl refl
+complete_at-changes start (Some c) p e x by over = complete-changes start c p e x by over
 
 -- an answer that is pending: the ones before it and behind it
 record Pending (xs : List HostAnswer) (a : HostAnswer) : Type 0 where
@@ -54,21 +74,21 @@ Stands p due (TimerItem t) = IsFirstDue t p.timers.active × t.due ≡ due
 Stands p due (IdleItem t) = IsIn t p.idle_timers × t.due ≡ due
 Stands p due what = Unit {0}
 
-take_item-changes : (what : ItemKind) (due : ℕ) (p : Page) → Stands p due what → due ≤ p.now → Held (made_by p) p → ItemIsGiven (made_by p) what → Changes p (take_item what p)
-take_item-changes (ArrivalItem n a) due p h le k x =
+take_item-changes : (what : ItemKind) (due : ℕ) (p : Page) → Stands p due what → due ≤ p.now → Held (made_by p) p → PostsWatched none_under_way p → ItemIsGiven (made_by p) what → Changes p (take_item what p)
+take_item-changes (ArrivalItem n a) due p h le k w x =
     let q : Page = record p { arrivals = without_numbered n p.arrivals } in
     changes-then (quietly p q refl refl refl refl refl refl refl refl refl) (queue_task-changes a.source (FireAtWindow a.name a.value) q refl refl)
-take_item-changes (HostItem a) due p h le k x =
+take_item-changes (HostItem a) due p h le k w x =
     let same = h.1 in
-    due-changes a.task.registration p (take_item (HostItem a) p) (answer_due h.0.before a h.0.after (suc p.tasks_made) Net h.0.whole refl x.kind.role) (record { notices = refl; performing = refl; events = refl; registrations = refl; frames = refl; calls = refl; aborted = λ s h. h; scheduling = record { priorities = λ s. refl; states = refl; tasks_made = omega arith; idle_start = refl } }) (omega (arith, le, same), refl)
-take_item-changes (TimerItem t) due p h le k x =
+    due-changes a.task.registration p (take_item (HostItem a) p) (answer_due h.0.before a h.0.after (suc p.tasks_made) Net h.0.whole refl x.kind.role) (record { notices = refl; performing = refl; events = refl; registrations = refl; frames = refl; calls = refl; aborted = λ s h. h; watched = calmly (λ s r i. inr (i, λ h. h)); level = refl; form = refl; scheduling = record { priorities = λ s. refl; states = refl; tasks_made = omega arith; idle_start = refl } }) (omega (arith, le, same), refl, refl) tt
+take_item-changes (TimerItem t) due p h le k w x =
     let same = h.1 in
     complete_at-changes t.start (completion_of p.completions t.start) p refl (completion_of-given (made_by p) p.completions t.start (k InCompletions))
-    (record { timer = t; first = h.0; own = refl; time = omega (arith, le, same) })
-take_item-changes (IdleItem t) due p h le k x =
+    (record { timer = t; first = h.0; own = refl; time = omega (arith, le, same) }) (λ r source e a. over-due p w r (delay-found p t.start r source e) (the_registration p r).signal refl (aborted-by p (the_registration p r).signal a))
+take_item-changes (IdleItem t) due p h le k w x =
     let same = h.1 in
-    due-changes t.registration p (take_item (IdleItem t) p) (idle_due t (suc p.tasks_made) IdleSource h.0 refl x.registration.role) (record { notices = refl; performing = refl; events = refl; registrations = refl; frames = refl; calls = refl; aborted = λ s h. h; scheduling = record { priorities = λ s. refl; states = refl; tasks_made = omega arith; idle_start = refl } }) (omega (arith, le, same), refl)
-take_item-changes FrameItem due p h le k x =
+    due-changes t.registration p (take_item (IdleItem t) p) (idle_due t (suc p.tasks_made) IdleSource h.0 refl x.registration.role) (record { notices = refl; performing = refl; events = refl; registrations = refl; frames = refl; calls = refl; aborted = λ s h. h; watched = calmly (λ s r i. inr (i, λ h. h)); level = refl; form = refl; scheduling = record { priorities = λ s. refl; states = refl; tasks_made = omega arith; idle_start = refl } }) (omega (arith, le, same), refl) tt
+take_item-changes FrameItem due p h le k w x =
     let q : Page = record p { last_opportunity = p.now } in
     changes-then (quietly p q refl refl refl refl refl refl refl refl refl) (queue_task-changes Render (RunFrame p.now) q refl refl)
 
@@ -211,15 +231,17 @@ due_stands p (Some a) k = by_test (nat_le a.due p.now) refl
     by_test true e = (k, leb-true a.due p.now e)
     by_test false e = tt
 
-take_due-changes : (n : ℕ) (p : Page) → Held (made_by p) p → Changes p (take_due n p)
-take_due-changes zero p h = nothing
-take_due-changes (suc n) p h =
+take_due-changes : (n : ℕ) (p : Page) → Held (made_by p) p → PostsWatched none_under_way p → Changes p (take_due n p)
+take_due-changes zero p h w = nothing
+take_due-changes (suc n) p h w =
     by_item (due_item p.now (first_item p)) (due_stands p (first_item p) (first_of-stands p (items_in_order p) (items_stand p)))
-    (due_item-given (made_by p) p.now (first_item p) (first_of-given (made_by p) (items_in_order p) (items-given p h))) (λ q k. take_due-changes n q k)
+    (due_item-given (made_by p) p.now (first_item p) (first_of-given (made_by p) (items_in_order p) (items-given p h))) (λ q k v. take_due-changes n q k v)
   where
-    by_item : (o : Option Item) → IfThere (λ (x : Item). Standing p x × x.due ≤ p.now) o → IfItemIsGiven (made_by p) o → ((q : Page) → Held (made_by q) q → Changes q (take_due n q)) → Changes p (elim o [ None ↦ p | Some a ↦ take_due n (take_item a.what p) ])
+    by_item : (o : Option Item) → IfThere (λ (x : Item). Standing p x × x.due ≤ p.now) o → IfItemIsGiven (made_by p) o → ((q : Page) → Held (made_by q) q → PostsWatched none_under_way q → Changes q (take_due n q)) → Changes p (elim o [ None ↦ p | Some a ↦ take_due n (take_item a.what p) ])
     by_item None k x rest = nothing
-    by_item (Some a) k x rest = changes-then (take_item-changes a.what a.due p k.0 k.1 h x) (rest (take_item a.what p) (take_item-held a.what p h x).1)
+    by_item (Some a) k x rest =
+        let taken = take_item-changes a.what a.due p k.0 k.1 h w x in
+        changes-then taken (rest (take_item a.what p) (take_item-held a.what p h x).1 (changes-posts none_under_way taken w))
 
-pub parallel-changes : (p : Page) → Held (made_by p) p → Changes p (parallel p)
-parallel-changes p h = take_due-changes (item_count p) p h
+pub parallel-changes : (p : Page) → Held (made_by p) p → PostsWatched none_under_way p → Changes p (parallel p)
+parallel-changes p h w = take_due-changes (item_count p) p h w

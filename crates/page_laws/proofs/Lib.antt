@@ -7,6 +7,8 @@ pub mod Unarmed
 pub mod Delays
 pub mod Moved
 pub mod Items
+pub mod Watches
+pub mod Watching
 pub mod Idling
 pub mod Ready
 pub mod Numbered
@@ -31,6 +33,9 @@ pub mod SpendingTasks
 pub mod SpendingTurns
 pub mod TimersLive
 pub mod TimersStand
+pub mod Levelled
+pub mod Following
+pub mod Tracking
 pub mod Parts
 pub mod RunLaws
 pub mod Acts
@@ -44,6 +49,7 @@ pub mod Cancelled
 pub mod HostCounts
 pub mod HostAnswers
 pub mod CancelledHosts
+pub mod Asked
 pub mod FrameOrder
 pub mod ArmedTimes
 pub mod Arming
@@ -56,11 +62,15 @@ pub mod DoneArms
 pub mod AtEnd
 pub mod Over
 pub mod DoneFrames
+pub mod DoneHosts
 pub mod DoneIdle
 pub mod DoneMicro
 pub mod DoneYield
 pub mod Paired
 pub mod DoneTimeout
+pub mod DoneIntervals
+pub mod DonePosts
+pub mod Intervals
 pub mod First
 pub mod Priorities
 pub mod OpenCalls

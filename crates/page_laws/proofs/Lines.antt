@@ -81,14 +81,18 @@ changed-each P settles jobs current names n c s =
 changed-shut : (current : Context) (names : List (List ℕ)) (n : ℕ) (c : Promises.Change) (s : Notices) → Each Shut (changed current names n c s).lines
 changed-shut = changed-each Shut (λ n ok bs. λ calls. refl) (λ j what. λ calls. refl)
 
--- the same calls are open, and the flag is as it was
+-- the same calls are open, and the flag and the form are as they were
 abbrev pub Same : Page → Page → Type 0
-Same p q = open_registrations q.events ≡ open_registrations p.events × q.performing ≡ p.performing
+Same p q = open_registrations q.events ≡ open_registrations p.events × q.performing ≡ p.performing × q.form ≡ p.form
+
+pub emit_each-form : (es : List Event) (p : Page) → (emit_each es p).form ≡ p.form
+emit_each-form [] p = refl
+emit_each-form (e ∷ es) p = emit_each-form es (emit e p)
 
 notices-same : (f : Notices → Noticed) (p : Page) → Each Shut (f p.notices).lines → Same p (on_notices f p)
 notices-same f p h =
     let q : Page = record p { notices = (f p.notices).notices } in
-    (ap open_registrations (emit_each-events (f p.notices).lines q) ∙ added-open p.now (f p.notices).lines p.events h, emit_each-performing (f p.notices).lines q)
+    (ap open_registrations (emit_each-events (f p.notices).lines q) ∙ added-open p.now (f p.notices).lines p.events h, emit_each-performing (f p.notices).lines q, emit_each-form (f p.notices).lines q)
 
 promise_changes-same : (n : ℕ) (c : Promises.Change) (p : Page) → Same p (promise_changes n c p)
 promise_changes-same n c p = notices-same (λ s. changed (context p) p.names n c s) p (changed-shut (context p) p.names n c p.notices)
@@ -100,13 +104,13 @@ subscribed-same n r p =
 
 -- where a page is as another one but for the rest
 before-same : {p q : Page} → AsBefore p q → Same p q
-before-same b = (ap open_registrations b.events, b.performing)
+before-same b = (ap open_registrations b.events, b.performing, b.form)
 
 pub change-same : {p q : Page} → PageChange p q → Same p q
 change-same (elsewhere c b k) = before-same b
-change-same {p = p} (told e h) = (aside-open e h (open_registrations p.events), refl)
-change-same (arm_told r due level w well) = (refl, refl)
-change-same {p = p} (rested e h x y z over begun done) = (rest-open e h (open_registrations p.events), refl)
+change-same {p = p} (told e h) = (aside-open e h (open_registrations p.events), refl, refl)
+change-same (arm_told r due level w well) = (refl, refl, refl)
+change-same {p = p} (rested e h x y z over begun done) = (rest-open e h (open_registrations p.events), refl, refl)
 change-same (answered source task t answer x y live z b) = before-same b
 change-same (registered kind x e unframed u b at) = before-same b
 change-same (dropped r d b) = before-same b
@@ -114,39 +118,39 @@ change-same (task_dropped r role a e s b) = before-same b
 change-same (enqueued_anew kind x t queue e i s n b) = before-same b
 change-same (fell_due r d b by) = before-same b
 change-same (post_fell_due start source t queue e role a s n b by) = before-same b
-change-same (prio_told s priority ps c) = (refl, refl)
-change-same (frame_dropped handle c e role) = (refl, refl)
-change-same (frame_asked f) = (refl, refl)
-change-same promised = (refl, refl)
+change-same (prio_told s priority ps c) = (refl, refl, refl)
+change-same (frame_dropped handle c e role) = (refl, refl, refl)
+change-same (frame_asked f) = (refl, refl, refl)
+change-same promised = (refl, refl, refl)
 change-same {p = p} (settled n how x y) = promise_changes-same n (Promises.settle n (the_promise p.notices.promises n) how) p
 change-same {p = p} (followed n how x y) = promise_changes-same n (Promises.settle n (the_promise p.notices.promises n) how) p
 change-same {p = p} (adopted n from x y) = promise_changes-same n (Promises.adopt n (the_promise p.notices.promises n) from) p
 change-same {p = p} (subscribed n r x y) = subscribed-same n r p
 change-same {p = p} (then_asked n x r e g y) = subscribed-same n r (register_as kind.Then x p)
 change-same {p = p} (micro_asked x r e y) = notices-same (queue_micro (context p) r) (register_as kind.Micro x p) (λ calls. refl, tt)
-change-same rejected_taken = (refl, refl)
-change-same (noted n) = (refl, refl)
+change-same rejected_taken = (refl, refl, refl)
+change-same (noted n) = (refl, refl, refl)
 
 pub same-then : (p q r : Page) → Same p q → Same q r → Same p r
-same-then p q r a b = (b.0 ∙ a.0, b.1 ∙ a.1)
+same-then p q r a b = (b.0 ∙ a.0, b.1 ∙ a.1, b.2 ∙ a.2)
 
 pub changes-same : {p q : Page} → Changes p q → Same p q
-changes-same nothing = (refl, refl)
+changes-same nothing = (refl, refl, refl)
 changes-same {p = p} {q = r} (with_change {q = q} a b plain) = same-then p q r (changes-same a) (change-same b)
-changes-same {p = p} {q = s} (with_arm {q = q} {r = r} a b c w) = same-then p q s (changes-same a) (same-then q r s (change-same b) (change-same c))
+changes-same {p = p} {q = s} (with_arm {q = q} {r = r} a b c w new) = same-then p q s (changes-same a) (same-then q r s (change-same b) (change-same c))
 
 -- where a callback is taken, the same calls are open still, and the flag is as it was
 pub begins-same : (b : Beginning) (p : Page) → Same p (taken b p)
-begins-same (TheScript source task) p = (refl, refl)
-begins-same (ATimer source task t) p = (refl, refl)
-begins-same (AFrame key c) p = (refl, refl)
-begins-same (AnIdle c others) p = (refl, refl)
-begins-same (ALateIdle handle c) p = (refl, refl)
-begins-same (AListener r) p = (refl, refl)
-begins-same (APost t) p = (refl, refl)
-begins-same (AContinuation t) p = (refl, refl)
-begins-same (AMicro job others r) p = (refl, refl)
-begins-same (AReaction job others of x r) p = (refl, refl)
+begins-same (TheScript source task) p = (refl, refl, refl)
+begins-same (ATimer source task t) p = (refl, refl, refl)
+begins-same (AFrame key c) p = (refl, refl, refl)
+begins-same (AnIdle c others) p = (refl, refl, refl)
+begins-same (ALateIdle handle c) p = (refl, refl, refl)
+begins-same (AListener r) p = (refl, refl, refl)
+begins-same (APost t) p = (refl, refl, refl)
+begins-same (AContinuation t) p = (refl, refl, refl)
+begins-same (AMicro job others r) p = (refl, refl, refl)
+begins-same (AReaction job others of x r) p = (refl, refl, refl)
 
 -- ---- the open calls of the page
 

@@ -6,9 +6,9 @@ use Rattle.page_laws.proofs.Finding.{found-passes}
 use Rattle.page_model.proofs.NumbersSignals.{with-by_number, last-by_number, with_reason-by_number, any-by_number}
 use Rattle.page_model.proofs.NumbersPages.{the_registration-given}
 use Rattle.std.proofs.lemmas.Bool.{eqb-true, eq-eqb}
-use Rattle.std.proofs.Common.{◌≡◌, ℕ, suc, ◌+◌, ◌*◌, ◌⊎◌, inl, inr, Bool, true, false, List, [], ◌∷◌, Option, Some, None, refl, ap, sym, subst, ◌∙◌, ◌++◌, cond, ℤ, Result, Ok, Err, length, slice_get, ◌&&◌, nat_lt, nat_le, map, ◌≤◌, unwrap_or, arith, ◌||◌, not}
+use Rattle.std.proofs.Common.{◌≡◌, ℕ, suc, ◌+◌, ◌*◌, ◌⊎◌, inl, inr, Bool, true, false, List, [], ◌∷◌, Option, Some, None, refl, ap, sym, subst, ◌∙◌, ◌++◌, cond, ℤ, length, slice_get, ◌&&◌, nat_lt, nat_le, map, ◌≤◌, unwrap_or, arith, ◌||◌, not}
 use Rattle.std.specs.Prelude.{◌==◌, slice_set, find, option_map}
-use Rattle.page_types.specs.Values.{Value, IntValue}
+use Rattle.page_types.specs.Values.{Value}
 use Rattle.page_types.specs.declared.FaultName.TheVariants.{TypeError}
 use Rattle.page_types.specs.declared.Priority.{Priority}
 use Rattle.page_types.specs.declared.RegKind.{RegKind}
@@ -17,7 +17,7 @@ use Rattle.page_types.specs.declared.Source.{Source}
 use Rattle.page_types.specs.declared.Source.TheVariants.{Dom, Idle as IdleSource}
 use Rattle.page_types.specs.declared.HostMark.TheVariants.{Live}
 use Rattle.page_types.specs.declared.End.TheVariants.{Done}
-use Rattle.page_types.specs.Events.{EndLine, Event, Report, Arm, Due, Drop, Period, Abort, Host, Send, Enq}
+use Rattle.page_types.specs.Events.{EndLine, Event, Report, Arm, Due, Drop, Period, Abort, Send, Enq}
 use Rattle.page_parts.specs.Words.{is_empty, and_last, without, numbered, is_there}
 use Rattle.page_parts.proofs.Numbered.{with_numbered-own}
 use Rattle.page_parts.specs.Spelling.{spelled}
@@ -36,23 +36,23 @@ use Rattle.page_parts.specs.AbortGraph.{the_signal, with_algorithms, with_reason
 use Rattle.page_parts.specs.TaskSignals as TaskSignals
 use Rattle.page_parts.specs.Listeners.{Target, is_listening, off, Listener}
 use Rattle.page_parts.specs.HostClosures.{HostClosure}
-use Rattle.page_model.specs.State.{Completing, context, Role, ScriptRole, OfKind, Registration, no_registration, Task, TimerTask, SchedTask, HostAnswer, IdleTimer, AnswerHost, NotifyHandled, NotifyRejected, Steps, PrioSource, SchedulingState, HostTask, Completion, QueueTimer, EnqueuePost, QueueSignal, InvokeIdle, Page, emit, emit_each, on_notices, queue_task, the_registration, last_registration, Role, Completing}
+use Rattle.page_model.specs.State.{Completing, context, Role, ScriptRole, OfKind, Registration, no_registration, TimerTask, SchedTask, HostAnswer, IdleTimer, NotifyHandled, NotifyRejected, Steps, PrioSource, SchedulingState, Completion, QueueTimer, EnqueuePost, QueueSignal, InvokeIdle, Page, emit, emit_each, on_notices, queue_task, the_registration, last_registration}
 use Rattle.page_model.specs.PagePromises as promises
 use Rattle.page_model.specs.PagePromises.{new_promise, last_promise}
-use Rattle.page_model.specs.PageTime.{start_period, init_timer, clear_id, clear_timer, registration_with_id, first_task, without_frame, cancel_frame, deadline, period_begun, idle_timeout, idle_callback, without_idle, cancel_idle, completion_of}
-use Rattle.page_model.specs.Turns.{without_task, not_dropped}
+use Rattle.page_model.specs.PageTime.{start_period, init_timer, clear_id, clear_timer, registration_with_id, without_frame, cancel_frame, deadline, period_begun, idle_timeout, idle_callback, without_idle, cancel_idle, completion_of}
 use Rattle.page_model.proofs.NumbersGrow.{length-last, numbered-last, Each-more, Each-append, Held, Each-find, InFrames, InIdle, InTimers, InIdleTimers, InListeners, InCompletions, InSchedTasks, InPrios}
 use Rattle.page_model.specs.SchedulerTasks.{enqueue, queue_name}
 use Rattle.page_model.specs.Invoke.{WhenReported, BeforeCheckpoint, AfterCheckpoint, Never, report_before, report_after, notify_rejected, register, register_as}
-use Rattle.page_model.specs.PageSignals.{waiting_answer, waiting_net_task, has_not_begun, drop_registration, abort_registration, reason_set, watch, unwatch, give_priority, change_begun, change_ended, is_aborted_source, is_delay_of, is_for, host_task_of, is_aborted}
+use Rattle.page_model.specs.PageSignals.{waiting_answer, waiting_net_task, has_not_begun, drop_registration, abort_registration, watch, unwatch, give_priority, change_begun, change_ended, is_aborted_source, is_delay_of, is_for, host_task_of, is_aborted}
 use Rattle.page_model.specs.Operations.{latency_of, queued_mark, micro_registered, script_promise, then_made, timer_set, frame_requested, idle_requested, with_signals, task_signal_made, any_made, last_signal, timeout_signal_made, listener_added, listener_removed, promised, post_delayed, post_queued, continuation_queued, host_queued, finally_made, posted}
-use Rattle.page_model.specs.Tasks.{invoke_idle_again, outstanding_if_unhandled, fire_closure, settle_answer, answer_host}
 use Rattle.page_model.specs.Numbers.{IsGiven, Each, IfThere, made_by, Made, is_abortable, timer_role, is_timer_role, TimerIdIsGiven, CallbackIsGiven, IdleIsGiven, IdleTimerIsGiven, ListenerIsGiven, CompletionIsGiven, SchedTaskIsGiven, CompletingIsGiven, sched_role}
 use Rattle.page_laws.specs.History.{is_frame, is_timer, open_registrations, is_scheduled}
-use Rattle.page_laws.specs.Moves.{FirstOwns, IsCleared, fits_first, is_placed, PlaceIsPlain, FirstArms, with_arm, is_delayed_role, is_aside, is_idle_task, role_at, IsIn, PeriodGoesOn, IsMade, IsUnarmed, IsArmedWell, IsDueBy, ArmedAt, by_timer, by_idle, by_host, completes_for, with_timer, idle_queued, FrameIsOver, promise_changes, Places, places, is_free, PlaceChange, places_stay, task_queued, completed, idle_started, id_cleared, Dropping, timer_dropped, idle_dropped, listener_dropped, FirstPlace, nowhere, at_listener, at_timer, at_delay, at_idle, at_host, AsBefore, fired_at, PageChange, elsewhere, frame_asked, registered, answered, dropped, frame_dropped, then_asked, micro_asked, told, rested, settled, followed, adopted, subscribed, rejected_taken, noted, Changes, nothing, with_change, with_arm, armed_again, signal_armed, idle_armed, timer_due, delay_due, signal_due, idle_due, answer_due, DueChange, StaysAborted, fell_due, post_fell_due, enqueued_anew, task_dropped, role_at, id_at, signal_at, Scheduling, scheduling_of, SchedulingAfter, HasPriority, Sourced, known, prio_told}
+use Rattle.page_laws.specs.Moves.{FirstFollows, FirstOwns, IsCleared, fits_first, is_placed, PlaceIsPlain, FirstArms, FirstLevels, with_arm, is_delayed_role, is_aside, is_idle_task, role_at, IsIn, PeriodGoesOn, IsMade, IsUnarmed, IsArmedWell, IsAbortable, IsCalm, IsReleased, WhenCalm, algorithms_at, calmly, marking, Tells, IsDueBy, ArmedAt, by_timer, by_idle, by_host, completes_for, with_timer, idle_queued, FrameIsOver, promise_changes, Places, places, is_free, PlaceChange, places_stay, task_queued, idle_started, id_cleared, timer_dropped, idle_dropped, listener_dropped, FirstPlace, nowhere, at_listener, at_timer, at_delay, at_idle, at_host, AsBefore, PageChange, elsewhere, frame_asked, registered, dropped, frame_dropped, then_asked, micro_asked, told, rested, settled, followed, adopted, subscribed, rejected_taken, Changes, nothing, with_change, armed_again, signal_armed, idle_armed, DueChange, StaysAborted, fell_due, enqueued_anew, task_dropped, id_at, signal_at, prio_told}
+use Rattle.page_laws.specs.Scheduling.{Scheduling, scheduling_of, SchedulingAfter, HasPriority, Sourced, known}
 use Rattle.page_laws.specs.Moves as moves
 use Rattle.page_laws.proofs.Moving.{changes-then}
 use Rattle.page_laws.proofs.Delays.{timer-well, other-well}
+use Rattle.page_laws.proofs.Watches.{KeptBy, any-kept, make-kept, make_aborted-kept, same-kept, unwatch-kept, watch-aborted, watch-kept, watch-there}
 use Rattle.page_laws.proofs.Unarmed.{each-in, unregistered-unarmed, same-unarmed}
 
 -- ---- ways to put changes together
@@ -65,9 +65,18 @@ same_signals p q e s h = ap {A = AbortGraph.Signals Value} {B = Bool} (λ ss. Ab
 same_scheduling : (a b : Scheduling) → b ≡ a → SchedulingAfter a b
 same_scheduling a b e = subst (SchedulingAfter a) (sym e) (record { priorities = λ s. refl; states = refl; tasks_made = omega arith; idle_start = refl })
 
+-- what the scheduler reads, the nesting level and the form
+pub record Running : Type 0 where
+  pub scheduling : Scheduling
+  pub level : ℕ
+  pub form : ℕ
+
+abbrev pub running : Page → Running
+running p = record { scheduling = scheduling_of p; level = p.level; form = p.form }
+
 -- a change of the places, and of what is not named otherwise
-pub placed : (p q : Page) (c : PlaceChange p.registrations (places p) (places q)) → PlaceIsPlain c → IsMade c p → q.notices ≡ p.notices → q.performing ≡ p.performing → q.events ≡ p.events → q.registrations ≡ p.registrations → q.frames ≡ p.frames → q.calls ≡ p.calls → q.signals ≡ p.signals → scheduling_of q ≡ scheduling_of p → Changes p q
-placed p q c plain k x y z w v u t j = with_change nothing (elsewhere c (record { notices = x; performing = y; events = z; registrations = w; frames = v; calls = u; aborted = same_signals p q t; scheduling = same_scheduling (scheduling_of p) (scheduling_of q) j }) k) plain
+pub placed : (p q : Page) (c : PlaceChange p.registrations (places p) (places q)) → PlaceIsPlain c → IsMade c p → q.notices ≡ p.notices → q.performing ≡ p.performing → q.events ≡ p.events → q.registrations ≡ p.registrations → q.frames ≡ p.frames → q.calls ≡ p.calls → q.signals ≡ p.signals → running q ≡ running p → Changes p q
+placed p q c plain k x y z w v u t j = with_change nothing (elsewhere c (record { notices = x; performing = y; events = z; registrations = w; frames = v; calls = u; aborted = same_signals p q t; watched = calmly (same-kept p q.signals t); level = ap {A = Running} {B = ℕ} (λ x. x.level) j; form = ap {A = Running} {B = ℕ} (λ x. x.form) j; scheduling = same_scheduling (scheduling_of p) (scheduling_of q) (ap {A = Running} {B = Scheduling} (λ x. x.scheduling) j) }) k) plain
 
 -- a change of the places, with what holds then
 record StaysAt (made : List Registration) (x y : Places) (p : Page) : Type 0 where
@@ -75,18 +84,18 @@ record StaysAt (made : List Registration) (x y : Places) (p : Page) : Type 0 whe
   plain : PlaceIsPlain change
   period : IsMade change p
 
-pub quietly : (p q : Page) → places q ≡ places p → q.notices ≡ p.notices → q.performing ≡ p.performing → q.events ≡ p.events → q.registrations ≡ p.registrations → q.frames ≡ p.frames → q.calls ≡ p.calls → q.signals ≡ p.signals → scheduling_of q ≡ scheduling_of p → Changes p q
+pub quietly : (p q : Page) → places q ≡ places p → q.notices ≡ p.notices → q.performing ≡ p.performing → q.events ≡ p.events → q.registrations ≡ p.registrations → q.frames ≡ p.frames → q.calls ≡ p.calls → q.signals ≡ p.signals → running q ≡ running p → Changes p q
 quietly p q s x y z w v u t j = placed p q (same_places s).change (same_places s).plain (same_places s).period x y z w v u t j
   where
     same_places : {a : Places} → a ≡ places p → StaysAt p.registrations (places p) a p
     same_places e = subst (λ (a : Places). StaysAt p.registrations (places p) a p) (sym e) (record { change = places_stay; plain = tt; period = tt })
 
 -- the signals are changed, and what was aborted stays so
-pub signals-changes : (ss : AbortGraph.Signals Value) (p : Page) → StaysAborted p (record p { signals = ss }) → Changes p (record p { signals = ss })
-signals-changes ss p h = with_change nothing (elsewhere places_stay (record { notices = refl; performing = refl; events = refl; registrations = refl; frames = refl; calls = refl; aborted = h; scheduling = record { priorities = λ s. refl; states = refl; tasks_made = omega arith; idle_start = refl } }) tt) tt
+pub signals-changes : (ss : AbortGraph.Signals Value) (p : Page) → StaysAborted p (record p { signals = ss }) → KeptBy p ss → Changes p (record p { signals = ss })
+signals-changes ss p h k = with_change nothing (elsewhere places_stay (record { notices = refl; performing = refl; events = refl; registrations = refl; frames = refl; calls = refl; aborted = h; watched = calmly k; level = refl; form = refl; scheduling = record { priorities = λ s. refl; states = refl; tasks_made = omega arith; idle_start = refl } }) tt) tt
 
 -- a line, and then nothing that is told of here
-pub lined : (e : Event) (p q : Page) → is_aside e ≡ true → places q ≡ places p → q.notices ≡ p.notices → q.performing ≡ p.performing → q.events ≡ (emit e p).events → q.registrations ≡ p.registrations → q.frames ≡ p.frames → q.calls ≡ p.calls → q.signals ≡ p.signals → scheduling_of q ≡ scheduling_of p → Changes p q
+pub lined : (e : Event) (p q : Page) → is_aside e ≡ true → places q ≡ places p → q.notices ≡ p.notices → q.performing ≡ p.performing → q.events ≡ (emit e p).events → q.registrations ≡ p.registrations → q.frames ≡ p.frames → q.calls ≡ p.calls → q.signals ≡ p.signals → running q ≡ running p → Changes p q
 lined e p q h s x y z w v u t j = changes-then (with_change nothing (told e h) tt) (quietly (emit e p) q s x y z w v u t j)
 
 -- starts of completion steps were given
@@ -118,8 +127,8 @@ timer_armed made x r due timers k e h own role =
     (found_last x.timers.starts_made x.completions k h) own role
 
 -- a registration is due, with its line
-pub due-changes : (r : ℕ) (p q : Page) (d : DueChange p.registrations r (places p) (places q)) → AsBefore (emit (Due r) p) q → IsDueBy p.now d → Changes p q
-due-changes r p q d b by = with_change nothing (fell_due r d b by) tt
+pub due-changes : (r : ℕ) (p q : Page) (d : DueChange p.registrations r (places p) (places q)) → (b : AsBefore (emit (Due r) p) q) → IsDueBy p.now p.events d → WhenCalm b.watched (Unit {0}) → Changes p q
+due-changes r p q d b by calm = with_change nothing (fell_due r d b by) calm
 
 pub cond_of-changes : (b : Bool) (f g : Page → Page) (p q : Page) → Changes q (f p) → Changes q (g p) → Changes q (cond b f g p)
 cond_of-changes true f g p q h k = h
@@ -167,11 +176,11 @@ follow-changes n how p x = by_outcome (the_promise p.notices.promises n).outcome
     by_outcome (Some before) e = unchanged n p
 
 pub queue_task-changes : (source : Source) (steps : Steps) (p : Page) → is_free steps ≡ true → is_idle_task steps ≡ false → Changes p (queue_task source steps p)
-queue_task-changes source steps p h plain = with_change nothing (elsewhere (task_queued (record { number = suc p.tasks_made; source = source; steps = steps }) h plain) (record { notices = refl; performing = refl; events = refl; registrations = refl; frames = refl; calls = refl; aborted = λ s h. h; scheduling = record { priorities = λ s. refl; states = refl; tasks_made = omega arith; idle_start = refl } }) refl) tt
+queue_task-changes source steps p h plain = with_change nothing (elsewhere (task_queued (record { number = suc p.tasks_made; source = source; steps = steps }) h plain) (record { notices = refl; performing = refl; events = refl; registrations = refl; frames = refl; calls = refl; aborted = λ s h. h; watched = calmly (λ s r i. inr (i, λ h. h)); level = refl; form = refl; scheduling = record { priorities = λ s. refl; states = refl; tasks_made = omega arith; idle_start = refl } }) refl) tt
 
 -- the task that invokes idle callbacks, in the period that goes on
-queue_idle-changes : (p : Page) → PeriodGoesOn p → Changes p (queue_task IdleSource InvokeIdle p)
-queue_idle-changes p k = with_change nothing (elsewhere (idle_queued (record { number = suc p.tasks_made; source = IdleSource; steps = InvokeIdle }) refl refl) (record { notices = refl; performing = refl; events = refl; registrations = refl; frames = refl; calls = refl; aborted = λ s h. h; scheduling = record { priorities = λ s. refl; states = refl; tasks_made = omega arith; idle_start = refl } }) (k, refl)) tt
+pub queue_idle-changes : (p : Page) → PeriodGoesOn p → Changes p (queue_task IdleSource InvokeIdle p)
+queue_idle-changes p k = with_change nothing (elsewhere (idle_queued (record { number = suc p.tasks_made; source = IdleSource; steps = InvokeIdle }) refl refl) (record { notices = refl; performing = refl; events = refl; registrations = refl; frames = refl; calls = refl; aborted = λ s h. h; watched = calmly (λ s r i. inr (i, λ h. h)); level = refl; form = refl; scheduling = record { priorities = λ s. refl; states = refl; tasks_made = omega arith; idle_start = refl } }) (k, refl)) tt
 
 -- a reaction was added, and where the promise was outstanding a task is queued
 handled-changes : (n : ℕ) (b : Bool) (p q : Page) → Changes p q → Changes p (cond b (queue_task Dom (NotifyHandled n)) (λ q. q) q)
@@ -232,22 +241,37 @@ false_true e = Prim.cc
 
 -- a registration is made and waits nowhere
 pub register-changes : (kind : RegKind) (x : Registration) (p : Page) → x.role ≡ OfKind kind → is_frame kind ≡ false → is_placed kind ≡ false → Changes p (register_as kind x p)
-register-changes kind x p e unframed other = with_change nothing (registered kind x e unframed nowhere (record { notices = refl; performing = refl; events = refl; registrations = refl; frames = refl; calls = refl; aborted = λ s h. h; scheduling = record { priorities = λ s. refl; states = refl; tasks_made = omega arith; idle_start = refl } }) (ap not other, tt)) tt
+register-changes kind x p e unframed other = with_change nothing (registered kind x e unframed nowhere (record { notices = refl; performing = refl; events = refl; registrations = refl; frames = refl; calls = refl; aborted = λ s h. h; watched = calmly (λ s r i. inr (i, λ h. h)); level = refl; form = refl; scheduling = record { priorities = λ s. refl; states = refl; tasks_made = omega arith; idle_start = refl } }) (ap not other, tt)) tt
 
 -- it is made, waits at its first place, and is armed
-register_at-changes : (kind : RegKind) (x : Registration) (r due level : ℕ) (p q : Page) → x.role ≡ OfKind kind → is_frame kind ≡ false → ArmedAt q.registrations (places q) r due → IsArmedWell q r due level → r ≡ suc (length p.registrations) → (u : FirstPlace p.registrations p.prios (suc (length p.registrations)) (places p) (places q)) → FirstArms u due → fits_first kind u ≡ true × FirstOwns u x → AsBefore (register_as kind x p) q → Changes p (emit (Arm r due level) q)
-register_at-changes kind x r due level p q role unframed w well e u arms at b = with_arm {r = q} nothing (registered kind x role unframed u b at) (moves.arm_told r due level w well) (e, arms)
+register_at-changes : (kind : RegKind) (x : Registration) (r due level : ℕ) (p q : Page) → x.role ≡ OfKind kind → is_frame kind ≡ false → ArmedAt q.registrations (places q) r due → IsArmedWell q r due level → r ≡ suc (length p.registrations) → (u : FirstPlace p.registrations p.prios (suc (length p.registrations)) (places p) (places q)) → FirstArms u due → FirstLevels u level → FirstFollows u p → fits_first kind u ≡ true × FirstOwns u x q.signals → (b : AsBefore (register_as kind x p) q) → WhenCalm b.watched (Unit {0}) → Changes p (emit (Arm r due level) q)
+register_at-changes kind x r due level p q role unframed w well e u arms levels follows at b calm = with_arm {r = q} nothing (registered kind x role unframed u b at) (moves.arm_told r due level w well) (e, arms, levels, follows) calm
 
 -- ---- time
 
+-- an interval is armed again, and its line tells it
+pub record ArmedAgain (p q : Page) : Type 0 where
+  pub set : Page
+  pub change : PageChange p set
+  pub line : PageChange set q
+  pub tells : Tells change line
+  pub calm : IsCalm change
+  pub line_calm : IsCalm line
+
 -- an interval whose id is in the map is armed again
-pub init_again-changes : (id r : ℕ) (timeout : ℤ) (p : Page) → Held (made_by p) p → (numbered p.registrations r no_registration).role ≡ OfKind IntervalKind → Timers.has_id id p.timers ≡ true → id_at p.registrations r ≡ id → IsUnarmed r (places p) → Changes p (init_timer (Some id) r true timeout p)
+pub init_again-changes : (id r : ℕ) (timeout : ℤ) (p : Page) → Held (made_by p) p → (numbered p.registrations r no_registration).role ≡ OfKind IntervalKind → Timers.has_id id p.timers ≡ true → id_at p.registrations r ≡ id → IsUnarmed r (places p) → ArmedAgain p (init_timer (Some id) r true timeout p)
 init_again-changes id r timeout p h e there own free =
     let a = armed (Some id) timeout p.level p.now p.timers in
     let t : TimerTask = record { registration = r; id = a.id; handle = a.handle; level = a.level; repeats = true; timeout = timeout } in
     let set : Page = record p { timers = with_armed (Some id) a p.timers; completions = and_last p.completions (record { start = a.start; completion = QueueTimer t }) } in
-    with_arm {r = set} nothing (elsewhere (armed_again a t e there (record { same_id = refl; same_handle = refl; own = own; handle = refl; start = refl })) (record { notices = refl; performing = refl; events = refl; registrations = refl; frames = refl; calls = refl; aborted = λ s h. h; scheduling = record { priorities = λ s. refl; states = refl; tasks_made = omega arith; idle_start = refl } }) free)
-    (moves.arm_told r a.due a.level (timer_armed p.registrations (places p) r a.due (with_armed (Some id) a p.timers) (QueueTimer t) refl (started p h) refl (ap is_delayed_role e)) (timer-well set r p.level (Timers.milliseconds timeout) a.due refl (ap is_timer_role e))) (refl, refl)
+    record {
+      set = set;
+      change = elsewhere (armed_again a t e there (record { same_id = refl; same_handle = refl; own = own; handle = refl; start = refl })) (record { notices = refl; performing = refl; events = refl; registrations = refl; frames = refl; calls = refl; aborted = λ s h. h; watched = calmly (λ s r i. inr (i, λ h. h)); level = refl; form = refl; scheduling = record { priorities = λ s. refl; states = refl; tasks_made = omega arith; idle_start = refl } }) free;
+      line = moves.arm_told r a.due a.level (timer_armed p.registrations (places p) r a.due (with_armed (Some id) a p.timers) (QueueTimer t) refl (started p h) refl (ap is_delayed_role e)) (timer-well set r p.level (Timers.milliseconds timeout) a.due refl (ap is_timer_role e));
+      tells = ((refl, refl), refl);
+      calm = tt;
+      line_calm = tt;
+    }
 
 pub clear_id-changes : (id : ℕ) (p : Page) → IsCleared id p → Changes p (clear_id id p)
 clear_id-changes id p k = placed p (clear_id id p) (id_cleared id) tt k refl refl refl refl refl refl refl refl
@@ -291,7 +315,7 @@ clear_timer-changes id p h = by_id (Timers.has_id id p.timers) refl
     own le = found_id id 1 [] p.registrations refl le
 
     by_id : (b : Bool) → Timers.has_id id p.timers ≡ b → Changes p (cond b (emit (Drop r) (clear_id id p)) p)
-    by_id true e = with_change nothing (dropped r (timer_dropped id e refl (λ le. (own le, (the_registration-given p r h).timer (let one = has_id-given (made_by p) id p.timers.ids (h InTimers).ids e in let same = own le in omega (arith, one, same))))) (record { notices = refl; performing = refl; events = refl; registrations = refl; frames = refl; calls = refl; aborted = λ s h. h; scheduling = record { priorities = λ s. refl; states = refl; tasks_made = omega arith; idle_start = refl } })) tt
+    by_id true e = with_change nothing (dropped r (timer_dropped id e refl (λ le. (own le, (the_registration-given p r h).timer (let one = has_id-given (made_by p) id p.timers.ids (h InTimers).ids e in let same = own le in omega (arith, one, same))))) (record { notices = refl; performing = refl; events = refl; registrations = refl; frames = refl; calls = refl; aborted = λ s h. h; watched = calmly (λ s r i. inr (i, λ h. h)); level = refl; form = refl; scheduling = record { priorities = λ s. refl; states = refl; tasks_made = omega arith; idle_start = refl } })) tt
     by_id false e = nothing
 
 -- a callback that was found is for what its place holds
@@ -319,7 +343,7 @@ callback-given kind last n c (d ∷ cs) h (inr i) = callback-given kind last n c
 pub start_period-changes : (p : Page) → p.last_idle_start ≡ p.now → open_registrations p.events ≡ [] → p.notices.jobs ≡ [] → FrameIsOver p → Held (made_by p) p → Changes p (start_period p)
 start_period-changes p now x y over h =
     cond-changes (waits p.idle && nat_lt p.now (deadline p.last_idle_start p) && nat_le p.idle_period_end p.now) p (period_begun end p) p
-    (changes-then (changes-then (with_change nothing (rested (Period end) refl x y refl over (λ e. now) (λ e. absurd (no_end e))) tt) (placed told_one started_one idle_started tt (λ c i. (refl, (of_pending c i).registration.registration.to_last)) refl refl refl refl refl refl refl refl))
+    (changes-then (changes-then (with_change nothing (rested (Period end) refl x y refl over ((λ e. now), λ e. Prim.cc) (λ e. absurd (no_end e))) tt) (placed told_one started_one idle_started tt (λ c i. (refl, (of_pending c i).registration.registration.to_last)) refl refl refl refl refl refl refl refl))
     (queue_idle-changes started_one (record { start = ap Some (sym now); runnable = λ c i. refl; given = λ c i. (of_all c i).registration.registration.to_last }))) nothing
   where
     end : ℕ
@@ -347,15 +371,15 @@ pub idle_timeout-changes : (ms r : ℕ) (p : Page) → role_at p.registrations r
 idle_timeout-changes ms r p role own free other =
     let t : IdleTimer = record { due = p.now + ms * 1000; handle = p.idle.made; registration = r } in
     let set : Page = record p { idle_timers = and_last p.idle_timers t } in
-    with_arm {r = set} nothing (elsewhere (idle_armed t (omega arith) own) (record { notices = refl; performing = refl; events = refl; registrations = refl; frames = refl; calls = refl; aborted = λ s h. h; scheduling = record { priorities = λ s. refl; states = refl; tasks_made = omega arith; idle_start = refl } }) (role, free, other))
-    (moves.arm_told r (p.now + ms * 1000) 0 (by_idle t (is-last t p.idle_timers) refl refl role) (other-well set r (p.now + ms * 1000) (ap is_timer_role role))) (refl, refl)
+    with_arm {r = set} nothing (elsewhere (idle_armed t (omega arith) own) (record { notices = refl; performing = refl; events = refl; registrations = refl; frames = refl; calls = refl; aborted = λ s h. h; watched = calmly (λ s r i. inr (i, λ h. h)); level = refl; form = refl; scheduling = record { priorities = λ s. refl; states = refl; tasks_made = omega arith; idle_start = refl } }) (role, free, other))
+    (moves.arm_told r (p.now + ms * 1000) 0 (by_idle t (is-last t p.idle_timers) refl refl role) (other-well set r (p.now + ms * 1000) (ap is_timer_role role))) ((refl, refl), tt) tt
 
 pub cancel_idle-changes : (handle : ℕ) (p : Page) → Held (made_by p) p → Changes p (cancel_idle handle p)
 cancel_idle-changes handle p h = by_callback (idle_callback handle p) refl
   where
     by_callback : (o : Option Callback) → idle_callback handle p ≡ o → Changes p (elim o [ None ↦ p | Some c ↦ emit (Drop c.registration) (without_idle handle p) ])
     by_callback None e = nothing
-    by_callback (Some c) e = with_change nothing (dropped c.registration (idle_dropped handle c e refl (found_for IdleKind p.idle.made (made_by p) (p.idle.runnable ++ p.idle.pending) handle c (Each-append (CallbackIsGiven IdleKind p.idle.made (made_by p)) p.idle.runnable p.idle.pending (idle_lists (h InIdle)).0 (idle_lists (h InIdle)).1) e)) (record { notices = refl; performing = refl; events = refl; registrations = refl; frames = refl; calls = refl; aborted = λ s h. h; scheduling = record { priorities = λ s. refl; states = refl; tasks_made = omega arith; idle_start = refl } })) tt
+    by_callback (Some c) e = with_change nothing (dropped c.registration (idle_dropped handle c e refl (found_for IdleKind p.idle.made (made_by p) (p.idle.runnable ++ p.idle.pending) handle c (Each-append (CallbackIsGiven IdleKind p.idle.made (made_by p)) p.idle.runnable p.idle.pending (idle_lists (h InIdle)).0 (idle_lists (h InIdle)).1) e)) (record { notices = refl; performing = refl; events = refl; registrations = refl; frames = refl; calls = refl; aborted = λ s h. h; watched = calmly (λ s r i. inr (i, λ h. h)); level = refl; form = refl; scheduling = record { priorities = λ s. refl; states = refl; tasks_made = omega arith; idle_start = refl } })) tt
 
 -- ---- scheduler tasks, signals, hosts
 
@@ -389,15 +413,15 @@ any-aborted : (of : List ℕ) (p : Page) → StaysAborted p (with_signals (Abort
 any-aborted of p =
     any-by_number (WasAborted p) of p.signals (λ reason sources. new_aborted p (record { reason = reason; sources = sources; dependents = []; algorithms = [] })) (λ s x ds k. k) (λ t h. h)
 
-with_reason-aborted : (reason : Value) (of : List ℕ) (p : Page) → StaysAborted p (record p { signals = with_reason reason of p.signals })
+pub with_reason-aborted : (reason : Value) (of : List ℕ) (p : Page) → StaysAborted p (record p { signals = with_reason reason of p.signals })
 with_reason-aborted reason of p = with_reason-by_number (WasAborted p) reason of p.signals (λ s x k h. refl) (λ t h. h)
 
 pub watch-changes : (signal : Option ℕ) (r : ℕ) (p : Page) → Changes p (watch signal r p)
 watch-changes None r p = nothing
-watch-changes (Some s) r p = signals-changes (AbortGraph.add_algorithm s r p.signals) p (with_algorithms-aborted s (and_last (the_signal p.signals s).algorithms r) p)
+watch-changes (Some s) r p = signals-changes (AbortGraph.add_algorithm s r p.signals) p (with_algorithms-aborted s (and_last (the_signal p.signals s).algorithms r) p) (watch-kept s r p)
 
-pub unwatch-changes : (r : ℕ) (p : Page) → Changes p (unwatch r p)
-unwatch-changes r p = elim-changes (the_registration p r).signal p p _ nothing (λ s. signals-changes (AbortGraph.remove_algorithm s r p.signals) p (with_algorithms-aborted s (without (λ b. b == r) (the_signal p.signals s).algorithms) p))
+pub unwatch-changes : (r : ℕ) (p : Page) → IsReleased r p → Changes p (unwatch r p)
+unwatch-changes r p k = elim-changes (the_registration p r).signal p p _ nothing (λ s. signals-changes (AbortGraph.remove_algorithm s r p.signals) p (with_algorithms-aborted s (without (λ b. b == r) (the_signal p.signals s).algorithms) p) (unwatch-kept s r p k))
 
 -- what a signal can abort, and the signal is aborted
 pub record Aborts (p : Page) (r : ℕ) : Type 0 where
@@ -406,21 +430,21 @@ pub record Aborts (p : Page) (r : ℕ) : Type 0 where
   pub aborted : is_aborted_source p (signal_at p.registrations r) ≡ true
 
 drop-changes : (r : ℕ) (p : Page) → is_abortable (role_at p.registrations r) ≡ true → is_aborted_source p (signal_at p.registrations r) ≡ true → (role_at p.registrations r ≡ OfKind HostKind → is_there (waiting_answer r p) || is_there (waiting_net_task r p) ≡ true) → Changes p (drop_registration r p)
-drop-changes r p role aborted e = with_change nothing (task_dropped r role aborted e refl (record { notices = refl; performing = refl; events = refl; registrations = refl; frames = refl; calls = refl; aborted = λ s h. h; scheduling = record { priorities = λ s. refl; states = refl; tasks_made = omega arith; idle_start = refl } })) tt
+drop-changes r p role aborted e = with_change nothing (task_dropped r role aborted e refl (record { notices = refl; performing = refl; events = refl; registrations = refl; frames = refl; calls = refl; aborted = λ s h. h; watched = calmly (λ s r i. inr (i, λ h. h)); level = refl; form = refl; scheduling = record { priorities = λ s. refl; states = refl; tasks_made = omega arith; idle_start = refl } })) tt
 
--- rejecting a promise leaves what the abort steps test
-record Rejected (p q : Page) : Type 0 where
-  registrations : q.registrations ≡ p.registrations
-  signals : q.signals ≡ p.signals
-  waiting : places q ≡ places p
+-- settling a promise leaves what the abort steps test
+pub record Rejected (p q : Page) : Type 0 where
+  pub registrations : q.registrations ≡ p.registrations
+  pub signals : q.signals ≡ p.signals
+  pub waiting : places q ≡ places p
 
 emit_each-rejected : (es : List Event) (p q : Page) → Rejected p q → Rejected p (emit_each es q)
 emit_each-rejected [] p q h = h
 emit_each-rejected (e ∷ es) p q h = emit_each-rejected es p (emit e q) (record { registrations = h.registrations; signals = h.signals; waiting = h.waiting })
 
-reject-rejected : (n : ℕ) (reason : Value) (p : Page) → Rejected p (promises.reject n reason p)
-reject-rejected n reason p =
-    let d = settle_promise (context p) p.names n (Failed reason) p.notices in
+pub settle-rejected : (n : ℕ) (how : Settled) (p : Page) → Rejected p (promises.settle n how p)
+settle-rejected n how p =
+    let d = settle_promise (context p) p.names n how p.notices in
     emit_each-rejected d.lines p (record p { notices = d.notices }) (record { registrations = refl; signals = refl; waiting = refl })
 
 -- a host's answer that has not begun is pending or due
@@ -457,7 +481,7 @@ pub abort_registration-changes : (reason : Value) (r : ℕ) (p : Page) → Held 
 abort_registration-changes reason r p h x =
     let q = promises.reject (the_registration p r).promise reason p in
     let first : Changes p q = settle-changes (the_registration p r).promise (Failed reason) p x.promise in
-    by_begun q first (reject-rejected (the_registration p r).promise reason p) (has_not_begun r p) refl
+    by_begun q first (settle-rejected (the_registration p r).promise (Failed reason) p) (has_not_begun r p) refl
   where
     begun_at : ℕ → Places → Bool
     begun_at r x =
@@ -474,14 +498,13 @@ abort_registration-changes reason r p h x =
         by_source q e (Some s) = ap {A = AbortGraph.Signals Value} {B = Bool} (λ ss. AbortGraph.is_aborted ss s) e
     by_begun q first same false e = first
 
-emit_aborts : (ss : List ℕ) (p : Page) → Changes p (emit_each (map Abort ss) p)
+pub emit_aborts : (ss : List ℕ) (p : Page) → Changes p (emit_each (map Abort ss) p)
 emit_aborts [] p = nothing
 emit_aborts (s ∷ ss) p = changes-then (with_change nothing (told (Abort s) refl) tt) (emit_aborts ss (emit (Abort s) p))
 
-pub reason_set-changes : (reason : Value) (ss : List ℕ) (p : Page) → Changes p (reason_set reason ss p)
-reason_set-changes reason ss p =
-    let q : Page = record p { signals = with_reason reason ss p.signals } in
-    changes-then (signals-changes (with_reason reason ss p.signals) p (with_reason-aborted reason ss p)) (emit_aborts ss q)
+-- the reason is set on signals
+abbrev pub reason_set-change : (reason : Value) (ss : List ℕ) (p : Page) → PageChange p (record p { signals = with_reason reason ss p.signals })
+reason_set-change reason ss p = elsewhere places_stay (record { notices = refl; performing = refl; events = refl; registrations = refl; frames = refl; calls = refl; aborted = with_reason-aborted reason ss p; watched = marking; level = refl; form = refl; scheduling = record { priorities = λ s. refl; states = refl; tasks_made = omega arith; idle_start = refl } }) tt
 
 -- a signal without a priority is given one
 pub give_priority-changes : (s : ℕ) (priority : Priority) (p : Page) → priority_of p.prios s ≡ None → Changes p (give_priority s priority p)
@@ -492,7 +515,7 @@ change_begun-changes s priority p = with_change nothing (prio_told s priority (T
 
 -- a change of the priorities that leaves each signal's own
 prios-changes : (ps : Prios) (p : Page) → ((s : ℕ) → priority_of ps s ≡ priority_of p.prios s) → Changes p (record p { prios = ps })
-prios-changes ps p h = with_change nothing (elsewhere places_stay (record { notices = refl; performing = refl; events = refl; registrations = refl; frames = refl; calls = refl; aborted = λ s k. k; scheduling = record { priorities = h; states = refl; tasks_made = omega arith; idle_start = refl } }) tt) tt
+prios-changes ps p h = with_change nothing (elsewhere places_stay (record { notices = refl; performing = refl; events = refl; registrations = refl; frames = refl; calls = refl; aborted = λ s k. k; watched = calmly (λ s r i. inr (i, λ h. h)); level = refl; form = refl; scheduling = record { priorities = h; states = refl; tasks_made = omega arith; idle_start = refl } }) tt) tt
 
 pub change_ended-changes : (s : ℕ) (p : Page) → Changes p (change_ended s p)
 change_ended-changes s p = prios-changes (TaskSignals.ended s p.prios) p (ended-same s p.prios)
@@ -565,8 +588,8 @@ timer_kind false kind e = ap {A = Role} {B = Bool} timers e
     timers ScriptRole = false
     timers (OfKind k) = is_timer k
 
-pub timer_set-changes : (kind : RegKind) (repeats : Bool) (f : Func) (timeout : ℤ) (p : Page) → OfKind kind ≡ timer_role repeats → Held (made_by p) p → Changes p (timer_set kind repeats f timeout p)
-timer_set-changes kind repeats f timeout p role h =
+pub timer_set-changes : (kind : RegKind) (repeats : Bool) (f : Func) (timeout : ℤ) (p : Page) → OfKind kind ≡ timer_role repeats → Held (made_by p) p → (open_registrations p.events ≡ [] → ⊥) → Changes p (timer_set kind repeats f timeout p)
+timer_set-changes kind repeats f timeout p role h called =
     let x : Registration = record { role = OfKind kind; callback = Some f; second_callback = None; timer_id = suc p.timers.ids_made; promise = 0; signal = None; finally = false } in
     let made = register_as kind x p in
     let r = last_registration made in
@@ -574,7 +597,7 @@ timer_set-changes kind repeats f timeout p role h =
     let t : TimerTask = record { registration = r; id = a.id; handle = a.handle; level = a.level; repeats = repeats; timeout = timeout } in
     let fresh : (q : ℕ) → id_at p.registrations q ≡ a.id → ⊥ = λ q e. let le = (the_registration-given p q h).timer_id in absurd (omega (arith, le, e)) in
     let set : Page = record made { timers = with_armed None a made.timers; completions = and_last made.completions (record { start = a.start; completion = QueueTimer t }) } in
-    register_at-changes kind x r a.due a.level p set refl (no_frame repeats kind role) (timer_armed made.registrations (places made) r a.due (with_armed None a made.timers) (QueueTimer t) refl (started p h) refl (ap is_delayed_role (new_role kind x p refl ∙ role) ∙ delayed_timer repeats)) (timer-well set r p.level (Timers.milliseconds timeout) a.due refl (ap is_timer_role (new_role kind x p refl ∙ role) ∙ timer_there repeats)) (made_last kind x p) (at_timer a t (made_last kind x p) (record { fresh = fresh; same_id = refl; same_handle = refl; handle = refl; start = refl })) refl (timer_kind repeats kind role, refl) (record { notices = refl; performing = refl; events = refl; registrations = refl; frames = refl; calls = refl; aborted = λ s h. h; scheduling = record { priorities = λ s. refl; states = refl; tasks_made = omega arith; idle_start = refl } })
+    register_at-changes kind x r a.due a.level p set refl (no_frame repeats kind role) (timer_armed made.registrations (places made) r a.due (with_armed None a made.timers) (QueueTimer t) refl (started p h) refl (ap is_delayed_role (new_role kind x p refl ∙ role) ∙ delayed_timer repeats)) (timer-well set r p.level (Timers.milliseconds timeout) a.due refl (ap is_timer_role (new_role kind x p refl ∙ role) ∙ timer_there repeats)) (made_last kind x p) (at_timer a t (made_last kind x p) (record { fresh = fresh; same_id = refl; same_handle = refl; handle = refl; start = refl })) refl refl (refl, called) (timer_kind repeats kind role, refl) (record { notices = refl; performing = refl; events = refl; registrations = refl; frames = refl; calls = refl; aborted = λ s h. h; watched = calmly (λ s r i. inr (i, λ h. h)); level = refl; form = refl; scheduling = record { priorities = λ s. refl; states = refl; tasks_made = omega arith; idle_start = refl } }) tt
 
 pub frame_requested-changes : (f : Func) (p : Page) → Changes p (frame_requested f p)
 frame_requested-changes f p = with_change nothing (frame_asked f) tt
@@ -585,7 +608,7 @@ idle_requested-changes f ms p h =
     let made = register_as IdleKind x p in
     let r = last_registration made in
     let q : Page = record made { idle = IdleCallbacks.request r made.idle } in
-    let first : Changes p q = with_change nothing (registered IdleKind x refl refl (at_idle r (made_last IdleKind x p)) (record { notices = refl; performing = refl; events = refl; registrations = refl; frames = refl; calls = refl; aborted = λ s h. h; scheduling = record { priorities = λ s. refl; states = refl; tasks_made = omega arith; idle_start = refl } }) (refl, tt)) tt in
+    let first : Changes p q = with_change nothing (registered IdleKind x refl refl (at_idle r (made_last IdleKind x p)) (record { notices = refl; performing = refl; events = refl; registrations = refl; frames = refl; calls = refl; aborted = λ s h. h; watched = calmly (λ s r i. inr (i, λ h. h)); level = refl; form = refl; scheduling = record { priorities = λ s. refl; states = refl; tasks_made = omega arith; idle_start = refl } }) (refl, tt)) tt in
     cond_of-changes (ms == 0) (λ q. q) (idle_timeout ms r) q p first
     (changes-then first
     (idle_timeout-changes ms r q (new_role IdleKind x p refl) (λ c i e. own c (in-either c p.idle.runnable (and_last p.idle.pending (record { handle = suc p.idle.made; registration = r })) i) e)
@@ -607,13 +630,13 @@ idle_requested-changes f ms p h =
     own c (inr i) e = by_pending c (in-last c (record { handle = suc p.idle.made; registration = last }) p.idle.pending i) e
 
 pub make-changes : (p : Page) → Changes p (with_signals AbortGraph.make p)
-make-changes p = signals-changes (AbortGraph.make p.signals) p (make-aborted p)
+make-changes p = signals-changes (AbortGraph.make p.signals) p (make-aborted p) (make-kept p)
 
 pub make_aborted-changes : (reason : Value) (p : Page) → Changes p (with_signals (AbortGraph.make_aborted reason) p)
-make_aborted-changes reason p = signals-changes (AbortGraph.make_aborted reason p.signals) p (make_aborted-aborted reason p)
+make_aborted-changes reason p = signals-changes (AbortGraph.make_aborted reason p.signals) p (make_aborted-aborted reason p) (make_aborted-kept reason p)
 
 pub any-changes : (of : List ℕ) (p : Page) → Changes p (with_signals (AbortGraph.any of) p)
-any-changes of p = signals-changes (AbortGraph.any of p.signals) p (any-aborted of p)
+any-changes of p = signals-changes (AbortGraph.any of p.signals) p (any-aborted of p) (any-kept of p)
 
 pub task_signal_made-changes : (priority : Priority) (p : Page) → Held (made_by p) p → Changes p (task_signal_made priority p)
 task_signal_made-changes priority p h =
@@ -635,14 +658,14 @@ timeout_signal_made-changes ms p h =
     let timers = Timers.run_after ms made.now made.timers in
     let k = QueueSignal r (last_signal made) in
     let set : Page = record made { timers = timers; completions = and_last made.completions (record { start = suc made.timers.starts_made; completion = k }) } in
-    with_arm {r = set} (changes-then (make-changes p) (register-changes SignalKind _ new refl refl refl)) (elsewhere (signal_armed ms made.now r (last_signal made)) (record { notices = refl; performing = refl; events = refl; registrations = refl; frames = refl; calls = refl; aborted = λ s h. h; scheduling = record { priorities = λ s. refl; states = refl; tasks_made = omega arith; idle_start = refl } }) (new_role SignalKind _ new refl, same-unarmed r (places p) (places made) refl refl refl refl (unregistered-unarmed p r h (let l = length-last p.registrations (record { role = OfKind SignalKind; callback = None; second_callback = None; timer_id = 0; promise = 0; signal = None; finally = false }) in omega (arith, l)))))
-    (moves.arm_told r (made.now + ms * 1000) 0 (timer_armed made.registrations (places made) r (made.now + ms * 1000) timers k refl (started p h) refl (ap is_delayed_role (new_role SignalKind _ new refl))) (other-well set r (made.now + ms * 1000) (ap is_timer_role (new_role SignalKind _ new refl)))) (refl, refl)
+    with_arm {r = set} (changes-then (make-changes p) (register-changes SignalKind _ new refl refl refl)) (elsewhere (signal_armed ms made.now r (last_signal made)) (record { notices = refl; performing = refl; events = refl; registrations = refl; frames = refl; calls = refl; aborted = λ s h. h; watched = calmly (λ s r i. inr (i, λ h. h)); level = refl; form = refl; scheduling = record { priorities = λ s. refl; states = refl; tasks_made = omega arith; idle_start = refl } }) (new_role SignalKind _ new refl, same-unarmed r (places p) (places made) refl refl refl refl (unregistered-unarmed p r h (let l = length-last p.registrations (record { role = OfKind SignalKind; callback = None; second_callback = None; timer_id = 0; promise = 0; signal = None; finally = false }) in omega (arith, l)))))
+    (moves.arm_told r (made.now + ms * 1000) 0 (timer_armed made.registrations (places made) r (made.now + ms * 1000) timers k refl (started p h) refl (ap is_delayed_role (new_role SignalKind _ new refl))) (other-well set r (made.now + ms * 1000) (ap is_timer_role (new_role SignalKind _ new refl)))) ((refl, refl), tt) tt
 
 pub listener_added-changes : (target : Target) (name : List ℕ) (f : Func) (p : Page) → Changes p (listener_added target name f p)
 listener_added-changes target name f p =
     let x : Registration = record { role = OfKind ListenerKind; callback = Some f; second_callback = None; timer_id = 0; promise = 0; signal = None; finally = false } in
     let made = register_as ListenerKind x p in
-    with_change nothing (registered ListenerKind x refl refl (at_listener target name (last_registration made) (made_last ListenerKind x p)) (record { notices = refl; performing = refl; events = refl; registrations = refl; frames = refl; calls = refl; aborted = λ s h. h; scheduling = record { priorities = λ s. refl; states = refl; tasks_made = omega arith; idle_start = refl } }) (refl, tt)) tt
+    with_change nothing (registered ListenerKind x refl refl (at_listener target name (last_registration made) (made_last ListenerKind x p)) (record { notices = refl; performing = refl; events = refl; registrations = refl; frames = refl; calls = refl; aborted = λ s h. h; watched = calmly (λ s r i. inr (i, λ h. h)); level = refl; form = refl; scheduling = record { priorities = λ s. refl; states = refl; tasks_made = omega arith; idle_start = refl } }) (refl, tt)) tt
 
 listening_role : (n : Made) (r : ℕ) (ls : List Listener) → Each (ListenerIsGiven n) ls → is_listening r ls ≡ true → role_at n.registrations r ≡ OfKind ListenerKind
 listening_role n r [] h e = Prim.cc
@@ -656,7 +679,7 @@ pub listener_removed-changes : (r : ℕ) (p : Page) → Held (made_by p) p → C
 listener_removed-changes r p h = by_there (is_listening r p.listeners) refl
   where
     by_there : (b : Bool) → is_listening r p.listeners ≡ b → Changes p (cond b (emit (Drop r) (record p { listeners = off r p.listeners })) p)
-    by_there true e = with_change nothing (dropped r (listener_dropped e (listening_role (made_by p) r p.listeners (h InListeners) e)) (record { notices = refl; performing = refl; events = refl; registrations = refl; frames = refl; calls = refl; aborted = λ s h. h; scheduling = record { priorities = λ s. refl; states = refl; tasks_made = omega arith; idle_start = refl } })) tt
+    by_there true e = with_change nothing (dropped r (listener_dropped e (listening_role (made_by p) r p.listeners (h InListeners) e)) (record { notices = refl; performing = refl; events = refl; registrations = refl; frames = refl; calls = refl; aborted = λ s h. h; watched = calmly (λ s r i. inr (i, λ h. h)); level = refl; form = refl; scheduling = record { priorities = λ s. refl; states = refl; tasks_made = omega arith; idle_start = refl } })) tt
     by_there false e = nothing
 
 -- the registration of a task, a delay or a host answer
@@ -694,28 +717,37 @@ enqueued-changes kind x source continuation p e of_sched from =
     let r = last_registration made in
     let t : SchedTask = record { registration = r; source = source; continuation = continuation; order = suc p.tasks_made } in
     let q : Page = record made { tasks_made = suc p.tasks_made; sched_tasks = and_last made.sched_tasks t } in
-    with_change nothing (enqueued_anew {q = emit (Enq r (queue_name source) continuation (suc p.tasks_made)) q} kind x t (queue_name source) e (made_last kind x p) refl (record { order = refl; made = omega arith; named = refl }, from, of_sched) (record { notices = refl; performing = refl; events = refl; registrations = refl; frames = refl; calls = refl; aborted = λ s h. h; scheduling = record { priorities = λ s. refl; states = refl; tasks_made = omega arith; idle_start = refl } })) tt
+    with_change nothing (enqueued_anew {q = emit (Enq r (queue_name source) continuation (suc p.tasks_made)) q} kind x t (queue_name source) e (made_last kind x p) refl (record { order = refl; made = omega arith; named = refl }, from, of_sched) (record { notices = refl; performing = refl; events = refl; registrations = refl; frames = refl; calls = refl; aborted = λ s h. h; watched = calmly (λ s r i. inr (i, λ h. h)); level = refl; form = refl; scheduling = record { priorities = λ s. refl; states = refl; tasks_made = omega arith; idle_start = refl } })) tt
 
 -- a delayed post of a new registration
-delayed-changes : (x : Registration) (source : PrioSource) (ms : ℕ) (p : Page) → Started p → x.role ≡ OfKind PostKind → HasPriority p.prios source → Changes p (post_delayed ms (last_registration (register_as PostKind x p)) source (register_as PostKind x p))
-delayed-changes x source ms p h e from =
+delayed-changes : (x : Registration) (source : PrioSource) (ms : ℕ) (p : Page) → Started p → x.role ≡ OfKind PostKind → HasPriority p.prios source → IsAbortable (suc (length p.registrations)) p.signals x.signal → Changes p (post_delayed ms (last_registration (register_as PostKind x p)) source (register_as PostKind x p))
+delayed-changes x source ms p h e from own =
     let made = register_as PostKind x p in
     let r = last_registration made in
     let timers = Timers.run_after ms made.now made.timers in
     let q : Page = record made { timers = timers; completions = and_last made.completions (record { start = timers.starts_made; completion = EnqueuePost r source }) } in
-    register_at-changes PostKind x r (made.now + ms * 1000) 0 p q e refl (timer_armed made.registrations (places made) r (made.now + ms * 1000) timers (EnqueuePost r source) refl h refl (ap is_delayed_role (new_role PostKind x p e))) (other-well q r (made.now + ms * 1000) (ap is_timer_role (new_role PostKind x p e))) (made_last PostKind x p) (at_delay ms made.now r source (made_last PostKind x p) from) refl (refl, tt) (record { notices = refl; performing = refl; events = refl; registrations = refl; frames = refl; calls = refl; aborted = λ s h. h; scheduling = record { priorities = λ s. refl; states = refl; tasks_made = omega arith; idle_start = refl } })
+    register_at-changes PostKind x r (made.now + ms * 1000) 0 p q e refl (timer_armed made.registrations (places made) r (made.now + ms * 1000) timers (EnqueuePost r source) refl h refl (ap is_delayed_role (new_role PostKind x p e))) (other-well q r (made.now + ms * 1000) (ap is_timer_role (new_role PostKind x p e))) (made_last PostKind x p) (at_delay ms made.now r source (made_last PostKind x p) from) refl tt tt (refl, own) (record { notices = refl; performing = refl; events = refl; registrations = refl; frames = refl; calls = refl; aborted = λ s h. h; watched = calmly (λ s r i. inr (i, λ h. h)); level = refl; form = refl; scheduling = record { priorities = λ s. refl; states = refl; tasks_made = omega arith; idle_start = refl } }) tt
 
-pub post_queued-changes : (f : Func) (source : PrioSource) (signal : Option ℕ) (ms : ℕ) (p : Page) → Held (made_by p) p → HasPriority p.prios source → Changes p (post_queued f source signal ms p)
-post_queued-changes f source signal ms p h from =
+pub post_queued-changes : (f : Func) (source : PrioSource) (signal : Option ℕ) (ms : ℕ) (p : Page) → Held (made_by p) p → HasPriority p.prios source → IfThere (IsGiven (length p.signals)) signal → is_aborted_source p signal ≡ false → Changes p (post_queued f source signal ms p)
+post_queued-changes f source signal ms p h from given live =
     let x = entry PostKind (Some f) signal p in
     let before = ready PostKind (Some f) signal p in
     subst (λ (made : Page). Changes p (cond (ms == 0) (enqueue (last_registration made) source false) (post_delayed ms (last_registration made) source) made)) (sym (promised-ready PostKind (Some f) signal p))
     (changes-then (ready-changes PostKind (Some f) signal p)
     (cond_of-changes (ms == 0) (enqueue (last_registration (register_as PostKind x before)) source false) (post_delayed ms (last_registration (register_as PostKind x before)) source) (register_as PostKind x before) before
-    (enqueued-changes PostKind x source false before refl refl (known there)) (delayed-changes x source ms before (ready-started PostKind (Some f) signal p (started p h)) refl there)))
+    (enqueued-changes PostKind x source false before refl refl (known there)) (delayed-changes x source ms before (ready-started PostKind (Some f) signal p (started p h)) refl there (own signal given live))))
   where
     there : HasPriority (ready PostKind (Some f) signal p).prios source
     there = subst (λ (ps : Prios). HasPriority ps source) (sym (ready-prios PostKind (Some f) signal p)) from
+
+    own : (o : Option ℕ) → IfThere (IsGiven (length p.signals)) o → is_aborted_source p o ≡ false
+        → IsAbortable (suc (length (ready PostKind (Some f) o p).registrations)) (ready PostKind (Some f) o p).signals o
+    own None g e = tt
+    own (Some s) g e =
+        let r = length (and_last p.registrations (entry PostKind (Some f) (Some s) p)) in (
+          subst (λ (n : ℕ). IsIn n (algorithms_at (AbortGraph.add_algorithm s r p.signals) s)) (length-last p.registrations (entry PostKind (Some f) (Some s) p)) (watch-there s r p.signals g),
+          watch-aborted s r p.signals g ∙ e,
+        )
 
 pub continuation_queued-changes : (s : SchedulingState) (p : Page) → Sourced p.prios p.scheduling_states s.prio_source → Changes p (continuation_queued s p)
 continuation_queued-changes s p from =
@@ -739,7 +771,7 @@ asked-changes k c x e p role there live =
     let due = made.now + latency_of made.latencies k in
     let a : HostAnswer = record { due = due; task = record { registration = r; closure = k; number = x } } in
     let q : Page = record made { hosts = slice_set made.hosts k (queued_mark c); host_answers = and_last made.host_answers a } in
-    register_at-changes HostKind e r due 0 p q role refl (by_host a (is-last a made.host_answers) refl refl (new_role HostKind e p role)) (other-well q r due (ap is_timer_role (new_role HostKind e p role))) (made_last HostKind e p) (at_host c a (made_last HostKind e p) there live) refl (refl, tt) (record { notices = refl; performing = refl; events = refl; registrations = refl; frames = refl; calls = refl; aborted = λ s h. h; scheduling = record { priorities = λ s. refl; states = refl; tasks_made = omega arith; idle_start = refl } })
+    register_at-changes HostKind e r due 0 p q role refl (by_host a (is-last a made.host_answers) refl refl (new_role HostKind e p role)) (other-well q r due (ap is_timer_role (new_role HostKind e p role))) (made_last HostKind e p) (at_host c a (made_last HostKind e p) there live) refl tt tt (refl, tt) (record { notices = refl; performing = refl; events = refl; registrations = refl; frames = refl; calls = refl; aborted = λ s h. h; watched = calmly (λ s r i. inr (i, λ h. h)); level = refl; form = refl; scheduling = record { priorities = λ s. refl; states = refl; tasks_made = omega arith; idle_start = refl } }) tt
 
 ready-hosts : (kind : RegKind) (f : Option Func) (signal : Option ℕ) (p : Page) → (ready kind f signal p).hosts ≡ p.hosts
 ready-hosts kind f None p = refl
@@ -750,35 +782,3 @@ host_queued-changes k c x signal p there live =
     let before = ready HostKind None signal p in
     subst (λ (made : Page). Changes p (asked k c x made)) (sym (promised-ready HostKind None signal p))
     (changes-then (ready-changes HostKind None signal p) (asked-changes k c x (entry HostKind None signal p) before refl (ap {A = List HostClosure} {B = Option HostClosure} (λ hs. slice_get hs k) (ready-hosts HostKind None signal p) ∙ there) live))
-
--- ---- tasks
-
-pub invoke_idle_again-changes : (p : Page) → PeriodGoesOn p → Changes p (invoke_idle_again p)
-invoke_idle_again-changes p k = cond-changes (is_empty p.idle.runnable) p p _ nothing (queue_idle-changes p k)
-
-pub outstanding-changes : (n : ℕ) (p : Page) → Changes p (outstanding_if_unhandled n p)
-outstanding-changes n p = with_change nothing (noted n) tt
-
-settle_answer-changes : (n : ℕ) (answer : Result ℤ ℤ) (p : Page) → IsGiven (length p.notices.promises) n → Changes p (settle_answer n answer p)
-settle_answer-changes n (Ok v) p x = settle-changes n (Fulfilled (IntValue v)) p x
-settle_answer-changes n (Err v) p x = settle-changes n (Failed (IntValue v)) p x
-
--- a host's task is taken, and the host answers
-pub answer_task-changes : (source : Source) (task : Task) (t : HostTask) (answer : Result ℤ ℤ) (p : Page) → first_task source p.tasks ≡ Some task → task.steps ≡ AnswerHost t → is_there (not_dropped (slice_get p.hosts t.closure)) ≡ true → IsGiven (length p.notices.promises) (the_registration p t.registration).promise
-    → Changes p (answer_host t answer (without_task task.number p))
-answer_task-changes source task t answer p e e1 live x = by_closure (slice_get p.hosts t.closure) refl
-  where
-    into : ℕ
-    into = (the_registration p t.registration).promise
-
-    told_one : Page
-    told_one = emit (Host t.closure t.number answer) (without_task task.number p)
-
-    rest : (q : Page) → IsGiven (length q.notices.promises) into → Changes p q → Changes p (unwatch t.registration (settle_answer into answer q))
-    rest q x h = changes-then (changes-then h (settle_answer-changes into answer q x)) (unwatch-changes t.registration (settle_answer into answer q))
-
-    by_closure : (c : Option HostClosure) → slice_get p.hosts t.closure ≡ c → Changes p (unwatch t.registration (settle_answer into answer (fire_closure t.closure c told_one)))
-    by_closure None k = rest told_one x (with_change nothing (answered source task t answer e e1 live (ap {A = Option HostClosure} {B = Places} (λ o. record (places told_one) { hosts = fired_at t.closure o p.hosts }) (sym k)) (record { notices = refl; performing = refl; events = refl; registrations = refl; frames = refl; calls = refl; aborted = λ s h. h; scheduling = record { priorities = λ s. refl; states = refl; tasks_made = omega arith; idle_start = refl } })) tt)
-    by_closure (Some c) k =
-        let fired = fire_closure t.closure (Some c) told_one in
-        rest fired x (with_change nothing (answered source task t answer e e1 live (ap {A = Option HostClosure} {B = Places} (λ o. record (places told_one) { hosts = fired_at t.closure o p.hosts }) (sym k)) (record { notices = refl; performing = refl; events = refl; registrations = refl; frames = refl; calls = refl; aborted = λ s h. h; scheduling = record { priorities = λ s. refl; states = refl; tasks_made = omega arith; idle_start = refl } })) tt)

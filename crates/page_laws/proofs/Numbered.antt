@@ -76,12 +76,12 @@ first-numbers (at_delay ms now n source e h) f = f
 first-numbers (at_idle n e) f = f
 first-numbers (at_host c a e there live) f = f
 
-due-numbered : {made : List Registration} {r : ℕ} {x y : Places} (d : DueChange made r x y) → (now : ℕ) → IsDueBy now d → ByPlaces x → ByPlaces y
-due-numbered {x = x} (timer_due start number source t e i role) now by f = next-numbered x.tasks_made x.tasks _ by.1 f
-due-numbered (delay_due start source e role) now by f = f
-due-numbered (signal_due start s e role) now by f = f
-due-numbered {x = x} (idle_due t number source i e role) now by f = next-numbered x.tasks_made x.tasks _ by.1 f
-due-numbered {x = x} (answer_due before a after number source e i role) now by f = next-numbered x.tasks_made x.tasks _ by.1 f
+due-numbered : {made : List Registration} {r : ℕ} {x y : Places} (d : DueChange made r x y) → (now : ℕ) (lines : History) → IsDueBy now lines d → ByPlaces x → ByPlaces y
+due-numbered {x = x} (timer_due start number source t e i role) now lines by f = next-numbered x.tasks_made x.tasks _ by.1 f
+due-numbered (delay_due start source e role) now lines by f = f
+due-numbered (signal_due start s e role) now lines by f = f
+due-numbered {x = x} (idle_due t number source i e role) now lines by f = next-numbered x.tasks_made x.tasks _ by.1 f
+due-numbered {x = x} (answer_due before a after number source e i role) now lines by f = next-numbered x.tasks_made x.tasks _ by.1 f
 
 drop-numbered : {made : List Registration} {r : ℕ} {x y : Places} → Dropping made r x y → ByPlaces x → ByPlaces y
 drop-numbered (timer_dropped id there e own) f = f
@@ -99,7 +99,7 @@ change-numbered (rested e h x y z over begun done) f = f
 change-numbered {p = p} (answered source task u answer x y live z b) f = subst ByPlaces (sym z) (fewer-numbered p.tasks_made task.number p.tasks f)
 change-numbered (made_one k x e unframed u b at) f = first-numbers u f
 change-numbered {p = p} (enqueued_anew k x u queue e i s n b) f = subst ByPlaces (sym s) (above-numbered p.tasks_made u.order p.tasks (let a = n.0.order in omega (arith, a)) f)
-change-numbered {p = p} (fell_due r d b by) f = due-numbered d p.now by f
+change-numbered {p = p} (fell_due r d b by) f = due-numbered d p.now p.events by f
 change-numbered {p = p} (post_fell_due start source u queue e role a s n b by) f = subst ByPlaces (sym s) (above-numbered p.tasks_made u.order p.tasks (let a = n.0.order in omega (arith, a)) f)
 change-numbered (dropped r d b) f = drop-numbered d f
 change-numbered (frame_dropped handle c e role) f = f

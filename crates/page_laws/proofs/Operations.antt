@@ -1,18 +1,18 @@
 -- Operations are rows of moves, and so is what functions of the script do.
-use Rattle.page_laws.specs.Moves.{Sourced, known, inherited, HasPriority}
+use Rattle.page_laws.specs.Scheduling.{Sourced, known, inherited, HasPriority}
 use Rattle.page_laws.proofs.Combined.{all_made-onto, race_made-onto}
 use Rattle.page_model.specs.PageCombinators.{all_made, race_made, are_promises_left}
 use Rattle.page_parts.specs.Combinators.{CombinatorKind, All, AnyOf, AllSettled as AllSettledKind}
 use Rattle.page_model.specs.PagePromises.{last_promise, new_settled}
-use Rattle.lang_meaning.specs.Evaluation.{Answer, answered, call_from_outside, calls}
-use Rattle.lang_meaning.specs.Machine.{Caller, Done, Gives, branch, finish, given, throw_fault}
+use Rattle.lang_meaning.specs.Evaluation.{Answer, answered, call_from_outside}
+use Rattle.lang_meaning.specs.Machine.{Caller, Done, Gives, OutOfFuel, Returns, Throws, assigned, branch, finish, given, throw_fault}
 use Rattle.lang_meaning.specs.PureOperations.{argument, bind_answer, did_timeout_answer, fault_answer, fault_name_answer, fault_text_answer, kind_answer, length_answer, push_answer, text_answer}
-use Rattle.page_laws.proofs.Evaluating.{Onto, keeping, le-same, on_page-reached, told-onto}
-use Rattle.page_laws.proofs.Going.{answered-holds, calls-hold, fault-holds, take_unit-holds}
+use Rattle.page_laws.proofs.Evaluating.{Le, Onto, keeping, le-same, on_page-reached, told-onto}
+use Rattle.page_laws.proofs.Going.{CallsHold, Holds, Keeping, answered-holds, calls-hold, fault-holds, take_unit-holds}
 use Rattle.page_laws.proofs.Moved.{quietly}
 use Rattle.page_laws.proofs.Onto.{Anew, SettleGoes, any-onto, any_made-onto, cancel_frame-onto, cancel_idle-onto, clear_timer-onto, continuation_queued-onto, frame_requested-onto, host_queued-onto, idle_requested-onto, listener_added-onto, listener_removed-onto, make-onto, make_aborted-onto, micro_registered-onto, new_settled-onto, post_queued-onto, reject-onto, resolve-onto, script_promise-onto, task_signal_made-onto, then_made-onto, timeout_signal_made-onto, timer_set-onto, finally_made-onto, posted-onto}
-use Rattle.page_laws.proofs.Runs.{CallsGo, Goes, WaysGo, abort-goes, branch-goes, branch_when-goes, change-goes, finish-goes, finish_page, in_script-goes, priority_value-known}
-use Rattle.page_model.proofs.NumbersEvaluation.{Good, Known, each, limited-known, need-known, need_any-known}
+use Rattle.page_laws.proofs.Runs.{CallsGo, IsOpen, Goes, WaysGo, abort-goes, branch-goes, branch_when-goes, change-goes, finish-goes, finish_page, in_script-goes, priority_value-known}
+use Rattle.page_model.proofs.NumbersEvaluation.{Good, Known, each, every, limited-known, need-known, need_any-known}
 use Rattle.page_model.proofs.NumbersGrow.{Each-append, Each-get, Each-last, Each-numbered, Held, IfThere-more, InPrios, InStates, last-given, stays, unwrapped, IfThere-cond}
 use Rattle.page_model.proofs.NumbersMaking.{after_new, signal_given}
 use Rattle.page_model.proofs.NumbersPages.{reason_value-known}
@@ -39,7 +39,7 @@ use Rattle.page_types.specs.declared.Op.TheVariants.{AbortOp, Aborted, AbortedSi
 use Rattle.page_types.specs.declared.Priority.{Priority}
 use Rattle.page_types.specs.declared.RegKind.{RegKind}
 use Rattle.page_types.specs.declared.RegKind.TheVariants.{Interval as IntervalKind, Timeout as TimeoutKind}
-use Rattle.std.proofs.Common.{Bool, List, None, Ok, Option, Some, [], arith, cond, false, length, negsuc, pos, refl, slice_get, suc, true, zero, ℕ, ℤ, ◌&&◌, ◌++◌, ◌+◌, ◌<◌, ◌∷◌, ◌≡◌}
+use Rattle.std.proofs.Common.{Bool, List, None, Ok, Option, Some, [], arith, cond, false, length, negsuc, pos, refl, slice_get, suc, sym, ◌∙◌, true, zero, ℕ, ℤ, ◌&&◌, ◌++◌, ◌+◌, ◌<◌, ◌∷◌, ◌≡◌}
 use Rattle.std.specs.Prelude.{int_le}
 use Rattle.page_model.specs.PagePromises as promises
 use Rattle.page_parts.specs.AbortGraph as AbortGraph
@@ -177,6 +177,10 @@ fresh_live QueuedMark e = Prim.cc
 fresh_live Fired e = Prim.cc
 fresh_live Dropped e = Prim.cc
 
+-- a call that is open stays so
+open-later : (m r : State) → Le m r → IsOpen m → IsOpen r
+open-later m r le x e = x (sym le.2.0 ∙ e)
+
 module _ (program : Program) where
   -- ---- ways to put operations together
 
@@ -245,11 +249,11 @@ module _ (program : Program) where
 
   -- ---- time
 
-  set_timer-goes : (kind : RegKind) (repeats : Bool) (f ms : Value) (m : State) → OfKind kind ≡ timer_role repeats → Good m → IsKnown (made_by m.host) f → Ends m (set_timer kind repeats f ms m)
-  set_timer-goes kind repeats f ms m role g h =
+  set_timer-goes : (kind : RegKind) (repeats : Bool) (f ms : Value) (m : State) → OfKind kind ≡ timer_role repeats → Good m → IsOpen m → IsKnown (made_by m.host) f → Ends m (set_timer kind repeats f ms m)
+  set_timer-goes kind repeats f ms m role g called h =
       given_func-goes f m _ g h (λ f x. given_any-goes (int_in ms) m _ g (λ i.
       where_left-goes (registration_left m.host && is_left m.host.timers.ids_made) m (answers (λ p. IntValue (pos p.timers.ids_made)) (timer_set kind repeats f i)) g
-      (answers-goes (λ p. IntValue (pos p.timers.ids_made)) (timer_set kind repeats f i) m g (timer_set-onto kind repeats f i m.host role g.0 x) tt)))
+      (answers-goes (λ p. IntValue (pos p.timers.ids_made)) (timer_set kind repeats f i) m g (timer_set-onto kind repeats f i m.host role g.0 x called) tt)))
 
   with_handle-goes : (v : Value) (f : ℕ → Page → Page) → ((k : ℕ) (p : Page) → Held (made_by p) p → Onto p (f k p)) → (m : State) → Good m → Ends m (with_handle v f m)
   with_handle-goes v f k m g = given_any-goes (int_in v) m _ g by_sign
@@ -368,16 +372,16 @@ module _ (program : Program) where
   given_any_or_rejected-goes (Some x) m next g q = q x
 
   -- a promise that is made where a signal is not aborted and numbers are left
-  unless_aborted-goes : (signal : Option ℕ) (f : State → Page → Page) (m : State) → Good m → Anew m.host (f m m.host) → Ends m (branch (is_aborted_source m.host signal) m (λ m. rejected_with (source_reason m.host signal) m) (λ m. where_left (promise_left m.host && registration_left m.host) m (answers last_promise_value (f m))))
+  unless_aborted-goes : (signal : Option ℕ) (f : State → Page → Page) (m : State) → Good m → (is_aborted_source m.host signal ≡ false → Anew m.host (f m m.host)) → Ends m (branch (is_aborted_source m.host signal) m (λ m. rejected_with (source_reason m.host signal) m) (λ m. where_left (promise_left m.host && registration_left m.host) m (answers last_promise_value (f m))))
   unless_aborted-goes signal f m g o =
-      branch-goes program (is_aborted_source m.host signal) m (λ m. rejected_with (source_reason m.host signal) m) (λ m. where_left (promise_left m.host && registration_left m.host) m (answers last_promise_value (f m)))
-      (rejected_with-goes (source_reason m.host signal) m g (source_reason-known m.host signal g.0))
-      (where_left-goes (promise_left m.host && registration_left m.host) m (answers last_promise_value (f m)) g (new-goes (f m) m g o))
+      branch_when-goes program (is_aborted_source m.host signal) m (λ m. rejected_with (source_reason m.host signal) m) (λ m. where_left (promise_left m.host && registration_left m.host) m (answers last_promise_value (f m)))
+      (λ gone. rejected_with-goes (source_reason m.host signal) m g (source_reason-known m.host signal g.0))
+      (λ live. where_left-goes (promise_left m.host && registration_left m.host) m (answers last_promise_value (f m)) g (new-goes (f m) m g (o live)))
 
   post_accepted-goes : (f : Func) (priority : Option Priority) (signal : Option ℕ) (ms : ℕ) (m : State) → Good m → AreKnown (made_by m.host) f.bound → IfThere (IsGiven (length m.host.signals)) signal → Ends m (post_accepted f priority signal ms m)
   post_accepted-goes f priority signal ms m g x s =
       let source = prio_source_of m.host priority signal in
-      unless_aborted-goes signal (λ m. post_queued f (prio_source_of m.host priority signal) signal ms) m g (post_queued-onto f source signal ms m.host g.0 x (prio_source_of-given (made_by m.host) m.host priority signal s) s (prio_source_of-prio m.host priority signal))
+      unless_aborted-goes signal (λ m. post_queued f (prio_source_of m.host priority signal) signal ms) m g (λ live. post_queued-onto f source signal ms m.host g.0 x (prio_source_of-given (made_by m.host) m.host priority signal s) s (prio_source_of-prio m.host priority signal) live)
 
   post_task-goes : (f priority signal ms : Value) (m : State) → Good m → IsKnown (made_by m.host) f → IsKnown (made_by m.host) signal → Ends m (post_task f priority signal ms m)
   post_task-goes f priority signal ms m g h k =
@@ -387,12 +391,12 @@ module _ (program : Program) where
       (λ signal y. given_any_or_rejected-goes (delay_in ms) m _ g (λ ms. post_accepted-goes f priority signal ms m g x y))))
 
   yield_in-goes : (s : SchedulingState) (m : State) → Good m → StateIsGiven (made_by m.host) s → Sourced m.host.prios m.host.scheduling_states s.prio_source → Ends m (yield_in s m)
-  yield_in-goes s m g x from = unless_aborted-goes s.abort_source (λ m. continuation_queued s) m g (continuation_queued-onto s m.host g.0 x from)
+  yield_in-goes s m g x from = unless_aborted-goes s.abort_source (λ m. continuation_queued s) m g (λ live. continuation_queued-onto s m.host g.0 x from)
 
   host_accepted-goes : (k : ℕ) (c : HostClosure) (x : ℤ) (signal : Option ℕ) (m : State) → Good m → StandsAt m.host.hosts k c → IfThere (IsGiven (length m.host.signals)) signal → Ends m (host_accepted k c x signal m)
   host_accepted-goes k c x signal m g there s =
       branch_when-goes program (is_fresh c.mark) m _ (rejected_with (a_fault NotAllowedError))
-      (λ fresh. unless_aborted-goes signal (λ m. host_queued k c x signal) m g (host_queued-onto k c x signal m.host g.0 there.0 there.1 (fresh_live c.mark fresh) s)) (λ asked. rejected_with-goes (a_fault NotAllowedError) m g tt)
+      (λ fresh. unless_aborted-goes signal (λ m. host_queued k c x signal) m g (λ live. host_queued-onto k c x signal m.host g.0 there.0 there.1 (fresh_live c.mark fresh) s)) (λ asked. rejected_with-goes (a_fault NotAllowedError) m g tt)
 
   host_asked-goes : (k x : ℤ) (signal : Option ℕ) (m : State) → Good m → IfThere (IsGiven (length m.host.signals)) signal → Ends m (host_asked k x signal m)
   host_asked-goes k x signal m g s = by_closure (fitting (closure_at m.host k) x) (fitting_stands (StandsAt m.host.hosts (not_below_zero k)) x (closure_at m.host k) (closure_stands m.host k))
@@ -438,69 +442,118 @@ module _ (program : Program) where
 
   -- ---- the table
 
-  pub operation-goes : (w : Ways) (a : WaysGo program w) → (op : Op) (args : List Value) (m : State) → Good m → a.Here m → Each (IsKnown (made_by m.host)) args → Ends m (operation w op args m)
-  operation-goes w a Log args m g z h = finish_page program m (λ p. emit (events.Log (spelled p.names (argument args 0))) p) g (told-onto (events.Log (spelled m.host.names (argument args 0))) m.host refl g.0)
-  operation-goes w a TextOf args m g z h = answered-goes (text_answer m.host.names (argument args 0)) m g (limited-known (made_by m.host) (TextValue (spelled m.host.names (argument args 0))) tt)
-  operation-goes w a KindOf args m g z h = answered-goes (kind_answer (argument args 0)) m g tt
-  operation-goes w a Len args m g z h = answered-goes (length_answer (argument args 0)) m g (length_answer-known (made_by m.host) (argument args 0))
-  operation-goes w a Push args m g z h = answered-goes (push_answer (argument args 0) (argument args 1)) m g (push_answer-known (made_by m.host) (argument args 0) (argument args 1) (argument-known (made_by m.host) args 0 h) (argument-known (made_by m.host) args 1 h))
-  operation-goes w a Bind args m g z h = answered-goes (bind_answer (argument args 0) (argument args 1)) m g (bind_answer-known (made_by m.host) (argument args 0) (argument args 1) (argument-known (made_by m.host) args 0 h) (argument-known (made_by m.host) args 1 h))
-  operation-goes w a MakeFault args m g z h = answered-goes (fault_answer (argument args 0)) m g (need_any-known (made_by m.host) (text_in (argument args 0)) TypeError (λ bs. Ok (FaultValue Error bs)) (λ bs. tt))
-  operation-goes w a FaultNameOf args m g z h = answered-goes (fault_name_answer (argument args 0)) m g (need_any-known (made_by m.host) (fault_in (argument args 0)) TypeError (λ x. Ok (TextValue (fault_text x.name))) (λ x. tt))
-  operation-goes w a FaultTextOf args m g z h = answered-goes (fault_text_answer (argument args 0)) m g (need_any-known (made_by m.host) (fault_in (argument args 0)) TypeError (λ x. Ok (TextValue x.text)) (λ x. tt))
-  operation-goes w a NowOp args m g z h = gives-goes (IntValue (pos m.host.now)) m g tt
-  operation-goes w a Busy args m g z h = busy-goes (argument args 0) m g
-  operation-goes w a QueueMicrotask args m g z h = queue_microtask-goes (argument args 0) m g (argument-known (made_by m.host) args 0 h)
-  operation-goes w a MakePromise args m g z h = where_left-goes (promise_left m.host) m (answers last_promise_value script_promise) g (new-goes script_promise m g (script_promise-onto m.host g.0))
-  operation-goes w a ResolveOp args m g z h = settle_own-goes promises.resolve resolve-onto (argument args 0) (argument args 1) m g (argument-known (made_by m.host) args 0 h) (argument-known (made_by m.host) args 1 h)
-  operation-goes w a RejectOp args m g z h = settle_own-goes promises.reject reject-onto (argument args 0) (argument args 1) m g (argument-known (made_by m.host) args 0 h) (argument-known (made_by m.host) args 1 h)
-  operation-goes w a Resolved args m g z h = resolved_value-goes (argument args 0) m g (argument-known (made_by m.host) args 0 h)
-  operation-goes w a Rejected args m g z h = settled_promise-goes promises.reject reject-onto (argument args 0) m g (argument-known (made_by m.host) args 0 h)
-  operation-goes w a Then args m g z h = then_value-goes (argument args 0) (argument args 1) (argument args 2) m g (argument-known (made_by m.host) args 0 h) (argument-known (made_by m.host) args 1 h) (argument-known (made_by m.host) args 2 h)
-  operation-goes w a SetTimeout args m g z h = set_timer-goes TimeoutKind false (argument args 0) (argument args 1) m refl g (argument-known (made_by m.host) args 0 h)
-  operation-goes w a SetInterval args m g z h = set_timer-goes IntervalKind true (argument args 0) (argument args 1) m refl g (argument-known (made_by m.host) args 0 h)
-  operation-goes w a ClearTimeout args m g z h = with_handle-goes (argument args 0) clear_timer clear_timer-onto m g
-  operation-goes w a ClearInterval args m g z h = with_handle-goes (argument args 0) clear_timer clear_timer-onto m g
-  operation-goes w a RequestFrame args m g z h = request_frame-goes (argument args 0) m g (argument-known (made_by m.host) args 0 h)
-  operation-goes w a CancelFrame args m g z h = with_handle-goes (argument args 0) cancel_frame cancel_frame-onto m g
-  operation-goes w a RequestIdle args m g z h = request_idle-goes (argument args 0) (argument args 1) m g (argument-known (made_by m.host) args 0 h)
-  operation-goes w a CancelIdle args m g z h = with_handle-goes (argument args 0) cancel_idle cancel_idle-onto m g
-  operation-goes w a DidTimeout args m g z h = answered-goes (did_timeout_answer (argument args 0)) m g (need_any-known (made_by m.host) (deadline_in (argument args 0)) TypeError (λ t. Ok (BoolValue (is_there t))) (λ t. tt))
-  operation-goes w a TimeRemaining args m g z h = remaining-goes (argument args 0) m g
-  operation-goes w a PostTask args m g z h = post_task-goes (argument args 0) (argument args 1) (argument args 2) (argument args 3) m g (argument-known (made_by m.host) args 0 h) (argument-known (made_by m.host) args 2 h)
-  operation-goes w a YieldTask args m g z h = yield_in-goes (current_state m.host) m g (current_state-given m.host g.0) (current_state-sourced m.host)
-  operation-goes w a MakeController args m g z h = make_controller-goes m g
-  operation-goes w a MakeTaskController args m g z h = make_task_controller-goes (argument args 0) m g
-  operation-goes w a SignalOf args m g z h = given_controller-goes (argument args 0) m _ g (argument-known (made_by m.host) args 0 h) (λ s x. gives-goes (SignalValue s) m g x)
-  operation-goes w a AbortOp args m g z h = abort_by-goes w a (argument args 0) (argument args 1) m g z (argument-known (made_by m.host) args 0 h) (argument-known (made_by m.host) args 1 h)
-  operation-goes w a SetPriority args m g z h = set_priority_by-goes w a (argument args 0) (argument args 1) m g z (argument-known (made_by m.host) args 0 h)
-  operation-goes w a AbortedSignal args m g z h = aborted_signal-goes (argument args 0) m g (argument-known (made_by m.host) args 0 h)
-  operation-goes w a AnySignal args m g z h = make_any-goes (argument args 0) m g (argument-known (made_by m.host) args 0 h)
-  operation-goes w a TaskAny args m g z h = make_task_any-goes (argument args 0) (argument args 1) m g (argument-known (made_by m.host) args 0 h) (argument-known (made_by m.host) args 1 h)
-  operation-goes w a TimeoutSignal args m g z h = make_timeout_signal-goes (argument args 0) m g
-  operation-goes w a Aborted args m g z h = of_signal-goes (argument args 0) (λ s p. BoolValue (is_aborted p s)) m g (λ s. tt)
-  operation-goes w a ReasonOf args m g z h = of_signal-goes (argument args 0) (λ s p. reason_value p s) m g (λ s. reason_value-known m.host s g.0)
-  operation-goes w a PriorityOf args m g z h = of_signal-goes (argument args 0) (λ s p. priority_value (priority_of p.prios s)) m g (λ s. priority_value-known (made_by m.host) (priority_of m.host.prios s))
-  operation-goes w a Listen args m g z h = listen-goes (argument args 0) (argument args 1) (argument args 2) m g (argument-known (made_by m.host) args 0 h) (argument-known (made_by m.host) args 2 h)
-  operation-goes w a Unlisten args m g z h = with_handle-goes (argument args 0) listener_removed listener_removed-onto m g
-  operation-goes w a HostOp args m g z h = host-goes (argument args 0) (argument args 1) (argument args 2) m g (argument-known (made_by m.host) args 2 h)
-  operation-goes w a PostMessage args m g z h = post_message-goes (argument args 0) (argument args 1) m g (argument-known (made_by m.host) args 1 h)
-  operation-goes w a AllOp args m g z h = combined-goes All (argument args 0) m g tt (argument-known (made_by m.host) args 0 h)
-  operation-goes w a RaceOp args m g z h = raced-goes (argument args 0) m g (argument-known (made_by m.host) args 0 h)
-  operation-goes w a AnyOp args m g z h = combined-goes AnyOf (argument args 0) m g tt (argument-known (made_by m.host) args 0 h)
-  operation-goes w a AllSettled args m g z h = combined-goes AllSettledKind (argument args 0) m g tt (argument-known (made_by m.host) args 0 h)
-  operation-goes w a FinallyOp args m g z h = finally_value-goes (argument args 0) (argument args 1) m g (argument-known (made_by m.host) args 0 h) (argument-known (made_by m.host) args 1 h)
+  pub operation-goes : (w : Ways) (a : WaysGo program w) → (op : Op) (args : List Value) (m : State) → Good m → a.Here m → IsOpen m → Each (IsKnown (made_by m.host)) args → Ends m (operation w op args m)
+  operation-goes w a Log args m g z x h = finish_page program m (λ p. emit (events.Log (spelled p.names (argument args 0))) p) g (told-onto (events.Log (spelled m.host.names (argument args 0))) m.host refl g.0)
+  operation-goes w a TextOf args m g z x h = answered-goes (text_answer m.host.names (argument args 0)) m g (limited-known (made_by m.host) (TextValue (spelled m.host.names (argument args 0))) tt)
+  operation-goes w a KindOf args m g z x h = answered-goes (kind_answer (argument args 0)) m g tt
+  operation-goes w a Len args m g z x h = answered-goes (length_answer (argument args 0)) m g (length_answer-known (made_by m.host) (argument args 0))
+  operation-goes w a Push args m g z x h = answered-goes (push_answer (argument args 0) (argument args 1)) m g (push_answer-known (made_by m.host) (argument args 0) (argument args 1) (argument-known (made_by m.host) args 0 h) (argument-known (made_by m.host) args 1 h))
+  operation-goes w a Bind args m g z x h = answered-goes (bind_answer (argument args 0) (argument args 1)) m g (bind_answer-known (made_by m.host) (argument args 0) (argument args 1) (argument-known (made_by m.host) args 0 h) (argument-known (made_by m.host) args 1 h))
+  operation-goes w a MakeFault args m g z x h = answered-goes (fault_answer (argument args 0)) m g (need_any-known (made_by m.host) (text_in (argument args 0)) TypeError (λ bs. Ok (FaultValue Error bs)) (λ bs. tt))
+  operation-goes w a FaultNameOf args m g z x h = answered-goes (fault_name_answer (argument args 0)) m g (need_any-known (made_by m.host) (fault_in (argument args 0)) TypeError (λ x. Ok (TextValue (fault_text x.name))) (λ x. tt))
+  operation-goes w a FaultTextOf args m g z x h = answered-goes (fault_text_answer (argument args 0)) m g (need_any-known (made_by m.host) (fault_in (argument args 0)) TypeError (λ x. Ok (TextValue x.text)) (λ x. tt))
+  operation-goes w a NowOp args m g z x h = gives-goes (IntValue (pos m.host.now)) m g tt
+  operation-goes w a Busy args m g z x h = busy-goes (argument args 0) m g
+  operation-goes w a QueueMicrotask args m g z x h = queue_microtask-goes (argument args 0) m g (argument-known (made_by m.host) args 0 h)
+  operation-goes w a MakePromise args m g z x h = where_left-goes (promise_left m.host) m (answers last_promise_value script_promise) g (new-goes script_promise m g (script_promise-onto m.host g.0))
+  operation-goes w a ResolveOp args m g z x h = settle_own-goes promises.resolve resolve-onto (argument args 0) (argument args 1) m g (argument-known (made_by m.host) args 0 h) (argument-known (made_by m.host) args 1 h)
+  operation-goes w a RejectOp args m g z x h = settle_own-goes promises.reject reject-onto (argument args 0) (argument args 1) m g (argument-known (made_by m.host) args 0 h) (argument-known (made_by m.host) args 1 h)
+  operation-goes w a Resolved args m g z x h = resolved_value-goes (argument args 0) m g (argument-known (made_by m.host) args 0 h)
+  operation-goes w a Rejected args m g z x h = settled_promise-goes promises.reject reject-onto (argument args 0) m g (argument-known (made_by m.host) args 0 h)
+  operation-goes w a Then args m g z x h = then_value-goes (argument args 0) (argument args 1) (argument args 2) m g (argument-known (made_by m.host) args 0 h) (argument-known (made_by m.host) args 1 h) (argument-known (made_by m.host) args 2 h)
+  operation-goes w a SetTimeout args m g z x h = set_timer-goes TimeoutKind false (argument args 0) (argument args 1) m refl g x (argument-known (made_by m.host) args 0 h)
+  operation-goes w a SetInterval args m g z x h = set_timer-goes IntervalKind true (argument args 0) (argument args 1) m refl g x (argument-known (made_by m.host) args 0 h)
+  operation-goes w a ClearTimeout args m g z x h = with_handle-goes (argument args 0) clear_timer clear_timer-onto m g
+  operation-goes w a ClearInterval args m g z x h = with_handle-goes (argument args 0) clear_timer clear_timer-onto m g
+  operation-goes w a RequestFrame args m g z x h = request_frame-goes (argument args 0) m g (argument-known (made_by m.host) args 0 h)
+  operation-goes w a CancelFrame args m g z x h = with_handle-goes (argument args 0) cancel_frame cancel_frame-onto m g
+  operation-goes w a RequestIdle args m g z x h = request_idle-goes (argument args 0) (argument args 1) m g (argument-known (made_by m.host) args 0 h)
+  operation-goes w a CancelIdle args m g z x h = with_handle-goes (argument args 0) cancel_idle cancel_idle-onto m g
+  operation-goes w a DidTimeout args m g z x h = answered-goes (did_timeout_answer (argument args 0)) m g (need_any-known (made_by m.host) (deadline_in (argument args 0)) TypeError (λ t. Ok (BoolValue (is_there t))) (λ t. tt))
+  operation-goes w a TimeRemaining args m g z x h = remaining-goes (argument args 0) m g
+  operation-goes w a PostTask args m g z x h = post_task-goes (argument args 0) (argument args 1) (argument args 2) (argument args 3) m g (argument-known (made_by m.host) args 0 h) (argument-known (made_by m.host) args 2 h)
+  operation-goes w a YieldTask args m g z x h = yield_in-goes (current_state m.host) m g (current_state-given m.host g.0) (current_state-sourced m.host)
+  operation-goes w a MakeController args m g z x h = make_controller-goes m g
+  operation-goes w a MakeTaskController args m g z x h = make_task_controller-goes (argument args 0) m g
+  operation-goes w a SignalOf args m g z x h = given_controller-goes (argument args 0) m _ g (argument-known (made_by m.host) args 0 h) (λ s x. gives-goes (SignalValue s) m g x)
+  operation-goes w a AbortOp args m g z x h = abort_by-goes w a (argument args 0) (argument args 1) m g z (argument-known (made_by m.host) args 0 h) (argument-known (made_by m.host) args 1 h)
+  operation-goes w a SetPriority args m g z x h = set_priority_by-goes w a (argument args 0) (argument args 1) m g z (argument-known (made_by m.host) args 0 h)
+  operation-goes w a AbortedSignal args m g z x h = aborted_signal-goes (argument args 0) m g (argument-known (made_by m.host) args 0 h)
+  operation-goes w a AnySignal args m g z x h = make_any-goes (argument args 0) m g (argument-known (made_by m.host) args 0 h)
+  operation-goes w a TaskAny args m g z x h = make_task_any-goes (argument args 0) (argument args 1) m g (argument-known (made_by m.host) args 0 h) (argument-known (made_by m.host) args 1 h)
+  operation-goes w a TimeoutSignal args m g z x h = make_timeout_signal-goes (argument args 0) m g
+  operation-goes w a Aborted args m g z x h = of_signal-goes (argument args 0) (λ s p. BoolValue (is_aborted p s)) m g (λ s. tt)
+  operation-goes w a ReasonOf args m g z x h = of_signal-goes (argument args 0) (λ s p. reason_value p s) m g (λ s. reason_value-known m.host s g.0)
+  operation-goes w a PriorityOf args m g z x h = of_signal-goes (argument args 0) (λ s p. priority_value (priority_of p.prios s)) m g (λ s. priority_value-known (made_by m.host) (priority_of m.host.prios s))
+  operation-goes w a Listen args m g z x h = listen-goes (argument args 0) (argument args 1) (argument args 2) m g (argument-known (made_by m.host) args 0 h) (argument-known (made_by m.host) args 2 h)
+  operation-goes w a Unlisten args m g z x h = with_handle-goes (argument args 0) listener_removed listener_removed-onto m g
+  operation-goes w a HostOp args m g z x h = host-goes (argument args 0) (argument args 1) (argument args 2) m g (argument-known (made_by m.host) args 2 h)
+  operation-goes w a PostMessage args m g z x h = post_message-goes (argument args 0) (argument args 1) m g (argument-known (made_by m.host) args 1 h)
+  operation-goes w a AllOp args m g z x h = combined-goes All (argument args 0) m g tt (argument-known (made_by m.host) args 0 h)
+  operation-goes w a RaceOp args m g z x h = raced-goes (argument args 0) m g (argument-known (made_by m.host) args 0 h)
+  operation-goes w a AnyOp args m g z x h = combined-goes AnyOf (argument args 0) m g tt (argument-known (made_by m.host) args 0 h)
+  operation-goes w a AllSettled args m g z x h = combined-goes AllSettledKind (argument args 0) m g tt (argument-known (made_by m.host) args 0 h)
+  operation-goes w a FinallyOp args m g z x h = finally_value-goes (argument args 0) (argument args 1) m g (argument-known (made_by m.host) args 0 h) (argument-known (made_by m.host) args 1 h)
 
   -- ---- calls
 
-  pub page_operations-go : (call : Caller Page) → CallsGo program call → (op : Op) (args : List Value) (m : State) → Good m → Each (IsKnown (made_by m.host)) args → Ends m (page_operations call op args m)
-  page_operations-go call c op args m g h =
-      branch-goes program (may_operate m.host op args) m (operation (in_script call) op args) (throw_fault TypeError)
-      (operation-goes (in_script call) (in_script-goes program call c) op args m g tt h) (fault-holds (keeping program) m TypeError g)
+  -- what evaluation keeps in a call
+  abbrev in_call : Keeping Page program
+  in_call =
+      let k = keeping program in
+      record {
+        Le = k.Le;
+        Good = λ m. Good m × IsOpen m;
+        Val = k.Val;
+        Stop = k.Stop;
+        stop = λ m n le g. k.stop m n le g.0;
+        stop_later = k.stop_later;
+        stop_closed = k.stop_closed;
+        same = k.same;
+        chain = k.chain;
+        later = k.later;
+        assign = λ m x v g h. let a = k.assign m x v g.0 h in (a.0, (a.1, open-later m (assigned m x v) a.0 g.1));
+        open_call = λ m xs g h. let a = k.open_call m xs g.0 h in (a.0, (a.1, g.1));
+        close_call = λ m g. let a = k.close_call m g.0 in (a.0, (a.1, g.1));
+        take = λ m left e g. let a = k.take m left e g.0 in (a.0, (a.1, g.1));
+        unit_value = λ m g. k.unit_value m g.0;
+        bool_value = λ m b g. k.bool_value m b g.0;
+        int_value = λ m n g. k.int_value m n g.0;
+        text_value = λ m bs g. k.text_value m bs g.0;
+        fault_value = λ m name g. k.fault_value m name g.0;
+        read = λ m x g. k.read m x g.0;
+        named = λ m x g. k.named m x g.0;
+        bound = λ m v g h. k.bound m v g.0 h;
+        sum = λ m sign a b g. k.sum m sign a b g.0;
+        product = λ m sign a b g. k.product m sign a b g.0;
+        compare = λ m sign a b g. k.compare m sign a b g.0;
+        unary = λ m sign a g. k.unary m sign a g.0;
+        item = λ m a i g. k.item m a i g.0;
+        list = λ m vs g. k.list m vs g.0;
+      }
 
-  pub calls-go : (depth : ℕ) → CallsGo program (calls program page_operations depth)
-  calls-go depth =
-      calls-hold (keeping program) page_operations (λ call c op args m g h. page_operations-go call c op args m g (each (IsKnown (made_by m.host)) args h)) depth
+  -- where the call is still open that was open before
+  in_call-holds : (m : State) (d : Done Page) → IsOpen m → Ends m d → Holds in_call m d
+  in_call-holds m (Gives v r) x h = (h.0, (h.1, open-later m r h.0 x), h.2)
+  in_call-holds m (Throws v r) x h = (h.0, (h.1, open-later m r h.0 x), h.2)
+  in_call-holds m (Returns v r) x h = (h.0, (h.1, open-later m r h.0 x), h.2)
+  in_call-holds m (OutOfFuel r) x h = h
+
+  in_call-goes : (m : State) (d : Done Page) → Holds in_call m d → Ends m d
+  in_call-goes m (Gives v r) h = (h.0, h.1.0, h.2)
+  in_call-goes m (Throws v r) h = (h.0, h.1.0, h.2)
+  in_call-goes m (Returns v r) h = (h.0, h.1.0, h.2)
+  in_call-goes m (OutOfFuel r) h = h
+
+  pub page_operations-go : (call : Caller Page) → CallsGo program call → (op : Op) (args : List Value) (m : State) → Good m → IsOpen m → Each (IsKnown (made_by m.host)) args → Ends m (page_operations call op args m)
+  page_operations-go call c op args m g x h =
+      branch-goes program (may_operate m.host op args) m (operation (in_script call) op args) (throw_fault TypeError)
+      (operation-goes (in_script call) (in_script-goes program call c) op args m g x x h) (fault-holds (keeping program) m TypeError g)
+
+  calls-go : (call : Caller Page) → CallsHold in_call call → CallsGo program call
+  calls-go call c f args m g x h = in_call-goes m (call f args m) (c f args m (g, x) (every (IsKnown (made_by m.host)) args h))
 
   pub outside-goes : CallsGo program (call_from_outside program page_operations)
-  outside-goes = calls-go 256
+  outside-goes =
+      calls-go (call_from_outside program page_operations)
+      (calls-hold in_call page_operations (λ call c op args m g h. in_call-holds m (page_operations call op args m) g.1 (page_operations-go call (calls-go call c) op args m g.0 g.1 (each (IsKnown (made_by m.host)) args h))) 256)

@@ -1,5 +1,5 @@
 -- What is registered for a kind waits, or was called or dropped: where it leaves its place only so, it stays so through all moves.
-use Rattle.std.proofs.Common.{◌≡◌, ◌⊎◌, inl, inr, ℕ, suc, ◌≤◌, Bool, true, false, ◌||◌, List, [], ◌∷◌, Some, None, refl, sym, subst, ap, ◌∙◌, cond, length, eqb-true}
+use Rattle.std.proofs.Common.{◌≡◌, ◌⊎◌, inl, inr, ℕ, suc, ◌≤◌, Bool, true, false, ◌&&◌, ◌||◌, List, [], ◌∷◌, Some, None, refl, sym, subst, ap, ◌∙◌, cond, length, eqb-true}
 use Rattle.std.specs.Prelude.{◌==◌}
 use Rattle.std.proofs.lemmas.Bool.{eq-eqb}
 use Rattle.page_types.specs.declared.RegKind.{RegKind}
@@ -47,6 +47,22 @@ call-does q r now past e = on_left ((q == r) || was_called past r) (was_dropped 
 
 drop-does : (q r now : ℕ) (past : History) → q ≡ r → was_done (record { time = now; event = Drop q } ∷ past) r ≡ true
 drop-does q r now past e = on_right (was_called past r) ((q == r) || was_dropped past r) (on_left (q == r) (was_dropped past r) (eq-eqb q r e))
+
+-- what is over: it was dropped, or was called where a call ends it
+abbrev pub over : (by_call : Bool) → History → ℕ → Bool
+over by_call past r = (by_call && was_called past r) || was_dropped past r
+
+over-later : (by_call : Bool) (e : Stamped) (past : History) (r : ℕ) → over by_call past r ≡ true → over by_call (e ∷ past) r ≡ true
+over-later true e past r h = done-later e past r h
+over-later false e past r h = on_right (is_drop_of r e.event) (was_dropped past r) h
+
+call-over : (by_call : Bool) (q r now : ℕ) (past : History) → by_call ≡ true → q ≡ r → over by_call (record { time = now; event = Call q } ∷ past) r ≡ true
+call-over true q r now past h e = call-does q r now past e
+call-over false q r now past h e = absurd (false_true h)
+
+drop-over : (by_call : Bool) (q r now : ℕ) (past : History) → q ≡ r → over by_call (record { time = now; event = Drop q } ∷ past) r ≡ true
+drop-over true q r now past e = drop-does q r now past e
+drop-over false q r now past e = on_left (q == r) (was_dropped past r) (eq-eqb q r e)
 
 -- ---- jobs that wait go on waiting
 
@@ -105,7 +121,7 @@ Always p = Unit {0}
 
 -- ---- a place where registrations of kind k wait, and what is asked of it: none leaves it but by a call or a cancel, in pages of which K holds
 
-pub record Leaving (k : RegKind) (Waits : ℕ → Places → Notices → Type 0) (K : Page → Type 0) : Type 0 where
+pub record Leaving (k : RegKind) (by_call : Bool) (Waits : ℕ → Places → Notices → Type 0) (K : Page → Type 0) : Type 0 where
   -- of registrations of this kind
   pub first : {xs : List Registration} {ps : Prios} {n : ℕ} {x y : Places} (u : FirstPlace xs ps n x y) → fits_first k u ≡ true → (s : Notices) → Waits n y s
   pub queued : (t : SchedTask) (x : Places) (s : Notices) → is_scheduled k ≡ true → Waits t.registration (with_queued t x) s
@@ -114,38 +130,37 @@ pub record Leaving (k : RegKind) (Waits : ℕ → Places → Notices → Type 0)
   pub not_then : k ≡ kind.Then → ⊥
   -- of those that wait
   pub jobs : (r : ℕ) (x : Places) (s t : Notices) → WaitOn s t → Waits r x s → Waits r x t
-  pub place : (p : Page) → K p → {y : Places} (c : PlaceChange p.registrations (places p) y) → IsMade c p → (r : ℕ) (s : Notices) → role_at p.registrations r ≡ OfKind k → Waits r (places p) s → was_done p.events r ≡ true ⊎ Waits r y s
+  pub place : (p : Page) → K p → {y : Places} (c : PlaceChange p.registrations (places p) y) → IsMade c p → (r : ℕ) (s : Notices) → role_at p.registrations r ≡ OfKind k → Waits r (places p) s → over by_call p.events r ≡ true ⊎ Waits r y s
   pub others_first : {xs : List Registration} {ps : Prios} {n : ℕ} {x y : Places} (u : FirstPlace xs ps n x y) (r : ℕ) (s : Notices) → Waits r x s → Waits r y s
   pub others_queued : (t : SchedTask) (r : ℕ) (x : Places) (s : Notices) → Waits r x s → Waits r (with_queued t x) s
   pub answer : (p : Page) → K p → (source : Source) (task : Task) (t : HostTask) → first_task source p.tasks ≡ Some task → task.steps ≡ AnswerHost t → (r : ℕ) (s : Notices) → Waits r (places p) s → Waits r (host_fired t.closure (without_number task.number (places p))) s
-  pub due : (p : Page) → K p → {q : ℕ} {y : Places} → (d : DueChange p.registrations q (places p) y) → IsDueBy p.now d → (r : ℕ) (s : Notices) → role_at p.registrations r ≡ OfKind k → Waits r (places p) s → Waits r y s
-  pub post_due : (p : Page) → K p → (start q : ℕ) (source : PrioSource) → completion_of p.completions start ≡ Some (EnqueuePost q source) → (t : SchedTask) (r : ℕ) (s : Notices) → Waits r (places p) s → Waits r (with_queued t (without_start start (places p))) s
+  pub due : (p : Page) → K p → {q : ℕ} {y : Places} → (d : DueChange p.registrations q (places p) y) → IsDueBy p.now p.events d → (r : ℕ) (s : Notices) → role_at p.registrations r ≡ OfKind k → Waits r (places p) s → over by_call p.events r ≡ true ⊎ Waits r y s
+  pub post_due : (p : Page) → K p → (start q : ℕ) (source : PrioSource) → completion_of p.completions start ≡ Some (EnqueuePost q source) → (t : SchedTask) → t.registration ≡ q → (r : ℕ) (s : Notices) → Waits r (places p) s → Waits r (with_queued t (without_start start (places p))) s
   pub cancel : {xs : List Registration} {q : ℕ} {x y : Places} → Dropping xs q x y → (r : ℕ) (s : Notices) → role_at xs r ≡ OfKind k → Waits r x s → (q ≡ r) ⊎ Waits r y s
   pub aborted : (q : ℕ) (p : Page) (r : ℕ) (s : Notices) → Waits r (places p) s → (q ≡ r) ⊎ Waits r (without_aborted q p) s
-  pub called : (b : Beginning) (p : Page) → K p → Waited b p → (r : ℕ) → role_at p.registrations r ≡ OfKind k → Waits r (places p) p.notices → (called_by b ≡ r) ⊎ Waits r (places (taken b p)) (taken b p).notices
   pub run : (job : WaitingJob) (others : List WaitingJob) (r : ℕ) (x : Places) (s : Notices) → s.jobs ≡ job ∷ others → is_micro job.what ≡ false → Waits r x s → Waits r x (record s { jobs = others })
 
-module _ (k : RegKind) (Waits : ℕ → Places → Notices → Type 0) (K : Page → Type 0) (l : Leaving k Waits K) where
+module _ (k : RegKind) (by_call : Bool) (Waits : ℕ → Places → Notices → Type 0) (K : Page → Type 0) (l : Leaving k by_call Waits K) where
   abbrev FitsBy : List Registration → Places → Notices → History → Type 0
-  FitsBy xs x s past = (r : ℕ) → 1 ≤ r → role_at xs r ≡ OfKind k → was_done past r ≡ true ⊎ Waits r x s
+  FitsBy xs x s past = (r : ℕ) → 1 ≤ r → role_at xs r ≡ OfKind k → over by_call past r ≡ true ⊎ Waits r x s
 
   abbrev pub Fits : Page → Type 0
   Fits p = FitsBy p.registrations (places p) p.notices p.events
 
   -- a line, and what keeps those that wait
   kept-fits : (e : Event) (now : ℕ) (xs : List Registration) (x y : Places) (s t : Notices) (past : History)
-      → ((r : ℕ) → role_at xs r ≡ OfKind k → Waits r x s → was_done (record { time = now; event = e } ∷ past) r ≡ true ⊎ Waits r y t) → FitsBy xs x s past → FitsBy xs y t (record { time = now; event = e } ∷ past)
+      → ((r : ℕ) → role_at xs r ≡ OfKind k → Waits r x s → over by_call (record { time = now; event = e } ∷ past) r ≡ true ⊎ Waits r y t) → FitsBy xs x s past → FitsBy xs y t (record { time = now; event = e } ∷ past)
   kept-fits e now xs x y s t past h f r one role = by_place (f r one role)
     where
-      by_place : was_done past r ≡ true ⊎ Waits r x s → was_done (record { time = now; event = e } ∷ past) r ≡ true ⊎ Waits r y t
-      by_place (inl d) = inl (done-later (record { time = now; event = e }) past r d)
+      by_place : over by_call past r ≡ true ⊎ Waits r x s → over by_call (record { time = now; event = e } ∷ past) r ≡ true ⊎ Waits r y t
+      by_place (inl d) = inl (over-later by_call (record { time = now; event = e }) past r d)
       by_place (inr w) = h r role w
 
   -- without a line
-  moved-fits : (xs : List Registration) (x y : Places) (s t : Notices) (past : History) → ((r : ℕ) → role_at xs r ≡ OfKind k → Waits r x s → was_done past r ≡ true ⊎ Waits r y t) → FitsBy xs x s past → FitsBy xs y t past
+  moved-fits : (xs : List Registration) (x y : Places) (s t : Notices) (past : History) → ((r : ℕ) → role_at xs r ≡ OfKind k → Waits r x s → over by_call past r ≡ true ⊎ Waits r y t) → FitsBy xs x s past → FitsBy xs y t past
   moved-fits xs x y s t past h f r one role = by_place (f r one role)
     where
-      by_place : was_done past r ≡ true ⊎ Waits r x s → was_done past r ≡ true ⊎ Waits r y t
+      by_place : over by_call past r ≡ true ⊎ Waits r x s → over by_call past r ≡ true ⊎ Waits r y t
       by_place (inl d) = inl d
       by_place (inr w) = h r role w
 
@@ -201,11 +216,11 @@ module _ (k : RegKind) (Waits : ℕ → Places → Notices → Type 0) (K : Page
       kinds ScriptRole = k
       kinds (OfKind i) = i
 
-      by_place : role_at p.registrations r ≡ OfKind k → was_done p.events r ≡ true ⊎ Waits r (places p) p.notices → was_done (register_as j x p).events r ≡ true ⊎ Waits r y t
-      by_place old (inl d) = inl (done-later (record { time = p.now; event = Reg (suc (length p.registrations)) j (caller p) }) p.events r d)
+      by_place : role_at p.registrations r ≡ OfKind k → over by_call p.events r ≡ true ⊎ Waits r (places p) p.notices → over by_call (register_as j x p).events r ≡ true ⊎ Waits r y t
+      by_place old (inl d) = inl (over-later by_call (record { time = p.now; event = Reg (suc (length p.registrations)) j (caller p) }) p.events r d)
       by_place old (inr w) = inr (others r old w)
 
-      by_number : (b : Bool) → (r == suc (length p.registrations)) ≡ b → was_done (register_as j x p).events r ≡ true ⊎ Waits r y t
+      by_number : (b : Bool) → (r == suc (length p.registrations)) ≡ b → over by_call (register_as j x p).events r ≡ true ⊎ Waits r y t
       by_number true q =
           let same = eqb-true r (suc (length p.registrations)) q in
           inr (subst (λ (n : ℕ). Waits n y t) (sym same) (new (ap {A = Role} {B = RegKind} kinds (sym role ∙ (newest-role p.registrations x r same ∙ e)))))
@@ -216,7 +231,7 @@ module _ (k : RegKind) (Waits : ℕ → Places → Notices → Type 0) (K : Page
   plain-made : (j : RegKind) (x : Registration) (p : Page) → x.role ≡ OfKind j → (k ≡ j → ⊥) → Fits p → Fits (register_as j x p)
   plain-made j x p e other f = made-fits j x p (places p) p.notices e (λ same. absurd (other same)) (λ r role w. w) f
 
-  change-fits : {p q : Page} → PageChange p q → K p → Fits p → Fits q
+  pub change-fits : {p q : Page} → PageChange p q → K p → Fits p → Fits q
   change-fits {p = p} {q = q} (elsewhere c b made) g f = before-fits b (moved-fits p.registrations (places p) (places q) p.notices p.notices p.events (λ r role w. l.place p g c made r p.notices role w) f)
   change-fits {p = p} (told e h) g f = said e p f
   change-fits {p = p} (arm_told r due level w well) g f = said (Arm r due level) p f
@@ -232,24 +247,28 @@ module _ (k : RegKind) (Waits : ℕ → Places → Notices → Type 0) (K : Page
       (made-fits j x p (with_queued u (places p)) p.notices e (λ same. subst (λ (m : ℕ). Waits m (with_queued u (places p)) p.notices) i (l.queued u (places p) p.notices (subst (λ (i : RegKind). is_scheduled i ≡ true) (sym same) n.2)))
       (λ r role w. l.others_queued u r (places p) p.notices w) f)))
   change-fits {p = p} {q = q} (fell_due n d b by) g f =
-      before-fits b (kept-fits (Due n) p.now p.registrations (places p) (places q) p.notices p.notices p.events (λ r role w. inr (l.due p g d by r p.notices role w)) f)
+      before-fits b (kept-fits (Due n) p.now p.registrations (places p) (places q) p.notices p.notices p.events (λ r role w. by_due r (l.due p g d by r p.notices role w)) f)
+    where
+      by_due : (r : ℕ) → over by_call p.events r ≡ true ⊎ Waits r (places q) p.notices → over by_call (record { time = p.now; event = Due n } ∷ p.events) r ≡ true ⊎ Waits r (places q) p.notices
+      by_due r (inl o) = inl (over-later by_call (record { time = p.now; event = Due n }) p.events r o)
+      by_due r (inr w) = inr w
   change-fits {p = p} {q = q} (post_fell_due start source u queue e role a s n b by) g f =
       before-fits b
       (replaced p.registrations _ (places q) p.notices (emit (Enq u.registration queue u.continuation u.order) (emit (Due u.registration) p)).events s
       (line-fits (Enq u.registration queue u.continuation u.order) p.now p.registrations (with_queued u (without_start start (places p))) p.notices (emit (Due u.registration) p).events
-      (kept-fits (Due u.registration) p.now p.registrations (places p) (with_queued u (without_start start (places p))) p.notices p.notices p.events (λ r is w. inr (l.post_due p g start u.registration source e u r p.notices w)) f)))
+      (kept-fits (Due u.registration) p.now p.registrations (places p) (with_queued u (without_start start (places p))) p.notices p.notices p.events (λ r is w. inr (l.post_due p g start u.registration source e u refl r p.notices w)) f)))
   change-fits {p = p} {q = q} (dropped n d b) g f =
       before-fits b (kept-fits (Drop n) p.now p.registrations (places p) (places q) p.notices p.notices p.events (λ r role w. by_drop r (l.cancel d r p.notices role w)) f)
     where
-      by_drop : (r : ℕ) → (n ≡ r) ⊎ Waits r (places q) p.notices → was_done (record { time = p.now; event = Drop n } ∷ p.events) r ≡ true ⊎ Waits r (places q) p.notices
-      by_drop r (inl e) = inl (drop-does n r p.now p.events e)
+      by_drop : (r : ℕ) → (n ≡ r) ⊎ Waits r (places q) p.notices → over by_call (record { time = p.now; event = Drop n } ∷ p.events) r ≡ true ⊎ Waits r (places q) p.notices
+      by_drop r (inl e) = inl (drop-over by_call n r p.now p.events e)
       by_drop r (inr w) = inr w
   change-fits {p = p} (frame_dropped handle c e role) g f = line-fits (Drop c.registration) p.now p.registrations (places p) p.notices p.events f
   change-fits {p = p} {q = q} (task_dropped n role a e s b) g f =
       before-fits b (replaced p.registrations _ (places q) p.notices (emit (Drop n) p).events s (kept-fits (Drop n) p.now p.registrations (places p) (without_aborted n p) p.notices p.notices p.events (λ r is w. by_drop r (l.aborted n p r p.notices w)) f))
     where
-      by_drop : (r : ℕ) → (n ≡ r) ⊎ Waits r (without_aborted n p) p.notices → was_done (record { time = p.now; event = Drop n } ∷ p.events) r ≡ true ⊎ Waits r (without_aborted n p) p.notices
-      by_drop r (inl e) = inl (drop-does n r p.now p.events e)
+      by_drop : (r : ℕ) → (n ≡ r) ⊎ Waits r (without_aborted n p) p.notices → over by_call (record { time = p.now; event = Drop n } ∷ p.events) r ≡ true ⊎ Waits r (without_aborted n p) p.notices
+      by_drop r (inl e) = inl (drop-over by_call n r p.now p.events e)
       by_drop r (inr w) = inr w
   change-fits {p = p} (prio_told s priority ps c) g f = line-fits (Prio s priority) p.now p.registrations (places p) p.notices p.events f
   change-fits {p = p} (frame_asked u) g f =
@@ -269,20 +288,20 @@ module _ (k : RegKind) (Waits : ℕ → Places → Notices → Type 0) (K : Page
   change-fits {p = p} (noted n) g f = moved-fits p.registrations (places p) (places p) p.notices _ p.events (λ r role w. inr (l.jobs r (places p) p.notices (note_outstanding n p.notices) (noted-wait n p.notices) w)) f
 
   -- lines with the taking stand before the call
-  taken-events : (b : Beginning) (p : Page) (r : ℕ) → was_done p.events r ≡ true → was_done (taken b p).events r ≡ true
+  taken-events : (b : Beginning) (p : Page) (r : ℕ) → over by_call p.events r ≡ true → over by_call (taken b p).events r ≡ true
   taken-events b p r h = by_taking b
     where
-      by_taking : (b : Beginning) → was_done (taken b p).events r ≡ true
+      by_taking : (b : Beginning) → over by_call (taken b p).events r ≡ true
       by_taking (TheScript source task) = h
       by_taking (ATimer source task t) = h
       by_taking (AFrame key c) = h
-      by_taking (AnIdle c others) = done-later (record { time = p.now; event = IdleLine (deadline p.last_idle_start p) }) p.events r h
+      by_taking (AnIdle c others) = over-later by_call (record { time = p.now; event = IdleLine (deadline p.last_idle_start p) }) p.events r h
       by_taking (ALateIdle handle c) = h
       by_taking (AListener q) = h
-      by_taking (APost t) = done-later (record { time = p.now; event = Turn p.turns (Some Sched) }) p.events r h
-      by_taking (AContinuation t) = done-later (record { time = p.now; event = Turn p.turns (Some Sched) }) p.events r h
-      by_taking (AMicro job others q) = done-later (record { time = p.now; event = Run job.number }) p.events r h
-      by_taking (AReaction job others of x q) = done-later (record { time = p.now; event = Run job.number }) p.events r h
+      by_taking (APost t) = over-later by_call (record { time = p.now; event = Turn p.turns (Some Sched) }) p.events r h
+      by_taking (AContinuation t) = over-later by_call (record { time = p.now; event = Turn p.turns (Some Sched) }) p.events r h
+      by_taking (AMicro job others q) = over-later by_call (record { time = p.now; event = Run job.number }) p.events r h
+      by_taking (AReaction job others of x q) = over-later by_call (record { time = p.now; event = Run job.number }) p.events r h
 
   taken-made : (b : Beginning) (p : Page) → (taken b p).registrations ≡ p.registrations
   taken-made (TheScript source task) p = refl
@@ -296,38 +315,44 @@ module _ (k : RegKind) (Waits : ℕ → Places → Notices → Type 0) (K : Page
   taken-made (AMicro job others q) p = refl
   taken-made (AReaction job others of x q) p = refl
 
-  begins-fit : (b : Beginning) (p : Page) → K p → Waited b p → Fits p → Fits (call_begun (called_by b) (taken b p))
-  begins-fit b p g w f r one role = by_place (f r one old)
+  -- a call ends those that are called
+  abbrev CalledSo : Type 0
+  CalledSo =
+      (b : Beginning) (p : Page) → K p → Waited b p → (r : ℕ) → role_at p.registrations r ≡ OfKind k → Waits r (places p) p.notices
+      → (called_by b ≡ r) ⊎ Waits r (places (taken b p)) (taken b p).notices
+
+  begins-fit : by_call ≡ true → CalledSo → (b : Beginning) (p : Page) → K p → Waited b p → Fits p → Fits (call_begun (called_by b) (taken b p))
+  begins-fit ends called b p g w f r one role = by_place (f r one old)
     where
       old : role_at p.registrations r ≡ OfKind k
       old = ap {A = List Registration} {B = Role} (λ xs. role_at xs r) (sym (taken-made b p)) ∙ role
 
-      after : (called_by b ≡ r) ⊎ Waits r (places (taken b p)) (taken b p).notices → was_done (call_begun (called_by b) (taken b p)).events r ≡ true ⊎ Waits r (places (taken b p)) (taken b p).notices
-      after (inl e) = inl (call-does (called_by b) r (taken b p).now (taken b p).events e)
+      after : (called_by b ≡ r) ⊎ Waits r (places (taken b p)) (taken b p).notices → over by_call (call_begun (called_by b) (taken b p)).events r ≡ true ⊎ Waits r (places (taken b p)) (taken b p).notices
+      after (inl e) = inl (call-over by_call (called_by b) r (taken b p).now (taken b p).events ends e)
       after (inr v) = inr v
 
-      by_place : was_done p.events r ≡ true ⊎ Waits r (places p) p.notices → was_done (call_begun (called_by b) (taken b p)).events r ≡ true ⊎ Waits r (places (taken b p)) (taken b p).notices
-      by_place (inl d) = inl (done-later (record { time = (taken b p).now; event = Call (called_by b) }) (taken b p).events r (taken-events b p r d))
-      by_place (inr v) = after (l.called b p g w r old v)
+      by_place : over by_call p.events r ≡ true ⊎ Waits r (places p) p.notices → over by_call (call_begun (called_by b) (taken b p)).events r ≡ true ⊎ Waits r (places (taken b p)) (taken b p).notices
+      by_place (inl d) = inl (over-later by_call (record { time = (taken b p).now; event = Call (called_by b) }) (taken b p).events r (taken-events b p r d))
+      by_place (inr v) = after (called b p g w r old v)
 
   -- the line of what was armed
-  arm-fits : {p q s : Page} (c : PageChange p q) (d : PageChange q s) → Tells c d → Fits q → Fits s
+  pub arm-fits : {p q s : Page} (c : PageChange p q) (d : PageChange q s) → Tells c d → Fits q → Fits s
   arm-fits {q = q} (made_one j x e unframed u b at) (arm_told r due level w well) h f = said (Arm r due level) q f
   arm-fits {q = q} (elsewhere c b made) (arm_told r due level w well) h f = said (Arm r due level) q f
   arm-fits c d h f = elim h [ ]
 
-  pub moves-over : ((p q : Page) → Moves p q → K p → K q) → {p q : Page} → Moves p q → K p → Fits p → Fits q
-  moves-over keep here g f = f
-  moves-over keep {p = p} (changing {q = q} a c plain) g f = change-fits c (keep p q a g) (moves-over keep a g f)
-  moves-over keep {p = p} (arming {q = q} a c d w) g f = arm-fits c d w (change-fits c (keep p q a g) (moves-over keep a g f))
-  moves-over keep {p = p} (calling {q = q} a b w i) g f = begins-fit b q (keep p q a g) w (moves-over keep a g f)
-  moves-over keep {p = p} (ending {q = q} a e h) g f = said e q (moves-over keep a g f)
-  moves-over keep {p = p} (flagging {q = q} {r = r} a x y z w u v t j) g f =
+  pub moves-over : by_call ≡ true → CalledSo → ((p q : Page) → Moves p q → K p → K q) → {p q : Page} → Moves p q → K p → Fits p → Fits q
+  moves-over ends called keep here g f = f
+  moves-over ends called keep {p = p} (changing {q = q} a c plain) g f = change-fits c (keep p q a g) (moves-over ends called keep a g f)
+  moves-over ends called keep {p = p} (arming {q = q} a c d w) g f = arm-fits c d w (change-fits c (keep p q a g) (moves-over ends called keep a g f))
+  moves-over ends called keep {p = p} (calling {q = q} a b w i) g f = begins-fit ends called b q (keep p q a g) w (moves-over ends called keep a g f)
+  moves-over ends called keep {p = p} (ending {q = q} a e h) g f = said e q (moves-over ends called keep a g f)
+  moves-over ends called keep {p = p} (flagging {q = q} {r = r} a x y z w u v t j) g f =
       subst (λ (s : Notices). FitsBy r.registrations (places r) s r.events) (sym x)
       (subst (λ (xs : List Registration). FitsBy xs (places r) q.notices r.events) (sym z)
-      (replaced q.registrations (places q) (places r) q.notices r.events u (subst (FitsBy q.registrations (places q) q.notices) (sym y) (moves-over keep a g f))))
-  moves-over keep {p = p} (running {q = q} a j others x y nm) g f =
+      (replaced q.registrations (places q) (places r) q.notices r.events u (subst (FitsBy q.registrations (places q) q.notices) (sym y) (moves-over ends called keep a g f))))
+  moves-over ends called keep {p = p} (running {q = q} a j others x y nm) g f =
       line-fits (Run j.number) q.now q.registrations (places q) (record q.notices { jobs = others }) q.events
-      (moved-fits q.registrations (places q) (places q) q.notices (record q.notices { jobs = others }) q.events (λ r role w. inr (l.run j others r (places q) q.notices x nm w)) (moves-over keep a g f))
-  moves-over keep {p = p} (framing {q = q} a n) g f = said (Frame n) q (moves-over keep a g f)
-  moves-over keep {p = p} (idling a none) g f = moves-over keep a g f
+      (moved-fits q.registrations (places q) (places q) q.notices (record q.notices { jobs = others }) q.events (λ r role w. inr (l.run j others r (places q) q.notices x nm w)) (moves-over ends called keep a g f))
+  moves-over ends called keep {p = p} (framing {q = q} a n) g f = said (Frame n) q (moves-over ends called keep a g f)
+  moves-over ends called keep {p = p} (idling a none) g f = moves-over ends called keep a g f

@@ -14,6 +14,7 @@ use Rattle.page_parts.specs.TaskSignals.{Prios}
 use Rattle.page_model.specs.State.{Page, Registration, Completion, Completing, QueueTimer, EnqueuePost, QueueSignal, on_notices, context}
 use Rattle.page_model.specs.Invoke.{register_as}
 use Rattle.page_model.specs.Turns.{first_page}
+use Rattle.page_laws.specs.History.{History}
 use Rattle.page_laws.specs.Moves.{completions_but, IsIn, IsMade, IsDueBy, Places, places, PlaceChange, places_stay, task_queued, task_left, armed_again, signal_armed, id_cleared, idle_armed, completed, idle_started, idle_queued, DueChange, timer_due, delay_due, signal_due, idle_due, answer_due, Dropping, timer_dropped, idle_dropped, listener_dropped, FirstPlace, nowhere, at_listener, at_timer, at_delay, at_idle, at_host, PageChange, elsewhere, told, arm_told, rested, registered as made_one, promised, settled, followed, adopted, subscribed, micro_asked, then_asked, answered, dropped, frame_dropped, frame_asked, rejected_taken, noted, Beginning, TheScript, ATimer, AFrame, AnIdle, ALateIdle, AListener, APost, AContinuation, AMicro, AReaction, taken, task_dropped, enqueued_anew, fell_due, post_fell_due, prio_told, Moves, here, changing, arming, calling, ending, flagging, running, framing, idling}
 use Rattle.page_laws.proofs.Over.{in_front, in_still, is-last}
 use Rattle.page_laws.proofs.Ready.{emit_each-places, in-fewer, in-last}
@@ -76,12 +77,12 @@ first-places {x = x} (at_delay ms now n source e h) f = more-paired (suc x.timer
 first-places (at_idle n e) f = f
 first-places (at_host c a e there live) f = f
 
-due-paired : {made : List Registration} {r : ℕ} {x y : Places} (d : DueChange made r x y) → (now : ℕ) → IsDueBy now d → ByPlaces x → ByPlaces y
-due-paired {x = x} (timer_due start number source t e i role) now by f = fewer-paired start x.completions x.timers.active f
-due-paired {x = x} (delay_due start source e role) now by f = fewer-paired start x.completions x.timers.active f
-due-paired {x = x} (signal_due start s e role) now by f = fewer-paired start x.completions x.timers.active f
-due-paired (idle_due t number source i e role) now by f = f
-due-paired (answer_due before a after number source e i role) now by f = f
+due-paired : {made : List Registration} {r : ℕ} {x y : Places} (d : DueChange made r x y) → (now : ℕ) (lines : History) → IsDueBy now lines d → ByPlaces x → ByPlaces y
+due-paired {x = x} (timer_due start number source t e i role) now lines by f = fewer-paired start x.completions x.timers.active f
+due-paired {x = x} (delay_due start source e role) now lines by f = fewer-paired start x.completions x.timers.active f
+due-paired {x = x} (signal_due start s e role) now lines by f = fewer-paired start x.completions x.timers.active f
+due-paired (idle_due t number source i e role) now lines by f = f
+due-paired (answer_due before a after number source e i role) now lines by f = f
 
 drop-paired : {made : List Registration} {r : ℕ} {x y : Places} → Dropping made r x y → ByPlaces x → ByPlaces y
 drop-paired (timer_dropped id there e own) f = f
@@ -99,7 +100,7 @@ change-paired (rested e h x y z over begun done) f = f
 change-paired (answered source task u answer x y live z b) f = subst ByPlaces (sym z) f
 change-paired (made_one k x e unframed u b at) f = first-places u f
 change-paired (enqueued_anew k x u queue e i s n b) f = subst ByPlaces (sym s) f
-change-paired {p = p} (fell_due r d b by) f = due-paired d p.now by f
+change-paired {p = p} (fell_due r d b by) f = due-paired d p.now p.events by f
 change-paired {p = p} (post_fell_due start source u queue e role a s n b by) f = subst ByPlaces (sym s) (fewer-paired start p.completions p.timers.active f)
 change-paired (dropped r d b) f = drop-paired d f
 change-paired (frame_dropped handle c e role) f = f

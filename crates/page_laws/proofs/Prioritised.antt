@@ -6,7 +6,7 @@ use Rattle.page_types.specs.declared.Priority.{Priority}
 use Rattle.page_parts.specs.Words.{and_last, is_there}
 use Rattle.page_parts.specs.TaskSignals.{PrioRecord, Prios, record_of, priority_of, changed_at, give, begun, ended, depend}
 use Rattle.page_model.specs.Numbers.{Made, Each, PrioIsGiven}
-use Rattle.page_laws.specs.Moves.{PrioSet}
+use Rattle.page_laws.specs.Scheduling.{PrioSet}
 use Rattle.page_laws.proofs.Finding.{false_true, same_number}
 
 -- a signal that was not made has no priority

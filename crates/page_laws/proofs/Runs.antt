@@ -5,19 +5,25 @@ use Rattle.page_model.proofs.NumbersRuns.{job_begun-held, resolve_derived-held, 
 use Rattle.page_model.specs.PageCombinators.{lead_into, pass_on}
 use Rattle.page_types.specs.declared.RegKind.TheVariants.{Then as ThenKind, Listener as ListenerKind}
 use Rattle.lang_meaning.specs.Machine.{Caller, Done, Gives, OutOfFuel, Returns, Throws, afterwards, and_then, branch, finish, take_unit, with_fuel}
-use Rattle.page_laws.proofs.Evaluating.{Le, Onto, Reached, entered, keeping, le-same, le-then, on_page-reached, call_over}
-use Rattle.page_laws.proofs.Going.{CallsHold, Holds, afterwards-holds, and_then-holds, branch-holds, finish-holds, wider}
-use Rattle.page_laws.proofs.Lines.{Same, changes-same}
-use Rattle.page_laws.proofs.Idling.{all-go, goes-same, job-goes_on}
-use Rattle.page_laws.proofs.Framed.{FramesKept, Ordered, changes-kept, kept-same, kept-then, quiet, step-kept}
-use Rattle.page_laws.proofs.Moved.{notify_rejected-changes, quietly, report_after-changes, report_before-changes}
+use Rattle.page_laws.proofs.Watches.{among}
+use Rattle.page_laws.proofs.Watching.{PostsWatched, reason-posts}
+use Rattle.page_laws.proofs.Intervals.{LivesStay, TimersWait, kept-later, lives-same, waits-same, IsNoTimer, TimersKept, begins-timers, changes-timers, ended-timers, job-timers, timers-same, timers-then}
+use Rattle.page_laws.proofs.Evaluating.{Le, Loose, loose, loose-then, Onto, Reached, entered, keeping, le-same, le-then, on_page-reached, call_over}
+use Rattle.page_laws.proofs.Following.{Following}
+use Rattle.page_laws.proofs.Tracking.{AtZero, FitsCall, Told, Tracks, Went, begin-tracks, changes-following, changes-level, changes-track, frame-following, in_turn, job-tracks, outside, reset-following, told-then, told-went, tracks-same, tracks-then, went-ended, went-then, went-tracks}
+use Rattle.page_laws.proofs.Following as following
+use Rattle.page_laws.proofs.Going.{Holds, afterwards-holds, and_then-holds, branch-holds, finish-holds, wider}
+use Rattle.page_laws.proofs.Lines.{Same, begins-same, change-same, changes-same, same-then}
+use Rattle.page_laws.proofs.Idling.{change-goes as change-goes-on, all-go, goes-same, job-goes_on}
+use Rattle.page_laws.proofs.Framed.{FramesKept, Ordered, change-kept, changes-kept, kept-same, kept-then, quiet, step-kept}
+use Rattle.page_laws.proofs.Moved.{emit_aborts, reason_set-change, notify_rejected-changes, quietly, report_after-changes, report_before-changes}
 use Rattle.page_laws.proofs.Moving.{moves-then, moves_of}
-use Rattle.page_laws.proofs.Onto.{change_begun-onto, change_ended-onto, reason_set-onto, reject-onto, resolve-onto, run_algorithms-onto, settle-onto, subscribe-onto}
-use Rattle.page_laws.specs.Moves.{is_micro, Changes, AListener, AMicro, AReaction, Beginning, Moves, Waited, called_by, calling, ending, flagging, here, role_of, running, taken}
+use Rattle.page_laws.proofs.Onto.{change_begun-onto, change_ended-onto, reject-onto, resolve-onto, run_algorithms-runs, settle-onto, subscribe-onto}
+use Rattle.page_laws.specs.Moves.{changing, is_micro, Changes, AListener, AMicro, AReaction, Beginning, Moves, Waited, called_by, calling, ending, flagging, here, role_of, running, taken}
 use Rattle.page_model.proofs.NumbersEvaluation as numbers
 use Rattle.page_model.proofs.NumbersEvaluation.{Good, each, every, on_page-good}
 use Rattle.page_model.proofs.NumbersGrow.{Each-append, Each-more, Grows-then, Held, InListeners, InNotices, InPrios, InScheduling, InSignals, IsFor-grows, IsKnown-grows, Onward, if_state-grows, promise-grows, signal-grows, signals-grow, stays, values-grow}
-use Rattle.page_model.proofs.NumbersPages.{cond-onward, put_notices, put_scheduling, queue_task-held, the_registration-given, call_begun-held, call_ended-held}
+use Rattle.page_model.proofs.NumbersPages.{reason_set-held, cond-onward, put_notices, put_scheduling, queue_task-held, the_registration-given, call_begun-held, call_ended-held}
 use Rattle.page_model.proofs.NumbersParts.{followers-known, items-known, marked-given, snapshot-given, the_promise-given}
 use Rattle.page_model.specs.Invoke.{AfterCheckpoint, BeforeCheckpoint, Never, Ways, WhenReported, begin_job, call_back, callback_of, checkpoint, checkpoint_begun, checkpoint_ended, end_of_callback, in_checkpoint, in_script, in_task, invoke, notify_rejected, perform_checkpoint, react, react_by, react_then, report_after, report_before, run_job, run_jobs, run_oldest, settle_derived, thrown, when_reported, with_scheduling, call_ended, job_begun, settle_by, resolve_derived, handler_arguments, call_begun}
 use Rattle.page_model.specs.Numbers.{AreKnown, Each, Grows, IfThere, IsFor, IsGiven, IsKnown, JobIsGiven, Made, NoticesAreGiven, ReactionIsGiven, RegistrationIsGiven, TodoIsGiven, made_by}
@@ -38,7 +44,8 @@ use Rattle.page_types.specs.Values.{SignalValue, Value, items_of}
 use Rattle.page_types.specs.declared.Priority.{Priority}
 use Rattle.page_types.specs.declared.Source.TheVariants.{Dom}
 use Rattle.std.proofs.Common.{Bool, List, None, Option, Some, [], ap, cond, false, length, refl, subst, suc, sym, true, zero, ℕ, ◌++◌, ◌||◌, ◌∙◌, ◌∷◌, ◌≡◌, map}
-use Rattle.std.specs.Prelude.{codes}
+use Rattle.page_laws.proofs.Scans.{Kept}
+use Rattle.std.specs.Prelude.{codes, ◌==◌}
 use Rattle.page_laws.specs.History.{open_registrations}
 use Rattle.page_model.specs.PagePromises as promises
 use Rattle.page_parts.specs.TaskSignals as TaskSignals
@@ -83,6 +90,9 @@ pub priority_value-known : (n : Made) (o : Option Priority) → IsKnown n (prior
 priority_value-known n None = tt
 priority_value-known n (Some priority) = tt
 
+called_open : (r : ℕ) (calls : List ℕ) → r ∷ calls ≡ [] → ⊥
+called_open r calls e = Prim.cc
+
 -- no call is open
 abbrev pub NoneOpen : State → Type 0
 NoneOpen m = open_registrations m.host.events ≡ []
@@ -91,8 +101,20 @@ NoneOpen m = open_registrations m.host.events ≡ []
 abbrev pub AtTop : State → Type 0
 AtTop m = NoneOpen m × m.host.performing ≡ false × Ordered m.host
 
-pub none_open-later : (m r : State) → Le m r → NoneOpen m → NoneOpen r
-none_open-later m r le x = le.2.0 ∙ x
+-- there, at level 0, which follows the lines
+abbrev pub AtZeroTop : State → Type 0
+AtZeroTop m = AtTop m × m.host.level ≡ 0 × Following m.host
+
+-- no call is open in a checkpoint
+abbrev pub InCheckpoint : State → Type 0
+InCheckpoint m = NoneOpen m × m.host.performing ≡ true
+
+-- a call is open
+abbrev pub IsOpen : State → Type 0
+IsOpen m = open_registrations m.host.events ≡ [] → ⊥
+
+in_checkpoint-later : (m r : State) → Le m r → InCheckpoint m → InCheckpoint r
+in_checkpoint-later m r le x = (le.2.0 ∙ x.0, le.2.1 ∙ x.1)
 
 pub at_top-later : (m r : State) → Same m.host r.host → FramesKept m.host r.host → AtTop m → AtTop r
 at_top-later m r s k x = (s.0 ∙ x.0, s.1 ∙ x.1, k.ordered x.2)
@@ -148,19 +170,26 @@ checkpoint-clears call m e = by_flag m.host.performing e
     by_flag false x = by_jobs (run_jobs call (suc m.fuel) (on_page checkpoint_begun m)) (run_jobs-clears call (suc m.fuel) (on_page checkpoint_begun m))
 
 module _ (program : Program) where
-  abbrev pub CallsGo : Caller Page → Type 0
-  CallsGo call = CallsHold (keeping program) call
-
   abbrev pub Goes : State → Done Page → Type 0
   Goes m d = Holds (keeping program) m d
+
+  -- functions of the script are called in a call of a registration
+  abbrev pub CallsGo : Caller Page → Type 0
+  CallsGo call = (f : ℕ) (args : List Value) (m : State) → Good m → IsOpen m → Each (IsKnown (made_by m.host)) args → Goes m (call f args m)
 
   -- how functions are called, and where what comes after a callback goes on
   pub record WaysGo (w : Ways) : Type 1 where
     pub Here : State → Type 0
     pub later : (m r : State) → Le m r → Here m → Here r
+    pub passes : (m r : State) → Loose m r → Tracks m.host r.host → Here m → Here r
     pub framed : (t : ℕ) (m : State) → Here m → Here (on_page (emit (Frame t)) m)
+    pub fits : (m : State) → Here m → AtZero m.host
     pub call : CallsGo w.call
-    pub after : (m : State) → Good m → Here m → Goes m (w.after m)
+    -- behind a call
+    pub There : State → Type 0
+    pub there : (m : State) → Here m → There m
+    pub over : (m r : State) → Loose m r → There m → There r
+    pub after : (m : State) → Good m → There m → Goes m (w.after m)
 
   -- ---- ways to put steps together
 
@@ -185,58 +214,61 @@ module _ (program : Program) where
 
   -- ---- callbacks
 
-  -- where a step ends that is behind e by a row of moves
-  abbrev pub Came : State → Done Page → Type 0
-  Came e (Gives v r) = Moves e.host r.host
-  Came e (Throws v r) = Moves e.host r.host
-  Came e (Returns v r) = Moves e.host r.host
-  Came e (OutOfFuel r) = Unit {0}
+  -- where a step from m ends that went through e: behind both by a row of moves, and behind e intervals went on waiting
+  abbrev pub WentOn : State → State → Done Page → Type 0
+  WentOn m e (Gives v r) = Loose m r × Good r × IsKnown (made_by r.host) v × Moves e.host r.host × TimersKept e.host r.host × Went m.host e.host r.host
+  WentOn m e (Throws v r) = Loose m r × Good r × IsKnown (made_by r.host) v × Moves e.host r.host × TimersKept e.host r.host × Went m.host e.host r.host
+  WentOn m e (Returns v r) = Loose m r × Good r × IsKnown (made_by r.host) v × Moves e.host r.host × TimersKept e.host r.host × Went m.host e.host r.host
+  WentOn m e (OutOfFuel r) = Moves m.host r.host × Told e.host r.host
 
-  came : (e m : State) (d : Done Page) → Moves e.host m.host → Goes m d → Came e d
-  came e m (Gives v r) a h = moves-then a h.0.1
-  came e m (Throws v r) a h = moves-then a h.0.1
-  came e m (Returns v r) a h = moves-then a h.0.1
-  came e m (OutOfFuel r) a h = tt
+  pub goes-on : (m e n : State) (d : Done Page) → Loose m n → Moves e.host n.host → TimersKept e.host n.host → Went m.host e.host n.host → Goes n d → WentOn m e d
+  goes-on m e n (Gives v r) le a k w h = (loose-then m n r le (loose n r h.0), h.1, h.2, moves-then a h.0.1, timers-then a k h.0.5, went-then m.host e.host n.host r.host le.2 h.0.2 w h.0.6)
+  goes-on m e n (Throws v r) le a k w h = (loose-then m n r le (loose n r h.0), h.1, h.2, moves-then a h.0.1, timers-then a k h.0.5, went-then m.host e.host n.host r.host le.2 h.0.2 w h.0.6)
+  goes-on m e n (Returns v r) le a k w h = (loose-then m n r le (loose n r h.0), h.1, h.2, moves-then a h.0.1, timers-then a k h.0.5, went-then m.host e.host n.host r.host le.2 h.0.2 w h.0.6)
+  goes-on m e n (OutOfFuel r) le a k w h = (moves-then le.1 h.0, told-went m.host e.host n.host r.host w h.1)
 
-  pub afterwards-comes : (e m : State) (d : Done Page) (next : State → Done Page) → Goes m d → Came e d → ((r : State) → Le m r → Moves e.host r.host → Good r → Goes r (next r)) → Goes m (afterwards d next)
-  afterwards-comes e m (Gives v r) next h k q = wide m r (next r) h.0 (q r h.0 k h.1)
-  afterwards-comes e m (Throws v r) next h k q = wide m r (next r) h.0 (q r h.0 k h.1)
-  afterwards-comes e m (Returns v r) next h k q = wide m r (next r) h.0 (q r h.0 k h.1)
-  afterwards-comes e m (OutOfFuel r) next h k q = h
+  -- where intervals went on waiting up to e, they do so up to the end
+  pub went-goes : (m e : State) (d : Done Page) → Moves m.host e.host → TimersKept m.host e.host → e.host.form ≡ m.host.form → Tracks m.host e.host → WentOn m e d → Goes m d
+  went-goes m e (Gives v r) a k form t h = ((h.0.0, h.0.1, h.0.2, h.0.3, h.0.4, timers-then a k h.4, went-tracks m.host e.host r.host form t h.5), h.1, h.2)
+  went-goes m e (Throws v r) a k form t h = ((h.0.0, h.0.1, h.0.2, h.0.3, h.0.4, timers-then a k h.4, went-tracks m.host e.host r.host form t h.5), h.1, h.2)
+  went-goes m e (Returns v r) a k form t h = ((h.0.0, h.0.1, h.0.2, h.0.3, h.0.4, timers-then a k h.4, went-tracks m.host e.host r.host form t h.5), h.1, h.2)
+  went-goes m e (OutOfFuel r) a k form t h = (h.0, λ f. subst (λ (n : ℕ). Kept (following.levels n) r.host.events) form (h.1 (t.follows f)))
 
   -- a callback that waited is called behind m; where it ends, the same calls are open as in m, and it ends behind its call
-  end_of_callback-goes : (w : Ways) (a : WaysGo w) → (b : Beginning) (when : WhenReported) (m : State) (d : Done Page) → Good m → a.Here m → Waited b m.host → IsFor (role_of b) (made_by m.host) (called_by b) → Grows (made_by m.host) (made_by (taken b m.host)) → Goes (entered b m) d → Goes m (end_of_callback w.after when d) × Came (entered b m) (end_of_callback w.after when d)
+  end_of_callback-goes : (w : Ways) (a : WaysGo w) → (b : Beginning) (when : WhenReported) (m : State) (d : Done Page) → Good m → a.There m → Waited b m.host → IsFor (role_of b) (made_by m.host) (called_by b) → Grows (made_by m.host) (made_by (taken b m.host)) → Goes (entered b m) d → WentOn m (entered b m) (end_of_callback w.after when d)
   end_of_callback-goes w a b when m (Gives v s) g x y i gr h =
       let ended = on_page (call_ended Ret) s in
       let good : Good ended = (numbers.on_page-good s (call_ended Ret) h.1 (call_ended-held Ret s.host h.1.0)).1 in
-      let le : Le m ended = call_over b m s Ret refl (λ calls. refl) gr y i h.0 in
-      let last : Goes ended (end_of_callback w.after when (Gives v s)) = and_then-holds (keeping program) ended (w.after ended) _ (a.after ended good (a.later m ended le x)) (λ u t le' gt k. (le-same t, gt, IsKnown-grows (made_by s.host) (made_by t.host) le'.0 v h.2)) in
-      (wide m ended _ le last, came (entered b m) ended _ (ending h.0.1 Ret refl) last)
+      let le : Loose m ended = call_over b m s Ret refl (λ calls. refl) gr y i h.0 in
+      let last : Goes ended (end_of_callback w.after when (Gives v s)) = and_then-holds (keeping program) ended (w.after ended) _ (a.after ended good (a.over m ended le x)) (λ u t le' gt k. (le-same t, gt, IsKnown-grows (made_by s.host) (made_by t.host) le'.0 v h.2)) in
+      goes-on m (entered b m) ended _ le (ending h.0.1 Ret refl) (timers-then h.0.1 h.0.5 (ended-timers Ret s.host)) (went-ended m.host (taken b m.host) s.host (called_by b) Ret refl h.0.2 h.0.6) last
   end_of_callback-goes w a b when m (Returns v s) g x y i gr h =
       let ended = on_page (call_ended Ret) s in
       let good : Good ended = (numbers.on_page-good s (call_ended Ret) h.1 (call_ended-held Ret s.host h.1.0)).1 in
-      let le : Le m ended = call_over b m s Ret refl (λ calls. refl) gr y i h.0 in
-      let last : Goes ended (end_of_callback w.after when (Returns v s)) = and_then-holds (keeping program) ended (w.after ended) _ (a.after ended good (a.later m ended le x)) (λ u t le' gt k. (le-same t, gt, IsKnown-grows (made_by s.host) (made_by t.host) le'.0 v h.2)) in
-      (wide m ended _ le last, came (entered b m) ended _ (ending h.0.1 Ret refl) last)
+      let le : Loose m ended = call_over b m s Ret refl (λ calls. refl) gr y i h.0 in
+      let last : Goes ended (end_of_callback w.after when (Returns v s)) = and_then-holds (keeping program) ended (w.after ended) _ (a.after ended good (a.over m ended le x)) (λ u t le' gt k. (le-same t, gt, IsKnown-grows (made_by s.host) (made_by t.host) le'.0 v h.2)) in
+      goes-on m (entered b m) ended _ le (ending h.0.1 Ret refl) (timers-then h.0.1 h.0.5 (ended-timers Ret s.host)) (went-ended m.host (taken b m.host) s.host (called_by b) Ret refl h.0.2 h.0.6) last
   end_of_callback-goes w a b when m (Throws v s) g x y i gr h =
+      let line : Event = Throw (spelled s.host.names v) in
       let ended = on_page (thrown v) s in
       let good : Good ended = (numbers.on_page-good s (thrown v) h.1 (call_ended-held (Throw (spelled s.host.names v)) s.host h.1.0)).1 in
-      let le : Le m ended = call_over b m s (Throw (spelled s.host.names v)) refl (λ calls. refl) gr y i h.0 in
+      let le : Loose m ended = call_over b m s (Throw (spelled s.host.names v)) refl (λ calls. refl) gr y i h.0 in
       let before = on_page (report_before when v) ended in
       let told_one : Reached ended before = on_page-reached ended (report_before when v) good (report_before-onto when v ended.host good.0) in
-      let le' : Le m before = le-then m ended before le told_one.0 in
-      let last : Goes before (end_of_callback w.after when (Throws v s)) = and_then-holds (keeping program) before (w.after before) _ (a.after before told_one.1 (a.later m before le' x))
+      let le' : Loose m before = loose-then m ended before le (loose ended before told_one.0) in
+      let last : Goes before (end_of_callback w.after when (Throws v s)) = and_then-holds (keeping program) before (w.after before) _ (a.after before told_one.1 (a.over m before le' x))
       (λ u t le'' gt k.
       let c = on_page-reached t (report_after when v) gt (report_after-onto when v t.host gt.0) in
       (c.0, c.1, IsKnown-grows (made_by s.host) (made_by (report_after when v t.host)) (Grows-then (made_by s.host) (made_by t.host) (made_by (report_after when v t.host)) (Grows-then (made_by s.host) (made_by before.host) (made_by t.host) told_one.0.0 le''.0) c.0.0) v h.2)) in
-      (wide m before _ le' last, came (entered b m) before _ (moves-then (ending h.0.1 (Throw (spelled s.host.names v)) refl) told_one.0.1) last)
-  end_of_callback-goes w a b when m (OutOfFuel s) g x y i gr h = (moves-then (calling here b y i) h, tt)
+      goes-on m (entered b m) before _ le' (moves-then (ending h.0.1 (Throw (spelled s.host.names v)) refl) told_one.0.1)
+      (timers-then (ending h.0.1 (Throw (spelled s.host.names v)) refl) (timers-then h.0.1 h.0.5 (ended-timers (Throw (spelled s.host.names v)) s.host)) told_one.0.5)
+      (went-then m.host (entered b m).host ended.host before.host le.2 told_one.0.2 (went-ended m.host (taken b m.host) s.host (called_by b) (Throw (spelled s.host.names v)) refl h.0.2 h.0.6) told_one.0.6) last
+  end_of_callback-goes w a b when m (OutOfFuel s) g x y i gr h = (moves-then (calling here b y i) h.0, h.1)
 
-  call_back-goes : (call : Caller Page) → CallsGo call → (f : Option Func) (args : List Value) (m : State) → Good m → IfThere (λ f. AreKnown (made_by m.host) f.bound) f → Each (IsKnown (made_by m.host)) args → Goes m (call_back call f args m)
-  call_back-goes call c None args m g b k = finish-goes m g
-  call_back-goes call c (Some f) args m g b k =
-      c f.function (items_of f.bound ++ args) m g
-      (every (IsKnown (made_by m.host)) (items_of f.bound ++ args) (Each-append (IsKnown (made_by m.host)) (items_of f.bound) args (items-known (made_by m.host) f.bound b) k))
+  call_back-goes : (call : Caller Page) → CallsGo call → (f : Option Func) (args : List Value) (m : State) → Good m → IsOpen m → IfThere (λ f. AreKnown (made_by m.host) f.bound) f → Each (IsKnown (made_by m.host)) args → Goes m (call_back call f args m)
+  call_back-goes call c None args m g x b k = finish-goes m g
+  call_back-goes call c (Some f) args m g x b k =
+      c f.function (items_of f.bound ++ args) m g x (Each-append (IsKnown (made_by m.host)) (items_of f.bound) args (items-known (made_by m.host) f.bound b) k)
 
   -- the callback of what waited at b is called
   pub entered-goes : (w : Ways) (a : WaysGo w) → (b : Beginning) (second : Bool) (args : List Value) (m : State) → Good m → IsFor (role_of b) (made_by m.host) (called_by b) → Onward (made_by m.host) (taken b m.host) → Each (IsKnown (made_by m.host)) args → Goes (entered b m) (call_back w.call (callback_of second (the_registration (taken b m.host) (called_by b))) args (entered b m))
@@ -246,21 +278,20 @@ module _ (program : Program) where
       let registered = IsFor-grows (made_by m.host) (made_by n.host) there.0 (role_of b) (called_by b) i in
       let called : Good (entered b m) = (numbers.on_page-good n (call_begun (called_by b)) there.1 (call_begun-held (called_by b) n.host there.1.0 registered.registration)).1 in
       let registration = the_registration n.host (called_by b) in
-      call_back-goes w.call a.call (callback_of second registration) args (entered b m) called (callback_of-given (made_by n.host) second registration (the_registration-given n.host (called_by b) there.1.0)) (values-grow (made_by m.host) (made_by n.host) there.0 args k)
+      call_back-goes w.call a.call (callback_of second registration) args (entered b m) called (called_open (called_by b) (open_registrations n.host.events)) (callback_of-given (made_by n.host) second registration (the_registration-given n.host (called_by b) there.1.0)) (values-grow (made_by m.host) (made_by n.host) there.0 args k)
 
   -- what waited at b is taken and invoked
-  invoked-goes : (w : Ways) (a : WaysGo w) → (b : Beginning) (second : Bool) (args : List Value) (m : State) → Good m → a.Here m → Waited b m.host → IsFor (role_of b) (made_by m.host) (called_by b) → Onward (made_by m.host) (taken b m.host) → Each (IsKnown (made_by m.host)) args → Goes m (invoke w (called_by b) second args (on_page (taken b) m)) × Came (entered b m) (invoke w (called_by b) second args (on_page (taken b) m))
+  pub invoked-goes : (w : Ways) (a : WaysGo w) → (b : Beginning) (second : Bool) (args : List Value) (m : State) → Good m → a.There m → Waited b m.host → IsFor (role_of b) (made_by m.host) (called_by b) → Onward (made_by m.host) (taken b m.host) → Each (IsKnown (made_by m.host)) args → WentOn m (entered b m) (invoke w (called_by b) second args (on_page (taken b) m))
   invoked-goes w a b second args m g x y i o k =
       let there = numbers.on_page-good m (taken b) g o in
       let registration = the_registration (taken b m.host) (called_by b) in
       end_of_callback-goes w a b (when_reported registration.role) m (call_back w.call (callback_of second registration) args (entered b m)) g x y i there.0
       (entered-goes w a b second args m g i o k)
 
-  pub invoke-goes : (w : Ways) (a : WaysGo w) → (b : Beginning) (second : Bool) (args : List Value) (m : State) → Good m → a.Here m → Waited b m.host → IsFor (role_of b) (made_by m.host) (called_by b) → Onward (made_by m.host) (taken b m.host) → Each (IsKnown (made_by m.host)) args → Goes m (invoke w (called_by b) second args (on_page (taken b) m))
-  invoke-goes w a b second args m g x y i o k = (invoked-goes w a b second args m g x y i o k).0
-
-  pub invoke-comes : (w : Ways) (a : WaysGo w) → (b : Beginning) (second : Bool) (args : List Value) (m : State) → Good m → a.Here m → Waited b m.host → IsFor (role_of b) (made_by m.host) (called_by b) → Onward (made_by m.host) (taken b m.host) → Each (IsKnown (made_by m.host)) args → Came (entered b m) (invoke w (called_by b) second args (on_page (taken b) m))
-  invoke-comes w a b second args m g x y i o k = (invoked-goes w a b second args m g x y i o k).1
+  -- where it is no timer's callback, intervals go on waiting
+  pub invoke-goes : (w : Ways) (a : WaysGo w) → (b : Beginning) → IsNoTimer b → (second : Bool) (args : List Value) (m : State) → Good m → a.There m → Waited b m.host → IsFor (role_of b) (made_by m.host) (called_by b) → Onward (made_by m.host) (taken b m.host) → Each (IsKnown (made_by m.host)) args → FitsCall b m.host → Goes m (invoke w (called_by b) second args (on_page (taken b) m))
+  invoke-goes w a b other second args m g x y i o k fits =
+      went-goes m (entered b m) _ (calling here b y i) (begins-timers b m.host other y) (begins-same b m.host).2 (begin-tracks b m.host y i fits) (invoked-goes w a b second args m g x y i o k)
 
   -- one way or the other, by a test
   pub branch_when-goes : (b : Bool) (m : State) (then else : State → Done Page) → (b ≡ true → Goes m (then m)) → (b ≡ false → Goes m (else m)) → Goes m (branch b m then else)
@@ -268,7 +299,19 @@ module _ (program : Program) where
   branch_when-goes false m then else h k = k refl
 
   abbrev in_checkpoint-goes : (call : Caller Page) → CallsGo call → WaysGo (in_checkpoint call)
-  in_checkpoint-goes call c = record { Here = λ m. Unit {0}; later = λ m r le x. tt; framed = λ t m x. tt; call = c; after = λ m g x. finish-goes m g }
+  in_checkpoint-goes call c =
+      record {
+        Here = λ m. ⊥;
+        later = λ m r le x. x;
+        passes = λ m r le k x. x;
+        framed = λ t m x. x;
+        fits = λ m x. elim x [ ];
+        call = c;
+        There = λ m. Unit {0};
+        there = λ m x. tt;
+        over = λ m r le x. tt;
+        after = λ m g x. finish-goes m g;
+      }
 
   -- ---- jobs
 
@@ -282,6 +325,20 @@ module _ (program : Program) where
 
   pub settle_derived-goes : (into : ℕ) (m : State) (d : Done Page) → IsGiven (length m.host.notices.promises) into → Goes m d → Goes m (settle_derived into d)
   settle_derived-goes into m d x h = settle_by-goes (promises.resolve into) into m d (λ v r le gr k. resolve-onto into v r.host gr.0 (promise-grows (made_by m.host) (made_by r.host) le.0 into x) k) x h
+
+  -- the same of what went on through e
+  pub settle_derived-went : (into : ℕ) (m e : State) (d : Done Page) → IsGiven (length m.host.notices.promises) into → WentOn m e d → WentOn m e (settle_derived into d)
+  settle_derived-went into m e (Gives v r) x h = goes-on m e r (finish (on_page (promises.resolve into v) r)) h.0 h.3 h.4 h.5 (finish_page r (promises.resolve into v) h.1 (resolve-onto into v r.host h.1.0 (promise-grows (made_by m.host) (made_by r.host) h.0.0 into x) h.2))
+  settle_derived-went into m e (Returns v r) x h = goes-on m e r (finish (on_page (promises.resolve into v) r)) h.0 h.3 h.4 h.5 (finish_page r (promises.resolve into v) h.1 (resolve-onto into v r.host h.1.0 (promise-grows (made_by m.host) (made_by r.host) h.0.0 into x) h.2))
+  settle_derived-went into m e (Throws v r) x h = goes-on m e r (finish (on_page (promises.reject into v) r)) h.0 h.3 h.4 h.5 (finish_page r (promises.reject into v) h.1 (reject-onto into v r.host h.1.0 (promise-grows (made_by m.host) (made_by r.host) h.0.0 into x) h.2))
+  settle_derived-went into m e (OutOfFuel r) x h = h
+
+  -- and of what comes then
+  pub afterwards-went : (m e : State) (d : Done Page) (next : State → Done Page) → WentOn m e d → ((r : State) → Loose m r → Moves e.host r.host → Good r → Goes r (next r)) → WentOn m e (afterwards d next)
+  afterwards-went m e (Gives v r) next h q = goes-on m e r (next r) h.0 h.3 h.4 h.5 (q r h.0 h.3 h.1)
+  afterwards-went m e (Throws v r) next h q = goes-on m e r (next r) h.0 h.3 h.4 h.5 (q r h.0 h.3 h.1)
+  afterwards-went m e (Returns v r) next h q = goes-on m e r (next r) h.0 h.3 h.4 h.5 (q r h.0 h.3 h.1)
+  afterwards-went m e (OutOfFuel r) next h q = h
 
   -- the value of a handler, also of one of `finally`
   resolve_derived-onto : (x : Registration) (into : ℕ) (how : Settled) (v : Value) (p : Page) → Held (made_by p) p → IsGiven (length p.notices.promises) into → IsKnown (made_by p) (settled_value how) → IsKnown (made_by p) v → Onto p (resolve_derived x into how v p)
@@ -298,13 +355,13 @@ module _ (program : Program) where
   JobsGiven n jobs = Each (JobIsGiven n) jobs
 
   -- a job begins, where no call is open
-  job_begins : (waiting : WaitingJob) (others : List WaitingJob) (m : State) → is_micro waiting.what ≡ false → Good m → NoneOpen m → m.host.notices.jobs ≡ waiting ∷ others → JobIsGiven (made_by m.host) waiting → JobsGiven (made_by m.host) others → Reached m (begin_job waiting others m)
+  job_begins : (waiting : WaitingJob) (others : List WaitingJob) (m : State) → is_micro waiting.what ≡ false → Good m → InCheckpoint m → m.host.notices.jobs ≡ waiting ∷ others → JobIsGiven (made_by m.host) waiting → JobsGiven (made_by m.host) others → Reached m (begin_job waiting others m)
   job_begins waiting others m nm g z e y x =
       let a = numbers.on_page-good m (job_begun waiting others) g (job_begun-held program waiting others m.host g.0 y x) in
-      ((a.0, running here waiting others e z nm, (refl, refl), step-kept (quiet refl refl (λ r. refl)), job-goes_on m.host waiting others), a.1)
+      ((a.0, running here waiting others e z.0 nm, (refl, refl, refl), step-kept (quiet refl refl (λ r. refl)), job-goes_on m.host waiting others, job-timers waiting others m.host, job-tracks waiting others m.host e z.0 nm z.1), a.1)
 
   -- a job runs: where it calls, its callback is taken with the job
-  job-goes : (call : Caller Page) → CallsGo call → (job : WaitingJob) (others : List WaitingJob) (m : State) → Good m → NoneOpen m → m.host.notices.jobs ≡ job ∷ others → JobIsGiven (made_by m.host) job → JobsGiven (made_by m.host) others → Goes m (run_job call job.what (begin_job job others m))
+  job-goes : (call : Caller Page) → CallsGo call → (job : WaitingJob) (others : List WaitingJob) (m : State) → Good m → InCheckpoint m → m.host.notices.jobs ≡ job ∷ others → JobIsGiven (made_by m.host) job → JobsGiven (made_by m.host) others → Goes m (run_job call job.what (begin_job job others m))
   job-goes call c job others m g z e x rest = by_what job.what refl x.what
     where
       begun : is_micro job.what ≡ false → Reached m (begin_job job others m)
@@ -322,7 +379,7 @@ module _ (program : Program) where
           let registration = the_registration (begin_job job others m).host r in
           settle_by-goes (resolve_derived registration y.into how) y.into m (invoke (in_checkpoint call) r (has_failed how) (handler_arguments registration how) (with_scheduling y.state (begin_job job others m)))
           (λ v' r' le gr known. resolve_derived-onto registration y.into how v' r'.host gr.0 (promise-grows (made_by m.host) (made_by r'.host) le.0 y.into k.into) (IsKnown-grows (made_by m.host) (made_by r'.host) le.0 (settled_value how) v) known) k.into
-          (invoke-goes (in_checkpoint call) (in_checkpoint-goes call c) (AReaction job others of y r) (has_failed how) (handler_arguments registration how) m g tt (e, e1, e2, z) (subst (IfThere (IsFor (OfKind ThenKind) (made_by m.host))) e2 k.registration) (state_held y.state k.state) (handler_arguments-known program (made_by m.host) registration how v))
+          (invoke-goes (in_checkpoint call) (in_checkpoint-goes call c) (AReaction job others of y r) tt (has_failed how) (handler_arguments registration how) m g tt (e, e1, e2, z.0) (subst (IfThere (IsFor (OfKind ThenKind) (made_by m.host))) e2 k.registration) (state_held y.state k.state) (handler_arguments-known program (made_by m.host) registration how v) z.1)
 
       by_registration : (of : ℕ) (y : Reaction) (how : Settled) (o : Option ℕ) → job.what ≡ OfPromise (React of y) → y.registration ≡ o → ReactionIsGiven (made_by m.host) y → IsKnown (made_by m.host) (settled_value how) → Goes m (react_by call o y how (begin_job job others m))
       by_registration of y how None e1 e2 k v =
@@ -335,7 +392,7 @@ module _ (program : Program) where
       by_outcome of y (Some how) e1 k v = by_registration of y how y.registration e1 refl k v
 
       by_what : (what : Todo) → job.what ≡ what → TodoIsGiven (made_by m.host) what → Goes m (run_job call what (begin_job job others m))
-      by_what (Micro r) e1 k = invoke-goes (in_checkpoint call) (in_checkpoint-goes call c) (AMicro job others r) false [] m g tt (e, e1, z) k (job_begun-held program job others m.host g.0 x rest) tt
+      by_what (Micro r) e1 k = invoke-goes (in_checkpoint call) (in_checkpoint-goes call c) (AMicro job others r) tt false [] m g tt (e, e1, z.0) k (job_begun-held program job others m.host g.0 x rest) tt z.1
       by_what (OfPromise (React of y)) e1 k = by_outcome of y (promise_at m.host of).outcome e1 k.1 (the_promise-given (made_by m.host) m.host.notices of (g.0 InNotices)).outcome
       by_what (OfPromise (Adopt into from)) e1 k =
           let b = begun (ap is_micro e1) in
@@ -347,19 +404,19 @@ module _ (program : Program) where
   take_unit-goes m next g q = by_fuel m.fuel
     where
       by_fuel : (n : ℕ) → Goes m (with_fuel n m next)
-      by_fuel zero = here
+      by_fuel zero = (here, λ f. f.sound.law)
       by_fuel (suc left) = wide m (record m { fuel = left }) (next (record m { fuel = left })) (le-same m) (q left)
 
-  run_oldest-goes : (call : Caller Page) → CallsGo call → (jobs : List WaitingJob) (more : State → Done Page) (m : State) → ((r : State) → Good r → NoneOpen r → Goes r (more r)) → Good m → NoneOpen m → m.host.notices.jobs ≡ jobs → JobsGiven (made_by m.host) jobs → Goes m (run_oldest call jobs more m)
+  run_oldest-goes : (call : Caller Page) → CallsGo call → (jobs : List WaitingJob) (more : State → Done Page) (m : State) → ((r : State) → Good r → InCheckpoint r → Goes r (more r)) → Good m → InCheckpoint m → m.host.notices.jobs ≡ jobs → JobsGiven (made_by m.host) jobs → Goes m (run_oldest call jobs more m)
   run_oldest-goes call c [] more m q g z e x = finish-goes m g
   run_oldest-goes call c (job ∷ others) more m q g z e x =
       take_unit-goes m (λ m. afterwards (run_job call job.what (begin_job job others m)) more) g (λ left.
       let r = record m { fuel = left } in
       afterwards-goes r (run_job call job.what (begin_job job others r)) more (job-goes call c job others r g z e x.0 x.1)
-      (λ s le gs. q s gs (none_open-later r s le z)))
+      (λ s le gs. q s gs (in_checkpoint-later r s le z)))
 
-  pub run_jobs-goes : (call : Caller Page) → CallsGo call → (n : ℕ) (m : State) → Good m → NoneOpen m → Goes m (run_jobs call n m)
-  run_jobs-goes call c zero m g z = here
+  pub run_jobs-goes : (call : Caller Page) → CallsGo call → (n : ℕ) (m : State) → Good m → InCheckpoint m → Goes m (run_jobs call n m)
+  run_jobs-goes call c zero m g z = (here, λ f. f.sound.law)
   run_jobs-goes call c (suc n) m g z = run_oldest-goes call c m.host.notices.jobs (run_jobs call n) m (run_jobs-goes call c n) g z refl (notices_of m g).jobs
     where
       notices_of : (m : State) → Good m → NoticesAreGiven (made_by m.host) m.host.notices
@@ -367,10 +424,13 @@ module _ (program : Program) where
 
   perform_checkpoint-goes : (call : Caller Page) → CallsGo call → (m : State) → Good m → AtTop m → Goes m (perform_checkpoint call m)
   perform_checkpoint-goes call c m g z =
-      by_end (run_jobs call (suc m.fuel) begun) (run_jobs-goes call c (suc m.fuel) begun good_begun z.0) (run_jobs-clears call (suc m.fuel) begun)
+      by_end (run_jobs call (suc m.fuel) begun) (run_jobs-goes call c (suc m.fuel) begun good_begun (z.0, refl)) (run_jobs-clears call (suc m.fuel) begun)
     where
       begun : State
       begun = on_page checkpoint_begun m
+
+      follows : Following m.host → Following begun.host
+      follows f = reset-following m.host true m.host.level m.host.scheduling z.0 (λ e. refl) f
 
       good_begun : Good begun
       good_begun = (numbers.on_page-good m checkpoint_begun g (stays (checkpoint_begun m.host) g.0)).1
@@ -379,24 +439,56 @@ module _ (program : Program) where
       by_end (Gives v r) h k =
           let notified = notify_rejected r.host in
           let a = numbers.on_page-good r (checkpoint_ended m.host) h.1 (checkpoint_ended-held m.host r.host h.1.0 (if_state-grows (made_by m.host) (made_by r.host) h.0.0 m.host.scheduling (g.0 InScheduling))) in
+          let notified-row : Moves begun.host notified = moves-then h.0.1 (moves_of (notify_rejected-changes r.host)) in
+          let ended-waiting : TimersKept m.host (checkpoint_ended m.host r.host) =
+          timers-then (flagging here refl refl refl refl refl refl refl refl) (timers-same m.host begun.host refl refl refl refl)
+          (timers-then notified-row (timers-then h.0.1 h.0.5 (changes-timers (notify_rejected-changes r.host))) (timers-same notified (checkpoint_ended m.host r.host) refl refl refl refl)) in
+          let same = changes-same (notify_rejected-changes r.host) in
+          let ended-follows : Following m.host → Following (checkpoint_ended m.host r.host) =
+          λ f. reset-following notified false m.host.level m.host.scheduling (same.0 ∙ (h.0.2.0 ∙ z.0))
+          (λ e. sym (changes-level (notify_rejected-changes r.host) ∙ h.0.6.level (in_turn (ap (λ n. n == 2) (sym (same.2 ∙ h.0.2.2)) ∙ e) (follows f)))) (changes-following (notify_rejected-changes r.host) (h.0.6.follows (follows f))) in
           let row : Moves m.host (checkpoint_ended m.host r.host) =
           flagging (moves-then (moves-then (flagging here refl refl refl refl refl refl refl refl) h.0.1) (moves_of (notify_rejected-changes r.host))) refl refl refl refl refl refl refl refl in (
-            (Grows-then (made_by m.host) (made_by r.host) (made_by (checkpoint_ended m.host r.host)) h.0.0 a.0, row, ((changes-same (notify_rejected-changes r.host)).0 ∙ h.0.2.0, sym z.1), kept-then m.host begun.host (checkpoint_ended m.host r.host) (kept-same m.host begun.host refl refl refl) (kept-then begun.host r.host (checkpoint_ended m.host r.host) h.0.3 (kept-then r.host notified (checkpoint_ended m.host r.host) (changes-kept (notify_rejected-changes r.host)) (kept-same notified (checkpoint_ended m.host r.host) refl refl refl))), λ x. goes-same notified (checkpoint_ended m.host r.host) refl refl refl refl (all-go (notify_rejected-changes r.host) (h.0.4 (goes-same m.host begun.host refl refl refl refl x)))),
+            (Grows-then (made_by m.host) (made_by r.host) (made_by (checkpoint_ended m.host r.host)) h.0.0 a.0, row, ((changes-same (notify_rejected-changes r.host)).0 ∙ h.0.2.0, sym z.1, (changes-same (notify_rejected-changes r.host)).2 ∙ h.0.2.2), kept-then m.host begun.host (checkpoint_ended m.host r.host) (kept-same m.host begun.host refl refl refl) (kept-then begun.host r.host (checkpoint_ended m.host r.host) h.0.3 (kept-then r.host notified (checkpoint_ended m.host r.host) (changes-kept (notify_rejected-changes r.host)) (kept-same notified (checkpoint_ended m.host r.host) refl refl refl))), λ x. goes-same notified (checkpoint_ended m.host r.host) refl refl refl refl (all-go (notify_rejected-changes r.host) (h.0.4 (goes-same m.host begun.host refl refl refl refl x))), ended-waiting, record { older = following.older-then m.host r.host (checkpoint_ended m.host r.host) (record { longer = h.0.6.older.longer; role = h.0.6.older.role; level = h.0.6.older.level }) (let o = (changes-track (notify_rejected-changes r.host)).older in record { longer = o.longer; role = o.role; level = o.level }); level = λ x. refl; follows = ended-follows }),
             a.1,
             tt,
           )
       by_end (Throws v r) h k = elim k [ ]
       by_end (Returns v r) h k = elim k [ ]
-      by_end (OutOfFuel r) h k = moves-then (flagging here refl refl refl refl refl refl refl refl) h
+      by_end (OutOfFuel r) h k = (moves-then (flagging here refl refl refl refl refl refl refl refl) h.0, λ f. h.1 (follows f))
 
   pub checkpoint-goes : (call : Caller Page) → CallsGo call → (m : State) → Good m → AtTop m → Goes m (checkpoint call m)
   checkpoint-goes call c m g z = branch-goes m.host.performing m finish (perform_checkpoint call) (finish-goes m g) (perform_checkpoint-goes call c m g z)
 
   abbrev pub in_task-goes : (call : Caller Page) → CallsGo call → WaysGo (in_task call)
-  in_task-goes call c = record { Here = AtTop; later = λ m r le x. at_top-later m r le.2 le.3 x; framed = λ t m x. x; call = c; after = checkpoint-goes call c }
+  in_task-goes call c =
+      record {
+        Here = AtZeroTop;
+        later = λ m r le x. (at_top-later m r le.2 le.3 x.0, le.6.level (outside x.0.1) ∙ x.1, le.6.follows x.2);
+        passes = λ m r le k x. (at_top-later m r le.2 le.3 x.0, k.level (outside x.0.1) ∙ x.1, k.follows x.2);
+        framed = λ t m x. (x.0, x.1, frame-following t m.host x.2);
+        fits = λ m x h e. x.1;
+        call = c;
+        There = AtTop;
+        there = λ m x. x.0;
+        over = λ m r le x. at_top-later m r le.2 le.3 x;
+        after = checkpoint-goes call c;
+      }
 
   abbrev pub in_script-goes : (call : Caller Page) → CallsGo call → WaysGo (in_script call)
-  in_script-goes call c = record { Here = λ m. Unit {0}; later = λ m r le x. tt; framed = λ t m x. tt; call = c; after = λ m g x. finish-goes m g }
+  in_script-goes call c =
+      record {
+        Here = IsOpen;
+        later = λ m r le x e. x (sym le.2.0 ∙ e);
+        passes = λ m r le k x e. x (sym le.2.0 ∙ e);
+        framed = λ t m x. x;
+        fits = λ m x h e. absurd (x e);
+        call = c;
+        There = λ m. Unit {0};
+        there = λ m x. tt;
+        over = λ m r le x. tt;
+        after = λ m g x. finish-goes m g;
+      }
 
   -- ---- dispatch, abort, priority change
 
@@ -410,23 +502,32 @@ module _ (program : Program) where
   pub dispatch-goes : (w : Ways) (a : WaysGo w) → (target : Target) (name : List ℕ) (args : List Value) (m : State) → Good m → a.Here m → Each (IsKnown (made_by m.host)) args → Goes m (dispatch w target name args m)
   dispatch-goes w a target name args m g z k =
       each_in_turn-goes m (IsFor (OfKind ListenerKind)) (λ n n' h. IsFor-grows n n' h (OfKind ListenerKind)) (call_listener w args)
-      (λ r s le gs x. branch_when-goes (is_listening r s.host.listeners) s (invoke w r false args) finish (λ y. invoke-goes w a (AListener r) false args s gs (a.later m s le z) y x (stays s.host gs.0) (values-grow (made_by m.host) (made_by s.host) le.0 args k)) (λ y. finish-goes s gs))
+      (λ r s le gs x. branch_when-goes (is_listening r s.host.listeners) s (invoke w r false args) finish (λ y. invoke-goes w a (AListener r) tt false args s gs (a.there s (a.later m s le z)) y x (stays s.host gs.0) (values-grow (made_by m.host) (made_by s.host) le.0 args k) (a.fits s (a.later m s le z))) (λ y. finish-goes s gs))
       (snapshot target name m.host.listeners) m (le-same m) g (snapshot-given (made_by m.host) target name m.host.listeners (g.0 InListeners))
 
   abbrev IsSignal : Made → ℕ → Type 0
   IsSignal n s = IsGiven n.signals s
 
-  abort_steps-goes : (w : Ways) (a : WaysGo w) → (s : ℕ) (m : State) → Good m → a.Here m → IsSignal (made_by m.host) s → is_aborted m.host s ≡ true → Goes m (abort_steps w s m)
+  -- where a step ends, signal k can abort nothing any more
+  abbrev Cleared : ℕ → State → Done Page → Type 0
+  Cleared k m (Gives v r) = (pend : ℕ → Bool) → PostsWatched (among (k ∷ []) pend) m.host → PostsWatched pend r.host
+  Cleared k m (Throws v r) = (pend : ℕ → Bool) → PostsWatched (among (k ∷ []) pend) m.host → PostsWatched pend r.host
+  Cleared k m (Returns v r) = (pend : ℕ → Bool) → PostsWatched (among (k ∷ []) pend) m.host → PostsWatched pend r.host
+  Cleared k m (OutOfFuel r) = Unit {0}
+
+  cleared-later : (k : ℕ) (m r : State) (d : Done Page) → ((pend : ℕ → Bool) → PostsWatched (among (k ∷ []) pend) m.host → PostsWatched pend r.host) → Goes r d → Cleared k m d
+  cleared-later k m r (Gives v t) c h = λ pend w. h.0.5.posts pend (c pend w)
+  cleared-later k m r (Throws v t) c h = λ pend w. h.0.5.posts pend (c pend w)
+  cleared-later k m r (Returns v t) c h = λ pend w. h.0.5.posts pend (c pend w)
+  cleared-later k m r (OutOfFuel t) c h = tt
+
+  abort_steps-goes : (w : Ways) (a : WaysGo w) → (s : ℕ) (m : State) → Good m → a.Here m → IsSignal (made_by m.host) s → is_aborted m.host s ≡ true → Goes m (abort_steps w s m) × Cleared s m (abort_steps w s m)
   abort_steps-goes w a s m g z x e =
-      then_page m (run_algorithms s) _ g (run_algorithms-onto s m.host g.0 e)
-      (λ b. dispatch-goes w a (AtSignal s) (codes "abort") (SignalValue s ∷ []) (on_page (run_algorithms s) m) b.1 (a.later m (on_page (run_algorithms s) m) b.0 z) (signal-grows (made_by m.host) (made_by (run_algorithms s m.host)) b.0.0 s x, tt))
-
-  -- a signal that was aborted in a page
-  abbrev IsMarked : Page → Made → ℕ → Type 0
-  IsMarked p n s = IsSignal n s × is_aborted p s ≡ true
-
-  marked-grows : (p : Page) (n n' : Made) → Grows n n' → (s : ℕ) → IsMarked p n s → IsMarked p n' s
-  marked-grows p n n' g s x = (signal-grows n n' g s x.0, x.1)
+      let runs = run_algorithms-runs s m.host g.0 e in
+      let b = on_page-reached m (run_algorithms s) g runs.0 in
+      let after = on_page (run_algorithms s) m in
+      let h = dispatch-goes w a (AtSignal s) (codes "abort") (SignalValue s ∷ []) after b.1 (a.later m after b.0 z) (signal-grows (made_by m.host) (made_by (run_algorithms s m.host)) b.0.0 s x, tt) in
+      (wide m after (abort_steps w s m) b.0 h, cleared-later s m after (abort_steps w s m) runs.1 h)
 
   each_both : (P Q : ℕ → Type 0) (ks : List ℕ) → Each P ks → Each Q ks → Each (λ k. P k × Q k) ks
   each_both P Q [] h k = tt
@@ -436,16 +537,78 @@ module _ (program : Program) where
   emitted_aborts [] ks p h = h
   emitted_aborts (e ∷ es) ks p h = emitted_aborts es ks (emit e p) h
 
+  -- signals that were aborted in a page
+  abbrev AreMarked : Page → List ℕ → Type 0
+  AreMarked p ks = Each (λ k. IsSignal (made_by p) k × is_aborted p k ≡ true) ks
+
+  marked-later : (p q : Page) → Grows (made_by p) (made_by q) → Moves p q → (ks : List ℕ) → AreMarked p ks → AreMarked q ks
+  marked-later p q g row ks x = Each-more (λ k. IsSignal (made_by p) k × is_aborted p k ≡ true) (λ k. IsSignal (made_by q) k × is_aborted q k ≡ true) (λ k y. (signal-grows (made_by p) (made_by q) g k y.0, moves-aborted row k y.1)) ks x
+
+  -- how the abort steps of signals end, whose aborts are under way before
+  abbrev AbortsGo : List ℕ → State → Done Page → Type 0
+  AbortsGo ks m (Gives v r) = Loose m r × Good r × IsKnown (made_by r.host) v × TimersWait m.host r.host × LivesStay m.host r.host × ((pend : ℕ → Bool) → PostsWatched (among ks pend) m.host → PostsWatched pend r.host) × Tracks m.host r.host
+  AbortsGo ks m (Throws v r) = Loose m r × Good r × IsKnown (made_by r.host) v × TimersWait m.host r.host × LivesStay m.host r.host × ((pend : ℕ → Bool) → PostsWatched (among ks pend) m.host → PostsWatched pend r.host) × Tracks m.host r.host
+  AbortsGo ks m (Returns v r) = Loose m r × Good r × IsKnown (made_by r.host) v × TimersWait m.host r.host × LivesStay m.host r.host × ((pend : ℕ → Bool) → PostsWatched (among ks pend) m.host → PostsWatched pend r.host) × Tracks m.host r.host
+  AbortsGo ks m (OutOfFuel r) = Moves m.host r.host × Told m.host r.host
+
+  aborts-then : (k : ℕ) (ks : List ℕ) (m t : State) (d : Done Page) → Le m t → ((pend : ℕ → Bool) → PostsWatched (among (k ∷ []) pend) m.host → PostsWatched pend t.host) → AbortsGo ks t d → AbortsGo (k ∷ ks) m d
+  aborts-then k ks m t (Gives v r) le c h = (loose-then m t r (loose m t le) h.0, h.1, h.2, λ i hand w. h.3 (kept-later le.1 i) hand (le.5.waits i hand w), λ i id handle n l. h.4 (kept-later le.1 i) id handle n (le.5.live i id handle n l), λ pend w. h.5 pend (c (among ks pend) w), tracks-then m.host t.host r.host le.2 le.6 h.6)
+  aborts-then k ks m t (Throws v r) le c h = (loose-then m t r (loose m t le) h.0, h.1, h.2, λ i hand w. h.3 (kept-later le.1 i) hand (le.5.waits i hand w), λ i id handle n l. h.4 (kept-later le.1 i) id handle n (le.5.live i id handle n l), λ pend w. h.5 pend (c (among ks pend) w), tracks-then m.host t.host r.host le.2 le.6 h.6)
+  aborts-then k ks m t (Returns v r) le c h = (loose-then m t r (loose m t le) h.0, h.1, h.2, λ i hand w. h.3 (kept-later le.1 i) hand (le.5.waits i hand w), λ i id handle n l. h.4 (kept-later le.1 i) id handle n (le.5.live i id handle n l), λ pend w. h.5 pend (c (among ks pend) w), tracks-then m.host t.host r.host le.2 le.6 h.6)
+  aborts-then k ks m t (OutOfFuel r) le c h = (moves-then le.1 h.0, told-then m.host t.host r.host le.2 le.6.follows h.1)
+
+  aborts-go : (w : Ways) (a : WaysGo w) → (ks : List ℕ) (m : State) → Good m → a.Here m → AreMarked m.host ks → AbortsGo ks m (each_in_turn ks (abort_steps w) m)
+  aborts-go w a [] m g z x = (loose m m (le-same m), g, tt, λ i hand h. h, λ i id handle n l. l, λ pend h. h, tracks-same m.host)
+  aborts-go w a (k ∷ ks) m g z x =
+      let one = abort_steps-goes w a k m g z x.0.0 x.0.1 in
+      by_end (abort_steps w k m) one.0 one.1 (λ t le gt. aborts-go w a ks t gt (a.later m t le z) (marked-later m.host t.host le.0 le.1 ks x.1))
+    where
+      by_end : (d : Done Page) → Goes m d → Cleared k m d → ((t : State) → Le m t → Good t → AbortsGo ks t (each_in_turn ks (abort_steps w) t)) → AbortsGo (k ∷ ks) m (afterwards d (λ m. each_in_turn ks (abort_steps w) m))
+      by_end (Gives v t) h c rest = aborts-then k ks m t (each_in_turn ks (abort_steps w) t) h.0 c (rest t h.0 h.1)
+      by_end (Throws v t) h c rest = aborts-then k ks m t (each_in_turn ks (abort_steps w) t) h.0 c (rest t h.0 h.1)
+      by_end (Returns v t) h c rest = aborts-then k ks m t (each_in_turn ks (abort_steps w) t) h.0 c (rest t h.0 h.1)
+      by_end (OutOfFuel t) h c rest = h
+
+  -- from before the reason is set
+  aborted-goes : (ks : List ℕ) (m t : State) (d : Done Page) → Loose m t → TimersWait m.host t.host → LivesStay m.host t.host → ((pend : ℕ → Bool) → PostsWatched pend m.host → PostsWatched (among ks pend) t.host) → Tracks m.host t.host → AbortsGo ks t d → Goes m d
+  aborted-goes ks m t (Gives v r) le u l c k h =
+      let all = loose-then m t r le h.0 in
+      ((all.0, all.1, all.2, all.3, all.4, record { waits = λ i hand w. h.3 (kept-later le.1 i) hand (u i hand w); live = λ i id handle n k. h.4 (kept-later le.1 i) id handle n (l i id handle n k); posts = λ pend w. h.5 pend (c pend w) }, tracks-then m.host t.host r.host le.2 k h.6), h.1, h.2)
+  aborted-goes ks m t (Throws v r) le u l c k h =
+      let all = loose-then m t r le h.0 in
+      ((all.0, all.1, all.2, all.3, all.4, record { waits = λ i hand w. h.3 (kept-later le.1 i) hand (u i hand w); live = λ i id handle n k. h.4 (kept-later le.1 i) id handle n (l i id handle n k); posts = λ pend w. h.5 pend (c pend w) }, tracks-then m.host t.host r.host le.2 k h.6), h.1, h.2)
+  aborted-goes ks m t (Returns v r) le u l c k h =
+      let all = loose-then m t r le h.0 in
+      ((all.0, all.1, all.2, all.3, all.4, record { waits = λ i hand w. h.3 (kept-later le.1 i) hand (u i hand w); live = λ i id handle n k. h.4 (kept-later le.1 i) id handle n (l i id handle n k); posts = λ pend w. h.5 pend (c pend w) }, tracks-then m.host t.host r.host le.2 k h.6), h.1, h.2)
+  aborted-goes ks m t (OutOfFuel r) le u l c k h = (moves-then le.1 h.0, told-then m.host t.host r.host le.2 k.follows h.1)
+
   pub abort-goes : (w : Ways) (a : WaysGo w) → (s : ℕ) (reason : Value) (m : State) → Good m → a.Here m → IsSignal (made_by m.host) s → IsKnown (made_by m.host) reason → Goes m (abort w s reason m)
   abort-goes w a s reason m g z x v =
       let ss = marked s m.host.signals in
+      let p : Page = record m.host { signals = with_reason reason ss m.host.signals } in
       let after = on_page (reason_set reason ss) m in
-      then_page m (reason_set reason ss) _ g (reason_set-onto reason ss m.host g.0 v)
-      (λ b.
+      let b = numbers.on_page-good m (reason_set reason ss) g (reason_set-held reason ss m.host g.0 v) in
+      let change = reason_set-change reason ss m.host in
+      let lines = emit_aborts ss p in
+      let told_all = changes-timers lines in
+      let first : Moves m.host p = changing here change tt in
+      let set : Loose m after = (
+        b.0,
+        moves-then first (moves_of lines),
+        same-then m.host p after.host (change-same change) (changes-same lines),
+        kept-then m.host p after.host (change-kept change) (changes-kept lines),
+        λ y. all-go lines (change-goes-on change y),
+      ) in
+      let still = following.change-stays change tt in
+      let tracks : Tracks m.host after.host =
+      tracks-then m.host p after.host (change-same change) (record { older = following.stays-older m.host p still; level = λ x. still.level; follows = following.following-stays m.host p first still }) (changes-track lines) in
       let marks : Each (IsSignal (made_by m.host)) ss = marked-given (made_by m.host) s m.host.signals x (g.0 InSignals) in
-      each_in_turn-goes after (IsMarked after.host) (marked-grows after.host) (abort_steps w) (λ k r le gr y. abort_steps-goes w a k r gr (a.later m r (le-then m after r b.0 le) z) y.0 (moves-aborted le.1 k y.1)) ss after (le-same after) b.1
-      (each_both (IsSignal (made_by after.host)) (λ k. is_aborted after.host k ≡ true) ss (signals-grow (made_by m.host) (made_by after.host) b.0.0 ss marks)
-      (emitted_aborts (map Abort ss) ss (record m.host { signals = with_reason reason ss m.host.signals }) (reason-aborted reason ss m.host.signals marks))))
+      aborted-goes ss m after (each_in_turn ss (abort_steps w) after) set
+      (λ i hand h. told_all.waits (kept-later first i) hand (waits-same m.host p refl refl refl i hand h)) (λ i id handle n l. told_all.live (kept-later first i) id handle n (lives-same m.host p refl refl refl i id handle n l))
+      (λ pend h. told_all.posts (among ss pend) (reason-posts reason ss m.host pend h)) tracks
+      (aborts-go w a ss after b.1 (a.passes m after set tracks z)
+      (each_both (IsSignal (made_by after.host)) (λ k. is_aborted after.host k ≡ true) ss (signals-grow (made_by m.host) (made_by after.host) b.0 ss marks)
+      (emitted_aborts (map Abort ss) ss p (reason-aborted reason ss m.host.signals marks))))
 
   change_through-goes : (w : Ways) (a : WaysGo w) → (s : ℕ) (priority : Priority) (each : ℕ → State → Done Page) → ((k : ℕ) (r : State) → Good r → a.Here r → IsSignal (made_by r.host) k → Goes r (each k r)) → (m : State) → Good m → a.Here m → IsSignal (made_by m.host) s → Goes m (change_through w s priority each m)
   change_through-goes w a s priority each q m g z x =

@@ -27,7 +27,7 @@ abbrev pub lives : ℕ → ℕ → List TimerId → Bool
 lives id h ids = entry_has h (find (λ e. e.id == id) ids)
 
 -- what another id leaves
-lives-without : (id h other : ℕ) (ids : List TimerId) → (other ≡ id → ⊥) → lives id h (without (λ e. e.id == other) ids) ≡ lives id h ids
+pub lives-without : (id h other : ℕ) (ids : List TimerId) → (other ≡ id → ⊥) → lives id h (without (λ e. e.id == other) ids) ≡ lives id h ids
 lives-without id h other [] apart = refl
 lives-without id h other (d ∷ ids) apart = by_tests (d.id == other) refl (d.id == id) refl (lives-without id h other ids apart)
   where
@@ -68,7 +68,7 @@ lives-set id h (d ∷ ids) = by_test (d.id == id) refl (lives-set id h ids)
     by_test true q rest = rest
     by_test false q rest = ap {A = Bool} {B = Bool} (λ x. entry_has h (cond x (Some d) (find (λ e. e.id == id) (and_last (without (λ e. e.id == id) ids) (record { id = id; handle = h }))))) q ∙ rest
 
-lives-others : (id h other n : ℕ) (ids : List TimerId) → (other ≡ id → ⊥) → lives id h (with_id other n ids) ≡ lives id h ids
+pub lives-others : (id h other n : ℕ) (ids : List TimerId) → (other ≡ id → ⊥) → lives id h (with_id other n ids) ≡ lives id h ids
 lives-others id h other n ids apart = lives-last id h (without (λ e. e.id == other) ids) (record { id = other; handle = n }) apart ∙ lives-without id h other ids apart
 
 -- ---- where a timer's task waits
@@ -298,7 +298,7 @@ found-id id (suc (suc i)) n (x ∷ xs) one at le e = by_test (x.timer_id == id) 
 
 -- ---- registrations
 
-older-id : (xs : List Registration) (x : Registration) (r : ℕ) → 1 ≤ r → (r ≡ suc (length xs) → ⊥) → id_at (and_last xs x) r ≡ id_at xs r
+pub older-id : (xs : List Registration) (x : Registration) (r : ℕ) → 1 ≤ r → (r ≡ suc (length xs) → ⊥) → id_at (and_last xs x) r ≡ id_at xs r
 older-id xs x r one other = ap {A = Registration} {B = ℕ} (λ y. y.timer_id) (at_number xs x r one (λ e. absurd (other e)))
 
 pub newest-id : (xs : List Registration) (x : Registration) (r : ℕ) → r ≡ suc (length xs) → id_at (and_last xs x) r ≡ x.timer_id

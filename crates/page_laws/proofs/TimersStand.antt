@@ -9,6 +9,8 @@ use Rattle.page_types.specs.Events.{Event, Arm, Call, Turn, IdleLine, Frame, Pri
 use Rattle.page_types.specs.Tree.{Program}
 use Rattle.page_parts.specs.Setup.{Setup}
 use Rattle.page_parts.specs.HostClosures.{HostClosure}
+use Rattle.page_types.specs.Values.{Value}
+use Rattle.page_parts.specs.AbortGraph.{Signals}
 use Rattle.page_parts.specs.Timers as Timers
 use Rattle.page_parts.specs.Timers.{with_id}
 use Rattle.page_parts.specs.Words.{and_last, without}
@@ -80,7 +82,7 @@ no_signal : (r s : ℕ) (t : TimerTask) → QueueSignal r s ≡ QueueTimer t →
 no_signal r s t e = Prim.cc
 
 -- a timer that waits is armed
-unarmed-apart : (p : Page) (r : ℕ) (t : TimerTask) → IsUnarmed r (places p) → Stands t p.completions p.tasks → t.registration ≡ r → ⊥
+pub unarmed-apart : (p : Page) (r : ℕ) (t : TimerTask) → IsUnarmed r (places p) → Stands t p.completions p.tasks → t.registration ≡ r → ⊥
 unarmed-apart p r t u (to_come c i e) same = u.completions c i (ap completes_for e ∙ same)
 unarmed-apart p r t u (queued s) same = u.tasks t s same
 
@@ -106,20 +108,20 @@ place-fits p idle_started k f = f
 place-fits p (idle_queued t e from) k f =
     fewer-fits p.registrations p.timers p.timers p.completions p.completions p.tasks (and_last p.tasks t) p.events (omega arith) refl (λ c i. i) (λ n s. task-stands t n p.completions p.tasks (ap is_free e) s) f
 
-first-fits : {xs : List Registration} {ps : Prios} {x y : Places} (u : FirstPlace xs ps (suc (length xs)) x y) (k : RegKind) (new : Registration) (past : History) → new.role ≡ OfKind k → fits_first k u ≡ true × FirstOwns u new → ByPlaces xs x past → ByPlaces (and_last xs new) y past
-first-fits {xs = xs} {x = x} nowhere k new past role at f = grown-fits new xs x.timers x.completions x.tasks past (ap is_timer_role role ∙ not-placed k at.0) f
-first-fits {xs = xs} {x = x} (at_listener target name q e) k new past role at f = grown-fits new xs x.timers x.completions x.tasks past (ap is_timer_role role ∙ not-placed k at.0) f
-first-fits {xs = xs} {x = x} {y = y} (at_timer a t e first) k new past role at f =
+first-fits : {xs : List Registration} {ps : Prios} {x y : Places} (u : FirstPlace xs ps (suc (length xs)) x y) (k : RegKind) (new : Registration) (ss : Signals Value) (past : History) → new.role ≡ OfKind k → fits_first k u ≡ true × FirstOwns u new ss → ByPlaces xs x past → ByPlaces (and_last xs new) y past
+first-fits {xs = xs} {x = x} nowhere k new ss past role at f = grown-fits new xs x.timers x.completions x.tasks past (ap is_timer_role role ∙ not-placed k at.0) f
+first-fits {xs = xs} {x = x} (at_listener target name q e) k new ss past role at f = grown-fits new xs x.timers x.completions x.tasks past (ap is_timer_role role ∙ not-placed k at.0) f
+first-fits {xs = xs} {x = x} {y = y} (at_timer a t e first) k new ss past role at f =
     timer-fits (and_last xs new) x.timers y.timers x.completions x.tasks past t a.start first.start refl
     (ap (λ n. with_id n a.handle x.timers.ids) (sym first.same_id) ∙ ap (λ n. with_id t.id n x.timers.ids) (sym first.same_handle))
     (ap is_timer_role (newest-role xs new t.registration e ∙ role) ∙ timer-kind k at.0, newest-id xs new t.registration e ∙ (at.1 ∙ sym first.same_id))
     (λ n s z. first.fresh n.registration ((f.timed n s).1 ∙ (sym z ∙ first.same_id)))
     (timed-fits new xs x.timers x.completions x.tasks past (λ q z. first.fresh q (z ∙ at.1)) f)
-first-fits {xs = xs} {x = x} {y = y} (at_delay ms now q source e h) k new past role at f =
+first-fits {xs = xs} {x = x} {y = y} (at_delay ms now q source e h) k new ss past role at f =
     other-fits (and_last xs new) x.timers y.timers x.completions x.tasks past (EnqueuePost q source) (no_timer q source) refl refl
     (grown-fits new xs x.timers x.completions x.tasks past (ap is_timer_role role ∙ post-kind k at.0) f)
-first-fits {xs = xs} {x = x} (at_idle q e) k new past role at f = grown-fits new xs x.timers x.completions x.tasks past (ap is_timer_role role ∙ idle-kind k at.0) f
-first-fits {xs = xs} {x = x} (at_host c a e there live) k new past role at f = grown-fits new xs x.timers x.completions x.tasks past (ap is_timer_role role ∙ host-kind k at.0) f
+first-fits {xs = xs} {x = x} (at_idle q e) k new ss past role at f = grown-fits new xs x.timers x.completions x.tasks past (ap is_timer_role role ∙ idle-kind k at.0) f
+first-fits {xs = xs} {x = x} (at_host c a e there live) k new ss past role at f = grown-fits new xs x.timers x.completions x.tasks past (ap is_timer_role role ∙ host-kind k at.0) f
 
 no_host : (a : HostTask) (t : TimerTask) → AnswerHost a ≡ RunTimer t → ⊥
 no_host a t e = Prim.cc
@@ -209,7 +211,7 @@ change-fits {p = p} {q = q} (answered source task u answer x y live z b) f =
     (said (Host u.closure u.number answer) p f)))
 change-fits {p = p} {q = q} (made_one k x e unframed u b at) f =
     before-fits b
-    (line-fits (record { time = p.now; event = Reg (suc (length p.registrations)) k (caller p) }) (and_last p.registrations x) q.timers q.completions q.tasks p.events (first-fits u k x p.events e at f))
+    (line-fits (record { time = p.now; event = Reg (suc (length p.registrations)) k (caller p) }) (and_last p.registrations x) q.timers q.completions q.tasks p.events (first-fits u k x q.signals p.events e at f))
 change-fits {p = p} {q = q} (enqueued_anew k x u queue e i s n b) f =
     before-fits b
     (replaced (and_last p.registrations x) _ (places q) (emit (Enq u.registration queue u.continuation u.order) (register_as k x p)).events s

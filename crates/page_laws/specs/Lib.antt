@@ -2,4 +2,5 @@ pub mod History
 pub mod CallLaws
 pub mod TimerLaws
 pub mod SchedulerLaws
+pub mod Scheduling
 pub mod Moves

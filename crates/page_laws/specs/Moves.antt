@@ -3,15 +3,15 @@ use Rattle.std.specs.Prelude.{◌≡◌, ◌⊎◌, ◌≤◌, ◌<◌, ◌+◌,
 use Rattle.page_types.specs.declared.End.TheVariants.{Done, Fuel}
 use Rattle.page_types.specs.Events.{QueueName, Event, Ret, Throw, Report, Log, Turn, Arm, Due, Drop, IdleLine, Frame, Reg, Enq, Prio, Abort, Host, Unhandled, Handled, EndLine, Send}
 use Rattle.page_types.specs.declared.Source.{Source}
-use Rattle.page_types.specs.declared.Source.TheVariants.{Sched, Timer, Idle as IdleSource}
+use Rattle.page_types.specs.declared.Source.TheVariants.{Net, Sched, Timer, Idle as IdleSource}
 use Rattle.page_parts.specs.Promises.{Settled, Reaction, React}
 use Rattle.page_parts.specs.Promises as Promises
 use Rattle.page_parts.specs.Notices.{Todo, Micro, OfPromise, WaitingJob, changed, subscribe_promise, queue_micro, note_outstanding}
 use Rattle.page_parts.specs.Promises.{the_promise}
-use Rattle.page_model.specs.State.{Role, ScriptRole, OfKind, Registration, no_registration, Page, Task, TimerTask, HostTask, Steps, RunScript, RunTimer, AnswerHost, InvokeIdle, IdleTimeout, PrioSource, Fixed, OfSignal, SchedulingState, SchedTask, Completion, Completing, QueueTimer, EnqueuePost, QueueSignal, HostAnswer, IdleTimer, emit, on_notices, context}
+use Rattle.page_model.specs.State.{Role, ScriptRole, OfKind, Registration, no_registration, Page, Task, TimerTask, HostTask, Steps, RunScript, RunTimer, AnswerHost, InvokeIdle, IdleTimeout, PrioSource, SchedTask, Completion, Completing, QueueTimer, EnqueuePost, QueueSignal, HostAnswer, IdleTimer, emit, on_notices, context}
 use Rattle.page_model.specs.PagePromises.{new_promise}
 use Rattle.page_model.specs.PageTime.{first_task, registration_with_id, completion_of, without_frame, deadline, without_idle, idle_callback}
-use Rattle.page_model.specs.SchedulerTasks.{no_state, queue_name, with_state, first_sched, without_sched}
+use Rattle.page_model.specs.SchedulerTasks.{queue_name, with_state, first_sched, without_sched}
 use Rattle.page_parts.specs.Kinds.{Func}
 use Rattle.page_model.specs.Operations.{frame_requested, queued_mark}
 use Rattle.page_model.specs.PageSignals.{drop_closure, task_in_answer, task_in_net, waiting_answer, waiting_net_task, is_aborted, is_aborted_source}
@@ -30,11 +30,15 @@ use Rattle.page_model.specs.Numbers.{IsGiven, IsFor, made_by, timer_role, is_tim
 use Rattle.page_model.specs.Invoke.{register_as, call_begun, call_ended, job_begun}
 use Rattle.page_types.specs.declared.RegKind.{RegKind}
 use Rattle.page_types.specs.declared.RegKind.TheVariants as kind
-use Rattle.page_parts.specs.TaskSignals.{Prios, priority_of}
+use Rattle.page_parts.specs.TaskSignals.{Prios}
 use Rattle.page_types.specs.declared.Priority.{Priority}
+use Rattle.page_laws.specs.Scheduling.{BeginsWell, HasPriority, PrioSet, SchedulingAfter, Sourced, scheduling_of}
 use Rattle.page_laws.specs.SchedulerLaws.{is_posted}
-use Rattle.page_laws.specs.TimerLaws.{is_delay, period_start}
-use Rattle.page_laws.specs.History.{was_called, is_host, is_timer, is_delayed, History, is_frame, is_idle, is_period, is_reg_of, since_last, some_line, was_due, open_registrations, is_rest, is_sched_turn, is_scheduled}
+use Rattle.page_laws.specs.TimerLaws.{is_delay, period_start, was_done}
+use Rattle.page_types.specs.Values.{Value}
+use Rattle.page_parts.specs.AbortGraph.{Signals, the_signal}
+use Rattle.page_parts.specs.AbortGraph as AbortGraph
+use Rattle.page_laws.specs.History.{was_called, was_dropped, is_host, is_timer, is_delayed, History, is_frame, is_idle, is_period, is_reg_of, since_last, some_line, was_due, open_registrations, is_rest, is_sched_turn, is_scheduled}
 
 -- ---- Ours: kinds of lines
 
@@ -183,42 +187,6 @@ is_free (RunTimer t) = false
 is_free (AnswerHost t) = false
 is_free steps = true
 
--- ---- Ours: what the scheduler reads
-
--- the priorities of signals, the scheduling states, and how many task numbers were given; and the last idle period start
-pub record Scheduling : Type 0 where
-  pub prios : Prios
-  pub states : List SchedulingState
-  pub tasks_made : ℕ
-  pub idle_start : ℕ
-
-abbrev pub scheduling_of : Page → Scheduling
-scheduling_of p =
-    record { prios = p.prios; states = p.scheduling_states; tasks_made = p.tasks_made; idle_start = p.last_idle_start }
-
--- the same priorities, scheduling states and idle period start, and no fewer task numbers
-pub record SchedulingAfter (before after : Scheduling) : Type 0 where
-  pub priorities : (s : ℕ) → priority_of after.prios s ≡ priority_of before.prios s
-  pub states : after.states ≡ before.states
-  pub tasks_made : before.tasks_made ≤ after.tasks_made
-  pub idle_start : after.idle_start ≡ before.idle_start
-
--- a priority source that has a priority: a fixed one, or a signal with a priority
-abbrev pub HasPriority : Prios → PrioSource → Type 0
-HasPriority ps (Fixed priority) = Unit {0}
-HasPriority ps (OfSignal s) = is_there (priority_of ps s) ≡ true
-
--- a source that has a priority, or is that of a scheduling state
-pub data Sourced (ps : Prios) (states : List SchedulingState) : PrioSource → Type 0 where
-  known : {source : PrioSource} → HasPriority ps source → Sourced ps states source
-  inherited : (k : ℕ) → Sourced ps states (numbered states k no_state).prio_source
-
--- signal s gets this priority, where it has one, and all other priorities stay
-pub record PrioSet (s : ℕ) (priority : Priority) (before after : Prios) : Type 0 where
-  pub others : (t : ℕ) → (s == t) ≡ false → priority_of after t ≡ priority_of before t
-  pub own : (other : Priority) → priority_of after s ≡ Some other → other ≡ priority
-  pub kept : (t : ℕ) → is_there (priority_of before t) ≡ true → is_there (priority_of after t) ≡ true
-
 -- the registration whose steps an active timer completes with
 abbrev pub completes_for : Completion → ℕ
 completes_for (QueueTimer t) = t.registration
@@ -269,10 +237,12 @@ pub data PlaceChange (made : List Registration) : Places → Places → Type 0 w
   idle_started : {x : Places} → PlaceChange made x (record x { idle = started x.idle })
   idle_queued : {x : Places} (t : Task) → t.steps ≡ InvokeIdle → t.source ≡ IdleSource → PlaceChange made x (with_task t x)
 
--- steps that do nothing any more where a task leaves its queue without a call: those of a timer whose id has another handle, or none
-abbrev pub LeavesAlone : Steps → Timers → Type 0
-LeavesAlone (RunTimer t) timers = is_live t.id t.handle timers ≡ false
-LeavesAlone steps timers = Unit {0}
+-- steps that do nothing any more where a task leaves its queue without a call or an answer: those of a timer whose id has another handle,
+-- or none, and those of a host whose closure was dropped
+abbrev pub LeavesAlone : Steps → Timers → List HostClosure → Type 0
+LeavesAlone (RunTimer t) timers hosts = is_live t.id t.handle timers ≡ false
+LeavesAlone (AnswerHost t) timers hosts = is_there (not_dropped (slice_get hosts t.closure)) ≡ false
+LeavesAlone steps timers hosts = Unit {0}
 
 -- a timeout that has this id was called
 pub record IsCleared (id : ℕ) (p : Page) : Type 0 where
@@ -295,7 +265,7 @@ IsMade idle_started p =
     → some_line (is_reg_of c.registration) (since_last is_period p.events) ≡ false × c.registration ≤ length p.registrations
 IsMade (idle_queued t e from) p = PeriodGoesOn p × t.number ≡ suc p.tasks_made
 IsMade (task_queued t free plain) p = t.number ≡ suc p.tasks_made
-IsMade (task_left number) p = (t : Task) → IsIn t p.tasks → t.number ≡ number → LeavesAlone t.steps p.timers
+IsMade (task_left number) p = (t : Task) → IsIn t p.tasks → t.number ≡ number → LeavesAlone t.steps p.timers p.hosts
 IsMade (id_cleared id) p = IsCleared id p
 IsMade c p = Unit {0}
 
@@ -339,13 +309,14 @@ pub record IsTimerDue (x : Places) (start now : ℕ) : Type 0 where
   pub own : timer.start ≡ start
   pub time : timer.due ≤ now
 
--- what is due so is due by now, and its task has the next number; that of a timer comes from the timers' source
-abbrev pub IsDueBy : {made : List Registration} {r : ℕ} {x y : Places} → (now : ℕ) → DueChange made r x y → Type 0
-IsDueBy {x = x} now (timer_due start number source t e i role) = IsTimerDue x start now × number ≡ suc x.tasks_made × source ≡ Timer
-IsDueBy {x = x} now (delay_due start source e role) = IsTimerDue x start now
-IsDueBy {x = x} now (signal_due start s e role) = IsTimerDue x start now
-IsDueBy {x = x} now (idle_due t number source i e role) = t.due ≤ now × number ≡ suc x.tasks_made
-IsDueBy {x = x} now (answer_due before a after number source e i role) = a.due ≤ now × number ≡ suc x.tasks_made
+-- what is due so is due by now, and its task has the next number; that of a timer comes from the timers' source,
+-- that of a host from Net; a delayed post that does nothing was called or dropped
+abbrev pub IsDueBy : {made : List Registration} {r : ℕ} {x y : Places} → (now : ℕ) → History → DueChange made r x y → Type 0
+IsDueBy {x = x} now past (timer_due start number source t e i role) = IsTimerDue x start now × number ≡ suc x.tasks_made × source ≡ Timer
+IsDueBy {r = r} {x = x} now past (delay_due start source e role) = IsTimerDue x start now × was_done past r ≡ true
+IsDueBy {x = x} now past (signal_due start s e role) = IsTimerDue x start now
+IsDueBy {x = x} now past (idle_due t number source i e role) = t.due ≤ now × number ≡ suc x.tasks_made
+IsDueBy {x = x} now past (answer_due before a after number source e i role) = a.due ≤ now × number ≡ suc x.tasks_made × source ≡ Net
 
 -- what waits for its due time in an active timer
 abbrev pub is_delayed_role : Role → Bool
@@ -435,11 +406,28 @@ fits_first k (at_delay ms now q source e h) = is_posted k
 fits_first k (at_idle q e) = is_idle k
 fits_first k (at_host c a e there live) = is_host k
 
--- a timer's registration has the timer's id
+-- registration r waits in an active timer, as a delayed post
+pub record DelayWaits (r : ℕ) (cs : List Completing) : Type 0 where
+  pub steps : Completing
+  pub there : IsIn steps cs
+  pub source : PrioSource
+  pub own : steps.completion ≡ EnqueuePost r source
+
+-- what signal s can abort, in order: its abort algorithms
+abbrev pub algorithms_at : Signals Value → ℕ → List ℕ
+algorithms_at ss s = (the_signal ss s).algorithms
+
+-- the signal, if there is one, is not aborted, and registration r is among its abort algorithms
+abbrev pub IsAbortable : ℕ → Signals Value → Option ℕ → Type 0
+IsAbortable r ss None = Unit {0}
+IsAbortable r ss (Some s) = IsIn r (algorithms_at ss s) × AbortGraph.is_aborted ss s ≡ false
+
+-- a timer's registration has the timer's id, and a delayed post can be aborted by its signal
 abbrev pub FirstOwns : {made : List Registration} {prios : Prios} {r : ℕ} {x y : Places}
-    → FirstPlace made prios r x y → Registration → Type 0
-FirstOwns (at_timer a t e first) new = new.timer_id ≡ a.id
-FirstOwns u new = Unit {0}
+    → FirstPlace made prios r x y → Registration → Signals Value → Type 0
+FirstOwns (at_timer a t e first) new ss = new.timer_id ≡ a.id
+FirstOwns {r = r} (at_delay ms now q source e h) new ss = IsAbortable r ss new.signal
+FirstOwns u new ss = Unit {0}
 
 -- whether a first place is among the idle callbacks
 abbrev pub IsAtIdle : {made : List Registration} {prios : Prios} {r : ℕ} {x y : Places} → FirstPlace made prios r x y → Type 0
@@ -450,8 +438,21 @@ IsAtIdle u = ⊥
 abbrev pub StaysAborted : Page → Page → Type 0
 StaysAborted p q = (s : ℕ) → is_aborted p s ≡ true → is_aborted q s ≡ true
 
--- promises, jobs, the flag of the checkpoint, lines, registrations, frame callbacks, open calls, priorities and scheduling states are as in
--- p, and what was aborted is so still
+-- where it waits as a delayed post, it was called or dropped
+abbrev pub IsReleased : ℕ → Page → Type 0
+IsReleased r p = DelayWaits r p.completions → was_done p.events r ≡ true
+
+-- What becomes of the signals: what each can abort stays, but for what is released, and no signal that can abort something is aborted; or
+-- reasons are set on signals.
+pub data SignalsChange (p : Page) (after : Signals Value) : Type 0 where
+  calmly : ((s r : ℕ) → IsIn r (algorithms_at p.signals s)
+      → IsReleased r p
+      ⊎ (IsIn r (algorithms_at after s) × (AbortGraph.is_aborted after s ≡ true → AbortGraph.is_aborted p.signals s ≡ true)))
+      → SignalsChange p after
+  marking : SignalsChange p after
+
+-- promises, jobs, the flag of the checkpoint, lines, registrations, frame callbacks, open calls, the nesting level and the form, priorities
+-- and scheduling states are as in p, and what was aborted is so still
 pub record AsBefore (p q : Page) : Type 0 where
   pub notices : q.notices ≡ p.notices
   pub performing : q.performing ≡ p.performing
@@ -460,6 +461,9 @@ pub record AsBefore (p q : Page) : Type 0 where
   pub frames : q.frames ≡ p.frames
   pub calls : q.calls ≡ p.calls
   pub aborted : StaysAborted p q
+  pub watched : SignalsChange p q.signals
+  pub level : q.level ≡ p.level
+  pub form : q.form ≡ p.form
   pub scheduling : SchedulingAfter (scheduling_of p) (scheduling_of q)
 
 -- scheduler task t is enqueued next, in this queue of its line
@@ -468,9 +472,33 @@ pub record IsNext (p q : Page) (t : SchedTask) (queue : QueueName) : Type 0 wher
   pub made : suc p.tasks_made ≤ q.tasks_made
   pub named : queue ≡ queue_name t.source
 
--- no task is runnable and nothing is pending
+-- timer t's task is among these, from the timers' source
+pub record InTask (t : TimerTask) (ts : List Task) : Type 0 where
+  pub task : Task
+  pub there : IsIn task ts
+  pub steps : task.steps ≡ RunTimer t
+  pub source : task.source ≡ Timer
+
+-- timer t waits to be due, or its task waits
+pub data Awaits (t : TimerTask) (cs : List Completing) (ts : List Task) : Type 0 where
+  in_steps : (c : Completing) → IsIn c cs → c.completion ≡ QueueTimer t → Awaits t cs ts
+  in_task : InTask t ts → Awaits t cs ts
+
+-- registration r waits as a timer
+pub record TimerWaits (r : ℕ) (cs : List Completing) (ts : List Task) : Type 0 where
+  pub timer : TimerTask
+  pub own : timer.registration ≡ r
+  pub place : Awaits timer cs ts
+
+-- each interval that was not dropped waits
+abbrev pub IntervalsWait : Page → Type 0
+IntervalsWait p =
+    (r : ℕ) → 1 ≤ r → role_at p.registrations r ≡ OfKind kind.Interval
+    → was_dropped p.events r ≡ true ⊎ TimerWaits r p.completions p.tasks
+
+-- no task is runnable and nothing is pending, and each interval waits that was not dropped
 abbrev pub IsAtEnd : Page → Type 0
-IsAtEnd p = is_empty (view p) ≡ true × is_pending p ≡ false
+IsAtEnd p = is_empty (view p) ≡ true × is_pending p ≡ false × IntervalsWait p
 
 -- ---- Ours: a change, with which no call begins or ends
 
@@ -487,9 +515,9 @@ pub data PageChange : Page → Page → Type 0 where
   arm_told : {p : Page} (r due level : ℕ) → ArmedAt p.registrations (places p) r due → IsArmedWell p r due level
       → PageChange p (emit (Arm r due level) p)
   -- a line between turns, where no call is open, no job waits and no frame is in progress; that of the scheduler's turn comes with its
-  -- call, and that of a period at the idle period start
+  -- call
   rested : {p : Page} (e : Event) → is_rest e ≡ true → open_registrations p.events ≡ [] → p.notices.jobs ≡ []
-      → is_sched_turn e ≡ false → FrameIsOver p → (is_period e ≡ true → p.last_idle_start ≡ p.now) → (e ≡ EndLine Done → IsAtEnd p)
+      → is_sched_turn e ≡ false → FrameIsOver p → BeginsWell e p → (e ≡ EndLine Done → IsAtEnd p)
       → PageChange p (emit e p)
   -- a host's task is taken, and the host answers
   answered : {p q : Page} (source : Source) (task : Task) (t : HostTask) (answer : Result ℤ ℤ) → first_task source p.tasks ≡ Some task
@@ -500,15 +528,15 @@ pub data PageChange : Page → Page → Type 0 where
   -- a registration is made, for no frame, and waits at its first place
   registered : {p q : Page} (kind : RegKind) (x : Registration) → x.role ≡ OfKind kind → is_frame kind ≡ false
       → (u : FirstPlace p.registrations p.prios (suc (length p.registrations)) (places p) (places q))
-      → AsBefore (register_as kind x p) q → fits_first kind u ≡ true × FirstOwns u x → PageChange p q
+      → AsBefore (register_as kind x p) q → fits_first kind u ≡ true × FirstOwns u x q.signals → PageChange p q
   -- a registration is made, and its scheduler task is enqueued, with its line
   enqueued_anew : {p q : Page} (kind : RegKind) (x : Registration) (t : SchedTask) (queue : QueueName) → x.role ≡ OfKind kind
       → t.registration ≡ suc (length p.registrations) → places q ≡ with_queued t (places p)
       → IsNext p q t queue × Sourced p.prios p.scheduling_states t.source × is_scheduled kind ≡ true
       → AsBefore (emit (Enq t.registration queue t.continuation t.order) (register_as kind x p)) q → PageChange p q
   -- a registration is due, with its line; a delayed post that was not aborted is enqueued then
-  fell_due : {p q : Page} (r : ℕ) (d : DueChange p.registrations r (places p) (places q)) → AsBefore (emit (Due r) p) q → IsDueBy p.now d
-      → PageChange p q
+  fell_due : {p q : Page} (r : ℕ) (d : DueChange p.registrations r (places p) (places q)) → AsBefore (emit (Due r) p) q
+      → IsDueBy p.now p.events d → PageChange p q
   post_fell_due : {p q : Page} (start : ℕ) (source : PrioSource) (t : SchedTask) (queue : QueueName)
       → completion_of p.completions start ≡ Some (EnqueuePost t.registration source)
       → role_at p.registrations t.registration ≡ OfKind kind.Post
@@ -575,10 +603,25 @@ PlaceArms (signal_armed ms now q s) r due = r ≡ q × due ≡ now + ms * 1000
 PlaceArms (idle_armed t most own) r due = r ≡ t.registration × due ≡ t.due
 PlaceArms c r due = ⊥
 
+-- whether a first place, and a change of the places, give a timer this level where they arm one
+abbrev pub FirstLevels : {made : List Registration} {prios : Prios} {r : ℕ} {x y : Places} → FirstPlace made prios r x y → ℕ → Type 0
+FirstLevels (at_timer a t e fresh) level = level ≡ t.level
+FirstLevels u level = Unit {0}
+
+abbrev pub PlaceLevels : {made : List Registration} {x y : Places} → PlaceChange made x y → ℕ → Type 0
+PlaceLevels (armed_again a t role there next) level = level ≡ t.level
+PlaceLevels c level = Unit {0}
+
+-- whether a first place gives a timer one level more than the page's, and a call is open then
+abbrev pub FirstFollows : {made : List Registration} {prios : Prios} {r : ℕ} {x y : Places} → FirstPlace made prios r x y → Page → Type 0
+FirstFollows (at_timer a t e fresh) p = t.level ≡ suc p.level × (open_registrations p.events ≡ [] → ⊥)
+FirstFollows u p = Unit {0}
+
 -- a change and the line that tells what it arms
 abbrev pub Tells : {p q r : Page} → PageChange p q → PageChange q r → Type 0
-Tells {p = p} (registered kind x e unframed u b at) (arm_told r due level w well) = r ≡ suc (length p.registrations) × FirstArms u due
-Tells (elsewhere c b k) (arm_told r due level w well) = PlaceArms c r due
+Tells {p = p} (registered kind x e unframed u b at) (arm_told r due level w well) =
+    r ≡ suc (length p.registrations) × FirstArms u due × FirstLevels u level × FirstFollows u p
+Tells (elsewhere c b k) (arm_told r due level w well) = PlaceArms c r due × PlaceLevels c level
 Tells a b = ⊥
 
 -- whether a first place, and a change of the places, arm nothing
@@ -601,11 +644,45 @@ IsPlain (elsewhere c b k) = PlaceIsPlain c
 IsPlain (arm_told r due level w well) = ⊥
 IsPlain c = Unit {0}
 
--- changes one after another, where each that arms is told of at once
+-- whether a change of the places arms no interval again
+abbrev pub PlaceIsNew : {made : List Registration} {x y : Places} → PlaceChange made x y → Type 0
+PlaceIsNew (armed_again a t role there next) = ⊥
+PlaceIsNew c = Unit {0}
+
+-- where no reason is set
+abbrev pub WhenCalm : {p : Page} {after : Signals Value} → SignalsChange p after → Type 0 → Type 0
+WhenCalm (calmly h) T = T
+WhenCalm marking T = ⊥
+
+-- with which no reason is set on a signal
+abbrev pub IsCalm : {p q : Page} → PageChange p q → Type 0
+IsCalm (elsewhere c b k) = WhenCalm b.watched (Unit {0})
+IsCalm (answered source task t answer x y live z b) = WhenCalm b.watched (Unit {0})
+IsCalm (registered kind x e unframed u b at) = WhenCalm b.watched (Unit {0})
+IsCalm (enqueued_anew kind x t queue e i s n b) = WhenCalm b.watched (Unit {0})
+IsCalm (fell_due r d b by) = WhenCalm b.watched (Unit {0})
+IsCalm (post_fell_due start source t queue e role a s n b by) = WhenCalm b.watched (Unit {0})
+IsCalm (dropped r d b) = WhenCalm b.watched (Unit {0})
+IsCalm (task_dropped r role a e s b) = WhenCalm b.watched (Unit {0})
+IsCalm c = Unit {0}
+
+-- which arms nothing, and sets no reason
+abbrev pub IsQuiet : {p q : Page} → PageChange p q → Type 0
+IsQuiet (elsewhere c b k) = WhenCalm b.watched (PlaceIsPlain c)
+IsQuiet (registered kind x e unframed u b at) = WhenCalm b.watched (FirstIsPlain u)
+IsQuiet (arm_told r due level w well) = ⊥
+IsQuiet c = IsCalm c
+
+-- which arms no interval again, and sets no reason
+abbrev pub IsNew : {p q : Page} → PageChange p q → Type 0
+IsNew (elsewhere c b k) = WhenCalm b.watched (PlaceIsNew c)
+IsNew c = IsCalm c
+
+-- changes one after another, where each that arms is told of at once; no interval is armed again, and no reason is set on a signal
 pub data Changes : Page → Page → Type 0 where
   nothing : {p : Page} → Changes p p
-  with_change : {p q r : Page} → Changes p q → (c : PageChange q r) → IsPlain c → Changes p r
-  with_arm : {p q r s : Page} → Changes p q → (c : PageChange q r) (d : PageChange r s) → Tells c d → Changes p s
+  with_change : {p q r : Page} → Changes p q → (c : PageChange q r) → IsQuiet c → Changes p r
+  with_arm : {p q r s : Page} → Changes p q → (c : PageChange q r) (d : PageChange r s) → Tells c d → IsNew c → Changes p s
 
 -- ---- Ours: how a call begins
 
@@ -712,3 +789,9 @@ pub data Moves : Page → Page → Type 0 where
   idling : {p q : Page} → Moves p q → (HasSteps InvokeIdle q.tasks → ⊥) → Moves p (record q { last_idle_start = q.now })
   -- the line of a frame
   framing : {p q : Page} → Moves p q → (t : ℕ) → Moves p (emit (Frame t) q)
+
+-- What a run comes to: a row of moves, and where it is stuck for want of an answer, the host's task that was taken last.
+pub data ComesTo : Page → Page → Type 0 where
+  moved : {p q : Page} → Moves p q → ComesTo p q
+  unanswered : {p q : Page} → Moves p q → (source : Source) (task : Task) (t : HostTask) → first_task source q.tasks ≡ Some task
+      → task.steps ≡ AnswerHost t → ComesTo p (without_task task.number q)

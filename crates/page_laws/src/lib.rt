@@ -14,21 +14,23 @@ ghost use Rattle.page_model.specs.Numbers.{HoldsNoNumbers};
 ghost use Rattle.page_laws.specs.CallLaws.{Once, Cancel, SettleOnce, JobsInOrder, NoNesting};
 ghost use Rattle.page_laws.specs.History.{open_registrations};
 ghost use Rattle.page_laws.specs.SchedulerLaws.{ArmsAreDueAtEnd, ContinuationsAreOverAtEnd, EndParts, EndsTruly, FramesAreOverAtEnd};
-ghost use Rattle.page_laws.specs.SchedulerLaws.{IdlesAreOverAtEnd, LimitsAreKept, MicrosAreOverAtEnd, PriorityOrder, TimeoutsAreOverAtEnd};
-ghost use Rattle.page_laws.specs.TimerLaws.{DueInOrder, DueWhenArmed, FramesInOrder, IdleDeadlines, TimerParts, TimersClamped};
-ghost use Rattle.page_laws.specs.TimerLaws.{TimersFireWhenDue, TimersInOrder};
-ghost use Rattle.page_laws.specs.Moves.{Moves};
+ghost use Rattle.page_laws.specs.SchedulerLaws.{HostsHaveAnsweredAtEnd, IdlesAreOverAtEnd, IntervalsAreOverAtEnd, LimitsAreKept};
+ghost use Rattle.page_laws.specs.SchedulerLaws.{MicrosAreOverAtEnd, PostsAreOverAtEnd, PriorityOrder, TimeoutsAreOverAtEnd};
+ghost use Rattle.page_laws.specs.TimerLaws.{DueInOrder, DueWhenArmed, FramesInOrder, IdleDeadlines, LevelsFollow, TimerParts};
+ghost use Rattle.page_laws.specs.TimerLaws.{TimersClamped, TimersFireWhenDue, TimersInOrder};
+ghost use Rattle.page_laws.specs.Moves.{ComesTo};
 ghost use Rattle.page_model.specs.Gaps.{Act, run_gaps_by};
 
 use page_model::Choosing;
 
-/// What happens in a run is a row of moves, after any number of turns and at its end.
+/// What happens in a run is a row of moves, after any number of turns and at its end; but where it is stuck for want of a host's answer,
+/// the task that asks for it was taken last.
 pub fn runs_are_moves<R: Choosing>()
     ensures after { (program : Program) (setup : Setup) (hosts : List HostClosure) (c : R.Held) (until most : ℕ) → HoldsNoNumbers setup
-        → Moves (first_page program setup hosts) (state_of
+        → ComesTo (first_page program setup hosts) (state_of
         (turns R.rules (call_from_outside program page_operations) until most (first_state program setup hosts) c)).host }
     ensures at_end { (program : Program) (setup : Setup) (hosts : List HostClosure) (c : R.Held) → HoldsNoNumbers setup
-        → Moves (first_page program setup hosts) (state_of (run_by R.rules program setup hosts c)).host }
+        → ComesTo (first_page program setup hosts) (state_of (run_by R.rules program setup hosts c)).host }
 {}
 
 /// No promise is settled twice, and a reaction's job is queued only when its promise is settled.
@@ -112,6 +114,24 @@ pub fn timers_are_clamped<R: Choosing>()
         → TimersClamped (events_of_run (run_by R.rules program setup hosts c)) }
 {}
 
+/// A timer's level is one more than that of its parent, or 1: a fifth part of the law of timers. In the first form the parent is the
+/// outermost open call, if that is of a timer, and of an interval that is armed again the interval itself; in the second form it is the
+/// first call of the turn, if that is of a timer.
+pub fn levels_follow<R: Choosing>()
+    ensures { (program : Program) (setup : Setup) (hosts : List HostClosure) (c : R.Held) → HoldsNoNumbers setup
+        → LevelsFollow setup.form (events_of_run (run_by R.rules program setup hosts c)) }
+{}
+
+/// The law of timers, whole: what is due was armed for that time or an earlier one, and was not due since; of two that are active at one
+/// line, the one that was armed first is due first, unless it was armed for a later time; a timer is called no more often than it is due;
+/// and timers are armed with the levels and delays that are due.
+pub fn timers_go_in_order<R: Choosing>()
+    ensures in_runs { (program : Program) (setup : Setup) (hosts : List HostClosure) (c : R.Held) → HoldsNoNumbers setup
+        → TimersInOrder setup.form (events_of_run (run_by R.rules program setup hosts c)) }
+    ensures in_pieces { (program : Program) (setup : Setup) (c : R.Held) (list : List Act) → HoldsNoNumbers setup
+        → TimersInOrder setup.form (events_of_run (run_gaps_by R.rules program setup list c)) }
+{}
+
 /// Where a run ends for nothing is left to do, whatever was armed was due each time, but for a host that was dropped, and each frame
 /// callback and each idle callback was called or dropped: parts of the law of how runs end.
 pub fn runs_end_with_nothing_armed<R: Choosing>()
@@ -142,6 +162,24 @@ pub fn runs_end_with_no_timeout<R: Choosing>()
         → TimeoutsAreOverAtEnd (events_of_run (run_by R.rules program setup hosts c)) }
 {}
 
+/// Each posted task was called or dropped then: another part of the law of how runs end.
+pub fn runs_end_with_no_posted_task<R: Choosing>()
+    ensures { (program : Program) (setup : Setup) (hosts : List HostClosure) (c : R.Held) → HoldsNoNumbers setup
+        → PostsAreOverAtEnd (events_of_run (run_by R.rules program setup hosts c)) }
+{}
+
+/// Each interval was dropped then: another part of the law of how runs end.
+pub fn runs_end_with_no_interval<R: Choosing>()
+    ensures { (program : Program) (setup : Setup) (hosts : List HostClosure) (c : R.Held) → HoldsNoNumbers setup
+        → IntervalsAreOverAtEnd (events_of_run (run_by R.rules program setup hosts c)) }
+{}
+
+/// Each host that was not dropped has answered then: another part of the law of how runs end.
+pub fn runs_end_with_each_host_answered<R: Choosing>()
+    ensures { (program : Program) (setup : Setup) (hosts : List HostClosure) (c : R.Held) → HoldsNoNumbers setup
+        → HostsHaveAnsweredAtEnd (events_of_run (run_by R.rules program setup hosts c)) }
+{}
+
 /// Turns and jobs together are no more than the fuel, no turn begins at `until` or later, and a run that ends by the clock ends then:
 /// another part of the law of how runs end. It holds whatever values arrive.
 pub fn runs_keep_their_limits<R: Choosing>()
@@ -149,6 +187,15 @@ pub fn runs_keep_their_limits<R: Choosing>()
         → LimitsAreKept setup.until setup.fuel (events_of_run (run_by R.rules program setup hosts c)) }
     ensures in_pieces { (program : Program) (setup : Setup) (c : R.Held) (list : List Act)
         → LimitsAreKept setup.until setup.fuel (events_of_run (run_gaps_by R.rules program setup list c)) }
+{}
+
+/// How a run ends, whole: where it ends for nothing is left to do nothing is left over, where it ends by the clock the time is up, no turn
+/// begins then, and turns and jobs together are no more than the fuel.
+pub fn runs_end_truly<R: Choosing>()
+    ensures in_runs { (program : Program) (setup : Setup) (hosts : List HostClosure) (c : R.Held) → HoldsNoNumbers setup
+        → EndsTruly setup.until setup.fuel (events_of_run (run_by R.rules program setup hosts c)) }
+    ensures in_pieces { (program : Program) (setup : Setup) (c : R.Held) (list : List Act) → HoldsNoNumbers setup
+        → EndsTruly setup.until setup.fuel (events_of_run (run_gaps_by R.rules program setup list c)) }
 {}
 
 /// The law of timers and the law of how runs end are their parts together, whatever the lines.
@@ -168,7 +215,7 @@ pub fn open_calls_are_told<R: Choosing>()
 /// The same of a run in pieces, in which another loop says when time passes, when a task is served and when the page rests.
 pub fn acts_keep_the_laws<R: Choosing>()
     ensures moves { (program : Program) (setup : Setup) (c : R.Held) (list : List Act) → HoldsNoNumbers setup
-        → Moves (first_page program setup []) (state_of (run_gaps_by R.rules program setup list c)).host }
+        → ComesTo (first_page program setup []) (state_of (run_gaps_by R.rules program setup list c)).host }
     ensures settling { (program : Program) (setup : Setup) (c : R.Held) (list : List Act) → HoldsNoNumbers setup
         → SettleOnce (events_of_run (run_gaps_by R.rules program setup list c)) }
     ensures jobs { (program : Program) (setup : Setup) (c : R.Held) (list : List Act) → HoldsNoNumbers setup
@@ -193,6 +240,8 @@ pub fn acts_keep_the_laws<R: Choosing>()
         → DueInOrder (events_of_run (run_gaps_by R.rules program setup list c)) }
     ensures clamps { (program : Program) (setup : Setup) (c : R.Held) (list : List Act) → HoldsNoNumbers setup
         → TimersClamped (events_of_run (run_gaps_by R.rules program setup list c)) }
+    ensures levels { (program : Program) (setup : Setup) (c : R.Held) (list : List Act) → HoldsNoNumbers setup
+        → LevelsFollow setup.form (events_of_run (run_gaps_by R.rules program setup list c)) }
     ensures arms_at_end { (program : Program) (setup : Setup) (c : R.Held) (list : List Act) → HoldsNoNumbers setup
         → ArmsAreDueAtEnd (events_of_run (run_gaps_by R.rules program setup list c)) }
     ensures frames_at_end { (program : Program) (setup : Setup) (c : R.Held) (list : List Act) → HoldsNoNumbers setup
@@ -205,4 +254,10 @@ pub fn acts_keep_the_laws<R: Choosing>()
         → ContinuationsAreOverAtEnd (events_of_run (run_gaps_by R.rules program setup list c)) }
     ensures timeouts_at_end { (program : Program) (setup : Setup) (c : R.Held) (list : List Act) → HoldsNoNumbers setup
         → TimeoutsAreOverAtEnd (events_of_run (run_gaps_by R.rules program setup list c)) }
+    ensures posts_at_end { (program : Program) (setup : Setup) (c : R.Held) (list : List Act) → HoldsNoNumbers setup
+        → PostsAreOverAtEnd (events_of_run (run_gaps_by R.rules program setup list c)) }
+    ensures intervals_at_end { (program : Program) (setup : Setup) (c : R.Held) (list : List Act) → HoldsNoNumbers setup
+        → IntervalsAreOverAtEnd (events_of_run (run_gaps_by R.rules program setup list c)) }
+    ensures hosts_at_end { (program : Program) (setup : Setup) (c : R.Held) (list : List Act) → HoldsNoNumbers setup
+        → HostsHaveAnsweredAtEnd (events_of_run (run_gaps_by R.rules program setup list c)) }
 {}

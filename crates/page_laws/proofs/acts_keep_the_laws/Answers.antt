@@ -1,5 +1,5 @@
 use Rattle.page_laws.proofs.Acts.{gaps_are_moves}
-use Rattle.page_laws.proofs.RunLaws.{laws_of_gaps}
+use Rattle.page_laws.proofs.RunLaws.{gaps_follow_levels, laws_of_gaps}
 use Rattle.page_laws.proofs.acts_keep_the_laws.Goals as goal
 
 pub returns-clause-moves : goal.returns-clause-moves
@@ -41,6 +41,9 @@ returns-clause-due_order g c = λ program setup choices list h. (laws_of_gaps g.
 pub returns-clause-clamps : goal.returns-clause-clamps
 returns-clause-clamps g c = λ program setup choices list h. (laws_of_gaps g.R.Choosing.rules program setup choices list h).12
 
+pub returns-clause-levels : goal.returns-clause-levels
+returns-clause-levels g c = λ program setup choices list h. gaps_follow_levels g.R.Choosing.rules program setup choices list h
+
 pub returns-clause-arms_at_end : goal.returns-clause-arms_at_end
 returns-clause-arms_at_end g c = λ program setup choices list h. (laws_of_gaps g.R.Choosing.rules program setup choices list h).13
 
@@ -58,3 +61,12 @@ returns-clause-continuations_at_end g c = λ program setup choices list h. (laws
 
 pub returns-clause-timeouts_at_end : goal.returns-clause-timeouts_at_end
 returns-clause-timeouts_at_end g c = λ program setup choices list h. (laws_of_gaps g.R.Choosing.rules program setup choices list h).18
+
+pub returns-clause-hosts_at_end : goal.returns-clause-hosts_at_end
+returns-clause-hosts_at_end g c = λ program setup choices list h. (laws_of_gaps g.R.Choosing.rules program setup choices list h).19
+
+pub returns-clause-intervals_at_end : goal.returns-clause-intervals_at_end
+returns-clause-intervals_at_end g c = λ program setup choices list h. (laws_of_gaps g.R.Choosing.rules program setup choices list h).20
+
+pub returns-clause-posts_at_end : goal.returns-clause-posts_at_end
+returns-clause-posts_at_end g c = λ program setup choices list h. (laws_of_gaps g.R.Choosing.rules program setup choices list h).21
