@@ -1,0 +1,15 @@
+pub mod Writing
+pub mod Flags
+pub mod Kept
+pub mod NewNames
+pub mod SegmentLemmas
+pub mod Operands
+pub mod ItemLemmas
+pub mod LayoutLemmas
+pub mod MarkLemmas
+pub mod SignLemmas
+pub mod TreeLemmas
+pub mod SpelledLemmas
+pub mod ReadLemmas
+pub mod ScriptLemmas
+pub mod Examples

@@ -1,0 +1,5 @@
+use Rattle.async_segments.proofs.Writing.{then_ok}
+use Rattle.async_segments.proofs.segments.write_bind.Goals as goal
+
+pub returns : goal.returns
+returns c = (then_ok _ _ c.name-3.result c.in_ok-name.ensures (then_ok _ _ c.name-3.result c.in_ok-sign.ensures (then_ok _ _ c.name-3.result c.in_ok-name-2.ensures (then_ok _ _ c.name-3.result c.in_ok-sign-2.ensures (then_ok _ _ c.name-3.result c.in_ok-sign-3.ensures c.name-3.ensures)))))

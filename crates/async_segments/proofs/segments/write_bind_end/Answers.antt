@@ -1,0 +1,5 @@
+use Rattle.async_segments.proofs.Writing.{then_ok}
+use Rattle.async_segments.proofs.segments.write_bind_end.Goals as goal
+
+pub returns : goal.returns
+returns c = (then_ok _ _ c.sign-2.result c.in_ok-sign.ensures c.sign-2.ensures)

@@ -1,0 +1,5 @@
+use Rattle.async_segments.proofs.Writing.{then_ok}
+use Rattle.async_segments.proofs.segments.write_promise.Goals as goal
+
+pub returns : goal.returns
+returns c = (then_ok _ _ c.write_call_end.result c.in_ok-sign.ensures (then_ok _ _ c.write_call_end.result c.in_ok-word.ensures (then_ok _ _ c.write_call_end.result c.in_ok-name.ensures (then_ok _ _ c.write_call_end.result c.in_ok-sign-2.ensures (then_ok _ _ c.write_call_end.result c.in_ok-name-2.ensures (then_ok _ _ c.write_call_end.result c.in_ok-sign-3.ensures c.write_call_end.ensures))))))

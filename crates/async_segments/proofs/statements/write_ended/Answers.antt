@@ -1,0 +1,5 @@
+use Rattle.async_segments.proofs.Writing.{then_ok}
+use Rattle.async_segments.proofs.statements.write_ended.Goals as goal
+
+pub returns : goal.returns
+returns c = then_ok _ _ c.sign.result c.in_ok-write_expr.ensures c.sign.ensures

@@ -1,0 +1,11 @@
+pub mod Marked
+pub mod Names
+pub mod Expanded
+pub mod Layout
+pub mod Script
+pub mod Written
+pub mod Encoded
+pub mod Awaits
+pub mod Segments
+pub mod Items
+pub mod Signed
