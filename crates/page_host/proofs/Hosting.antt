@@ -1,6 +1,5 @@
 -- What a page tells as a host where it is asked, from what it does.
-use Rattle.std.proofs.Common.{◌≡◌, inl, ℕ, suc, ◌+◌, ◌-◌, ◌/◌, ◌*◌, ◌^◌, ◌<◌, ◌≤◌, Bool, true, false, List, [], ◌∷◌, map, length, refl, sym, ◌∙◌, ap, subst, arith, Option, Some, None, is_some, Result, Ok, Err}
-use Rattle.std.specs.Result.{result_err}
+use Rattle.std.proofs.Common.{◌≡◌, inl, inr, ℕ, ℤ, ◌+◌, ◌^◌, ◌≤◌, Bool, true, false, List, [], ◌∷◌, map, refl, sym, ◌∙◌, ap, subst, arith, Option, Some, None, is_some, Result, Ok, Err}
 use Rattle.page_types.specs.Values.{Value}
 use Rattle.page_types.specs.declared.Op.{Op}
 use Rattle.page_types.specs.Tree.{Program}
@@ -9,28 +8,25 @@ use Rattle.page_parts.specs.HostClosures.{HostClosure}
 use Rattle.page_model.specs.Turns.{first_page}
 use Rattle.page_model.proofs.FirstBounds.{first-bounded}
 use Rattle.page_signals.specs.Laws.{as_fold}
-use Rattle.lang_meaning.specs.HostSteps.{HostStep, StepValue, StepThrow, StepInvoke, Stepped, Ask, AskOp, AskResume, CallbackEnd, on_ask, is_busy}
+use Rattle.lang_meaning.specs.HostSteps.{HostStep, StepValue, StepThrow, StepInvoke, Stepped, Ask, AskOp, AskResume, CallbackEnd, on_ask}
 use Rattle.lang_ast.specs.declared.host.HostStep as code
 use Rattle.lang_ast.specs.Steps.{seen_step, tickets_after, Falls, AreFew, room_taken}
-use Rattle.page_model.specs.State.{Page}
 use Rattle.page_model.specs.Folds.{Fold}
-use Rattle.page_model.specs.PageHost.{Hosting, open_tickets, tickets_then, step_known, resume_innermost}
+use Rattle.page_model.specs.PageHost.{Hosting, open_tickets, tickets_then}
 use Rattle.page_model.specs.FoldBounds.{IsBounded, FoldsAreBounded, HostIsBounded, FewerLeft, to_visit}
 use Rattle.page_model.proofs.HostBounds.{known-within, resume-within}
 use Rattle.page_model.proofs.Tickets.{known-accounts, resume-accounts}
 use Rattle.trace_text.specs.declared.lines.NoLine.{NoLine}
-use Rattle.trace_text.specs.declared.lines.NoLine.TheVariants.{OutOfMemory}
-use Rattle.trace_text.specs.Line.{Line}
-use Rattle.trace_text.specs.Given.{Keeping, Seen, after_all, StopsAmong}
-use Rattle.trace_text.specs.Acts.{At}
-use Rattle.page_rules.specs.Lined.{Lined, bare_hosting, asked_bare, lines_in, handed_on, lined_rules, LeavesLines}
+use Rattle.trace_text.specs.Given.{Keeping, Seen, after_all}
+use Rattle.page_rules.specs.Lined.{bare_hosting, lines_in, handed_on, lined_rules}
 use Rattle.page_rules.specs.Steady.{asks_busy, asked_page}
 use Rattle.page_rules.proofs.KeepingFolds.{ask-steady, ask-soon}
 use Rattle.page_state.specs.Standing.{Standing, page_of}
 use Rattle.page_state.specs.PageActs.{at}
 use Rattle.page_state.specs.FoldActs.{hosting_of}
 use Rattle.page_operations.specs.Asked.{Asked, asked_of}
-use Rattle.page_host.specs.PageNow.{told_at, room_at, room_of}
+use Rattle.page_host.specs.Marked.{Mark, Marked, marked, marked_step, marked_rules, LeavesMarked}
+use Rattle.page_host.specs.PageNow.{told_at, marked_at, room_at, room_of}
 
 module _ {T : Type 0} (k : Keeping T) (old s : Standing) (before after : Seen T) (stopped : Option NoLine) (step : code.HostStep) where
   handed : (ask : Ask) → Asked k (at old before) ask (Ok step) (at s after)
@@ -42,12 +38,27 @@ module _ {T : Type 0} (k : Keeping T) (old s : Standing) (before after : Seen T)
       ∙ (ap (λ (g : Hosting). record { step = seen_step step; host = record h { hosting = g; told = after_all k before.told (lines_in x) } }) (sym a.host)
       ∙ ap (λ (t : Option T). record { step = seen_step step; host = record h { hosting = hosting_of s; told = t } }) (sym a.lines.told.0))
 
-  -- the rule of the host
-  pub rule : (ask : Ask) → Asked k (at old before) ask (Ok step) (at s after)
+  -- the rule of the page that hands its lines on
+  lined-rule : (ask : Ask) → Asked k (at old before) ask (Ok step) (at s after)
       → on_ask (lined_rules k) ask (told_at old before.told stopped) ≡ record { step = seen_step step; host = told_at s after.told stopped }
   unfolding asked_of
-  rule (AskOp op args) a = handed (AskOp op args) a
-  rule (AskResume ticket end) a = handed (AskResume ticket end) a
+  lined-rule (AskOp op args) a = handed (AskOp op args) a
+  lined-rule (AskResume ticket end) a = handed (AskResume ticket end) a
+
+  -- the host port stays
+  same-port : (mark : Mark T) (ask : Ask) → Asked k (at old before) ask (Ok step) (at s after)
+      → marked_step (marked_at mark old before.told stopped) (record { step = seen_step step; host = told_at s after.told stopped })
+      ≡ record { step = seen_step step; host = marked_at mark s after.told stopped }
+  same-port mark ask a =
+      let lined = told_at s after.told stopped in
+      ap {A = Option (List (Result ℤ ℤ))} {B = Stepped (Marked T)} (λ kept. record { step = seen_step step; host = marked mark kept old.refusals lined }) (sym a.kept)
+      ∙ ap {A = ℕ} {B = Stepped (Marked T)} (λ n. record { step = seen_step step; host = marked mark s.kept n lined }) (sym a.refusals)
+
+  -- the rule of the host
+  pub rule : (mark : Mark T) (ask : Ask) → Asked k (at old before) ask (Ok step) (at s after)
+      → on_ask (marked_rules k) ask (marked_at mark old before.told stopped) ≡ record { step = seen_step step; host = marked_at mark s after.told stopped }
+  rule mark (AskOp op args) a = ap (marked_step (marked_at mark old before.told stopped)) (lined-rule (AskOp op args) a) ∙ same-port mark (AskOp op args) a
+  rule mark (AskResume ticket end) a = ap (marked_step (marked_at mark old before.told stopped)) (lined-rule (AskResume ticket end) a) ∙ same-port mark (AskResume ticket end) a
 
 few-of : (left : ℕ → ℕ) (most : ℕ) (y : HostStep) → FewerLeft left most y → Falls left most y
 few-of left most (StepValue v) h = tt
@@ -172,22 +183,17 @@ module _ {T : Type 0} (k : Keeping T) (ticket : ℕ) (end : CallbackEnd) (old s 
 -- ---- a stop
 
 -- where the ask was stopped among its lines
-pub stop-leaves : {T : Type 0} (k : Keeping T) (ask : Ask) (old s : Standing) (before after : Seen T) (stopped : Option NoLine) (why : NoLine)
+pub stop-leaves : {T : Type 0} (k : Keeping T) (mark : Mark T) (ask : Ask) (old s : Standing) (before after : Seen T) (stopped : Option NoLine) (why : NoLine)
     → Asked k (at old before) ask (Err why) (at s after)
-    → LeavesLines k ask (told_at old before.told stopped) (told_at s after.told (Some why))
+    → LeavesMarked k ask (marked_at mark old before.told stopped) (marked_at mark s after.told (Some why))
 unfolding asked_of
-stop-leaves k (AskOp op args) old s before after stopped why a = record { why = why; stopped = refl; among = a.lines.told }
-stop-leaves k (AskResume ticket end) old s before after stopped why a = record { why = why; stopped = refl; among = a.lines.told }
-
-nothing-taken : {T : Type 0} (k : Keeping T) (lines : List Line) (told : Option T) → StopsAmong k OutOfMemory told lines told
-nothing-taken k [] told = (tt, refl)
-nothing-taken k (line ∷ lines) told = inl refl
+stop-leaves k mark (AskOp op args) old s before after stopped why a = record { mark = refl; lines = inr (record { why = why; stopped = refl; among = a.lines.told }) }
+stop-leaves k mark (AskResume ticket end) old s before after stopped why a = record { mark = refl; lines = inr (record { why = why; stopped = refl; among = a.lines.told }) }
 
 -- where it was stopped before
-pub stopped-leaves : {T : Type 0} (k : Keeping T) (ask : Ask) (s : Standing) (told : Option T) (stopped : Option NoLine)
-    → LeavesLines k ask (told_at s told stopped) (told_at s told (Some OutOfMemory))
-stopped-leaves k ask s told stopped =
-    record { why = OutOfMemory; stopped = refl; among = nothing-taken k (lines_in (asked_bare ask (told_at s told stopped))) told }
+pub stopped-leaves : {T : Type 0} (k : Keeping T) (mark : Mark T) (ask : Ask) (s : Standing) (told : Option T) (stopped : Option NoLine) (why : NoLine) → stopped ≡ Some why
+    → LeavesMarked k ask (marked_at mark s told stopped) (marked_at mark s told (Some why))
+stopped-leaves k mark ask s told stopped why e = record { mark = refl; lines = inl (record { why = why; stopped = e; same = ap (told_at s told) (sym e) }) }
 
 -- ---- before the first turn
 

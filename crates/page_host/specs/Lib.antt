@@ -1,2 +1,10 @@
+pub mod Marked
 pub mod PageNow
 pub mod Starts
+pub mod StateActs
+pub mod Stops
+pub mod Moments
+pub mod Doing
+pub mod Pieces
+pub mod Turning
+pub mod Tasking

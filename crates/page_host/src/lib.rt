@@ -2,10 +2,23 @@
 //! of a turn as the model's page does. Times are in microseconds.
 #![tactic(auto)]
 
+mod callbacks;
+mod did;
+mod jobs;
 mod making;
+mod messages;
 mod page;
+mod pieces;
 mod stop;
+mod stopping;
+mod turn_laws;
+mod turn_steps;
+mod turning;
 
+pub use did::Did;
 pub use making::NoPage;
 pub use page::Page;
 pub use stop::PageStop;
+pub use turn_laws::{
+    runs_end_when_the_time_is_up, turns_begin_as_in_the_model, waits_end_as_in_the_model,
+};

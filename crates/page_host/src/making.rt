@@ -15,6 +15,7 @@ use page_hosts::HostPort;
 use page_state::PageState;
 use page_values::{FunNames, MemoryFault, Str, copy_text};
 use std::alloc::Global;
+use std::snapshot::Snapshot;
 use std::sync::ledger::Ledger;
 use trace_text::Lines;
 
@@ -58,6 +59,7 @@ impl<P: HostPort, L: Lines, M: Ledger> Page<P, L, M> {
         match PageState::new(alloc, names, setup, port, accesses) {
             Ok(state) => Ok(Page {
                 state,
+                since: Snapshot::of(&lines),
                 lines,
                 functions,
                 fuel: setup.fuel,

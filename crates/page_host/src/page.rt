@@ -3,7 +3,7 @@
 ghost use Rattle.std.specs.Prelude.{◌≡◌};
 
 use crate::PageStop;
-use crate::stop::stop_for;
+use crate::stop::stopped_by;
 use lang_ast::{Host, HostStep, Op, Outcome};
 use page_base::Micros;
 use page_hosts::HostPort;
@@ -11,6 +11,7 @@ use page_operations::{answer, go_on};
 use page_state::PageState;
 use page_values::Value;
 use std::marker::Model;
+use std::snapshot::Snapshot;
 use std::sync::ledger::Ledger;
 use trace_text::{Lines, NoLine};
 
@@ -21,6 +22,8 @@ use trace_text::{Lines, NoLine};
 pub struct Page<P: HostPort, L: Lines, M: Ledger> {
     pub(crate) state: PageState<P, M>,
     pub(crate) lines: L,
+    // the lines as they stood when the script machine was called last
+    pub(crate) since: Snapshot<L>,
     pub(crate) functions: usize,
     pub(crate) fuel: u64,
     pub(crate) until: Micros,
@@ -40,6 +43,7 @@ impl<P: HostPort, L: Lines, M: Ledger> Model for Page<P, L, M> {
     ghost view = { λ page. record {
       state = page.state;
       lines = page.lines;
+      since = page.since.value;
       functions = page.functions;
       fuel = page.fuel;
       until = page.until.0;
@@ -47,9 +51,10 @@ impl<P: HostPort, L: Lines, M: Ledger> Model for Page<P, L, M> {
       stops = page.stops;
     } };
 
-    ghost invariant = { λ page. IsWhole (record {
+    ghost invariant = { λ page. IsWhole L.seen (record {
       state = page.state;
       lines = page.lines;
+      since = page.since.value;
       functions = page.functions;
       fuel = page.fuel;
       until = page.until.0;
@@ -59,50 +64,38 @@ impl<P: HostPort, L: Lines, M: Ledger> Model for Page<P, L, M> {
 }
 
 impl<P: HostPort, L: Lines, M: Ledger> Host for Page<P, L, M> {
-    ghost use Rattle.page_rules.specs.Lined.{Lined, LeavesLines, lined_rules};
+    ghost use Rattle.page_host.specs.Marked.{Marked, LeavesMarked, marked_rules};
     ghost use Rattle.page_host.specs.PageNow.{host_now, callbacks_left};
 
     type Stop = PageStop;
 
-    ghost Told = { Lined L.Told };
+    ghost Told = { Marked L.Told };
 
     ghost now = { λ page. host_now L.seen page };
 
-    ghost rules = { lined_rules L.keeping };
+    ghost rules = { marked_rules L.keeping };
 
-    ghost leaves = { LeavesLines L.keeping };
+    ghost leaves = { LeavesMarked L.keeping };
 
     ghost left = { callbacks_left };
 
     fn op(&mut self, op: Op, args: Vec<Value>) -> Result<HostStep, PageStop> {
-        if self.stopped.is_some() {
-            self.stops = self.stops.saturating_add(1);
-            self.stopped = Some(NoLine::OutOfMemory);
-            return Err(PageStop::OutOfMemory);
+        if let Some(why) = self.stopped {
+            return Err(stopped_by(&mut self.stopped, &mut self.stops, why));
         }
         match answer(&mut self.state, op, args, &mut self.lines) {
             Ok(step) => Ok(step),
-            Err(why) => {
-                self.stops = self.stops.saturating_add(1);
-                self.stopped = Some(why);
-                Err(stop_for(why))
-            }
+            Err(why) => Err(stopped_by(&mut self.stopped, &mut self.stops, why)),
         }
     }
 
     fn resume(&mut self, ticket: u64, outcome: Outcome) -> Result<HostStep, PageStop> {
-        if self.stopped.is_some() {
-            self.stops = self.stops.saturating_add(1);
-            self.stopped = Some(NoLine::OutOfMemory);
-            return Err(PageStop::OutOfMemory);
+        if let Some(why) = self.stopped {
+            return Err(stopped_by(&mut self.stopped, &mut self.stops, why));
         }
         match go_on(&mut self.state, ticket, outcome, &mut self.lines) {
             Ok(step) => Ok(step),
-            Err(why) => {
-                self.stops = self.stops.saturating_add(1);
-                self.stopped = Some(why);
-                Err(stop_for(why))
-            }
+            Err(why) => Err(stopped_by(&mut self.stopped, &mut self.stops, why)),
         }
     }
 }

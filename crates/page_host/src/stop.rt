@@ -1,6 +1,7 @@
 //! Why a page stops.
 
-ghost use Rattle.std.specs.Prelude.{◌≡◌};
+ghost use Rattle.std.specs.Prelude.{◌≡◌, Some};
+ghost use Rattle.page_types.specs.Counts.{raised};
 ghost use Rattle.page_host.specs.PageNow.{stop_of};
 
 use trace_text::NoLine;
@@ -17,7 +18,18 @@ pub enum PageStop {
     OutOfMemory,
 }
 
-/// The stop of a line that was not taken.
+/// A page stops for this reason: it is kept, and the stop is counted.
+pub(crate) fn stopped_by(stopped: &mut Option<NoLine>, stops: &mut u64, why: NoLine) -> PageStop
+    ensures stop { result ≡ stop_of why }
+    ensures kept { stopped.new ≡ Some why }
+    ensures counted { stops.new ≡ raised stops.old }
+{
+    *stopped = Some(why);
+    *stops = stops.saturating_add(1);
+    stop_for(why)
+}
+
+// The stop of a line that was not taken.
 pub(crate) fn stop_for(why: NoLine) -> PageStop
     ensures { result ≡ stop_of why }
 {

@@ -1,15 +1,24 @@
-use Rattle.std.proofs.Common.{◌≡◌, refl, sym, ◌∙◌, ap, subst, arith, Option, Some, None, is_some, map}
+use Rattle.std.proofs.Common.{refl, ◌∙◌, map}
 use Rattle.page_values.specs.Seen.{seen}
 use Rattle.lang_meaning.specs.HostSteps.{is_busy}
 use Rattle.lang_ast.specs.Hosts.{ask_op}
-use Rattle.trace_text.specs.declared.lines.NoLine.{NoLine}
 use Rattle.page_operations.proofs.Plain.{same-functions}
-use Rattle.page_host.proofs.Hosting.{rule, op-tickets, op-bounded, op-few, room-left, room-goes-on, room-after, stop-leaves, stopped-leaves, not-stopped}
+use Rattle.page_host.proofs.Hosting.{rule, op-tickets, op-bounded, op-few, room-left, room-goes-on, room-after, stop-leaves, stopped-leaves}
+use Rattle.page_host.proofs.Staying.{whole-again, whole-stopped, since-went}
 use Rattle.page_host.proofs.page.PageHost.op.Goals as goal
 
-pub returns-then-is_some-clause-leaves : goal.returns-then-is_some-clause-leaves
-returns-then-is_some-clause-leaves g c =
-    rw (← c.self.view_is) (stopped-leaves g.L.Lines.keeping (ask_op c.args.op c.args.args) c.self.inside.state (g.L.Lines.seen c.self.inside.lines).told c.self.inside.stopped)
+pub invariant_of-self : goal.invariant_of-self
+invariant_of-self g c = whole-again _ c.in-Some.why _ _ c.self.invariant c.in-Some.is c.stopped_by.ensures.kept c.stopped_by.ensures.counted
+
+pub returns-in-Some-clause-room : goal.returns-in-Some-clause-room
+returns-in-Some-clause-room g c =
+    rw (← c.self.view_is) (rw c.stopped_by.ensures.kept (room-after (is_busy c.args.op) c.self.inside.state c.self.inside.stopped))
+
+pub returns-in-Some-clause-leaves : goal.returns-in-Some-clause-leaves
+returns-in-Some-clause-leaves g c =
+    rw (← c.self.view_is)
+    (rw c.stopped_by.ensures.kept
+    (stopped-leaves g.L.Lines.keeping _ (ask_op c.args.op c.args.args) c.self.inside.state (g.L.Lines.seen c.self.inside.lines).told c.self.inside.stopped c.in-Some.why c.in-Some.is))
 
 pub invariant_of-self-in-Ok : goal.invariant_of-self-in-Ok
 invariant_of-self-in-Ok g c = record {
@@ -17,12 +26,13 @@ invariant_of-self-in-Ok g c = record {
   functions = λ e. same-functions g.L.Lines.keeping (ask_op c.args.op c.args.args) c.self.inside.state c.answer.new.page c.in-Ok.step c.in-Ok.ensures.asked ∙ c.self.invariant.functions e;
   fuel = c.self.invariant.fuel;
   stops = c.self.invariant.stops;
+  since = since-went c.self.inside.stopped c.in_default.is c.self.invariant.since c.in-Ok.ensures.asked.lines;
 }
 
 pub returns-in-Ok-clause-rule : goal.returns-in-Ok-clause-rule
 returns-in-Ok-clause-rule g c =
     rw (← c.self.view_is)
-    (rule g.L.Lines.keeping c.self.inside.state c.answer.new.page (g.L.Lines.seen c.self.inside.lines) (g.L.Lines.seen c.answer.new.lines) c.self.inside.stopped c.in-Ok.step (ask_op c.args.op c.args.args) c.in-Ok.ensures.asked)
+    (rule g.L.Lines.keeping c.self.inside.state c.answer.new.page (g.L.Lines.seen c.self.inside.lines) (g.L.Lines.seen c.answer.new.lines) c.self.inside.stopped c.in-Ok.step _ (ask_op c.args.op c.args.args) c.in-Ok.ensures.asked)
 
 pub returns-in-Ok-clause-open_tickets : goal.returns-in-Ok-clause-open_tickets
 returns-in-Ok-clause-open_tickets g c =
@@ -30,18 +40,23 @@ returns-in-Ok-clause-open_tickets g c =
 
 pub returns-in-Ok-clause-few : goal.returns-in-Ok-clause-few
 returns-in-Ok-clause-few g c =
-    op-few g.L.Lines.keeping c.args.op (map seen c.args.args.items) c.self.inside.state c.answer.new.page c.in-Ok.step c.in-Ok.ensures.asked (c.self.invariant.bounded (not-stopped _ (sym c.is_some.ensures ∙ c.if-is_some.false)))
+    op-few g.L.Lines.keeping c.args.op (map seen c.args.args.items) c.self.inside.state c.answer.new.page c.in-Ok.step c.in-Ok.ensures.asked (c.self.invariant.bounded c.in_default.is)
 
 pub returns-in-Ok-clause-room : goal.returns-in-Ok-clause-room
 returns-in-Ok-clause-room g c =
     rw (← c.self.view_is)
-    (room-goes-on (is_busy c.args.op) c.self.inside.state c.answer.new.page c.self.inside.stopped (not-stopped _ (sym c.is_some.ensures ∙ c.if-is_some.false))
+    (room-goes-on (is_busy c.args.op) c.self.inside.state c.answer.new.page c.self.inside.stopped c.in_default.is
     (room-left g.L.Lines.keeping (ask_op c.args.op c.args.args) c.self.inside.state c.answer.new.page c.in-Ok.step c.in-Ok.ensures.asked (is_busy c.args.op) refl))
 
+pub invariant_of-self-in-Err : goal.invariant_of-self-in-Err
+invariant_of-self-in-Err g c = whole-stopped _ _ _ c.in-Err.why _ _ c.self.invariant c.in_default.is c.in-Err.ensures.asked.lines c.stopped_by-in-Err.ensures.kept c.stopped_by-in-Err.ensures.counted
+
 pub returns-in-Err-clause-room : goal.returns-in-Err-clause-room
-returns-in-Err-clause-room g c = rw (← c.self.view_is) (room-after (is_busy c.args.op) c.self.inside.state c.self.inside.stopped)
+returns-in-Err-clause-room g c =
+    rw (← c.self.view_is) (rw c.stopped_by-in-Err.ensures.kept (room-after (is_busy c.args.op) c.self.inside.state c.self.inside.stopped))
 
 pub returns-in-Err-clause-leaves : goal.returns-in-Err-clause-leaves
 returns-in-Err-clause-leaves g c =
     rw (← c.self.view_is)
-    (stop-leaves g.L.Lines.keeping (ask_op c.args.op c.args.args) c.self.inside.state c.answer.new.page (g.L.Lines.seen c.self.inside.lines) (g.L.Lines.seen c.answer.new.lines) c.self.inside.stopped c.in-Err.why c.in-Err.ensures.asked)
+    (rw c.stopped_by-in-Err.ensures.kept
+    (stop-leaves g.L.Lines.keeping _ (ask_op c.args.op c.args.args) c.self.inside.state c.answer.new.page (g.L.Lines.seen c.self.inside.lines) (g.L.Lines.seen c.answer.new.lines) c.self.inside.stopped c.in-Err.why c.in-Err.ensures.asked))

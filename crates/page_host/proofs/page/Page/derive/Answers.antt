@@ -1,0 +1,9 @@
+use Rattle.std.proofs.Common.{refl}
+use Rattle.promise_core.specs.Seen.{settled_seen}
+use Rattle.page_values.specs.Seen.{seen}
+use Rattle.page_host.proofs.Quiet.{derived-quiet}
+use Rattle.page_host.proofs.Composing.{acted-whole, running-of}
+use Rattle.page_host.proofs.page.Page.derive.Goals as goal
+
+pub invariant_of-self : goal.invariant_of-self
+invariant_of-self g c = acted-whole (derived-quiet c.args.finally c.args.into (settled_seen c.args.how) (seen c.args.value)) c.self.invariant (running-of c.self.view_is c.requires) c.noted.ensures.kept c.noted.ensures.counted refl refl refl c.derive_in-done.ensures

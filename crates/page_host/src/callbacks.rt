@@ -1,0 +1,164 @@
+//! Callbacks of a page: each is called with its line, and what comes behind it (HTML, "Calling scripts").
+
+ghost use Rattle.std.specs.Prelude.{◌≡◌, ◌↔◌, map, IfOk, IsTrue};
+ghost use Rattle.std.specs.Option.{option_map};
+ghost use Rattle.std.specs.Result.{result_err};
+ghost use Rattle.page_values.specs.Seen.{seen};
+ghost use Rattle.page_values.specs.Written.{AreNumbered};
+ghost use Rattle.lang_ast.specs.Steps.{AllNumbered};
+ghost use Rattle.page_interp.specs.Machines.{functions_in, bound_args};
+ghost use Rattle.page_model.specs.State.{the_registration};
+ghost use Rattle.page_model.specs.Invoke as model;
+ghost use Rattle.page_script.specs.Seen.{function_seen};
+ghost use Rattle.page_script.specs.Reports.{when_seen};
+ghost use Rattle.page_state.specs.PageActs.{read_by};
+ghost use Rattle.page_operations.specs.Asked.{functions_of};
+ghost use Rattle.page_host.specs.Moments.{how_of, CanCall};
+ghost use Rattle.page_host.specs.Doing.{Runs, called};
+
+use crate::Page;
+use page_hosts::HostPort;
+use page_interp::{Machine, Ran, Stopped};
+use page_script::WhenReported;
+use page_state::PageState;
+use page_values::{Func, MemoryFault, Value, copy_items};
+use std::snapshot::Snapshot;
+use std::sync::ledger::Ledger;
+use trace_text::{Lines, NoLine};
+
+impl<P: HostPort, L: Lines, M: Ledger> Page<P, L, M> {
+    // A callback is invoked inside a checkpoint: nothing more is done when it has returned.
+    pub(crate) fn invoke_in_checkpoint(
+        &mut self,
+        machine: &mut Machine<'_>,
+        r: u32,
+        second: bool,
+        args: Vec<Value>,
+    ) -> Result<Ran, NoLine>
+        requires { CanCall machine.old self.old }
+        ensures { Runs L.keeping L.seen (λ call. model.invoke (model.in_checkpoint call) r second (map seen args.items))
+            (result_err result) (how_of result) machine.old self.old machine.new self.new }
+    {
+        let when = when_reported(&self.state, r);
+        match self.called(machine, r, second, args)? {
+            Ran::Value(value) => {
+                self.returned()?;
+                Ok(Ran::Value(value))
+            }
+            Ran::Throw(value) => {
+                self.threw(when, &value)?;
+                self.reported(when, &value)?;
+                Ok(Ran::Throw(value))
+            }
+            Ran::Fuel => Ok(Ran::Fuel),
+        }
+    }
+
+    // The callback of a registration is called, with its line.
+    fn called(
+        &mut self,
+        machine: &mut Machine<'_>,
+        r: u32,
+        second: bool,
+        args: Vec<Value>,
+    ) -> Result<Ran, NoLine>
+        requires { CanCall machine.old self.old }
+        ensures { Runs L.keeping L.seen (called r second (map seen args.items)) (result_err result) (how_of result)
+            machine.old self.old machine.new self.new }
+    {
+        let Ok(fun) = callback_copied(&self.state, r, second) else {
+            return Err(self.wanting());
+        };
+        self.call_begun(r)?;
+        self.call_back(machine, fun, args)
+    }
+
+    // A function is called with arguments, after its bound ones; an absent one does nothing. Want of memory is told also where a value
+    // names a function that the script does not have, which no run comes to.
+    fn call_back(
+        &mut self,
+        machine: &mut Machine<'_>,
+        fun: Option<Func>,
+        args: Vec<Value>,
+    ) -> Result<Ran, NoLine>
+        requires { CanCall machine.old self.old }
+        ensures { Runs L.keeping L.seen (λ call. model.call_back call (option_map function_seen fun) (map seen args.items))
+            (result_err result) (how_of result) machine.old self.old machine.new self.new }
+    {
+        let Some(fun) = fun else {
+            return Ok(Ran::Value(Value::Unit));
+        };
+        if !are_numbered(&self.state, fun.bound.items()) || !are_numbered(&self.state, &args) {
+            return Err(self.wanting());
+        }
+        self.since = Snapshot::of(&self.lines);
+        self.run(machine, &fun, args)
+    }
+
+    // The script machine calls a function around the page, whose lines are as they were marked.
+    fn run(
+        &mut self,
+        machine: &mut Machine<'_>,
+        fun: &Func,
+        args: Vec<Value>,
+    ) -> Result<Ran, NoLine>
+        requires ready { CanCall machine.old self.old }
+        requires since { L.seen self.old.since ≡ L.seen self.old.lines }
+        requires bound { AreNumbered (functions_in machine.old) fun.now.bound }
+        requires args { AllNumbered (functions_in machine.old) (map seen args.items) }
+        ensures { Runs L.keeping L.seen (λ call. call fun.now.function (bound_args fun.now args))
+            (result_err result) (how_of result) machine.old self.old machine.new self.new }
+    {
+        let mut fuel = self.fuel;
+        let done = machine.call(self, fun, args, &mut fuel);
+        self.fuel = fuel;
+        let stopped = match done {
+            Ok(ran) => return Ok(ran),
+            Err(stopped) => stopped,
+        };
+        match stopped {
+            Stopped::Host(_) => Err(self.stopped.unwrap_or(NoLine::OutOfMemory)),
+            Stopped::OutOfMemory => Err(self.wanting()),
+        }
+    }
+}
+
+// When a throw of a registration's callback is reported. Takes no memory.
+fn when_reported<P: HostPort, M: Ledger>(state: &PageState<P, M>, r: u32) -> WhenReported
+    ensures { when_seen result ≡ read_by (λ p. model.when_reported (the_registration p r).role) state.now }
+{
+    match state.the_registration(r) {
+        Some(registration) => registration.role.when_reported(),
+        None => WhenReported::BeforeCheckpoint,
+    }
+}
+
+// A copy of the function that a registration calls: its second callback, or the first. It costs what the bound arguments weigh.
+fn callback_copied<P: HostPort, M: Ledger>(
+    state: &PageState<P, M>,
+    r: u32,
+    second: bool,
+) -> Result<Option<Func>, MemoryFault>
+    ensures { IfOk result (λ fun. option_map function_seen fun
+        ≡ read_by (λ p. model.callback_of second (the_registration p r)) state.now) }
+{
+    let Some(fun) = state.callback_of(r, second) else {
+        return Ok(None);
+    };
+    Ok(Some(Func {
+        function: fun.function,
+        bound: copy_items(state.alloc(), &fun.bound)?,
+    }))
+}
+
+// Whether each function that these values name has a name here. It costs at most what they weigh.
+fn are_numbered<P: HostPort, M: Ledger>(state: &PageState<P, M>, values: &[Value]) -> bool
+    ensures { IsTrue result ↔ AllNumbered (functions_of state.now) (map seen values.now) }
+{
+    for value in values {
+        if !state.is_numbered(value) {
+            return false;
+        }
+    }
+    true
+}
