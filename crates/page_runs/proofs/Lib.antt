@@ -1,0 +1,14 @@
+pub mod TurnSteps
+pub mod Parted
+pub mod PageTurns
+pub mod WaitSteps
+pub mod ChoiceSteps
+pub mod RunSteps
+pub mod TaskAdds
+pub mod PageExits
+pub mod NextSteps
+pub mod WholeRuns
+pub mod LoopSteps
+pub mod Loops
+pub mod TurnLoops
+pub mod TaskTurns
