@@ -1,15 +1,18 @@
 -- The script in which signs stand in place of `async` and `await`, and its marked tree. In place of `await` the name `a__`
 -- stands with `||` behind it: an await and its operand are then an expression exactly where the operand is one. In place
 -- of `async` it stands with a `;`, as a statement before the function.
-use Rattle.std.specs.Prelude.{◌≡◌, ◌≤◌, ◌-◌, ℕ, Bool, false, cond, ◌||◌, List, [], ◌∷◌, ◌++◌, length, take, drop, Option, Some, None, codes, Ok}
-use Rattle.page_types.specs.Tree.{Named, Expr, Or, Name, UnitLiteral, Exprs, no_exprs, with_expr, Stmt, VarStmt, AssignStmt, ExprStmt, ReturnStmt, Block, no_stmts, with_stmt, Item, FnItem, StmtItem}
+use Rattle.std.specs.Prelude.{◌≡◌, ◌≤◌, ◌-◌, ℕ, Bool, false, cond, ◌||◌, List, [], ◌∷◌, ◌++◌, length, take, drop, Option, Some, None, codes}
+use Rattle.std.specs.Prelude.{Ok}
+use Rattle.page_types.specs.Tree.{Named, Expr, Or, Name, UnitLiteral, Exprs, no_exprs, with_expr, Stmt, VarStmt, AssignStmt, ExprStmt}
+use Rattle.page_types.specs.Tree.{ReturnStmt, Block, no_stmts, with_stmt, Item, FnItem, StmtItem}
 use Rattle.page_parts.specs.Words.{same_bytes}
 use Rattle.lang_meaning.specs.Evaluation.{functions_of}
 use Rattle.lang_tokens.specs.Seen.{TokenSeen}
 use Rattle.lang_tokens.specs.Tokens.{tokens_of}
 use Rattle.lang_parse.specs.Symbols.{Symbol, NameAt, WordOf, NumberOf, TextOf, SignOf, symbol_of, symbols_of}
 use Rattle.lang_parse.specs.Grammar.{HasTree, IsShallow, script_spelling}
-use Rattle.async_segments.specs.Marked.{AwaitForm, Alone, Declared, Stored, Returned, Segment, MarkedItem, AsyncFn, Plain, is_mark, marked_spelling}
+use Rattle.async_segments.specs.Marked.{AwaitForm, Alone, Declared, Stored, Returned, Segment, MarkedItem, AsyncFn, Plain, is_mark}
+use Rattle.async_segments.specs.Marked.{marked_spelling}
 use Rattle.async_segments.specs.Expanded.{expanded}
 use Rattle.async_segments.specs.Layout.{laid_out}
 use Rattle.async_segments.specs.Script.{IsOwnName, Each, AreSmall}

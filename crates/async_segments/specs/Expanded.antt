@@ -1,11 +1,14 @@
 -- The plain script that a script with async functions becomes. Each async function becomes one that makes a promise, one
 -- for each of its segments, and one that rejects the promise.
 use Rattle.std.specs.Prelude.{ℕ, ◌+◌, List, [], ◌∷◌, ◌++◌, map, Option, Some, None, codes}
-use Rattle.page_types.specs.Tree.{Named, Expr, UnitLiteral, Name, Call, ListLiteral, Stmt, VarStmt, AssignStmt, ExprStmt, IfStmt, WhileStmt, ReturnStmt, ThrowStmt, TryStmt, Block, no_stmts, with_stmt, ElseIfs, no_else_ifs, with_else_if, ElsePart, no_else, else_block, Item, FnItem}
+use Rattle.page_types.specs.Tree.{Named, Expr, UnitLiteral, Name, Call, ListLiteral, Stmt, VarStmt, AssignStmt, ExprStmt, IfStmt, WhileStmt}
+use Rattle.page_types.specs.Tree.{ReturnStmt, ThrowStmt, TryStmt, Block, no_stmts, with_stmt, ElseIfs, no_else_ifs, with_else_if, ElsePart}
+use Rattle.page_types.specs.Tree.{no_else, else_block, Item, FnItem}
 use Rattle.page_parts.specs.Words.{without}
 use Rattle.lang_ast.specs.Seen.{exprs_of}
 use Rattle.lang_place.specs.NameSets.{has_name}
-use Rattle.async_segments.specs.Marked.{AwaitForm, Alone, Declared, Stored, Returned, Segment, MarkedItem, AsyncFn, Plain, followed_by, segments_body}
+use Rattle.async_segments.specs.Marked.{AwaitForm, Alone, Declared, Stored, Returned, Segment, MarkedItem, AsyncFn, Plain, followed_by}
+use Rattle.async_segments.specs.Marked.{segments_body}
 use Rattle.async_segments.specs.Names.{new_name, spellings, locals_of, segment_name, rejecting_name}
 
 -- ---- expressions and statements of the expansion

@@ -3,7 +3,8 @@
 ghost use Rattle.std.specs.Prelude.{◌≡◌, ◌<◌, IfSome, Some, length};
 ghost use Rattle.std.specs.Option.{option_map};
 ghost use Rattle.lang_ast.specs.Seen.{seen_name, seen_expr, seen_exprs, seen_stmt, seen_item};
-ghost use Rattle.async_segments.specs.Encoded.{mark_in_name, mark_in_expr, mark_in_stmt, mark_at, operand_from, operand_by, operand_behind, await_by, await_returned, await_in};
+ghost use Rattle.async_segments.specs.Encoded.{mark_in_name, mark_in_expr, mark_in_stmt, mark_at, operand_from, operand_by, operand_behind};
+ghost use Rattle.async_segments.specs.Encoded.{await_by, await_returned, await_in};
 ghost use Rattle.async_segments.specs.Awaits.{seen_form, seen_await};
 
 use crate::marking::{MARK, is_same};

@@ -3,7 +3,8 @@
 ghost use Rattle.std.specs.Prelude.{◌≡◌, ◌∷◌, [], IfOk};
 ghost use Rattle.lang_ast.specs.Seen.{seen_expr, seen_exprs, seen_terms, seen_factors};
 ghost use Rattle.lang_parse.specs.Symbols.{SignOf};
-ghost use Rattle.lang_parse.specs.Grammar.{spelling, each_behind, terms, factors, places_spelled, sum_sign, product_sign, compare_sign, unary_sign};
+ghost use Rattle.lang_parse.specs.Grammar.{spelling, each_behind, terms, factors, places_spelled, sum_sign, product_sign, compare_sign};
+ghost use Rattle.lang_parse.specs.Grammar.{unary_sign};
 ghost use Rattle.async_segments.specs.Written.{Adds, joined};
 
 use crate::written::{Written, between, number, own_name, sign, text, word};

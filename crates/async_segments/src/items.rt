@@ -7,7 +7,8 @@ ghost use Rattle.lang_ast.specs.Seen.{seen_item, seen_tree};
 ghost use Rattle.lang_parse.specs.Grammar.{item_spelling};
 ghost use Rattle.async_segments.specs.declared.fault.ExpandFault.TheVariants.{OutOfMemory};
 ghost use Rattle.async_segments.specs.Script.{IsNotAsync, IsSmall};
-ghost use Rattle.async_segments.specs.Items.{seen_fn, marked_fn, WritesOne, WritesBehind, RefusesBehind, WritesNext, RefusesNext, WritesItems, RefusesItems, Walk};
+ghost use Rattle.async_segments.specs.Items.{seen_fn, marked_fn, WritesOne, WritesBehind, RefusesBehind, WritesNext, RefusesNext};
+ghost use Rattle.async_segments.specs.Items.{WritesItems, RefusesItems, Walk};
 ghost use Rattle.async_segments.specs.Written.{Adds};
 
 use crate::awaits::mark_at;

@@ -11,7 +11,9 @@ ghost use Rattle.async_segments.specs.Names.{new_name, spellings, segment_name, 
 ghost use Rattle.async_segments.specs.Expanded.{variables, awaited_value, waits, store, starting_fn, rejecting_fn};
 ghost use Rattle.async_segments.specs.Encoded.{operand_from, await_in, cut};
 ghost use Rattle.async_segments.specs.Awaits.{seen_form, seen_await};
-ghost use Rattle.async_segments.specs.Segments.{segment_head, begin_symbols, end_symbols, bind_symbols, bind_end_symbols, rejection_symbols, promise_symbols, promise_returned_symbols, resolved_symbols, first_call_symbols, await_symbols, step_symbols, next_count, segments_symbols, async_fns};
+ghost use Rattle.async_segments.specs.Segments.{segment_head, begin_symbols, end_symbols, bind_symbols, bind_end_symbols};
+ghost use Rattle.async_segments.specs.Segments.{rejection_symbols, promise_symbols, promise_returned_symbols, resolved_symbols};
+ghost use Rattle.async_segments.specs.Segments.{first_call_symbols, await_symbols, step_symbols, next_count, segments_symbols, async_fns};
 ghost use Rattle.async_segments.specs.Written.{Adds, names_of};
 
 use crate::awaits::{Await, Form, await_in};

@@ -5,9 +5,11 @@ ghost use Rattle.std.specs.Option.{option_map};
 ghost use Rattle.page_types.specs.Tree.{AssignStmt, ExprStmt, ReturnStmt, VarStmt};
 ghost use Rattle.lang_ast.specs.Seen.{seen_name, seen_expr, seen_stmt, seen_block, seen_others, seen_else};
 ghost use Rattle.lang_parse.specs.Symbols.{WordOf};
-ghost use Rattle.lang_parse.specs.Grammar.{spelling, in_brackets, in_braces, stmt_spelling, stmts_spelling, else_ifs_spelling, else_spelling, name_symbol};
+ghost use Rattle.lang_parse.specs.Grammar.{spelling, in_brackets, in_braces, stmt_spelling, stmts_spelling, else_ifs_spelling};
+ghost use Rattle.lang_parse.specs.Grammar.{else_spelling, name_symbol};
 ghost use Rattle.async_segments.specs.Expanded.{returned_value, resolves_and_returns};
-ghost use Rattle.async_segments.specs.Written.{Adds, resolve_symbols, call_end_symbols, return_symbols, as_in, all_as_in, others_as_in, else_as_in};
+ghost use Rattle.async_segments.specs.Written.{Adds, resolve_symbols, call_end_symbols, return_symbols, as_in, all_as_in, others_as_in};
+ghost use Rattle.async_segments.specs.Written.{else_as_in};
 
 use crate::expressions::write_expr;
 use crate::written::{Written, name, own_name, sign, word};

@@ -9,7 +9,8 @@ use Rattle.page_interp.specs.MachineNow.{MachineNow}
 use Rattle.page_interp.specs.declared.machine.Ran.{Ran}
 use Rattle.page_interp.specs.declared.machine.Ran.TheVariants as ran
 use Rattle.page_model.specs.State.{Page, State, on_page as on_state, the_registration}
-use Rattle.page_model.specs.Invoke.{WhenReported, call_begun, call_ended, report_after, call_back, callback_of, invoke, in_checkpoint, settle_by, resolve_derived, handler_arguments, with_scheduling, run_job, checkpoint}
+use Rattle.page_model.specs.Invoke.{WhenReported, call_begun, call_ended, report_after, call_back, callback_of, invoke, in_checkpoint}
+use Rattle.page_model.specs.Invoke.{settle_by, resolve_derived, handler_arguments, with_scheduling, run_job, checkpoint}
 use Rattle.trace_text.specs.declared.lines.NoLine.{NoLine}
 use Rattle.trace_text.specs.Given.{Keeping, Seen}
 use Rattle.trace_text.specs.Acts.{Does}

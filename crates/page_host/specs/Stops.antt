@@ -5,7 +5,7 @@ use Rattle.std.specs.Result.{result_err}
 use Rattle.page_types.specs.Counts.{raised, Rose}
 use Rattle.trace_text.specs.declared.lines.NoLine.{NoLine}
 use Rattle.trace_text.specs.declared.lines.NoLine.TheVariants as no_line
-use Rattle.trace_text.specs.Given.{Keeping, Seen}
+use Rattle.trace_text.specs.Given.{Keeping, Seen, line_refusals}
 use Rattle.trace_text.specs.Acts.{Act, Does}
 use Rattle.page_state.specs.Standing.{Standing}
 use Rattle.page_state.specs.PageActs.{at}
@@ -42,19 +42,11 @@ abbrev pub TellsStop : {L X : Type 0} → (old : PageNow L) → Result X PageSto
 TellsStop old (Ok x) new = (new.stopped ≡ old.stopped) × (new.stops ≡ old.stops)
 TellsStop old (Err why) new = (option_map stop_of new.stopped ≡ Some why) × (new.stops ≡ raised old.stops)
 
--- a count of the lines that differed, after a call
-abbrev pub differing_after : ℕ → Option PageStop → ℕ
-differing_after before None = before
-differing_after before (Some stop.WriteFault) = before
-differing_after before (Some stop.Differs) = raised before
-differing_after before (Some stop.NoHost) = before
-differing_after before (Some stop.OutOfMemory) = before
-
 -- A call tells its stop. A write fault comes only where the lines' count of faults rose, and they count exactly the lines that differ.
 pub record Stops {L T X : Type 0} (seen : L → Seen T) (old : PageNow L) (result : Result X PageStop) (new : PageNow L) : Type 0 where
   pub told : TellsStop old result new
   pub failed : result_err result ≡ Some stop.WriteFault → Rose (seen old.lines).faults (seen new.lines).faults
-  pub differs : (seen new.lines).refusals ≡ differing_after (seen old.lines).refusals (result_err result)
+  pub differs : (seen new.lines).refusals ≡ line_refusals (seen old.lines).refusals (fault_of result)
 
 -- ---- Ours: what a call does to a page
 

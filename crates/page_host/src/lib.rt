@@ -1,5 +1,5 @@
 //! The page: one object that owns every part of it, its host port and its lines, is the host of the script machine, and takes each step
-//! of a turn as the model's page does. Times are in microseconds.
+//! of a turn besides its task as the model's page does. Times are in microseconds.
 #![tactic(auto)]
 
 mod callbacks;

@@ -8,7 +8,9 @@ use Rattle.page_parts.specs.Promises.{Settled, Reaction, React}
 use Rattle.page_parts.specs.Promises as Promises
 use Rattle.page_parts.specs.Notices.{Todo, Micro, OfPromise, WaitingJob, changed, subscribe_promise, queue_micro, note_outstanding}
 use Rattle.page_parts.specs.Promises.{the_promise}
-use Rattle.page_model.specs.State.{Role, ScriptRole, OfKind, Registration, no_registration, Page, Task, TimerTask, HostTask, Steps, RunScript, RunTimer, AnswerHost, InvokeIdle, IdleTimeout, PrioSource, SchedTask, Completion, Completing, QueueTimer, EnqueuePost, QueueSignal, HostAnswer, IdleTimer, emit, on_notices, context}
+use Rattle.page_model.specs.State.{Role, ScriptRole, OfKind, Registration, no_registration, Page, Task, TimerTask, HostTask, Steps}
+use Rattle.page_model.specs.State.{RunScript, RunTimer, AnswerHost, InvokeIdle, IdleTimeout, PrioSource, SchedTask, Completion, Completing}
+use Rattle.page_model.specs.State.{QueueTimer, EnqueuePost, QueueSignal, HostAnswer, IdleTimer, emit, on_notices, context}
 use Rattle.page_model.specs.PagePromises.{new_promise}
 use Rattle.page_model.specs.PageTime.{first_task, registration_with_id, completion_of, without_frame, deadline, without_idle, idle_callback}
 use Rattle.page_model.specs.SchedulerTasks.{queue_name, with_state, first_sched, without_sched}
@@ -38,7 +40,8 @@ use Rattle.page_laws.specs.TimerLaws.{is_delay, period_start, was_done}
 use Rattle.page_types.specs.Values.{Value}
 use Rattle.page_parts.specs.AbortGraph.{Signals, the_signal}
 use Rattle.page_parts.specs.AbortGraph as AbortGraph
-use Rattle.page_laws.specs.History.{was_called, was_dropped, is_host, is_timer, is_delayed, History, is_frame, is_idle, is_period, is_reg_of, since_last, some_line, was_due, open_registrations, is_rest, is_sched_turn, is_scheduled}
+use Rattle.page_laws.specs.History.{was_called, was_dropped, is_host, is_timer, is_delayed, History, is_frame, is_idle, is_period}
+use Rattle.page_laws.specs.History.{is_reg_of, since_last, some_line, was_due, open_registrations, is_rest, is_sched_turn, is_scheduled}
 
 -- ---- Ours: kinds of lines
 
