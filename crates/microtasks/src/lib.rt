@@ -1,7 +1,7 @@
 //! The queue of jobs that wait for the next microtask checkpoint: first in, first out.
 #![tactic(auto)]
 
-ghost use Rattle.std.specs.Prelude.{◌≡◌, ◌++◌, [], ◌∷◌, List, OnOk, OnErr, IfSome, IfNone};
+ghost use Rattle.std.specs.Prelude.{◌≡◌, ◌++◌, [], ◌∷◌, List, length, nat_lt, OnOk, OnErr, IfSome, IfNone};
 ghost use Rattle.microtasks.specs.declared.MemoryFault.TheVariants as memory;
 
 use std::alloc::{AllocFailed, Global};
@@ -59,6 +59,13 @@ impl<J> Jobs<J> {
         Ok(())
     }
 
+    /// Whether a job waits. Takes no memory.
+    pub fn has_job(&self) -> bool
+        ensures { result ≡ nat_lt 0 (length self.now) }
+    {
+        self.waiting.len() > 0
+    }
+
     /// Takes the oldest job out, and answers None exactly where no job waits. Takes no memory.
     pub fn pop(&mut self) -> Option<J>
         ensures oldest { IfSome result (λ job. self.old ≡ job ∷ self.new) }
@@ -77,7 +84,9 @@ mod tests {
     fn gives_jobs_in_the_order_in_which_they_came(rt: HostRuntime) -> Result<(), MemoryFault> {
         let mut jobs = Jobs::<u32>::new(rt.alloc());
         assert_eq!(rt; jobs.pop(), None);
+        assert!(rt; !jobs.has_job());
         jobs.push(7)?;
+        assert!(rt; jobs.has_job());
         jobs.push(8)?;
         assert_eq!(rt; jobs.pop(), Some(7));
         jobs.push(9)?;

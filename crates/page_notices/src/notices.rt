@@ -1,6 +1,6 @@
 //! The promises, the jobs that wait and the outstanding rejections, with the lines of calls on them.
 
-ghost use Rattle.std.specs.Prelude.{◌≡◌, ◌∷◌, ◌+◌, ◌^◌, ◌<◌, not, [], Some, None, drop, length, IfOk, IfErr, OnOk, OnErr};
+ghost use Rattle.std.specs.Prelude.{◌≡◌, ◌∷◌, ◌+◌, ◌^◌, ◌<◌, not, [], Some, None, drop, length, nat_lt, IfOk, IfErr, OnOk, OnErr};
 ghost use Rattle.std.specs.Prelude.{IsTrue, MatchOption};
 ghost use Rattle.std.specs.Result.{result_err};
 ghost use Rattle.page_parts.specs.Promises as promises;
@@ -223,6 +223,13 @@ impl Notices {
             Moment { level, state, at },
             lines,
         )
+    }
+
+    /// Whether a job waits. Takes no memory.
+    pub fn has_job(&self) -> bool
+        ensures { result ≡ nat_lt 0 (length self.now.jobs) }
+    {
+        self.jobs.has_job()
     }
 
     /// Takes the oldest job out. None exactly where no job waits. Takes no memory.

@@ -73,8 +73,8 @@ pub(crate) fn is_numbered<P: HostPort, M: Ledger>(page: &PageState<P, M>, step: 
     }
 }
 
-// The same of values in a row.
-fn are_numbered<P: HostPort, M: Ledger>(page: &PageState<P, M>, values: &[Value]) -> bool
+/// Whether each function that these values name has a name. Takes no memory, and costs at most their weight.
+pub fn are_numbered<P: HostPort, M: Ledger>(page: &PageState<P, M>, values: &[Value]) -> bool
     ensures { IsTrue result ↔ AllNumbered (functions_of page.now) (map seen values.now) }
 {
     for value in values {

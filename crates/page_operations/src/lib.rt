@@ -9,3 +9,4 @@ mod signals;
 mod times;
 
 pub use asking::{answer, go_on};
+pub use folding::are_numbered;

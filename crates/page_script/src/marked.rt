@@ -1,6 +1,7 @@
 //! The notices, and what each promise is besides.
 
-ghost use Rattle.std.specs.Prelude.{◌≡◌, ◌∷◌, ◌+◌, ◌^◌, ◌<◌, ◌==◌, not, [], length, find, drop, IfOk, OnOk, OnErr, MatchOption, IsTrue, ◌↔◌};
+ghost use Rattle.std.specs.Prelude.{◌≡◌, ◌∷◌, ◌+◌, ◌^◌, ◌<◌, ◌==◌, ◌↔◌, not, [], length, nat_lt, find, drop};
+ghost use Rattle.std.specs.Prelude.{IfOk, OnOk, OnErr, MatchOption, IsTrue};
 ghost use Rattle.std.specs.Option.{option_map};
 ghost use Rattle.std.specs.Result.{result_err};
 ghost use Rattle.page_parts.specs.Words.{has_number, numbered};
@@ -170,6 +171,13 @@ impl Marked {
             forget(self.alloc, &mut self.notices, &mut self.marks);
         }
         done
+    }
+
+    // Whether a job waits. Takes no memory.
+    pub(crate) fn has_job(&self) -> bool
+        ensures { result ≡ nat_lt 0 (length self.now.notices.jobs) }
+    {
+        self.notices.has_job()
     }
 
     // Takes the oldest job out. Takes no memory.

@@ -1,6 +1,6 @@
 //! The jobs of a page, the microtask checkpoint and the rejected promises.
 
-ghost use Rattle.std.specs.Prelude.{◌≡◌, [], None, length, not, IfOk, OnOk, OnErr, IsTrue, MatchOption, slice_get};
+ghost use Rattle.std.specs.Prelude.{◌≡◌, [], None, length, nat_lt, not, IfOk, OnOk, OnErr, IsTrue, MatchOption, slice_get};
 ghost use Rattle.std.specs.Option.{option_map};
 ghost use Rattle.std.specs.Result.{result_err};
 ghost use Rattle.page_parts.specs.Promises.{the_promise};
@@ -20,6 +20,13 @@ use page_values::MemoryFault;
 use trace_text::{Event, Lines, NoLine};
 
 impl PageScript {
+    /// Whether a job waits. Takes no memory.
+    pub fn has_job(&self) -> bool
+        ensures { result ≡ nat_lt 0 (length self.now.notices.jobs) }
+    {
+        self.promises.has_job()
+    }
+
     /// The oldest job leaves the queue, with its `run` line, and its nesting level and scheduling state are the current ones:
     /// in form 2 those that were current when it was queued, and else level 0 and no state. None exactly where no job waits.
     pub fn next_job<L: Lines>(&mut self, lines: &mut L) -> Result<Option<NextJob>, NoLine>

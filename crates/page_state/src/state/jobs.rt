@@ -1,6 +1,6 @@
 //! The jobs of a page, the microtask checkpoint and the rejected promises.
 
-ghost use Rattle.std.specs.Prelude.{◌≡◌, None, Some, length, IfOk, IfErr, OnOk, slice_get};
+ghost use Rattle.std.specs.Prelude.{◌≡◌, None, Some, length, nat_lt, IfOk, IfErr, OnOk, slice_get};
 ghost use Rattle.std.specs.Option.{option_map};
 ghost use Rattle.std.specs.Result.{result_err};
 ghost use Rattle.page_parts.specs.Notices as notices;
@@ -48,6 +48,13 @@ impl<P: HostPort, M: Ledger> PageState<P, M> {
         };
         let r = self.register_as(RegKind::Micro, registration, lines)?;
         self.queue_micro(r, lines)
+    }
+
+    /// Whether a job waits. Takes no memory.
+    pub fn has_job(&self) -> bool
+        ensures { result ≡ read_by (λ p. nat_lt 0 (length p.notices.jobs)) self.now }
+    {
+        self.script.has_job()
     }
 
     /// The oldest job leaves the queue, with its `run` line, and its nesting level and scheduling state are the current ones:
