@@ -1,5 +1,8 @@
 -- Jobs and checkpoints of a page, from what their parts do.
-use Rattle.std.proofs.Common.{◌≡◌, ℕ, zero, suc, ◌-◌, ◌<◌, ◌≤◌, arith, Bool, true, false, List, [], ◌∷◌, Option, Some, None, refl, sym, ap, subst}
+use Rattle.std.proofs.Common.{◌≡◌, ℕ, zero, suc, ◌-◌, ◌<◌, ◌≤◌, arith, Bool, true, false, List, [], ◌∷◌, Option, Some, None, refl, sym, ap, subst, ◌∙◌, length, nat_lt}
+use Rattle.std.specs.Prelude.{slice_get, ⊤, Result}
+use Rattle.std.proofs.lemmas.Bool.{ltb-false}
+use Rattle.std.specs.Result.{IsErrAnd, result_err}
 use Rattle.page_types.specs.Values.{Value, UnitValue}
 use Rattle.page_types.specs.Events.{Stamped}
 use Rattle.page_parts.specs.Kinds.{Func}
@@ -23,12 +26,15 @@ use Rattle.page_script.specs.Jobs.{begun_of, oldest_begun}
 use Rattle.page_state.specs.Standing.{page_of}
 use Rattle.page_host.specs.PageNow.{PageNow}
 use Rattle.page_host.specs.Pieces.{derived}
-use Rattle.page_host.specs.StateActs.{How, Gave, Threw, Returned, RanOut}
+use Rattle.page_host.specs.StateActs.{How, Gave, Threw, RanOut}
 use Rattle.page_host.specs.Moments.{state_of, calling, CanCall}
-use Rattle.page_host.specs.Doing.{Acts, Runs, IsOn, handled, arguments_of, run_first, run_next}
+use Rattle.page_host.specs.Doing.{Acts, Runs, did_how, handled, arguments_of, run_first, run_next}
+use Rattle.page_host.specs.Tasking.{regardless}
+use Rattle.page_host.specs.declared.did.Did.{Did}
 use Rattle.page_host.proofs.DoingState.{ThroughAdds}
 use Rattle.page_host.proofs.Invoking.{through-and_then, through-afterwards}
 use Rattle.page_host.proofs.Quiet.{settle-quiet, derived-quiet, checkpoint_ended-quiet}
+use Rattle.page_host.proofs.TaskRuns.{call-then, call-dry, call-exit}
 use Rattle.page_host.proofs.Composing.{runs-act, runs-act_then, runs-act_stops, runs-none, runs-then, runs-then_stops, runs-asked, runs-is, runs-unit}
 
 -- ---- what only adds lines
@@ -157,34 +163,23 @@ module _ {L T : Type 0} {k : Keeping T} {seen : L → Seen T} where
   -- ---- the jobs, one after another
 
   module _ {p : PageNow L} {m : MachineNow} (n : ℕ) (waits : is_empty (page_of p.state).notices.jobs ≡ false) where
-    pub jobs-gave : {p1 : PageNow L} {m1 : MachineNow} (v : Value) {why : Option NoLine} {how : How} {p2 : PageNow L} {m2 : MachineNow} → Runs k seen run_next None (Gave v) m p m1 p1
+    -- whatever a job gave or threw
+    pub jobs-next : {p1 : PageNow L} {m1 : MachineNow} {why : Option NoLine} {how : How} {p2 : PageNow L} {m2 : MachineNow} → Runs k seen (λ call. regardless (run_next call)) None (Gave UnitValue) m p m1 p1
         → Runs k seen (λ call. run_jobs call n) why how m1 p1 m2 p2 → Runs k seen (λ call. run_jobs call (suc n)) why how m p m2 p2
-    jobs-gave v a r =
+    jobs-next a r =
         runs-is (λ call s. afterwards (run_next call s) (run_jobs call n)) (λ call. run_jobs call (suc n)) (next-is p m n waits)
-        (runs-then run_next (λ call d. afterwards d (run_jobs call n)) (jobs-through m n) a r)
+        (call-then run_next (λ call. run_jobs call n) (jobs-adds m n) a r)
 
-    pub jobs-threw : {p1 : PageNow L} {m1 : MachineNow} (v : Value) {why : Option NoLine} {how : How} {p2 : PageNow L} {m2 : MachineNow} → Runs k seen run_next None (Threw v) m p m1 p1
-        → Runs k seen (λ call. run_jobs call n) why how m1 p1 m2 p2 → Runs k seen (λ call. run_jobs call (suc n)) why how m p m2 p2
-    jobs-threw v a r =
+    pub jobs-ended : {p1 : PageNow L} {m1 : MachineNow} → Runs k seen (λ call. regardless (run_next call)) None RanOut m p m1 p1 → Runs k seen (λ call. run_jobs call (suc n)) None RanOut m p m1 p1
+    jobs-ended a =
         runs-is (λ call s. afterwards (run_next call s) (run_jobs call n)) (λ call. run_jobs call (suc n)) (next-is p m n waits)
-        (runs-then run_next (λ call d. afterwards d (run_jobs call n)) (jobs-through m n) a r)
+        (call-dry run_next (λ call. run_jobs call n) (jobs-adds m n) a)
 
-    pub jobs-returned : {p1 : PageNow L} {m1 : MachineNow} (v : Value) {why : Option NoLine} {how : How} {p2 : PageNow L} {m2 : MachineNow} → Runs k seen run_next None (Returned v) m p m1 p1
-        → Runs k seen (λ call. run_jobs call n) why how m1 p1 m2 p2 → Runs k seen (λ call. run_jobs call (suc n)) why how m p m2 p2
-    jobs-returned v a r =
+    pub jobs-exit : {p1 : PageNow L} {m1 : MachineNow} {why : NoLine} {how : How} (r : Result Did NoLine) → IsErrAnd r (λ e. e ≡ why) → Runs k seen (λ call. regardless (run_next call)) (Some why) how m p m1 p1
+        → Runs k seen (λ call. run_jobs call (suc n)) (result_err r) (did_how r) m p m1 p1
+    jobs-exit r is a =
         runs-is (λ call s. afterwards (run_next call s) (run_jobs call n)) (λ call. run_jobs call (suc n)) (next-is p m n waits)
-        (runs-then run_next (λ call d. afterwards d (run_jobs call n)) (jobs-through m n) a r)
-
-    pub jobs-ran_out : {p1 : PageNow L} {m1 : MachineNow} → p1.stopped ≡ None → p1.fuel ≡ 0 → Runs k seen run_next None RanOut m p m1 p1 → Runs k seen (λ call. run_jobs call (suc n)) None RanOut m p m1 p1
-    jobs-ran_out {p1 = p1} {m1 = m1} running dry a =
-        runs-is (λ call s. afterwards (run_next call s) (run_jobs call n)) (λ call. run_jobs call (suc n)) (next-is p m n waits)
-        (runs-then run_next (λ call d. afterwards d (run_jobs call n)) (jobs-through m n) a
-        (runs-none RanOut m1 p1 running (λ o. absurd o) (λ x. dry)))
-
-    pub jobs-stops : {p1 : PageNow L} {m1 : MachineNow} {why : NoLine} {how : How} (how' : How) → Runs k seen run_next (Some why) how m p m1 p1 → Runs k seen (λ call. run_jobs call (suc n)) (Some why) how' m p m1 p1
-    jobs-stops how' a =
-        runs-is (λ call s. afterwards (run_next call s) (run_jobs call n)) (λ call. run_jobs call (suc n)) (next-is p m n waits)
-        (runs-then_stops run_next (λ call d. afterwards d (run_jobs call n)) how' (jobs-through m n) a)
+        (call-exit run_next (λ call. run_jobs call n) (jobs-adds m n) r is a)
 
     -- with no unit left
     pub jobs-dry : p.stopped ≡ None → p.fuel ≡ 0 → Runs k seen (λ call. run_jobs call (suc n)) None RanOut m p m p
@@ -300,25 +295,79 @@ module _ {L T : Type 0} {k : Keeping T} {seen : L → Seen T} where
         by-most p.fuel r.most r.enough (λ n. Rest k seen m0 p0 m p n → Runs k seen (λ call s. run_jobs call (suc s.fuel) s) None RanOut m0 p0 m p)
         (λ j h rest. rest None RanOut m p (jobs-dry j e r.ready.running dry)) r.rest
 
-    pub rest-ran_out : {p1 : PageNow L} {m1 : MachineNow} → is_empty (page_of p.state).notices.jobs ≡ false → RestRuns k seen m0 p0 m p → Runs k seen run_next None RanOut m p m1 p1 → Runs k seen (λ call s. run_jobs call (suc s.fuel) s) None RanOut m0 p0 m1 p1
-    rest-ran_out {p1 = p1} {m1 = m1} e r a =
+    pub rest-ended : {p1 : PageNow L} {m1 : MachineNow} → is_empty (page_of p.state).notices.jobs ≡ false → RestRuns k seen m0 p0 m p → Runs k seen (λ call. regardless (run_next call)) None RanOut m p m1 p1 → Runs k seen (λ call s. run_jobs call (suc s.fuel) s) None RanOut m0 p0 m1 p1
+    rest-ended {p1 = p1} {m1 = m1} e r a =
         by-most p.fuel r.most r.enough (λ n. Rest k seen m0 p0 m p n → Runs k seen (λ call s. run_jobs call (suc s.fuel) s) None RanOut m0 p0 m1 p1)
-        (λ j h rest. rest None RanOut m1 p1 (jobs-ran_out j e a.stopped (a.dry refl refl) a)) r.rest
+        (λ j h rest. rest None RanOut m1 p1 (jobs-ended j e a)) r.rest
 
-    pub rest-stops : {p1 : PageNow L} {m1 : MachineNow} {why : NoLine} {how : How} (how' : How) → is_empty (page_of p.state).notices.jobs ≡ false → RestRuns k seen m0 p0 m p → Runs k seen run_next (Some why) how m p m1 p1 → Runs k seen (λ call s. run_jobs call (suc s.fuel) s) (Some why) how' m0 p0 m1 p1
-    rest-stops {p1 = p1} {m1 = m1} {why = why} how' e r a =
-        by-most p.fuel r.most r.enough (λ n. Rest k seen m0 p0 m p n → Runs k seen (λ call s. run_jobs call (suc s.fuel) s) (Some why) how' m0 p0 m1 p1)
-        (λ j h rest. rest (Some why) how' m1 p1 (jobs-stops j e how' a)) r.rest
+    pub rest-exit : {p1 : PageNow L} {m1 : MachineNow} {why : NoLine} {how : How} (d : Result Did NoLine) → IsErrAnd d (λ x. x ≡ why) → is_empty (page_of p.state).notices.jobs ≡ false → RestRuns k seen m0 p0 m p
+        → Runs k seen (λ call. regardless (run_next call)) (Some why) how m p m1 p1 → Runs k seen (λ call s. run_jobs call (suc s.fuel) s) (result_err d) (did_how d) m0 p0 m1 p1
+    rest-exit {p1 = p1} {m1 = m1} d is e r a =
+        by-most p.fuel r.most r.enough (λ n. Rest k seen m0 p0 m p n → Runs k seen (λ call s. run_jobs call (suc s.fuel) s) (result_err d) (did_how d) m0 p0 m1 p1)
+        (λ j h rest. rest (result_err d) (did_how d) m1 p1 (jobs-exit j e d is a)) r.rest
 
     -- a job was run, and the others are left
-    pub rest-next : {p1 : PageNow L} {m1 : MachineNow} (how : How) → IsOn how → is_empty (page_of p.state).notices.jobs ≡ false → p1.fuel < p.fuel → RestRuns k seen m0 p0 m p → Runs k seen run_next None how m p m1 p1 → RestRuns k seen m0 p0 m1 p1
-    rest-next {p1 = p1} {m1 = m1} (Gave v) on e less r a =
+    pub rest-next : {p1 : PageNow L} {m1 : MachineNow} → is_empty (page_of p.state).notices.jobs ≡ false → p1.fuel < p.fuel → RestRuns k seen m0 p0 m p → Runs k seen (λ call. regardless (run_next call)) None (Gave UnitValue) m p m1 p1 → RestRuns k seen m0 p0 m1 p1
+    rest-next {p1 = p1} {m1 = m1} e less r a =
         by-most p.fuel r.most r.enough (λ n. Rest k seen m0 p0 m p n → RestRuns k seen m0 p0 m1 p1)
-        (λ j h rest. record { ready = a.ready refl tt; most = j; enough = omega (arith, h, less); rest = λ why how m' p' x. rest why how m' p' (jobs-gave j e v a x) }) r.rest
-    rest-next {p1 = p1} {m1 = m1} (Threw v) on e less r a =
-        by-most p.fuel r.most r.enough (λ n. Rest k seen m0 p0 m p n → RestRuns k seen m0 p0 m1 p1)
-        (λ j h rest. record { ready = a.ready refl tt; most = j; enough = omega (arith, h, less); rest = λ why how m' p' x. rest why how m' p' (jobs-threw j e v a x) }) r.rest
-    rest-next {p1 = p1} {m1 = m1} (Returned v) on e less r a =
-        by-most p.fuel r.most r.enough (λ n. Rest k seen m0 p0 m p n → RestRuns k seen m0 p0 m1 p1)
-        (λ j h rest. record { ready = a.ready refl tt; most = j; enough = omega (arith, h, less); rest = λ why how m' p' x. rest why how m' p' (jobs-returned j e v a x) }) r.rest
-    rest-next RanOut on e less r a = absurd on
+        (λ j h rest. record { ready = a.ready refl tt; most = j; enough = omega (arith, h, less); rest = λ why how m' p' x. rest why how m' p' (jobs-next j e a x) }) r.rest
+
+-- ---- whether a job waits
+
+abbrev waiting : {L : Type 0} → PageNow L → List WaitingJob
+waiting p = (page_of p.state).notices.jobs
+
+some-wait : (jobs : List WaitingJob) → nat_lt 0 (length jobs) ≡ true → is_empty jobs ≡ false
+some-wait [] e = absurd (cc)
+some-wait (job ∷ others) e = refl
+
+none-waits : (jobs : List WaitingJob) → nat_lt 0 (length jobs) ≡ false → is_empty jobs ≡ true
+none-waits [] e = refl
+none-waits (job ∷ others) e = let none = ltb-false 0 (length (job ∷ others)) e in absurd (omega (arith, none))
+
+pub job-waits : {L : Type 0} {p q : PageNow L} (has : Bool) → p ≡ q → has ≡ nat_lt 0 (length (waiting p)) → has ≡ true → is_empty (page_of q.state).notices.jobs ≡ false
+job-waits {L = L} {q = q} has same is h = some-wait (waiting q) (sym (is ∙ ap (λ (x : PageNow L). nat_lt 0 (length (waiting x))) same) ∙ h)
+
+pub no-job-waits : {L : Type 0} {p q : PageNow L} (has : Bool) → p ≡ q → has ≡ nat_lt 0 (length (waiting p)) → has ≡ false → is_empty (page_of q.state).notices.jobs ≡ true
+no-job-waits {L = L} {q = q} has same is h = none-waits (waiting q) (sym (is ∙ ap (λ (x : PageNow L). nat_lt 0 (length (waiting x))) same) ∙ h)
+
+-- ---- the job that is next, once a unit of fuel is taken
+
+-- functions can be called then too
+pub unit-ready : {L : Type 0} {p q : PageNow L} {m : MachineNow} → q ≡ record p { fuel = p.fuel - 1 } → CanCall m p → CanCall m q
+unit-ready {L = L} {p = p} {m = m} same r =
+    let less : CanCall m (record p { fuel = p.fuel - 1 }) = record { running = r.running; at_rest = r.at_rest; functions = r.functions; room = let room = r.room in omega (arith, room) } in
+    subst (λ (x : PageNow L). CanCall m x) (sym same) less
+
+-- the first of these jobs is this one, if there is one, and it runs
+abbrev FirstRuns : {L T : Type 0} → Keeping T → (L → Seen T) → Option WaitingJob → Option NoLine → How → MachineNow → PageNow L → MachineNow → PageNow L → Type 0
+FirstRuns k seen None why how m p m2 p2 = ⊤
+FirstRuns k seen (Some job) why how m p m2 p2 = Runs k seen (λ call. run_job call job.what) why how m p m2 p2
+
+module _ {L T : Type 0} {k : Keeping T} {seen : L → Seen T} where
+  first-runs : (jobs : List WaitingJob) (job : WaitingJob) → Some job ≡ slice_get jobs 0 → {why : Option NoLine} {how : How} {p p2 : PageNow L} {m m2 : MachineNow} → Runs k seen (λ call. run_job call job.what) why how m p m2 p2
+      → Runs k seen (λ call. run_first call jobs) why how m p m2 p2
+  first-runs [] job e r = absurd (cc)
+  first-runs (x ∷ others) job e {why = why} {how = how} {p = p} {p2 = p2} {m = m} {m2 = m2} r =
+      let P : Option WaitingJob → Type 0 = λ o. FirstRuns k seen o why how m p m2 p2 in
+      subst P e r
+
+  none-runs : (jobs : List WaitingJob) → None ≡ slice_get jobs 0 → {p : PageNow L} {m : MachineNow} → CanCall m p → Runs k seen (λ call. run_first call jobs) None (Gave UnitValue) m p m p
+  none-runs [] e {p = p} {m = m} ready = runs-none (Gave UnitValue) m p ready.running (λ o. ready) (λ x. absurd (cc))
+  none-runs (x ∷ others) e ready = absurd (cc)
+
+  taken-acts : (p : PageNow L) {q : PageNow L} → q ≡ record p { fuel = p.fuel - 1 } → {why : Option NoLine} {p1 : PageNow L} → Acts k seen oldest_begun why q p1 → Acts k seen oldest_begun why (record p { fuel = p.fuel - 1 }) p1
+  taken-acts p same {why = why} {p1 = p1} a = subst (λ (x : PageNow L). Acts k seen oldest_begun why x p1) same a
+
+  module _ {p q : PageNow L} {m : MachineNow} (same : q ≡ record p { fuel = p.fuel - 1 }) where
+    pub unit-stops : {why : NoLine} (how : How) {p1 : PageNow L} → 0 < p.fuel → Acts k seen oldest_begun (Some why) q p1 → Runs k seen run_next (Some why) how m p m p1
+    unit-stops how some a = next-stops how some (taken-acts p same a)
+
+    pub unit-runs : (job : WaitingJob) → Some job ≡ slice_get q.state.script.notices.jobs 0 → {why : Option NoLine} {how : How} {p1 p2 : PageNow L} {m2 : MachineNow} → 0 < p.fuel → Acts k seen oldest_begun None q p1
+        → Runs k seen (λ call. run_job call job.what) why how m p1 m2 p2 → Runs k seen run_next why how m p m2 p2
+    unit-runs job first some a r =
+        next-does some (taken-acts p same a) (first-runs (page_of p.state).notices.jobs job (first ∙ ap (λ (x : PageNow L). slice_get x.state.script.notices.jobs 0) same) r)
+
+    pub unit-none : None ≡ slice_get q.state.script.notices.jobs 0 → {p1 : PageNow L} → 0 < p.fuel → Acts k seen oldest_begun None q p1 → CanCall m p1 → Runs k seen run_next None (Gave UnitValue) m p m p1
+    unit-none none some a ready =
+        next-does some (taken-acts p same a) (none-runs (page_of p.state).notices.jobs (none ∙ ap (λ (x : PageNow L). slice_get x.state.script.notices.jobs 0) same) ready)

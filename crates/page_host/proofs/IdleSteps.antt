@@ -1,18 +1,19 @@
 -- The steps of the tasks that invoke idle callbacks, from what is done one after another.
 use Rattle.std.specs.Result.{IsErrAnd, result_err}
-use Rattle.std.proofs.Common.{◌≡◌, ℕ, Bool, true, false, cond, List, [], ◌∷◌, refl, sym, ◌∙◌, ap, subst, Option, Some, None, Result}
+use Rattle.std.proofs.Common.{◌≡◌, ◌≤◌, ◌<◌, ℕ, Bool, true, false, cond, List, [], ◌∷◌, refl, sym, ◌∙◌, ap, subst, arith, Option, Some, None, Result}
 use Rattle.std.specs.Prelude.{nat_lt}
+use Rattle.page_parts.specs.Frames.{Callback}
 use Rattle.page_types.specs.Values.{Value, DeadlineValue, UnitValue}
 use Rattle.page_types.specs.declared.Source.TheVariants.{Idle}
-use Rattle.page_types.specs.Events.{Stamped}
+use Rattle.page_types.specs.Events.{Stamped, IdleLine}
 use Rattle.lang_meaning.specs.Machine.{Done, afterwards, finish, branch}
 use Rattle.lang_meaning.proofs.Following.{afterwards-follows}
 use Rattle.page_parts.specs.Words.{is_empty}
-use Rattle.page_frames.specs.Fields.{fields_of}
-use Rattle.page_frames.specs.Steps.{first_registration, idle_registration, idle_gone}
+use Rattle.page_frames.specs.Fields.{fields_of, with_fields}
+use Rattle.page_frames.specs.Steps.{first_registration, first_gone, idle_registration, idle_gone}
 use Rattle.page_frames.specs.Laws.{on_fields, idle_invoked, first_called}
 use Rattle.page_frames.proofs.PageLemmas.{calls_idle, times_out}
-use Rattle.page_model.specs.State.{Page, State, InvokeIdle, on_page, queue_task}
+use Rattle.page_model.specs.State.{Page, State, InvokeIdle, emit, on_page, queue_task}
 use Rattle.page_model.specs.PageTime.{deadline, without_idle}
 use Rattle.page_model.specs.SchedulerTasks.{with_state}
 use Rattle.page_model.specs.Invoke.{Ways, in_task, invoke}
@@ -23,7 +24,11 @@ use Rattle.page_model.proofs.AddingRuns.{WaysAdd, invoke-adds}
 use Rattle.lang_meaning.specs.Machine.{Caller}
 use Rattle.trace_text.specs.declared.lines.NoLine.{NoLine}
 use Rattle.trace_text.specs.Given.{Keeping, Seen}
-use Rattle.page_state.specs.Standing.{page_of}
+use Rattle.trace_text.specs.Acts.{At, Does}
+use Rattle.page_state.specs.Standing.{Standing, page_of, holding}
+use Rattle.page_state.specs.PageActs.{at, changed_by}
+use Rattle.page_state.specs.PageActs as standing
+use Rattle.page_state.proofs.Acting.{Does-next, Does-is, Does-idle, Does-silent}
 use Rattle.page_interp.specs.MachineNow.{MachineNow}
 use Rattle.page_host.specs.PageNow.{PageNow}
 use Rattle.page_host.specs.StateActs.{How, Gave, RanOut}
@@ -190,3 +195,70 @@ module _ {L T : Type 0} {k : Keeping T} {seen : L → Seen T} {m : MachineNow} (
         → ((step : Caller Page → State → Done Page) → Runs k seen step why how m q m' p') → Runs k seen (λ call. regardless (timeout_steps (in_task call) handle)) why how m p m' p'
     timeout-wanting r is h =
         timeout-called r is (DeadlineValue (Some p.state.script.now) ∷ []) refl (h (λ call. regardless (invoke (in_task call) r false (DeadlineValue (Some p.state.script.now) ∷ []))))
+
+-- ---- the choice of a callback, in the page's parts
+
+-- the first runnable callback leaves both lists
+abbrev pub idle_taken : Page → Page
+idle_taken p = with_fields (first_gone (fields_of p)) p
+
+-- that callback was taken, and then come the line of the deadline and the scheduling state
+abbrev pub idle_told : (deadline : ℕ) → Page → Page
+idle_told d p = with_state background (emit (IdleLine d) p)
+
+-- where none is runnable, none leaves
+none-taken : (p : Page) → None ≡ first_registration (fields_of p) → idle_taken p ≡ p
+none-taken p none = by p.idle.runnable none
+  where
+    with_runnable : List Callback → Page
+    with_runnable cs = record p { idle = record p.idle { runnable = cs } }
+
+    by : (cs : List Callback) → None ≡ first_registration (fields_of (with_runnable cs)) → idle_taken (with_runnable cs) ≡ with_runnable cs
+    by [] none = refl
+    by (c ∷ others) none = absurd (cc)
+
+-- what the choice comes to, by what is found
+next-is : (p : Page) (b : Bool) (o : Option ℕ) → nat_lt p.now (deadline p.last_idle_start p) ≡ b → o ≡ first_registration (fields_of p) → cond b o None ≡ idle_next p
+next-is p b o is found = ap (λ o. cond b o None) found ∙ sym (ap (λ b. cond b (first_registration (fields_of p)) None) is)
+
+begun-is : (p : Page) (o : Option ℕ) → o ≡ idle_next p → elim o [ None ↦ p | Some r ↦ idle_first p ] ≡ idle_begun p
+begun-is p o is = ap (λ (o : Option ℕ). elim o [ None ↦ p | Some r ↦ idle_first p ]) is
+
+module _ (p : Page) (d : ℕ) (is : d ≡ deadline p.last_idle_start p) where
+  pub next-late : d ≤ p.now → None ≡ idle_next p
+  next-late late = let over : nat_lt p.now (deadline p.last_idle_start p) ≡ false = grind (arith, late, is) in next-is p false (first_registration (fields_of p)) over refl
+
+  pub next-soon : p.now < d → (o : Option ℕ) → o ≡ first_registration (fields_of p) → o ≡ idle_next p
+  next-soon soon o found = let left : nat_lt p.now (deadline p.last_idle_start p) ≡ true = grind (arith, soon, is) in next-is p true o left found
+
+  told-is : (r : ℕ) → Some r ≡ idle_next p → idle_told d (idle_taken p) ≡ idle_begun p
+  told-is r next = ap (λ (d : ℕ). idle_told d (idle_taken p)) is ∙ begun-is p (Some r) next
+
+-- nothing is begun
+pub Does-late : {T : Type 0} (k : Keeping T) (s : Standing) (seen : Seen T) → None ≡ idle_next (page_of s) → Does k (at s seen) (standing.on_page idle_begun) None (at s seen)
+Does-late k s seen none = Does-is (λ p. p) idle_begun (at s seen) (begun-is (page_of s) None none) (Does-idle k s seen)
+
+pub Does-none : {T : Type 0} (k : Keeping T) (s mid : Standing) (seen : Seen T) → None ≡ idle_next (page_of s) → None ≡ first_registration s.frames → mid ≡ changed_by idle_taken s
+    → Does k (at s seen) (standing.on_page idle_begun) None (at mid seen)
+Does-none k s mid seen none found gone =
+    Does-is idle_taken idle_begun (at s seen) (none-taken (page_of s) found ∙ begun-is (page_of s) None none) (Does-silent k idle_taken s seen refl gone)
+
+-- the first runnable callback was taken
+pub Does-begun : {T : Type 0} {k : Keeping T} (r d : ℕ) (s mid : Standing) {old : Seen T} {new : At Standing T} {why : Option NoLine} → d ≡ deadline s.frames.last_idle_start (page_of s) → Some r ≡ idle_next (page_of s)
+    → mid ≡ changed_by idle_taken s → Does k (at mid old) (standing.on_page (idle_told d)) why new → Does k (at s old) (standing.on_page idle_begun) why new
+Does-begun {k = k} r d s mid {old = old} is next gone h =
+    Does-is (λ p. idle_told d (idle_taken p)) idle_begun (at s old) (told-is (page_of s) d is r next)
+    (Does-next idle_taken (idle_told d) (λ es p. refl) (Does-silent k idle_taken s old refl gone) h)
+
+-- a callback that timed out was taken, or none
+pub timed-none : (handle : ℕ) (s new : Standing) → None ≡ idle_registration handle s.frames → new ≡ changed_by (without_idle handle) s → new ≡ changed_by (timeout_begun handle) s
+timed-none handle s new none gone =
+    let p = page_of s in
+    gone ∙ ap (λ (o : Option ℕ). holding (elim o [ None ↦ without_idle handle p | Some r ↦ with_state background (without_idle handle p) ]) s) none
+
+pub timed-there : (handle r : ℕ) (s mid new : Standing) → Some r ≡ idle_registration handle s.frames → mid ≡ changed_by (without_idle handle) s → new ≡ changed_by (with_state background) mid
+    → new ≡ changed_by (timeout_begun handle) s
+timed-there handle r s mid new there gone made =
+    let p = page_of s in
+    made ∙ ap (changed_by (with_state background)) gone
+    ∙ ap (λ (o : Option ℕ). holding (elim o [ None ↦ without_idle handle p | Some r ↦ with_state background (without_idle handle p) ]) s) there

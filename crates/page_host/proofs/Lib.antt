@@ -22,5 +22,8 @@ pub mod TimerSteps
 pub mod FrameSteps
 pub mod IdleSteps
 pub mod ListenerSteps
+pub mod TaskLoops
 pub mod TaskEnds
+pub mod TaskPerforms
+pub mod HostAnswers
 pub mod Reactions

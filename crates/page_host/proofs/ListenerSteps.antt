@@ -1,19 +1,22 @@
 -- The steps of dispatches, of aborts and of notifications about promises, from what is done one after another.
 use Rattle.std.specs.Result.{IsErrAnd, result_err}
-use Rattle.std.proofs.Common.{◌≡◌, ◌<◌, ℕ, suc, Bool, true, false, cond, List, [], ◌∷◌, length, refl, sym, ◌∙◌, ap, subst, arith, Option, Some, None, Result}
-use Rattle.std.specs.Prelude.{codes}
+use Rattle.std.proofs.Common.{◌≡◌, ◌<◌, ℕ, suc, Bool, true, false, cond, List, [], ◌∷◌, length, refl, sym, ◌∙◌, ap, subst, arith, Option, Some, None, Result, Ok, Err}
+use Rattle.std.specs.Prelude.{codes, IfOk}
 use Rattle.page_types.specs.Values.{Value, SignalValue, UnitValue}
-use Rattle.page_types.specs.Events.{Stamped, Unhandled, Handled}
+use Rattle.page_types.specs.Events.{Event, Stamped, Unhandled}
 use Rattle.lang_meaning.specs.Machine.{Done, afterwards, finish, branch}
 use Rattle.lang_meaning.proofs.Following.{afterwards-follows, branch-follows}
+use Rattle.page_values.specs.declared.Value as held
+use Rattle.page_values.specs.Seen.{seen as value_seen}
 use Rattle.page_parts.specs.AbortGraph.{marked}
+use Rattle.page_parts.specs.Promises.{Settled, settled_value}
 use Rattle.page_parts.specs.Listeners.{Listener, Target, Window, AtSignal, snapshot, is_listening}
 use Rattle.page_events.specs.Dispatching.{next_listening, behind_next}
 use Rattle.page_model.specs.State.{Page, State, on_page, emit}
 use Rattle.page_model.specs.PagePromises.{promise_at}
 use Rattle.page_model.specs.PageSignals.{each_in_turn, call_listener, dispatch, abort_steps, abort, run_algorithms}
 use Rattle.page_model.specs.Invoke.{Ways, in_task, invoke}
-use Rattle.page_model.specs.Tasks.{outstanding_if_unhandled, notify_one}
+use Rattle.page_model.specs.Tasks.{outstanding_if_unhandled, notify_one, promise_reason}
 use Rattle.page_model.specs.Additions.{after, AddsAll}
 use Rattle.page_model.proofs.Adding.{then-adds, run_algorithms-adds}
 use Rattle.page_model.proofs.AddingRuns.{WaysAdd, invoke-adds, each_in_turn-adds, dispatch-adds}
@@ -29,9 +32,18 @@ use Rattle.page_host.specs.Moments.{state_of, calling, CanCall}
 use Rattle.page_host.specs.Doing.{Acts, Runs, did_how}
 use Rattle.page_host.specs.Tasking.{regardless}
 use Rattle.page_host.specs.declared.did.Did.{Did}
+use Rattle.page_host.proofs.Quiet.{Quiet}
 use Rattle.page_host.proofs.Composing.{runs-act_then, runs-is}
 use Rattle.page_host.proofs.TaskRuns.{task-adds, runs-true, runs-false, runs-nothing, runs-work, work-exit, call-then, call-exit, call-dry}
-use Rattle.page_host.specs.Tasking.{rejection_args, unhandled_fired, handled_task}
+use Rattle.page_host.specs.Tasking.{rejection_args, unhandled_fired, handled_fired, handled_task}
+
+-- ---- what the page's own work leaves
+
+pub told-quiet : (e : Event) → Quiet (emit e)
+told-quiet e p = record { counted = refl; names = refl; now = refl }
+
+pub outstanding-quiet : (n : ℕ) → Quiet (outstanding_if_unhandled n)
+outstanding-quiet n p = record { counted = refl; names = refl; now = refl }
 
 -- ---- DOM, "Dispatching events"
 
@@ -101,6 +113,27 @@ dispatch-begun {m = m} {p = p} target name args left are h =
     runs-is (λ call. each_in_turn left (call_listener (in_task call) args)) (λ call. dispatch (in_task call) target name args)
     (λ call. ap (λ left. each_in_turn left (call_listener (in_task call) args) (state_of m p)) are) h
 
+-- an event that is fired with the same arguments
+pub dispatch-given : {L T : Type 0} {k : Keeping T} {seen : L → Seen T} {m : MachineNow} {p : PageNow L} (target : Target) (name : List ℕ) (args given : List Value) → given ≡ args → {p' : PageNow L} {m' : MachineNow} {why : Option NoLine} {how : How}
+    → Runs k seen (λ call. dispatch (in_task call) target name given) why how m p m' p' → Runs k seen (λ call. dispatch (in_task call) target name args) why how m p m' p'
+dispatch-given {k = k} {seen = seen} {m = m} {p = p} target name args given same {p' = p'} {m' = m'} {why = why} {how = how} h =
+    let P : List Value → Type 0 = λ vs. Runs k seen (λ call. dispatch (in_task call) target name vs) why how m p m' p' in
+    subst P same h
+
+-- an event that is fired under the same name
+pub dispatch-named : {L T : Type 0} {k : Keeping T} {seen : L → Seen T} {m : MachineNow} {p : PageNow L} (target : Target) (name called : List ℕ) (args : List Value) → called ≡ name → {p' : PageNow L} {m' : MachineNow} {why : Option NoLine} {how : How}
+    → Runs k seen (λ call. dispatch (in_task call) target called args) why how m p m' p' → Runs k seen (λ call. dispatch (in_task call) target name args) why how m p m' p'
+dispatch-named {k = k} {seen = seen} {m = m} {p = p} target name called args same {p' = p'} {m' = m'} {why = why} {how = how} h =
+    let P : List ℕ → Type 0 = λ xs. Runs k seen (λ call. dispatch (in_task call) target xs args) why how m p m' p' in
+    subst P same h
+
+-- one listener that is called with the same arguments
+pub listener-given : {L T : Type 0} {k : Keeping T} {seen : L → Seen T} {m : MachineNow} {p : PageNow L} (r : ℕ) (args given : List Value) → given ≡ args → {p' : PageNow L} {m' : MachineNow} {why : Option NoLine} {how : How}
+    → Runs k seen (λ call. regardless (invoke (in_task call) r false given)) why how m p m' p' → Runs k seen (λ call. regardless (invoke (in_task call) r false args)) why how m p m' p'
+listener-given {k = k} {seen = seen} {m = m} {p = p} r args given same {p' = p'} {m' = m'} {why = why} {how = how} h =
+    let P : List Value → Type 0 = λ vs. Runs k seen (λ call. regardless (invoke (in_task call) r false vs)) why how m p m' p' in
+    subst P same h
+
 fires-adds : (m : MachineNow) (target : Target) (name : List ℕ) (args : List Value) (es : List Stamped) → AddsAll es (dispatch (in_task (calling m)) target name args)
 fires-adds m target name args es = dispatch-adds es (in_task (calling m)) (task-adds m es) target name args
 
@@ -117,6 +150,25 @@ module _ {L T : Type 0} {k : Keeping T} {seen : L → Seen T} {m : MachineNow} (
       runs-act_then f (λ call. dispatch (in_task call) target name args) (fires-adds m target name args) a (subst Q is (subst P same h))
 
 -- ---- HTML, "Unhandled promise rejections"
+
+-- the reason of a promise by its outcome
+pub reason-none : (p : Page) (n : ℕ) → (promise_at p n).outcome ≡ None → UnitValue ≡ promise_reason p n
+reason-none p n e = by (promise_at p n).outcome e
+  where
+    by : (o : Option Settled) → o ≡ None → UnitValue ≡ elim o [ None ↦ UnitValue | Some how ↦ settled_value how ]
+    by None e = refl
+    by (Some how) e = absurd (cc)
+
+reason-some : (p : Page) (n : ℕ) (how : Settled) → (promise_at p n).outcome ≡ Some how → settled_value how ≡ promise_reason p n
+reason-some p n how e = by (promise_at p n).outcome e
+  where
+    by : (o : Option Settled) → o ≡ Some how → settled_value how ≡ elim o [ None ↦ UnitValue | Some other ↦ settled_value other ]
+    by None e = absurd (cc)
+    by (Some other) e = let same : other ≡ how = cc in ap settled_value (sym same)
+
+pub reason-copied : {X : Type 0} (p : Page) (n : ℕ) (how : Settled) (r : Result held.Value X) → (promise_at p n).outcome ≡ Some how → IfOk r (λ v. value_seen v ≡ settled_value how) → IfOk r (λ v. value_seen v ≡ promise_reason p n)
+reason-copied p n how (Ok v) some is = is ∙ reason-some p n how some
+reason-copied p n how (Err e) some is = tt
 
 outstanding-adds : (n : ℕ) (es : List Stamped) → AddsAll es (λ m. finish (on_page (outstanding_if_unhandled n) m))
 outstanding-adds n es m = refl
@@ -172,10 +224,10 @@ module _ {L T : Type 0} {k : Keeping T} {seen : L → Seen T} {m : MachineNow} (
 
 -- a promise was handled after all
 pub handled-as : {L T : Type 0} {k : Keeping T} {seen : L → Seen T} {m : MachineNow} (n : ℕ) {p : PageNow L} (args : List Value) → args ≡ rejection_args (page_of p.state) n → {p' : PageNow L} {m' : MachineNow} {why : Option NoLine} {how : How}
-    → Runs k seen (λ call s. dispatch (in_task call) Window (codes "rejectionhandled") args (on_page (emit (Handled n)) s)) why how m p m' p' → Runs k seen (λ call. handled_task (in_task call) n) why how m p m' p'
+    → Runs k seen (λ call. handled_fired (in_task call) n args) why how m p m' p' → Runs k seen (λ call. handled_task (in_task call) n) why how m p m' p'
 handled-as {m = m} n {p = p} args are h =
-    runs-is (λ call s. dispatch (in_task call) Window (codes "rejectionhandled") args (on_page (emit (Handled n)) s)) (λ call. handled_task (in_task call) n)
-    (λ call. ap (λ args. dispatch (in_task call) Window (codes "rejectionhandled") args (on_page (emit (Handled n)) (state_of m p))) are) h
+    runs-is (λ call. handled_fired (in_task call) n args) (λ call. handled_task (in_task call) n)
+    (λ call. ap (λ args. handled_fired (in_task call) n args (state_of m p)) are) h
 
 -- ---- DOM, "Interface AbortSignal": signal abort
 

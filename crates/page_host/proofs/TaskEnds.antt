@@ -13,12 +13,18 @@ use Rattle.page_model.specs.PageSignals.{unwatch}
 use Rattle.page_model.specs.Invoke.{Ways, in_task, invoke, call_begun, call_ended, settle_derived, checkpoint}
 use Rattle.page_model.specs.Tasks.{continued, post_state, run_post, perform_sched, after_task}
 use Rattle.page_model.specs.Additions.{after, AddsAll}
-use Rattle.page_model.proofs.Adding.{finish-adds, unwatch-adds}
+use Rattle.page_model.proofs.Adding.{finish-adds, settle-adds, unwatch-adds}
 use Rattle.page_model.proofs.AddingRuns.{invoke-adds, settle_derived-adds, checkpoint-adds}
 use Rattle.lang_meaning.specs.Machine.{Caller}
 use Rattle.trace_text.specs.declared.lines.NoLine.{NoLine}
 use Rattle.trace_text.specs.Given.{Keeping, Seen}
-use Rattle.page_state.specs.Standing.{page_of}
+use Rattle.trace_text.specs.Acts.{At, Does}
+use Rattle.page_script.specs.PageActs.{OnlyAdds}
+use Rattle.page_state.specs.Standing.{Standing, page_of}
+use Rattle.page_state.specs.PageActs.{at, changed_by}
+use Rattle.page_state.specs.PageActs as standing
+use Rattle.page_state.proofs.Acting.{Does-next, Does-leave, Does-silent}
+use Rattle.page_state.proofs.Handled.{Does-read, OnlyAdds-then}
 use Rattle.page_interp.specs.MachineNow.{MachineNow}
 use Rattle.page_host.specs.PageNow.{PageNow}
 use Rattle.page_host.specs.StateActs.{How, Gave, RanOut}
@@ -69,6 +75,50 @@ told-calm t answer p =
     let settled = promises.settle n (answer_settles answer) line in
     calm-then p line (answer_told t answer p) (calm-same p line refl)
     (calm-then line settled (answer_told t answer p) (settle-calm n (answer_settles answer) line) (unwatch-calm t.registration settled))
+
+-- the abort steps of a registration were taken off its signal behind the rest
+pub Does-unwatched : {T : Type 0} {k : Keeping T} (f : Page → Page) (r : ℕ) (s mid new : Standing) {old seen : Seen T} → Does k (at s old) (standing.on_page f) None (at mid seen) → new ≡ changed_by (unwatch r) mid
+    → Does k (at s old) (standing.on_page (λ p. unwatch r (f p))) None (at new seen)
+Does-unwatched {k = k} f r s mid new {seen = seen} h done =
+    Does-next f (unwatch r) (λ es. unwatch-adds es r) h (Does-silent k (unwatch r) mid seen (unwatch-silent r (page_of mid) refl) done)
+
+-- what comes behind the pieces of a continuation only adds lines
+returned-adds : (r : ℕ) → OnlyAdds (λ p. unwatch r (call_ended Ret p))
+returned-adds r = OnlyAdds-then (call_ended Ret) (unwatch r) (λ es p. refl) (λ es. unwatch-adds es r)
+
+resolved-adds : (r n : ℕ) → OnlyAdds (λ p. unwatch r (call_ended Ret (promises.settle n (Fulfilled UnitValue) p)))
+resolved-adds r n = OnlyAdds-then (promises.settle n (Fulfilled UnitValue)) (λ p. unwatch r (call_ended Ret p)) (λ es. settle-adds es n (Fulfilled UnitValue)) (returned-adds r)
+
+-- the pieces of a continuation, whose promise has this number
+module _ {T : Type 0} {k : Keeping T} (r n : ℕ) (s : Standing) (is : n ≡ (the_registration (page_of s) r).promise) {old : Seen T} where
+  continuing : {new : At Standing T} {why : Option NoLine} → Does k (at s old) (standing.on_page (λ p. unwatch r (call_ended Ret (promises.settle n (Fulfilled UnitValue) (call_begun r p))))) why new
+      → Does k (at s old) (standing.on_page (continued r)) why new
+  continuing h = Does-read (λ (n : ℕ) p. unwatch r (call_ended Ret (promises.settle n (Fulfilled UnitValue) (call_begun r p)))) (λ p. (the_registration p r).promise) n s is h
+
+  pub continued-not_begun : {new : At Standing T} {why : NoLine} {X : Type 0} (e : Result X NoLine) → IsErrAnd e (λ x. x ≡ why) → Does k (at s old) (standing.on_page (call_begun r)) (Some why) new
+      → Does k (at s old) (standing.on_page (continued r)) (result_err e) new
+  continued-not_begun e err h = continuing (Does-leave (call_begun r) (λ p. unwatch r (call_ended Ret (promises.settle n (Fulfilled UnitValue) p))) e (resolved-adds r n) err h)
+
+  module _ {mid : Standing} {seen : Seen T} (begun : Does k (at s old) (standing.on_page (call_begun r)) None (at mid seen)) where
+    behind_begun : {new : At Standing T} {why : Option NoLine} → Does k (at mid seen) (standing.on_page (λ p. unwatch r (call_ended Ret (promises.settle n (Fulfilled UnitValue) p)))) why new
+        → Does k (at s old) (standing.on_page (continued r)) why new
+    behind_begun h = continuing (Does-next (call_begun r) (λ p. unwatch r (call_ended Ret (promises.settle n (Fulfilled UnitValue) p))) (resolved-adds r n) begun h)
+
+    pub continued-not_settled : {new : At Standing T} {why : NoLine} {X : Type 0} (e : Result X NoLine) → IsErrAnd e (λ x. x ≡ why) → Does k (at mid seen) (standing.on_page (promises.settle n (Fulfilled UnitValue))) (Some why) new
+        → Does k (at s old) (standing.on_page (continued r)) (result_err e) new
+    continued-not_settled e err h = behind_begun (Does-leave (promises.settle n (Fulfilled UnitValue)) (λ p. unwatch r (call_ended Ret p)) e (returned-adds r) err h)
+
+    module _ {mid1 : Standing} {seen1 : Seen T} (settled : Does k (at mid seen) (standing.on_page (promises.settle n (Fulfilled UnitValue))) None (at mid1 seen1)) where
+      behind_settled : {new : At Standing T} {why : Option NoLine} → Does k (at mid1 seen1) (standing.on_page (λ p. unwatch r (call_ended Ret p))) why new → Does k (at s old) (standing.on_page (continued r)) why new
+      behind_settled h = behind_begun (Does-next (promises.settle n (Fulfilled UnitValue)) (λ p. unwatch r (call_ended Ret p)) (returned-adds r) settled h)
+
+      pub continued-not_returned : {new : At Standing T} {why : NoLine} {X : Type 0} (e : Result X NoLine) → IsErrAnd e (λ x. x ≡ why) → Does k (at mid1 seen1) (standing.on_page (call_ended Ret)) (Some why) new
+          → Does k (at s old) (standing.on_page (continued r)) (result_err e) new
+      continued-not_returned e err h = behind_settled (Does-leave (call_ended Ret) (unwatch r) e (λ es. unwatch-adds es r) err h)
+
+      pub continued-over : (mid2 new : Standing) {seen2 : Seen T} → Does k (at mid1 seen1) (standing.on_page (call_ended Ret)) None (at mid2 seen2) → new ≡ changed_by (unwatch r) mid2
+          → Does k (at s old) (standing.on_page (continued r)) None (at new seen2)
+      continued-over mid2 new h done = behind_settled (Does-unwatched (call_ended Ret) r mid1 mid2 new h done)
 
 -- what comes behind a posted callback
 abbrev pub posted_rest : (registration promise : ℕ) → Done Page → Done Page

@@ -147,6 +147,11 @@ module _ {L T : Type 0} {k : Keeping T} {seen : L → Seen T} where
     dry = r.dry;
   }
 
+  -- how much was done of it
+  pub ran-did : (step : Caller Page → State → Done Page) {p p' : PageNow L} {m m' : MachineNow} (r : Ran) (d : Did) → d ≡ did_of r → Runs k seen step None (how_of {E = NoLine} (Ok r)) m p m' p' → Runs k seen (λ call. regardless (step call)) None (did_how {E = NoLine} (Ok d)) m p m' p'
+  ran-did step {p = p} {p' = p'} {m = m} {m' = m'} r d is h =
+      subst (λ (d : Did). Runs k seen (λ call. regardless (step call)) None (did_how {E = NoLine} (Ok d)) m p m' p') (sym is) (regardless-ran step r h)
+
   pub regardless-exit : (step : Caller Page → State → Done Page) {p p' : PageNow L} {m m' : MachineNow} {why : NoLine} {how : How} (e : Result Did NoLine) → IsErrAnd e (λ x. x ≡ why) → Runs k seen step (Some why) how m p m' p'
       → Runs k seen (λ call. regardless (step call)) (result_err e) (did_how e) m p m' p'
   regardless-exit step e is r = runs-exit e did_how is (runs-then_stops step (λ call d. afterwards d finish) RanOut (through-afterwards finish (λ es s. refl)) r)

@@ -8,3 +8,5 @@ pub mod Doing
 pub mod Pieces
 pub mod Turning
 pub mod Tasking
+pub mod Performed
+pub mod Performing

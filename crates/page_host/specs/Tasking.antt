@@ -4,11 +4,11 @@ use Rattle.page_interp.specs.declared.machine.Ran.{Ran}
 use Rattle.page_interp.specs.declared.machine.Ran.TheVariants as ran
 use Rattle.page_host.specs.declared.did.Did.{Did}
 use Rattle.page_host.specs.declared.did.Did.TheVariants as did
-use Rattle.page_types.specs.Values.{Value, IntValue, PromiseValue}
+use Rattle.page_types.specs.Values.{Value, IntValue, PromiseValue, SignalValue}
 use Rattle.page_types.specs.Events.{Unhandled, Handled, Host}
 use Rattle.page_parts.specs.Timers.{is_live}
 use Rattle.page_parts.specs.Frames.{callback_in}
-use Rattle.page_parts.specs.Listeners.{Window}
+use Rattle.page_parts.specs.Listeners.{Window, AtSignal}
 use Rattle.lang_meaning.specs.Machine.{Done, afterwards, finish}
 use Rattle.page_frames.specs.Fields.{fields_of, with_fields}
 use Rattle.page_frames.specs.Steps.{first_registration, first_gone, idle_registration}
@@ -88,9 +88,19 @@ rejection_args p n = PromiseValue n ∷ promise_reason p n ∷ []
 abbrev pub unhandled_fired : Ways → ℕ → List Value → State → Done Page
 unhandled_fired w n args m = dispatch w Window (codes "unhandledrejection") args (on_page (emit (Unhandled n)) m)
 
+-- `rejectionhandled` is fired behind its line
+abbrev pub handled_fired : Ways → ℕ → List Value → State → Done Page
+handled_fired w n args m = dispatch w Window (codes "rejectionhandled") args (on_page (emit (Handled n)) m)
+
 -- the task that notifies about a promise which was handled after all
 abbrev pub handled_task : Ways → ℕ → State → Done Page
-handled_task w n m = dispatch w Window (codes "rejectionhandled") (rejection_args m.host n) (on_page (emit (Handled n)) m)
+handled_task w n m = handled_fired w n (rejection_args m.host n) m
+
+-- ---- DOM, "Interface AbortSignal": signal abort
+
+-- `abort` is fired at a signal, with the signal
+abbrev pub abort_fired : Ways → (signal : ℕ) → State → Done Page
+abort_fired w s = dispatch w (AtSignal s) (codes "abort") (SignalValue s ∷ [])
 
 -- ---- Prioritized Task Scheduling, "Scheduling Tasks and Continuations"
 

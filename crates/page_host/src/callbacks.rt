@@ -1,6 +1,6 @@
 //! Callbacks of a page: each is called with its line, and what comes behind it (HTML, "Calling scripts").
 
-ghost use Rattle.std.specs.Prelude.{◌≡◌, ◌↔◌, map, IfOk, IsTrue};
+ghost use Rattle.std.specs.Prelude.{◌≡◌, ◌≢◌, ◌≤◌, false, map, IfErr, IfOk};
 ghost use Rattle.std.specs.Option.{option_map};
 ghost use Rattle.std.specs.Result.{result_err};
 ghost use Rattle.page_values.specs.Seen.{seen};
@@ -12,13 +12,18 @@ ghost use Rattle.page_model.specs.Invoke as model;
 ghost use Rattle.page_script.specs.Seen.{function_seen};
 ghost use Rattle.page_script.specs.Reports.{when_seen};
 ghost use Rattle.page_state.specs.PageActs.{read_by};
-ghost use Rattle.page_operations.specs.Asked.{functions_of};
-ghost use Rattle.page_host.specs.Moments.{how_of, CanCall};
-ghost use Rattle.page_host.specs.Doing.{Runs, called};
+ghost use Rattle.page_host.specs.StateActs.{Steps};
+ghost use Rattle.page_host.specs.Moments.{calling, how_of, moment, CanCall, IfEnded, SamePort};
+ghost use Rattle.page_host.specs.Doing.{Runs, called, did_how, ended_in_task, threw_in_task, IsDry};
+ghost use Rattle.page_host.specs.Tasking.{did_of, regardless};
+ghost use Rattle.page_host.specs.Stops.{fault_of};
+ghost use Rattle.page_host.specs.declared.stop.PageStop.TheVariants.{NoHost};
 
-use crate::Page;
+use crate::stop::stop_for;
+use crate::{Did, Page, PageStop};
 use page_hosts::HostPort;
 use page_interp::{Machine, Ran, Stopped};
+use page_operations::are_numbered;
 use page_script::WhenReported;
 use page_state::PageState;
 use page_values::{Func, MemoryFault, Value, copy_items};
@@ -27,6 +32,105 @@ use std::sync::ledger::Ledger;
 use trace_text::{Lines, NoLine};
 
 impl<P: HostPort, L: Lines, M: Ledger> Page<P, L, M> {
+    /// Invokes the callback of a registration, its second one or its first, with arguments, in a task: its lines, and behind it a
+    /// microtask checkpoint (HTML, "Calling scripts": clean up after running script). A throw is reported before or after that
+    /// checkpoint, by the kind of the registration.
+    ///
+    /// `Fuel` comes only where no unit of fuel is left. It never ends with `NoHost`.
+    pub fn invoke(
+        &mut self,
+        machine: &mut Machine<'_>,
+        registration: u32,
+        second: bool,
+        args: Vec<Value>,
+    ) -> Result<Ran, PageStop>
+        requires { CanCall machine.old self.old }
+        ensures steps { Steps L.keeping (moment L.seen machine.old self.old)
+            (model.invoke (model.in_task (calling machine.old)) registration second (map seen args.items)) (fault_of result) (how_of result)
+            (moment L.seen machine.new self.new) }
+        ensures ready { IfEnded result (CanCall machine.new self.new) }
+        ensures port { IfOk result (λ ran. SamePort self.old self.new) }
+        ensures program { machine.new.script ≡ machine.old.script }
+        ensures fuel { self.new.fuel ≤ self.old.fuel }
+        ensures dry { IfOk result (λ ran. IsDry ran self.new.fuel) }
+        ensures stop { self.new.stopped ≡ fault_of result }
+        ensures no_host { IfErr result (λ stop. stop ≢ NoHost) }
+    {
+        match self.invoke_in_task(machine, registration, second, args) {
+            Ok(ran) => Ok(ran),
+            Err(why) => Err(stop_for(why)),
+        }
+    }
+
+    // The same, with the reason of a stop.
+    pub(crate) fn invoke_in_task(
+        &mut self,
+        machine: &mut Machine<'_>,
+        r: u32,
+        second: bool,
+        args: Vec<Value>,
+    ) -> Result<Ran, NoLine>
+        requires { CanCall machine.old self.old }
+        ensures { Runs L.keeping L.seen (λ call. model.invoke (model.in_task call) r second (map seen args.items))
+            (result_err result) (how_of result) machine.old self.old machine.new self.new }
+    {
+        let when = when_reported(&self.state, r);
+        match self.called(machine, r, second, args)? {
+            Ran::Value(value) => self.ended_in_task(machine, value),
+            Ran::Throw(value) => self.threw_in_task(machine, when, value),
+            Ran::Fuel => Ok(Ran::Fuel),
+        }
+    }
+
+    // The same, whatever the callback gives or throws.
+    pub(crate) fn run_callback(
+        &mut self,
+        machine: &mut Machine<'_>,
+        r: u32,
+        args: Vec<Value>,
+    ) -> Result<Did, NoLine>
+        requires { CanCall machine.old self.old }
+        ensures { Runs L.keeping L.seen (λ call. regardless (model.invoke (model.in_task call) r false (map seen args.items)))
+            (result_err result) (did_how result) machine.old self.old machine.new self.new }
+    {
+        let ran = self.invoke_in_task(machine, r, false, args)?;
+        Ok(did_of(&ran))
+    }
+
+    // In a task a callback has returned: its line, and a checkpoint.
+    fn ended_in_task(&mut self, machine: &mut Machine<'_>, value: Value) -> Result<Ran, NoLine>
+        requires { CanCall machine.old self.old }
+        ensures { Runs L.keeping L.seen (ended_in_task (seen value)) (result_err result) (how_of result)
+            machine.old self.old machine.new self.new }
+    {
+        self.returned()?;
+        match self.perform_checkpoint(machine)? {
+            Did::Finished => Ok(Ran::Value(value)),
+            Did::Fuel => Ok(Ran::Fuel),
+        }
+    }
+
+    // In a task a callback has thrown: its line, a checkpoint, and the report before or after it.
+    fn threw_in_task(
+        &mut self,
+        machine: &mut Machine<'_>,
+        when: WhenReported,
+        value: Value,
+    ) -> Result<Ran, NoLine>
+        requires { CanCall machine.old self.old }
+        ensures { Runs L.keeping L.seen (threw_in_task (when_seen when) (seen value)) (result_err result) (how_of result)
+            machine.old self.old machine.new self.new }
+    {
+        self.threw(when, &value)?;
+        match self.perform_checkpoint(machine)? {
+            Did::Finished => {
+                self.reported(when, &value)?;
+                Ok(Ran::Throw(value))
+            }
+            Did::Fuel => Ok(Ran::Fuel),
+        }
+    }
+
     // A callback is invoked inside a checkpoint: nothing more is done when it has returned.
     pub(crate) fn invoke_in_checkpoint(
         &mut self,
@@ -123,6 +227,16 @@ impl<P: HostPort, L: Lines, M: Ledger> Page<P, L, M> {
     }
 }
 
+// How much of a callback was done, whatever it gave or threw. Takes no memory.
+pub(crate) fn did_of(ran: &Ran) -> Did
+    ensures { result ≡ did_of ran.now }
+{
+    match ran {
+        Ran::Value(_) | Ran::Throw(_) => Did::Finished,
+        Ran::Fuel => Did::Fuel,
+    }
+}
+
 // When a throw of a registration's callback is reported. Takes no memory.
 fn when_reported<P: HostPort, M: Ledger>(state: &PageState<P, M>, r: u32) -> WhenReported
     ensures { when_seen result ≡ read_by (λ p. model.when_reported (the_registration p r).role) state.now }
@@ -149,16 +263,4 @@ fn callback_copied<P: HostPort, M: Ledger>(
         function: fun.function,
         bound: copy_items(state.alloc(), &fun.bound)?,
     }))
-}
-
-// Whether each function that these values name has a name here. It costs at most what they weigh.
-fn are_numbered<P: HostPort, M: Ledger>(state: &PageState<P, M>, values: &[Value]) -> bool
-    ensures { IsTrue result ↔ AllNumbered (functions_of state.now) (map seen values.now) }
-{
-    for value in values {
-        if !state.is_numbered(value) {
-            return false;
-        }
-    }
-    true
 }

@@ -25,7 +25,7 @@ use trace_text::{Lines, NoLine};
 
 impl<P: HostPort, L: Lines, M: Ledger> Page<P, L, M> {
     // A job runs.
-    fn run_job(&mut self, machine: &mut Machine<'_>, todo: Todo) -> Result<Ran, NoLine>
+    pub(crate) fn run_job(&mut self, machine: &mut Machine<'_>, todo: Todo) -> Result<Ran, NoLine>
         requires { CanCall machine.old self.old }
         ensures { Runs L.keeping L.seen (λ call. model.run_job call (todo_seen todo)) (result_err result) (how_of result)
             machine.old self.old machine.new self.new }

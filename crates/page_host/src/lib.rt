@@ -2,15 +2,25 @@
 //! of a turn besides its task as the model's page does. Times are in microseconds.
 #![tactic(auto)]
 
+mod abort_tasks;
 mod callbacks;
+mod checkpoint;
 mod did;
+mod event_tasks;
+mod frame_tasks;
+mod host_tasks;
+mod idle_tasks;
 mod jobs;
 mod making;
 mod messages;
 mod page;
+mod performing;
 mod pieces;
+mod rejection_tasks;
+mod sched_tasks;
 mod stop;
 mod stopping;
+mod timer_tasks;
 mod turn_laws;
 mod turn_steps;
 mod turning;

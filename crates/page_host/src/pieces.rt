@@ -156,7 +156,7 @@ impl<P: HostPort, L: Lines, M: Ledger> Page<P, L, M> {
 }
 
 // What was done, and where it stopped, the page's stop with it.
-fn noted<X>(
+pub(crate) fn noted<X>(
     done: Result<X, NoLine>,
     stopped: &mut Option<NoLine>,
     stops: &mut u64,

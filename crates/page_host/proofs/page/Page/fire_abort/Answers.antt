@@ -1,0 +1,18 @@
+use Rattle.std.proofs.Common.{[], ◌∷◌, map, ap, ◌∙◌}
+use Rattle.std.specs.Prelude.{codes}
+use Rattle.page_types.specs.Values.{SignalValue}
+use Rattle.page_parts.specs.Listeners.{AtSignal}
+use Rattle.page_values.specs.Seen.{seen}
+use Rattle.page_host.specs.StateActs.{RanOut}
+use Rattle.page_host.proofs.Composing.{runs-wanted}
+use Rattle.page_host.proofs.ListenerSteps.{dispatch-given}
+use Rattle.page_host.proofs.page.Page.fire_abort.Goals as goal
+
+pub wanting-requires : goal.wanting-requires
+wanting-requires g c = c.requires.running
+
+pub returns-in_default : goal.returns-in_default
+returns-in_default g c = runs-wanted _ RanOut _ _ c.wanting.ensures.why c.wanting.ensures.stopped
+
+pub returns : goal.returns
+returns g c = dispatch-given (AtSignal c.args.s) (codes "abort") (SignalValue c.args.s ∷ []) _ (ap (map seen) c.deref.ensures.value ∙ c.in-Ok.ensures) c.fire.ensures
