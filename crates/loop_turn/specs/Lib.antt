@@ -1,3 +1,8 @@
-pub mod LogRuns
-pub mod LogEvents
-pub mod Stops
+pub mod Outcomes
+pub mod RunRules
+pub mod Waiting
+pub mod Answers
+pub mod RunStops
+pub mod TurnActs
+pub mod Runs
+pub mod Lawful

@@ -1,12 +1,11 @@
-//! Runs of a page: turns one after another, up to the end.
-//!
-//! It runs log scripts so far, whose one turn performs the script.
+//! Whole runs of a page: turns one after another, up to the end.
 #![tactic(auto)]
 
-mod run;
-mod stop;
-#[cfg(test)]
-mod tests;
+mod finding;
+mod page_run;
+mod performing;
+mod run_stop;
+mod turn;
 
-pub use run::{Ended, run_page};
-pub use stop::RunStop;
+pub use page_run::{Ended, run_page};
+pub use run_stop::RunStop;

@@ -1,0 +1,25 @@
+use Rattle.std.proofs.Common.{◌≡◌, ◌-◌}
+use Rattle.page_host.specs.Moments.{state_of, calling}
+use Rattle.loop_turn.specs.RunRules.{run_rules}
+use Rattle.loop_turn.specs.TurnActs.{CanTurn, holding}
+use Rattle.loop_turn.proofs.Loops.{WaitsOn}
+use Rattle.loop_turn.proofs.turn.turn.Given as goal
+
+-- What is done from here is the turn from the start: nothing was refused yet, no task was performed and no unit taken.
+abbrev pub invariant-waits : goal.invariant-waits
+invariant-waits g l = record {
+  ready : CanTurn l.initial.machine l.page l.until.0;
+  machine : l.machine ≡ l.initial.machine;
+  chooser : l.chooser ≡ l.initial.chooser;
+  kept : l.page.state.kept ≡ l.initial.page.state.kept;
+  refusals : l.page.state.refusals ≡ l.initial.page.state.refusals;
+  readings : g.C.Clock.refusals l.clock ≡ g.C.Clock.refusals l.initial.clock;
+  fuel : l.page.fuel ≡ l.initial.page.fuel;
+  waits : WaitsOn g.L.Lines.keeping (run_rules g.C.Clock.rule g.K.Chooser.rule) (calling l.initial.machine) l.until.0
+      (holding g.C.Clock.held g.K.Chooser.held l.initial.clock l.initial.chooser) (holding g.C.Clock.held g.K.Chooser.held l.clock l.initial.chooser)
+      (g.L.Lines.seen l.initial.page.lines) (state_of l.initial.machine l.initial.page)
+      (g.L.Lines.seen l.page.lines) l.page.state.script.now (state_of l.initial.machine l.page);
+}
+
+abbrev pub decreases-waits : goal.decreases-waits
+decreases-waits g l = l.until.0 - l.page.state.script.now

@@ -1,0 +1,172 @@
+//! Whole runs of a page.
+
+ghost use Rattle.std.specs.Prelude.{◌≡◌, ◌≤◌, ◌^◌, ℤ, List, Result, suc, length, IsTrue};
+ghost use Rattle.std.specs.List.{list_all};
+ghost use Rattle.lang_ast.specs.SeenProgram.{seen_program};
+ghost use Rattle.arrivals_text.specs.Seen.{settings_of};
+ghost use Rattle.page_interp.specs.MachineNow.{MachineNow};
+ghost use Rattle.page_hosts.specs.Hosts.{is_unqueued};
+ghost use Rattle.page_model.specs.Bounds.{row_of, turn_or};
+ghost use Rattle.page_model.specs.Turns.{run_by, Stuck, AtBound};
+ghost use Rattle.page_host.specs.Starts.{Starts};
+ghost use Rattle.page_host.specs.Moments.{state_of, calling};
+ghost use Rattle.loop_turn.specs.Outcomes.{Turns};
+ghost use Rattle.loop_turn.specs.RunRules.{run_rules};
+ghost use Rattle.loop_turn.specs.Answers.{AreKept, ByAnswers};
+ghost use Rattle.loop_turn.specs.RunStops.{line_fault, run_outcome, readings_refused, choices_refused};
+ghost use Rattle.loop_turn.specs.Lawful.{KeepsLaws};
+ghost use Rattle.loop_turn.specs.Runs.{DoesRun, event_lines, run_lines, port_then};
+ghost use Rattle.loop_turn.specs.TurnActs.{CanTurn, PortRefuses, holding, reached};
+
+use crate::run_stop::RunStop;
+use crate::turn::turn;
+use arrivals_text::PageSetup;
+use cell_room::Steps;
+use lang_ast::Program;
+use loop_policy::Chooser;
+use page_base::{Clock, End, Micros};
+use page_host::{NoPage, Page};
+use page_hosts::HostPort;
+use page_interp::Machine;
+use std::alloc::Global;
+use std::sync::ledger::Ledger;
+use trace_text::Lines;
+
+/// How a run ended, or why it stopped before; and the host port and the lines as they stand.
+#[derive(Drop)]
+pub struct Ended<P: HostPort, L: Lines> {
+    pub outcome: Result<End, RunStop>,
+    pub port: P,
+    pub lines: L,
+}
+
+/// Runs a program under a setup (HTML, "Event loops: processing model"): a turn after another until the run ends, with each line as it
+/// comes. The clock answers what the time is after each wait, the chooser which task source is served, and the port what the script asks
+/// its closures. `accesses` counts the accesses to the room in which the tasks are queued.
+///
+/// The lines are the head and the events of the model's run by the rules of clock and chooser and by the port's answers: all of them with
+/// an end, and where the clock, the chooser or the port refused, which leaves the run stuck there. With any other stop they are a start of
+/// them, up to the line that was not taken, or to where memory was wanting. Whatever the answers are, the run keeps the ten laws of every
+/// run, as far as the values that arrive carry no numbers of promises, signals or the like.
+pub fn run_page<C: Clock, K: Chooser, P: HostPort, L: Lines, M: Ledger>(
+    alloc: Global,
+    program: &Program,
+    setup: &PageSetup,
+    clock: &mut C,
+    chooser: &mut K,
+    port: P,
+    lines: L,
+    accesses: Steps<M>,
+) -> Ended<P, L>
+    requires count { length (P.closures port) ≤ 2 ^ 32 }
+    requires unqueued { IsTrue (list_all is_unqueued (P.closures port)) }
+    ensures run { (answers : List (Result ℤ ℤ)) × AreKept (P.kept port) answers ×
+        (let run = run_by (run_rules C.rule K.rule) (seen_program program.now) (settings_of setup.now).setup (P.closures port)
+        (holding C.held K.held clock.old chooser.old answers)
+        in DoesRun L.keeping (L.seen lines) (run_lines setup.now.trace run) run result.outcome (C.held clock.new) (K.held chooser.new)
+        (port_then P.closures P.kept result.port) (L.seen result.lines)) }
+    ensures laws { (answers : List (Result ℤ ℤ)) → KeepsLaws (settings_of setup.now).setup
+        (run_by (run_rules C.rule K.rule) (seen_program program.now) (settings_of setup.now).setup (P.closures port)
+        (holding C.held K.held clock.old chooser.old answers)) }
+    ensures readings { C.refusals clock.new ≡ readings_refused (C.refusals clock.old) result.outcome }
+    ensures choices { K.refusals chooser.new ≡ choices_refused (K.refusals chooser.old) result.outcome }
+    ensures answers { PortRefuses result.outcome (P.refusals port) (P.refusals result.port) }
+{
+    let mut lines = lines;
+    if let Err(why) = lines.head(setup.trace) {
+        return Ended {
+            outcome: Err(RunStop::from(why)),
+            port,
+            lines,
+        };
+    }
+    match Page::new(alloc, program, setup, port, lines, accesses) {
+        Ok(page) => run_made(alloc, program, setup, page, clock, chooser),
+        Err(NoPage { port, lines }) => Ended {
+            outcome: Err(RunStop::OutOfMemory),
+            port,
+            lines,
+        },
+    }
+}
+
+/// The run of a page that is made, behind its head.
+fn run_made<C: Clock, K: Chooser, P: HostPort, L: Lines, M: Ledger>(
+    alloc: Global,
+    program: &Program,
+    setup: &PageSetup,
+    page: Page<P, L, M>,
+    clock: &mut C,
+    chooser: &mut K,
+) -> Ended<P, L>
+    requires { Starts (seen_program program.now) (settings_of setup.now).setup page.state.hosts page }
+    ensures run { (answers : List (Result ℤ ℤ)) × AreKept page.state.kept answers ×
+        (let run = run_by (run_rules C.rule K.rule) (seen_program program.now) (settings_of setup.now).setup page.state.hosts
+        (holding C.held K.held clock.old chooser.old answers)
+        in DoesRun L.keeping (L.seen page.lines) (event_lines run) run result.outcome (C.held clock.new) (K.held chooser.new)
+        (port_then P.closures P.kept result.port) (L.seen result.lines)) }
+    ensures readings { C.refusals clock.new ≡ readings_refused (C.refusals clock.old) result.outcome }
+    ensures choices { K.refusals chooser.new ≡ choices_refused (K.refusals chooser.old) result.outcome }
+    ensures answers { PortRefuses result.outcome page.state.refusals (P.refusals result.port) }
+{
+    let mut page = page;
+    let outcome = run_turns(alloc, program, setup, &mut page, clock, chooser);
+    let (port, lines) = page.into_parts();
+    Ended {
+        outcome,
+        port,
+        lines,
+    }
+}
+
+/// The turns of a page before its first one, with the machine of its program.
+fn run_turns<C: Clock, K: Chooser, P: HostPort, L: Lines, M: Ledger>(
+    alloc: Global,
+    program: &Program,
+    setup: &PageSetup,
+    page: &mut Page<P, L, M>,
+    clock: &mut C,
+    chooser: &mut K,
+) -> Result<End, RunStop>
+    requires { Starts (seen_program program.now) (settings_of setup.now).setup page.old.state.hosts page.old }
+    ensures does { ByAnswers page.old.state.kept result page.new.state.kept (λ first left. (machine : MachineNow) ×
+        Turns L.keeping (L.seen page.old.lines)
+        (run_by (run_rules C.rule K.rule) (seen_program program.now) (settings_of setup.now).setup page.old.state.hosts
+        (holding C.held K.held clock.old chooser.old first))
+        (line_fault result) (run_outcome result)
+        (reached L.seen machine page.new (holding C.held K.held clock.new chooser.new left))) }
+    ensures readings { C.refusals clock.new ≡ readings_refused (C.refusals clock.old) result }
+    ensures choices { K.refusals chooser.new ≡ choices_refused (K.refusals chooser.old) result }
+    ensures answers { PortRefuses result page.old.state.refusals page.new.state.refusals }
+{
+    let Ok(mut machine) = Machine::new(alloc, program) else {
+        return Err(RunStop::OutOfMemory);
+    };
+    turns(page, &mut machine, setup.until, clock, chooser)
+}
+
+/// The turns until the run ends.
+fn turns<C: Clock, K: Chooser, P: HostPort, L: Lines, M: Ledger>(
+    page: &mut Page<P, L, M>,
+    machine: &mut Machine<'_>,
+    until: Micros,
+    clock: &mut C,
+    chooser: &mut K,
+) -> Result<End, RunStop>
+    requires { CanTurn machine.old page.old until.0 }
+    ensures does { ByAnswers page.old.state.kept result page.new.state.kept (λ first left.
+        Turns L.keeping (L.seen page.old.lines)
+        (row_of (turn_or (Stuck AtBound) until.0 (run_rules C.rule K.rule) (calling machine.old) until.0) (suc page.old.fuel)
+        (state_of machine.old page.old) (holding C.held K.held clock.old chooser.old first))
+        (line_fault result) (run_outcome result)
+        (reached L.seen machine.new page.new (holding C.held K.held clock.new chooser.new left))) }
+    ensures readings { C.refusals clock.new ≡ readings_refused (C.refusals clock.old) result }
+    ensures choices { K.refusals chooser.new ≡ choices_refused (K.refusals chooser.old) result }
+    ensures answers { PortRefuses result page.old.state.refusals page.new.state.refusals }
+{
+    'turns: loop {
+        if let Some(end) = turn(page, machine, until, clock, chooser)? {
+            return Ok(end);
+        }
+    }
+}

@@ -1,0 +1,4 @@
+pub mod Verdicts
+pub mod Collected
+pub mod Outcomes
+pub mod Replays

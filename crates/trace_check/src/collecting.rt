@@ -1,0 +1,72 @@
+//! The choices that stand in a trace.
+
+ghost use Rattle.std.specs.Prelude.{◌≡◌, [], ◌++◌, map, IfOk, OnOk};
+ghost use Rattle.page_parts.specs.TraceText.{source_in, reading_in, answer_in};
+ghost use Rattle.page_base.specs.Clocks.{numbers_of};
+ghost use Rattle.host_jobs.specs.RecordedPort.{answers_of};
+ghost use Rattle.trace_text.specs.EventSeen.{event_seen, stamped_seen};
+ghost use Rattle.trace_check.specs.Collected.{AreChoicesOf};
+
+use host_jobs::Recorded;
+use page_base::{Micros, Source};
+use std::alloc::{AllocError, Global};
+use trace_text::{Event, Stamped};
+
+/// The choices of a run: the sources that were served, the readings of the clock and the answers of the host closures, each in order.
+#[derive(Drop)]
+pub struct TraceChoices {
+    pub sources: Vec<Source>,
+    pub readings: Vec<Micros>,
+    pub answers: Vec<Recorded>,
+}
+
+impl TraceChoices {
+    fn new(alloc: Global) -> TraceChoices
+        ensures { AreChoicesOf [] result }
+    {
+        TraceChoices {
+            sources: Vec::new(alloc),
+            readings: Vec::new(alloc),
+            answers: Vec::new(alloc),
+        }
+    }
+
+    /// Adds the choice of an event, where it has one.
+    fn add(&mut self, e: &Stamped) -> Result<(), AllocError>
+        ensures sources { OnOk result (self.new.sources.items ≡ self.old.sources.items ++ source_in (event_seen e.now.event) []) }
+        ensures readings { OnOk result (numbers_of self.new.readings.items
+            ≡ numbers_of self.old.readings.items ++ reading_in (stamped_seen e.now) (event_seen e.now.event) []) }
+        ensures answers { OnOk result (answers_of self.new.answers.items
+            ≡ answers_of self.old.answers.items ++ answer_in (event_seen e.now.event) []) }
+    {
+        match &e.event {
+            Event::Turn {
+                source: Some(source),
+                ..
+            } => self.sources.push(*source)?,
+            Event::Wait { .. } => self.readings.push(e.time)?,
+            Event::Host { k, x, answer } => self.answers.push(Recorded {
+                // A number that no table has: the line will differ.
+                k: u32::try_from(*k).unwrap_or(u32::MAX),
+                x: *x,
+                answer: *answer,
+            })?,
+            _ => {}
+        }
+        Ok(())
+    }
+}
+
+/// The choices that stand in the lines of some events, found in one pass: the sources of the `turn` lines but `none`, the times of the
+/// `wait` lines, and the answers of the `host` lines. Want of memory is the one error.
+pub fn choices_of(alloc: Global, events: &[Stamped]) -> Result<TraceChoices, AllocError>
+    ensures { IfOk result (λ choices. AreChoicesOf (map stamped_seen events.now) choices) }
+{
+    let mut choices = TraceChoices::new(alloc);
+    let mut rest = events;
+    while let Some((e, more)) = rest.split_first() {
+        choices.add(e)?;
+        rest = more;
+    }
+    Ok(choices)
+}
