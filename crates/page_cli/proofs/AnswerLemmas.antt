@@ -1,19 +1,13 @@
 -- From what the parts promise to what the top call answers.
-use Rattle.std.proofs.Common.{◌≡◌, ◌≤◌, ◌+◌, ℕ, zero, suc, List, [], ◌∷◌, ◌++◌, length, take, Bool, true, false, cond, Option, Some, None, Result, Ok, Err, refl, sym, ◌∙◌, ap, subst, inl, inr, arith}
-use Rattle.std.specs.Prelude.{IfSome, codes, ℤ, slice_get, Vec}
+use Rattle.std.proofs.Common.{◌≡◌, ◌≤◌, ℕ, List, length, Option, Some, None, Result, Ok, Err, refl, sym, ◌∙◌, subst, inl, inr}
+use Rattle.std.specs.Prelude.{IfSome, Vec}
 use Rattle.std.specs.declared.alloc.Global.{Global}
-use Rattle.page_types.specs.Tree.{Item}
+use Rattle.page_types.specs.Tree.{Item, Program}
 use Rattle.page_types.specs.declared.End.{End}
-use Rattle.page_types.specs.Told.{appended, AppendsStartOf}
+use Rattle.page_types.specs.declared.End.TheVariants as end
 use Rattle.page_parts.specs.HostClosures.{HostClosure}
-use Rattle.page_parts.specs.TraceText.{text_of}
-use Rattle.page_model.specs.PageTrace.{page_trace}
-use Rattle.trace_text.specs.Given.{Seen, Gives}
-use Rattle.trace_text.specs.Sinks.{sink_keeping}
-use Rattle.trace_text.proofs.SinkText.{Gives-sink_trace, Gives-sink_trace_stop}
-use Rattle.arrivals_text.specs.Arrivals.{default_setup}
-use Rattle.arrivals_text.specs.FirstPage.{setup_of}
-use Rattle.lang_tokens.specs.Tokens.{tokens_of}
+use Rattle.arrivals_text.specs.Arrivals.{Settings, SetsUp}
+use Rattle.lang_tokens.specs.Tokens.{tokens_of, TokenList}
 use Rattle.lang_tokens.specs.Seen.{TokenSeen}
 use Rattle.lang_tokens.specs.declared.token.Tokens.{Tokens}
 use Rattle.lang_tokens.specs.declared.fault.TokensFault.{TokensFault}
@@ -22,137 +16,45 @@ use Rattle.lang_parse.specs.declared.fault.ParseFault.{ParseFault}
 use Rattle.lang_parse.specs.declared.fault.ParseFault.TheVariants as parse
 use Rattle.lang_parse.specs.Symbols.{symbols_of}
 use Rattle.lang_parse.specs.Grammar.{HasTree}
-use Rattle.lang_parse.specs.LogSeen.{IsNoTree}
 use Rattle.lang_parse.specs.Faults.{IsNoParse, IsPlaced}
 use Rattle.lang_place.specs.Place.{IsPlace}
-use Rattle.lang_tokens.specs.Tokens.{TokenList}
-use Rattle.lang_parse.specs.declared.fault.TreeFault.{TreeFault}
-use Rattle.lang_parse.specs.declared.fault.TreeFault.TheVariants as tree
-use Rattle.lang_ast.specs.declared.role.Role.TheVariants as role
-use Rattle.lang_ast.specs.Names.{Occurrence, mention, in_expr, in_terms, in_stmt, in_items, inside}
-use Rattle.lang_ast.specs.NameFaults.{fault_of, fault_in, fault_at, IsResolved}
-use Rattle.lang_parse.specs.LogScript.{IsScript, IsLogTree, Logged, LogText, LogSum, LogStatement, plus_each, logged_tree, log_stmt, log_tree, program_of}
-use Rattle.loop_turn.specs.declared.stop.RunStop.{RunStop}
-use Rattle.loop_turn.specs.declared.stop.RunStop.TheVariants as stop
-use Rattle.loop_turn.specs.LogRuns.{default_run, default_lines}
-use Rattle.loop_turn.specs.Stops.{line_fault}
-use Rattle.loop_turn.proofs.LogLaw.{run-events, run-ends}
-use Rattle.page_model.specs.Turns.{events_of_run}
+use Rattle.lang_ast.specs.NameFaults.{IsResolved}
+use Rattle.lang_ast.specs.Programs.{program_of}
+use Rattle.page_cli.specs.declared.names.Picture.{Picture}
 use Rattle.page_cli.specs.declared.answer.Answer.{Answer}
-use Rattle.page_cli.specs.declared.answer.Answer.TheVariants.{Done, Usage, NoParse, NotRun, BadName, BadArrivals, BadTrace, TooLong, ReadFault, WriteFault, OutOfMemory}
+use Rattle.page_cli.specs.declared.answer.Answer.TheVariants.{Ended, Written, Usage, NoParse, BadName, BadArrivals, BadTrace, TooLong, ReadFault, WriteFault, OutOfMemory}
 use Rattle.page_cli.specs.declared.answer.WhichFile.TheVariants.{Script, Arrivals}
 use Rattle.page_cli.specs.declared.reading.FileFault.{FileFault}
 use Rattle.page_cli.specs.declared.reading.FileFault.TheVariants as file
 use Rattle.page_cli.specs.declared.script_fault.ScriptFault.{ScriptFault}
 use Rattle.page_cli.specs.declared.script_fault.ScriptFault.TheVariants as script
-use Rattle.page_cli.specs.Refusals.{Refuses, GivesFile, of_tokens, of_parse, of_log, refusal, answer_to_file}
-use Rattle.page_cli.specs.Answering.{Fits, IsRun, HasNoTree, HasLogTree, WroteStart, AnswersFiles, AnswersTold, AnswersRun, CanStop, answer_to}
+use Rattle.page_cli.specs.Statuses.{status_of, status_of_end}
+use Rattle.page_cli.specs.Forms.{Form, RunForm, PictureForm}
+use Rattle.page_cli.specs.Scripts.{IsScript, HasProgram, HasNoTree}
+use Rattle.page_cli.specs.Refusals.{Refuses, GivesFile, of_tokens, of_parse, refusal, answer_to_file}
+use Rattle.page_cli.specs.Answering.{Fits, WroteTrace, AnswersFiles, AnswersTold, AnswersRun}
+use Rattle.page_cli.specs.Pictures.{WrotePicture, AnswersForm, WroteAll}
 
--- ---- the names in a log script
+-- ---- the script
 
--- numbers have no names
-plus-names : (ns : List ℤ) → in_terms (plus_each ns) ≡ []
-plus-names [] = refl
-plus-names (n ∷ ns) = plus-names ns
+ok_is_no_err : {X : Type 0} {x : X} {n : ℕ} → (let r : Result X ℕ = Ok x in r) ≡ Err n → ⊥
+ok_is_no_err {X} q = let P : Result X ℕ → Type 0 = λ r. elim r [ Ok y ↦ Unit {0} | Err m ↦ ⊥ ] in subst P q tt
 
-logged-names : (l : Logged) → in_expr (logged_tree l) ≡ []
-logged-names (LogText bs) = refl
-logged-names (LogSum n []) = refl
-logged-names (LogSum n (m ∷ ms)) = plus-names ms
-
--- where `log` stands
-abbrev log_at : ℕ → Occurrence
-log_at at = record { scope = None; mention = record { role = role.Called 1; name = codes "log"; at = at } }
-
-abbrev logs_at : List LogStatement → List Occurrence
-logs_at [] = []
-logs_at (s ∷ ss) = log_at s.at ∷ logs_at ss
-
-statement-names : (s : LogStatement) → in_stmt (log_stmt s) ≡ mention (role.Called 1) (record { name = codes "log"; at = s.at }) ∷ []
-statement-names s = ap (λ ms. mention (role.Called 1) (record { name = codes "log"; at = s.at }) ∷ (ms ++ [])) (logged-names s.what)
-
-log-names : (n : ℕ) (ss : List LogStatement) → in_items n (log_tree ss) ≡ logs_at ss
-log-names n [] = refl
-log-names n (s ∷ ss) = ap (λ ms. inside None ms ++ in_items n (log_tree ss)) (statement-names s) ∙ ap (λ os. log_at s.at ∷ os) (log-names n ss)
-
--- `log` is an operation of one argument
-log-is_fine : (all before : List Occurrence) (at : ℕ) → fault_of all before (log_at at) ≡ None
-log-is_fine all before at = refl
-
-log-in : (all before : List Occurrence) (ss : List LogStatement) (place : ℕ) → fault_in all before (slice_get (logs_at ss) place) ≡ None
-log-in all before [] place = refl
-log-in all before (s ∷ ss) zero = log-is_fine all before s.at
-log-in all before (s ∷ ss) (suc place) = log-in all before ss place
-
-pub log-resolved : (ss : List LogStatement) → IsResolved (log_tree ss)
-log-resolved ss place = ap (λ os. fault_at os place) (log-names 0 ss) ∙ log-in (logs_at ss) (take place (logs_at ss)) ss place
-
--- ---- tokens
-
-pub no_tokens : (bytes : List ℕ) (at : ℕ) → tokens_of bytes ≡ Err at → HasNoTree bytes
+no_tokens : (bytes : List ℕ) (at : ℕ) → tokens_of bytes ≡ Err at → HasNoTree bytes
 no_tokens bytes at e tree is = ok_is_no_err (sym is.tokens_are ∙ e)
-  where
-    ok_is_no_err : {X : Type 0} {x : X} {n : ℕ} → (let r : Result X ℕ = Ok x in r) ≡ Err n → ⊥
-    ok_is_no_err {X} q = let P : Result X ℕ → Type 0 = λ r. elim r [ Ok y ↦ Unit {0} | Err m ↦ ⊥ ] in subst P q tt
-
--- ---- the run
-
-pub run-answers : (ss : List LogStatement) (outcome : Result End RunStop) {old new : Seen (List ℕ)} → Gives sink_keeping old (default_lines (log_tree ss)) (line_fault outcome) new → AnswersRun (log_tree ss) (answer_to outcome) old.told new.told
-run-answers ss (Ok end) h = (run-ends [] ss, Gives-sink_trace default_setup.trace (events_of_run (default_run (log_tree ss))) h)
-run-answers ss (Err stop.WriteFault) h = Gives-sink_trace_stop default_setup.trace (events_of_run (default_run (log_tree ss))) h
-run-answers ss (Err stop.Differs) h = Gives-sink_trace_stop default_setup.trace (events_of_run (default_run (log_tree ss))) h
-run-answers ss (Err stop.OutOfMemory) h = Gives-sink_trace_stop default_setup.trace (events_of_run (default_run (log_tree ss))) h
-
--- a sink of lines compares nothing
-pub can_stop : (ss : List LogStatement) (outcome : Result End RunStop) {old new : Seen (List ℕ)} → old.refusals ≡ 0 → new.refusals ≡ 0 → Gives sink_keeping old (default_lines (log_tree ss)) (line_fault outcome) new → CanStop outcome
-can_stop ss (Ok end) o n h = tt
-can_stop ss (Err stop.WriteFault) o n h = tt
-can_stop ss (Err stop.Differs) o n h = let d = h.differs in omega (arith, o, n, d)
-can_stop ss (Err stop.OutOfMemory) o n h = tt
-
--- the text of the run is the same whatever the host closures
-any_hosts : (ss : List LogStatement) (hosts : List HostClosure) → text_of default_setup.trace (events_of_run (default_run (log_tree ss))) ≡ page_trace (program_of (log_tree ss)) default_setup hosts []
-unfolding page_trace
-any_hosts ss hosts = ap (text_of default_setup.trace) (run-events [] ss ∙ sym (run-events hosts ss))
-
-any_trace : (ss : List LogStatement) (old new : Option (List ℕ)) → new ≡ appended old (text_of default_setup.trace (events_of_run (default_run (log_tree ss)))) → (hosts : List HostClosure) → new ≡ appended old (page_trace (program_of (log_tree ss)) default_setup hosts [])
-any_trace ss old new h hosts = h ∙ ap (appended old) (any_hosts ss hosts)
-
-any_start : (ss : List LogStatement) (old new : Option (List ℕ)) → AppendsStartOf old new (text_of default_setup.trace (events_of_run (default_run (log_tree ss)))) → (hosts : List HostClosure) → AppendsStartOf old new (page_trace (program_of (log_tree ss)) default_setup hosts [])
-any_start ss old new h hosts = subst (AppendsStartOf old new) (any_hosts ss hosts) h
-
-log-run : (ss : List LogStatement) (script arrivals : List ℕ) → IsScript script (log_tree ss) → Fits arrivals → setup_of arrivals ≡ Ok default_setup → IsRun script arrivals (log_tree ss) default_setup
-log-run ss script arrivals is fits set = record { is_script = is; is_resolved = log-resolved ss; is_log = (ss, refl); fits = fits; is_setup = set }
-
-pub files-answers : (ss : List LogStatement) (answer : Answer) (script arrivals : List ℕ) (old new : Option (List ℕ)) → IsScript script (log_tree ss) → Fits arrivals → setup_of arrivals ≡ Ok default_setup → AnswersRun (log_tree ss) answer old new → AnswersFiles answer script arrivals old new
-files-answers ss Done script arrivals old new is fits set h = record { tree = log_tree ss; setup = default_setup; is_run = log-run ss script arrivals is fits set; ended = λ hosts. run-ends hosts ss; trace = any_trace ss old new h.1 }
-files-answers ss Usage script arrivals old new is fits set h = h
-files-answers ss (NoParse at) script arrivals old new is fits set h = absurd h
-files-answers ss NotRun script arrivals old new is fits set h = absurd h
-files-answers ss (BadName fault) script arrivals old new is fits set h = absurd h
-files-answers ss (BadArrivals line) script arrivals old new is fits set h = absurd h
-files-answers ss (BadTrace line) script arrivals old new is fits set h = absurd h
-files-answers ss (TooLong file) script arrivals old new is fits set h = absurd h
-files-answers ss (ReadFault file) script arrivals old new is fits set h = absurd h
-files-answers ss WriteFault script arrivals old new is fits set h = record { tree = log_tree ss; setup = default_setup; is_run = log-run ss script arrivals is fits set; start = any_start ss old new h }
-files-answers ss OutOfMemory script arrivals old new is fits set h = inr (record { tree = log_tree ss; setup = default_setup; is_run = log-run ss script arrivals is fits set; start = any_start ss old new h })
-
-pub log-tree : (ss : List LogStatement) (script : List ℕ) → IsScript script (log_tree ss) → HasLogTree script
-log-tree ss script is = record { tree = log_tree ss; is_script = is; is_resolved = log-resolved ss; is_log = (ss, refl) }
 
 -- a script without tokens
 pub tokens-refuse : (e : TokensFault) (bytes : List ℕ) → ((at : ℕ) → (let r : Result Tokens TokensFault = Err e in r) ≡ Err (token.Is (record { at = at })) → tokens_of bytes ≡ Err at) → Refuses (of_tokens e) bytes
 tokens-refuse (token.Is bad) bytes h = record { none = no_tokens bytes bad.at (h bad.at refl); place = inl (h bad.at refl) }
 tokens-refuse token.OutOfMemory bytes h = tt
 
--- a script that has a tree and is no log script
-pub log-refuses : (e : TreeFault) (bytes : List ℕ) (tree : List Item) → IsScript bytes tree → IsResolved tree → (IsNoTree e → (other : List Item) → IsScript bytes other → IsLogTree other → ⊥) → Refuses (of_log e) bytes
-log-refuses (tree.Is fault) bytes tree is resolved none = record { tree = tree; is_script = is; is_resolved = resolved; no_log = none tt }
-log-refuses tree.OutOfMemory bytes tree is resolved none = tt
-
 -- a tree that is told of tokens is told of the bytes
 pub script-of : (bytes : List ℕ) (tokens : List TokenSeen) (tree : List Item) → length bytes ≤ 1048576 → tokens_of bytes ≡ Ok tokens → HasTree (symbols_of tokens) tree → IsScript bytes tree
 script-of bytes tokens tree size e h = record { size = size; tokens = tokens; tokens_are = e; has_tree = h }
+
+-- its program, where no name is at fault
+pub program-of : (bytes : List ℕ) (tree : List Item) (program : Program) → IsScript bytes tree → IsResolved tree → program ≡ program_of tree → HasProgram bytes program
+program-of bytes tree program is resolved e = record { tree = tree; is_script = is; is_resolved = resolved; is_program = e }
 
 same_ok : (tokens others : List TokenSeen) → (let r : Result (List TokenSeen) ℕ = Ok tokens in r) ≡ Ok others → others ≡ tokens
 same_ok tokens others e = cc
@@ -166,40 +68,154 @@ parse-refuses (parse.Is fault) bytes tokens ok size none place = record {
 }
 parse-refuses parse.OutOfMemory bytes tokens ok size none place = tt
 
--- no tree of the tokens is none of the bytes
-pub none-of : (bytes : List ℕ) (tokens : List TokenSeen) → tokens_of bytes ≡ Ok tokens → ((other : List Item) → IsLogTree other → HasTree (symbols_of tokens) other → ⊥) → (other : List Item) → IsScript bytes other → IsLogTree other → ⊥
-none-of bytes tokens e none other is log = none other log (let P : List TokenSeen → Type 0 = λ ts. HasTree (symbols_of ts) other in subst P (same_ok tokens is.tokens (sym e ∙ is.tokens_are)) is.has_tree)
+-- ---- the run
+
+module _ (script arrivals : List ℕ) (hosts left : List HostClosure) (old new : Option (List ℕ)) where
+  pub files-answers : (answer : Answer) (program : Program) (settings : Settings) → HasProgram script program → Fits arrivals → SetsUp arrivals settings
+      → AnswersRun answer program settings.setup hosts left old new → AnswersFiles answer script arrivals hosts left old new
+  files-answers (Ended end) program settings has fits sets h = record { program = program; settings = settings; is_run = record { has_program = has; fits = fits; sets_up = sets }; wrote = h }
+  files-answers Written program settings has fits sets h = h
+  files-answers Usage program settings has fits sets h = h
+  files-answers (NoParse at) program settings has fits sets h = absurd h
+  files-answers (BadName fault) program settings has fits sets h = absurd h
+  files-answers (BadArrivals line) program settings has fits sets h = absurd h
+  files-answers (BadTrace line) program settings has fits sets h = h
+  files-answers (TooLong file) program settings has fits sets h = absurd h
+  files-answers (ReadFault file) program settings has fits sets h = absurd h
+  files-answers WriteFault program settings has fits sets h = record { program = program; settings = settings; is_run = record { has_program = has; fits = fits; sets_up = sets }; wrote = h }
+  files-answers OutOfMemory program settings has fits sets h = inr (record { program = program; settings = settings; is_run = record { has_program = has; fits = fits; sets_up = sets }; wrote = h })
 
 -- the answer to a script that is not run
-pub refused-answers : (fault : ScriptFault) (script arrivals : List ℕ) (told : Option (List ℕ)) → Fits script → Fits arrivals → Refuses fault script → AnswersFiles (refusal fault) script arrivals told told
-refused-answers (script.NoParse at) script arrivals told fits also h = (fits, also, h, refl)
-refused-answers script.NotRun script arrivals told fits also h = (fits, also, h, refl)
-refused-answers (script.Name fault) script arrivals told fits also h = (also, h, refl)
-refused-answers script.OutOfMemory script arrivals told fits also h = inl refl
+pub refused-answers : (fault : ScriptFault) (script arrivals : List ℕ) (hosts left : List HostClosure) (told : Option (List ℕ)) → Fits script → Fits arrivals → Refuses fault script
+    → AnswersFiles (refusal fault) script arrivals hosts left told told
+refused-answers (script.NoParse at) script arrivals hosts left told fits also h = (fits, also, h, refl)
+refused-answers (script.Name fault) script arrivals hosts left told fits also h = (also, h, refl)
+refused-answers script.OutOfMemory script arrivals hosts left told fits also h = inl refl
 
 -- ---- the files as they are told
 
--- the script was not read
-pub told-script : (fault : FileFault) (told_script told_arrivals : Option (List ℕ)) (out : Option (List ℕ)) → IfSome told_script (λ content. GivesFile 1048576 content (Err fault)) → AnswersTold (answer_to_file fault Script) told_script told_arrivals out out
-told-script fault None told_arrivals out s = tt
-told-script fault (Some script) None out s = tt
-told-script file.Failed (Some script) (Some arrivals) out s = refl
-told-script file.TooLong (Some script) (Some arrivals) out s = (s, refl)
-told-script file.OutOfMemory (Some script) (Some arrivals) out s = inl refl
+module _ (hosts left : List HostClosure) where
+  -- the script was not read
+  pub told-script : (fault : FileFault) (told_script told_arrivals : Option (List ℕ)) (out : Option (List ℕ)) → IfSome told_script (λ content. GivesFile 1048576 content (Err fault))
+      → AnswersTold (answer_to_file fault Script) told_script told_arrivals hosts left out out
+  told-script fault None told_arrivals out s = tt
+  told-script fault (Some script) None out s = tt
+  told-script file.Failed (Some script) (Some arrivals) out s = (tt, refl)
+  told-script file.TooLong (Some script) (Some arrivals) out s = (s, refl)
+  told-script file.OutOfMemory (Some script) (Some arrivals) out s = inl refl
 
--- the arrivals were not read
-pub told-arrivals : (fault : FileFault) (script : Vec ℕ Global) (told_script told_arrivals : Option (List ℕ)) (out : Option (List ℕ)) → length script.items ≤ 1048576 → IfSome told_script (λ content. GivesFile 1048576 content (Ok script)) →
-    IfSome told_arrivals (λ content. GivesFile 1048576 content (Err fault)) → AnswersTold (answer_to_file fault Arrivals) told_script told_arrivals out out
-told-arrivals fault script None told_arrivals out size s a = tt
-told-arrivals fault script (Some content) None out size s a = tt
-told-arrivals file.Failed script (Some content) (Some arrivals) out size s a = refl
-told-arrivals file.TooLong script (Some content) (Some arrivals) out size s a = ((let P : List ℕ → Type 0 = λ z. length z ≤ 1048576 in subst P s size, a), refl)
-told-arrivals file.OutOfMemory script (Some content) (Some arrivals) out size s a = inl refl
+  within : (script : Vec ℕ Global) (content : List ℕ) → length script.items ≤ 1048576 → script.items ≡ content → Fits content
+  within script content size s = let P : List ℕ → Type 0 = λ z. length z ≤ 1048576 in subst P s size
 
-pub told-answers : (answer : Answer) (told_script told_arrivals : Option (List ℕ)) (script arrivals : Vec ℕ Global) (old new : Option (List ℕ)) → IfSome told_script (λ content. GivesFile 1048576 content (Ok script)) → IfSome told_arrivals (λ content. GivesFile 1048576 content (Ok arrivals)) →
-    AnswersFiles answer script.items arrivals.items old new → AnswersTold answer told_script told_arrivals old new
-told-answers answer None told_arrivals script arrivals old new s a h = tt
-told-answers answer (Some script_file) None script arrivals old new s a h = tt
-told-answers answer (Some script_file) (Some arrivals_file) script arrivals old new s a h =
-    let P : List ℕ → List ℕ → Type 0 = λ x y. AnswersFiles answer x y old new in
-    subst (λ y. P script_file y) a (subst (λ x. P x arrivals.items) s h)
+  -- the arrivals were not read
+  pub told-arrivals : (fault : FileFault) (script : Vec ℕ Global) (told_script told_arrivals : Option (List ℕ)) (out : Option (List ℕ)) → length script.items ≤ 1048576 → IfSome told_script (λ content. GivesFile 1048576 content (Ok script)) →
+      IfSome told_arrivals (λ content. GivesFile 1048576 content (Err fault)) → AnswersTold (answer_to_file fault Arrivals) told_script told_arrivals hosts left out out
+  told-arrivals fault script None told_arrivals out size s a = tt
+  told-arrivals fault script (Some content) None out size s a = tt
+  told-arrivals file.Failed script (Some content) (Some arrivals) out size s a = (within script content size s, refl)
+  told-arrivals file.TooLong script (Some content) (Some arrivals) out size s a = ((within script content size s, a), refl)
+  told-arrivals file.OutOfMemory script (Some content) (Some arrivals) out size s a = inl refl
+
+  pub told-answers : (answer : Answer) (told_script told_arrivals : Option (List ℕ)) (script arrivals : Vec ℕ Global) (old new : Option (List ℕ)) → IfSome told_script (λ content. GivesFile 1048576 content (Ok script)) → IfSome told_arrivals (λ content. GivesFile 1048576 content (Ok arrivals)) →
+      AnswersFiles answer script.items arrivals.items hosts left old new → AnswersTold answer told_script told_arrivals hosts left old new
+  told-answers answer None told_arrivals script arrivals old new s a h = tt
+  told-answers answer (Some script_file) None script arrivals old new s a h = tt
+  told-answers answer (Some script_file) (Some arrivals_file) script arrivals old new s a h =
+      let P : List ℕ → List ℕ → Type 0 = λ x y. AnswersFiles answer x y hosts left old new in
+      subst (λ y. P script_file y) a (subst (λ x. P x arrivals.items) s h)
+
+-- ---- the whole, by its status
+
+same-end : (one other : End) → status_of_end one ≡ status_of_end other → one ≡ other
+same-end end.Done end.Done e = refl
+same-end end.Done end.Fuel e = absurd (cc)
+same-end end.Done end.Clock e = absurd (cc)
+same-end end.Fuel end.Done e = absurd (cc)
+same-end end.Fuel end.Fuel e = refl
+same-end end.Fuel end.Clock e = absurd (cc)
+same-end end.Clock end.Done e = absurd (cc)
+same-end end.Clock end.Fuel e = absurd (cc)
+same-end end.Clock end.Clock e = refl
+
+-- no other answer has the status of an end
+abbrev IsWhole : Answer → Type 0
+IsWhole (Ended end) = Unit {0}
+IsWhole Written = Unit {0}
+IsWhole answer = ⊥
+
+whole : (answer : Answer) (of_end : End) → status_of answer ≡ status_of_end of_end → IsWhole answer
+whole (Ended one) of_end e = tt
+whole Written of_end e = tt
+whole Usage end.Done e = cc
+whole Usage end.Fuel e = cc
+whole Usage end.Clock e = cc
+whole (NoParse at) end.Done e = cc
+whole (NoParse at) end.Fuel e = cc
+whole (NoParse at) end.Clock e = cc
+whole (BadName fault) end.Done e = cc
+whole (BadName fault) end.Fuel e = cc
+whole (BadName fault) end.Clock e = cc
+whole (BadArrivals line) end.Done e = cc
+whole (BadArrivals line) end.Fuel e = cc
+whole (BadArrivals line) end.Clock e = cc
+whole (BadTrace line) end.Done e = cc
+whole (BadTrace line) end.Fuel e = cc
+whole (BadTrace line) end.Clock e = cc
+whole (TooLong file) end.Done e = cc
+whole (TooLong file) end.Fuel e = cc
+whole (TooLong file) end.Clock e = cc
+whole (ReadFault file) end.Done e = cc
+whole (ReadFault file) end.Fuel e = cc
+whole (ReadFault file) end.Clock e = cc
+whole WriteFault end.Done e = cc
+whole WriteFault end.Fuel e = cc
+whole WriteFault end.Clock e = cc
+whole OutOfMemory end.Done e = cc
+whole OutOfMemory end.Fuel e = cc
+whole OutOfMemory end.Clock e = cc
+
+module _ (file : List ℕ → Option (List ℕ)) (hosts left : List HostClosure) (old new : Option (List ℕ)) where
+  -- a run that ended so
+  run-told : (one other : End) (script arrivals : Option (List ℕ)) → one ≡ other → AnswersTold (Ended one) script arrivals hosts left old new
+      → IfSome script (λ s. IfSome arrivals (λ a. WroteTrace other s a hosts left old new))
+  run-told one other script arrivals same h =
+      let P : End → Type 0 = λ e. IfSome script (λ s. IfSome arrivals (λ a. WroteTrace e s a hosts left old new)) in subst P same h
+
+  no-run : (of_end : End) (script arrivals : Option (List ℕ)) → AnswersTold Written script arrivals hosts left old new
+      → IfSome script (λ s. IfSome arrivals (λ a. WroteTrace of_end s a hosts left old new))
+  no-run of_end None arrivals h = tt
+  no-run of_end (Some s) None h = tt
+  no-run of_end (Some s) (Some a) h = absurd h
+
+  -- a text about a trace
+  picture-told : (of_end : End) (what : Picture) (trace : Option (List ℕ)) → of_end ≡ end.Done → IfSome trace (λ bytes. WrotePicture what bytes old new)
+      → IfSome trace (λ bytes. (of_end ≡ end.Done) × WrotePicture what bytes old new)
+  picture-told of_end what None e h = tt
+  picture-told of_end what (Some bytes) e h = (e, h)
+
+  no-picture : (of_end : End) (what : Picture) (trace : Option (List ℕ)) → IfSome trace (λ bytes. ⊥)
+      → IfSome trace (λ bytes. (of_end ≡ end.Done) × WrotePicture what bytes old new)
+  no-picture of_end what None h = tt
+  no-picture of_end what (Some bytes) h = absurd h
+
+  pub whole-told : (answer : Answer) (of_end : End) (form : Form) → status_of answer ≡ status_of_end of_end
+      → AnswersForm answer form file hosts left old new → WroteAll of_end form file hosts left old new
+  whole-told (Ended one) of_end (RunForm names) e h = run-told one of_end (file names.script) (file names.arrivals) (same-end one of_end e) h
+  whole-told (Ended one) of_end (PictureForm what trace) e h = no-picture of_end what (file trace) h
+  whole-told Written of_end (RunForm names) e h = no-run of_end (file names.script) (file names.arrivals) h
+  whole-told Written of_end (PictureForm what trace) e h = picture-told of_end what (file trace) (sym (same-end end.Done of_end e)) h
+  whole-told Usage of_end form e h = absurd (whole Usage of_end e)
+  whole-told (NoParse at) of_end form e h = absurd (whole (NoParse at) of_end e)
+  whole-told (BadName fault) of_end form e h = absurd (whole (BadName fault) of_end e)
+  whole-told (BadArrivals line) of_end form e h = absurd (whole (BadArrivals line) of_end e)
+  whole-told (BadTrace line) of_end form e h = absurd (whole (BadTrace line) of_end e)
+  whole-told (TooLong file) of_end form e h = absurd (whole (TooLong file) of_end e)
+  whole-told (ReadFault file) of_end form e h = absurd (whole (ReadFault file) of_end e)
+  whole-told WriteFault of_end form e h = absurd (whole WriteFault of_end e)
+  whole-told OutOfMemory of_end form e h = absurd (whole OutOfMemory of_end e)
+
+-- the same for words that have a form
+pub written-told : (file : List ℕ → Option (List ℕ)) (hosts left : List HostClosure) (old new : Option (List ℕ)) (answer : Answer) (of_end : End) (form : Option Form)
+    → status_of answer ≡ status_of_end of_end → IfSome form (λ f. AnswersForm answer f file hosts left old new) → IfSome form (λ f. WroteAll of_end f file hosts left old new)
+written-told file hosts left old new answer of_end None e h = tt
+written-told file hosts left old new answer of_end (Some form) e h = whole-told file hosts left old new answer of_end form e h

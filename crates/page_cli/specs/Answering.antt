@@ -1,96 +1,43 @@
--- What each answer says of the files and of what was written.
-use Rattle.std.specs.Prelude.{◌≡◌, ◌<◌, ◌≤◌, ◌⊎◌, ⊤, ℕ, length, List, [], Option, Result, Ok, Err, IfSome}
-use Rattle.page_types.specs.Tree.{Item}
-use Rattle.page_types.specs.Told.{appended, AppendsStartOf}
-use Rattle.page_types.specs.declared.End.TheVariants as end
+-- What each answer says of the files, of the closures and of what was written.
+use Rattle.std.specs.Prelude.{◌≡◌, ◌<◌, ◌≤◌, ◌⊎◌, ⊤, ℕ, length, List, Option, Some, None, IfSome}
+use Rattle.page_types.specs.Tree.{Program}
+use Rattle.page_types.specs.declared.End.{End}
 use Rattle.page_parts.specs.HostClosures.{HostClosure}
 use Rattle.page_parts.specs.Setup.{Setup}
-use Rattle.page_parts.specs.WrittenChoices.{written}
-use Rattle.page_types.specs.declared.End.{End}
-use Rattle.page_parts.specs.TraceText.{text_of}
-use Rattle.page_model.specs.Turns.{run, events_of_run}
-use Rattle.page_model.specs.PageTrace.{page_trace}
-use Rattle.arrivals_text.specs.Arrivals.{default_setup}
-use Rattle.arrivals_text.specs.FirstPage.{setup_of}
-use Rattle.lang_tokens.specs.Seen.{TokenSeen}
-use Rattle.lang_tokens.specs.Tokens.{tokens_of}
-use Rattle.lang_place.specs.Place.{IsPlace}
-use Rattle.lang_parse.specs.LogScript.{IsScript, IsLogTree, program_of}
-use Rattle.loop_turn.specs.declared.stop.RunStop.{RunStop}
-use Rattle.loop_turn.specs.declared.stop.RunStop.TheVariants as stop
-use Rattle.loop_turn.specs.LogRuns.{default_run, EndsAs}
-use Rattle.lang_ast.specs.Names.{occurrences}
-use Rattle.lang_ast.specs.NameFaults.{IsResolved, IsFirstFault}
-use Rattle.lang_names.specs.Told.{seen_fault}
-use Rattle.lang_names.specs.declared.fault.NameFault.{NameFault}
+use Rattle.arrivals_text.specs.Arrivals.{Settings, SetsUp, IsBadLine, lines_of}
 use Rattle.page_cli.specs.declared.answer.WhichFile.{WhichFile}
 use Rattle.page_cli.specs.declared.answer.WhichFile.TheVariants.{Script, Arrivals, Trace}
 use Rattle.page_cli.specs.declared.answer.Answer.{Answer}
-use Rattle.page_cli.specs.declared.answer.Answer.TheVariants.{Done, Usage, NoParse, NotRun, BadName, BadArrivals, BadTrace, TooLong, ReadFault, WriteFault, OutOfMemory}
+use Rattle.page_cli.specs.declared.answer.Answer.TheVariants.{Ended, Written, Usage, NoParse, BadName, BadArrivals}
+use Rattle.page_cli.specs.declared.answer.Answer.TheVariants.{BadTrace, TooLong, ReadFault, WriteFault, OutOfMemory}
+use Rattle.page_cli.specs.Forms.{Form, RunForm, PictureForm}
+use Rattle.page_cli.specs.Scripts.{HasProgram, HasSomeProgram, IsSyntaxError, HasBadName}
+use Rattle.page_cli.specs.Running.{WroteRun, WroteRunStart}
 
 -- a file within its limit
 abbrev pub Fits : List ℕ → Type 0
 Fits bytes = length bytes ≤ 1048576
 
--- The script has a tree by the grammar, of the kind that is run so far, and its names are resolved. The arrivals have a
--- setup.
-pub record IsRun (script arrivals : List ℕ) (tree : List Item) (setup : Setup) : Type 0 where
-  pub is_script : IsScript script tree
-  pub is_resolved : IsResolved tree
-  pub is_log : IsLogTree tree
+-- The script has this program, and the arrivals set this.
+pub record IsRun (script arrivals : List ℕ) (program : Program) (settings : Settings) : Type 0 where
+  pub has_program : HasProgram script program
   pub fits : Fits arrivals
-  pub is_setup : setup_of arrivals ≡ Ok setup
+  pub sets_up : SetsUp arrivals settings
 
--- the script has no tree
-abbrev pub HasNoTree : List ℕ → Type 0
-HasNoTree script = (tree : List Item) → IsScript script tree → ⊥
-
--- the script's first bad byte, or the place of the first token with which its tokens stop to be the beginning of a script
-abbrev pub IsSyntaxPlace : List ℕ → ℕ → Type 0
-IsSyntaxPlace script at =
-    (tokens_of script ≡ Err at) ⊎ ((tokens : List TokenSeen) × (tokens_of script ≡ Ok tokens) × IsPlace tokens (length script) at)
-
--- the script has no tree, and the error is at this byte
-pub record IsSyntaxError (script : List ℕ) (at : ℕ) : Type 0 where
-  pub none : HasNoTree script
-  pub place : IsSyntaxPlace script at
-
--- the script has a tree and its names are resolved, but it is not of the kind that is run so far
-pub record IsNotRun (script : List ℕ) : Type 0 where
-  pub tree : List Item
-  pub is_script : IsScript script tree
-  pub is_resolved : IsResolved tree
-  pub no_log : (other : List Item) → IsScript script other → IsLogTree other → ⊥
-
--- the script has a tree, in which this name is at fault, and no name before it
-pub record HasBadName (script : List ℕ) (fault : NameFault) : Type 0 where
-  pub tree : List Item
-  pub is_script : IsScript script tree
-  pub first : IsFirstFault (occurrences tree) (seen_fault fault)
-
--- the script has a tree of the kind that is run so far
-pub record HasLogTree (script : List ℕ) : Type 0 where
-  pub tree : List Item
-  pub is_script : IsScript script tree
-  pub is_resolved : IsResolved tree
-  pub is_log : IsLogTree tree
-
--- The trace of this script and these arrivals was written, the whole of it and no more: the page's trace of the
--- script's tree and the setup of the arrivals, whatever the host closures, for which a log script does not ask. The run has
--- ended for nothing is left to do.
-pub record WroteTrace (script arrivals : List ℕ) (old new : Option (List ℕ)) : Type 0 where
-  pub tree : List Item
-  pub setup : Setup
-  pub is_run : IsRun script arrivals tree setup
-  pub ended : (hosts : List HostClosure) → EndsAs end.Done (run (program_of tree) setup hosts (written setup []))
-  pub trace : (hosts : List HostClosure) → new ≡ appended old (page_trace (program_of tree) setup hosts [])
+-- The trace of this script, these arrivals and these closures was written, the whole of it and no more. The run has ended so, and left
+-- the closures so.
+pub record WroteTrace (end : End) (script arrivals : List ℕ) (hosts left : List HostClosure) (old new : Option (List ℕ)) : Type 0 where
+  pub program : Program
+  pub settings : Settings
+  pub is_run : IsRun script arrivals program settings
+  pub wrote : WroteRun program settings.setup hosts old end left new
 
 -- a start of that trace was written
-pub record WroteStart (script arrivals : List ℕ) (old new : Option (List ℕ)) : Type 0 where
-  pub tree : List Item
-  pub setup : Setup
-  pub is_run : IsRun script arrivals tree setup
-  pub start : (hosts : List HostClosure) → AppendsStartOf old new (page_trace (program_of tree) setup hosts [])
+pub record WroteStart (script arrivals : List ℕ) (hosts : List HostClosure) (old new : Option (List ℕ)) : Type 0 where
+  pub program : Program
+  pub settings : Settings
+  pub is_run : IsRun script arrivals program settings
+  pub wrote : WroteRunStart program settings.setup hosts old new
 
 -- the first of the two files that is longer than its limit
 abbrev pub IsTooLong : WhichFile → List ℕ → List ℕ → Type 0
@@ -98,30 +45,39 @@ IsTooLong Script script arrivals = 1048576 < length script
 IsTooLong Arrivals script arrivals = Fits script × (1048576 < length arrivals)
 IsTooLong Trace script arrivals = ⊥
 
--- what an answer says of the two files
-abbrev pub AnswersFiles : Answer → List ℕ → List ℕ → Option (List ℕ) → Option (List ℕ) → Type 0
-AnswersFiles Done script arrivals old new = WroteTrace script arrivals old new
-AnswersFiles Usage script arrivals old new = ⊥
-AnswersFiles (NoParse at) script arrivals old new = Fits script × Fits arrivals × IsSyntaxError script at × (new ≡ old)
-AnswersFiles NotRun script arrivals old new = Fits script × Fits arrivals × IsNotRun script × (new ≡ old)
-AnswersFiles (BadName fault) script arrivals old new = Fits arrivals × HasBadName script fault × (new ≡ old)
-AnswersFiles (BadArrivals line) script arrivals old new = Fits arrivals × HasLogTree script × (setup_of arrivals ≡ Err line) × (new ≡ old)
-AnswersFiles (BadTrace line) script arrivals old new = ⊥
-AnswersFiles (TooLong file) script arrivals old new = IsTooLong file script arrivals × (new ≡ old)
-AnswersFiles (ReadFault file) script arrivals old new = new ≡ old
-AnswersFiles WriteFault script arrivals old new = WroteStart script arrivals old new
-AnswersFiles OutOfMemory script arrivals old new = (new ≡ old) ⊎ WroteStart script arrivals old new
+-- the file that could not be read; the arrivals are fetched only where the script is within its limit
+abbrev pub CanFail : WhichFile → List ℕ → Type 0
+CanFail Script script = ⊤
+CanFail Arrivals script = Fits script
+CanFail Trace script = ⊥
+
+-- what an answer says of the two files and of the closures
+abbrev pub AnswersFiles : Answer → (script arrivals : List ℕ) → (hosts left : List HostClosure) → (old new : Option (List ℕ)) → Type 0
+AnswersFiles (Ended end) script arrivals hosts left old new = WroteTrace end script arrivals hosts left old new
+AnswersFiles Written script arrivals hosts left old new = ⊥
+AnswersFiles Usage script arrivals hosts left old new = ⊥
+AnswersFiles (NoParse at) script arrivals hosts left old new = Fits script × Fits arrivals × IsSyntaxError script at × (new ≡ old)
+AnswersFiles (BadName fault) script arrivals hosts left old new = Fits arrivals × HasBadName script fault × (new ≡ old)
+AnswersFiles (BadArrivals line) script arrivals hosts left old new =
+    Fits arrivals × HasSomeProgram script × IsBadLine (lines_of arrivals) line × (new ≡ old)
+AnswersFiles (BadTrace line) script arrivals hosts left old new = ⊥
+AnswersFiles (TooLong file) script arrivals hosts left old new = IsTooLong file script arrivals × (new ≡ old)
+AnswersFiles (ReadFault file) script arrivals hosts left old new = CanFail file script × (new ≡ old)
+AnswersFiles WriteFault script arrivals hosts left old new = WroteStart script arrivals hosts old new
+AnswersFiles OutOfMemory script arrivals hosts left old new = (new ≡ old) ⊎ WroteStart script arrivals hosts old new
 
 -- the same, where the folder tells both files
-abbrev pub AnswersTold : Answer → Option (List ℕ) → Option (List ℕ) → Option (List ℕ) → Option (List ℕ) → Type 0
-AnswersTold answer script arrivals old new = IfSome script (λ s. IfSome arrivals (λ a. AnswersFiles answer s a old new))
+abbrev pub AnswersTold : Answer → (script arrivals : Option (List ℕ)) → (hosts left : List HostClosure) → (old new : Option (List ℕ))
+    → Type 0
+AnswersTold answer script arrivals hosts left old new =
+    IfSome script (λ s. IfSome arrivals (λ a. AnswersFiles answer s a hosts left old new))
 
--- with a refusal nothing is written
+-- with a refusal nothing is written, and no closure is fired or dropped
 abbrev pub IsRefusal : Answer → Type 0
-IsRefusal Done = ⊥
+IsRefusal (Ended end) = ⊥
+IsRefusal Written = ⊥
 IsRefusal Usage = ⊤
 IsRefusal (NoParse at) = ⊤
-IsRefusal NotRun = ⊤
 IsRefusal (BadName fault) = ⊤
 IsRefusal (BadArrivals line) = ⊤
 IsRefusal (BadTrace line) = ⊤
@@ -130,35 +86,22 @@ IsRefusal (ReadFault file) = ⊤
 IsRefusal WriteFault = ⊥
 IsRefusal OutOfMemory = ⊥
 
--- ---- runs
+-- no run was begun: the words do not ask for one, or it was refused
+abbrev pub RunsNothing : Answer → Option Form → Type 0
+RunsNothing answer None = ⊤
+RunsNothing answer (Some (RunForm names)) = IsRefusal answer
+RunsNothing answer (Some (PictureForm what trace)) = ⊤
 
--- what a run can answer whose lines compare nothing
-abbrev pub CanStop : Result End RunStop → Type 0
-CanStop (Ok end) = ⊤
-CanStop (Err stop.WriteFault) = ⊤
-CanStop (Err stop.Differs) = ⊥
-CanStop (Err stop.OutOfMemory) = ⊤
-
-abbrev pub answer_to : Result End RunStop → Answer
-answer_to (Ok end) = Done
-answer_to (Err stop.WriteFault) = WriteFault
-answer_to (Err stop.Differs) = OutOfMemory
-answer_to (Err stop.OutOfMemory) = OutOfMemory
-
--- the text of the run of a tree under the setup of all defaults, in the form of a trace that it sets
-abbrev pub default_text : List Item → List ℕ
-default_text tree = text_of default_setup.trace (events_of_run (default_run tree))
-
--- the answers to the run of a tree under the setup of all defaults
-abbrev pub AnswersRun : List Item → Answer → Option (List ℕ) → Option (List ℕ) → Type 0
-AnswersRun tree Done old new = EndsAs end.Done (default_run tree) × (new ≡ appended old (default_text tree))
-AnswersRun tree Usage old new = ⊥
-AnswersRun tree (NoParse at) old new = ⊥
-AnswersRun tree NotRun old new = ⊥
-AnswersRun tree (BadName fault) old new = ⊥
-AnswersRun tree (BadArrivals line) old new = ⊥
-AnswersRun tree (BadTrace line) old new = ⊥
-AnswersRun tree (TooLong file) old new = ⊥
-AnswersRun tree (ReadFault file) old new = ⊥
-AnswersRun tree WriteFault old new = AppendsStartOf old new (default_text tree)
-AnswersRun tree OutOfMemory old new = AppendsStartOf old new (default_text tree)
+-- what an answer says of a program, a setup and the closures
+abbrev pub AnswersRun : Answer → Program → Setup → (hosts left : List HostClosure) → (old new : Option (List ℕ)) → Type 0
+AnswersRun (Ended end) program setup hosts left old new = WroteRun program setup hosts old end left new
+AnswersRun Written program setup hosts left old new = ⊥
+AnswersRun Usage program setup hosts left old new = ⊥
+AnswersRun (NoParse at) program setup hosts left old new = ⊥
+AnswersRun (BadName fault) program setup hosts left old new = ⊥
+AnswersRun (BadArrivals line) program setup hosts left old new = ⊥
+AnswersRun (BadTrace line) program setup hosts left old new = ⊥
+AnswersRun (TooLong file) program setup hosts left old new = ⊥
+AnswersRun (ReadFault file) program setup hosts left old new = ⊥
+AnswersRun WriteFault program setup hosts left old new = WroteRunStart program setup hosts old new
+AnswersRun OutOfMemory program setup hosts left old new = WroteRunStart program setup hosts old new

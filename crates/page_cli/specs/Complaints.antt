@@ -6,7 +6,8 @@ use Rattle.page_parts.specs.Words.{decimal_of}
 use Rattle.lang_names.specs.declared.fault.NameFault.{NameFault}
 use Rattle.lang_names.specs.declared.fault.NameFault.TheVariants as fault
 use Rattle.page_cli.specs.declared.answer.Answer.{Answer}
-use Rattle.page_cli.specs.declared.answer.Answer.TheVariants.{Done, Usage, NoParse, NotRun, BadName, BadArrivals, BadTrace, TooLong, ReadFault, WriteFault, OutOfMemory}
+use Rattle.page_cli.specs.declared.answer.Answer.TheVariants.{Ended, Written, Usage, NoParse, BadName, BadArrivals}
+use Rattle.page_cli.specs.declared.answer.Answer.TheVariants.{BadTrace, TooLong, ReadFault, WriteFault, OutOfMemory}
 use Rattle.page_cli.specs.Forms.{Form, name_of}
 
 abbrev pub name_in : Option Form → (Form → List ℕ) → List ℕ
@@ -21,10 +22,10 @@ name_complaint (fault.Arity at) = codes "pageloop: wrong argument count at byte 
 
 -- the line of an answer
 abbrev pub complaint : Option Form → Answer → List ℕ
-complaint form Done = []
+complaint form (Ended end) = []
+complaint form Written = []
 complaint form Usage = codes "usage: pageloop run S A | check S A T | storm N | stat T | export T | blame T\n"
 complaint form (NoParse at) = codes "pageloop: script: no parse at byte " ++ (decimal_of at ++ codes "\n")
-complaint form NotRun = codes "pageloop: script: no parse\n"
 complaint form (BadArrivals line) = codes "pageloop: arrivals: line " ++ (decimal_of line ++ codes "\n")
 complaint form (BadName fault) = name_complaint fault
 complaint form (BadTrace line) = codes "pageloop: trace: line " ++ (decimal_of line ++ codes "\n")

@@ -1,5 +1,5 @@
 -- The forms of words.
-use Rattle.std.specs.Prelude.{ℕ, List, [], ◌∷◌, Option, Some, None, codes, if◌then◌else◌}
+use Rattle.std.specs.Prelude.{⊤, ℕ, List, [], ◌∷◌, Option, Some, None, codes, if◌then◌else◌}
 use Rattle.std.specs.Str.{bytes_eq}
 use Rattle.page_cli.specs.declared.names.Picture.{Picture}
 use Rattle.page_cli.specs.declared.names.Picture.TheVariants.{Export, Blame}
@@ -15,6 +15,18 @@ pub record RunNames : Type 0 where
 pub data Form : Type 0 where
   RunForm : RunNames → Form
   PictureForm : Picture → List ℕ → Form
+
+-- the words ask for a run
+abbrev pub IsRunForm : Option Form → Type 0
+IsRunForm None = ⊥
+IsRunForm (Some (RunForm names)) = ⊤
+IsRunForm (Some (PictureForm what trace)) = ⊥
+
+-- the words ask what is told of a trace
+abbrev pub IsPictureForm : Option Form → Type 0
+IsPictureForm None = ⊥
+IsPictureForm (Some (RunForm names)) = ⊥
+IsPictureForm (Some (PictureForm what trace)) = ⊤
 
 -- The form of the words behind the program's name, where they have one.
 abbrev pub form_of : List (List ℕ) → Option Form

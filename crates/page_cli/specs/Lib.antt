@@ -1,6 +1,8 @@
 pub mod Statuses
 pub mod Forms
 pub mod Names
+pub mod Scripts
+pub mod Running
 pub mod Answering
 pub mod Complaints
 pub mod Refusals

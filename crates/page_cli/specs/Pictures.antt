@@ -1,7 +1,10 @@
 -- What is told of a trace, and what an answer says of it.
 use Rattle.std.specs.Prelude.{◌≡◌, ◌<◌, ◌≤◌, ◌⊎◌, ⊤, ℕ, length, List, Option, IfSome}
 use Rattle.page_types.specs.Events.{Stamped}
+use Rattle.page_types.specs.declared.End.{End}
+use Rattle.page_types.specs.declared.End.TheVariants.{Done}
 use Rattle.page_types.specs.Told.{appended, AppendsStartOf}
+use Rattle.page_parts.specs.HostClosures.{HostClosure}
 use Rattle.trace_text.specs.Trace.{IsTrace, IsBadLine}
 use Rattle.trace_export.specs.Export.{Span, spans_of, IsExport}
 use Rattle.trace_blame.specs.Blame.{blame_text}
@@ -9,7 +12,8 @@ use Rattle.page_cli.specs.declared.names.Picture.{Picture}
 use Rattle.page_cli.specs.declared.names.Picture.TheVariants.{Export, Blame}
 use Rattle.page_cli.specs.declared.answer.WhichFile.TheVariants.{Script, Arrivals, Trace}
 use Rattle.page_cli.specs.declared.answer.Answer.{Answer}
-use Rattle.page_cli.specs.declared.answer.Answer.TheVariants.{Done, Usage, NoParse, NotRun, BadName, BadArrivals, BadTrace, TooLong, ReadFault, WriteFault, OutOfMemory}
+use Rattle.page_cli.specs.declared.answer.Answer.TheVariants.{Ended, Written, Usage, NoParse, BadName, BadArrivals}
+use Rattle.page_cli.specs.declared.answer.Answer.TheVariants.{BadTrace, TooLong, ReadFault, WriteFault, OutOfMemory}
 use Rattle.page_cli.specs.Forms.{Form, RunForm, PictureForm}
 use Rattle.page_cli.specs.Answering.{AnswersTold, WroteTrace}
 
@@ -49,10 +53,10 @@ pub record WrotePictureStart (what : Picture) (bytes : List ℕ) (old new : Opti
 
 -- what an answer says of a trace
 abbrev pub AnswersTrace : Answer → Picture → List ℕ → Option (List ℕ) → Option (List ℕ) → Type 0
-AnswersTrace Done what bytes old new = WrotePicture what bytes old new
+AnswersTrace (Ended end) what bytes old new = ⊥
+AnswersTrace Written what bytes old new = WrotePicture what bytes old new
 AnswersTrace Usage what bytes old new = ⊥
 AnswersTrace (NoParse at) what bytes old new = ⊥
-AnswersTrace NotRun what bytes old new = ⊥
 AnswersTrace (BadName fault) what bytes old new = ⊥
 AnswersTrace (BadArrivals line) what bytes old new = ⊥
 AnswersTrace (BadTrace line) what bytes old new = TraceFits bytes × IsBadLine bytes line × (new ≡ old)
@@ -64,18 +68,22 @@ AnswersTrace OutOfMemory what bytes old new = new ≡ old
 
 -- what an answer to the events of a trace says
 abbrev pub AnswersEvents : Answer → Picture → List Stamped → Option (List ℕ) → Option (List ℕ) → Type 0
-AnswersEvents Done what es old new = (text : List ℕ) × IsPicture what es text × (new ≡ appended old text)
+AnswersEvents Written what es old new = (text : List ℕ) × IsPicture what es text × (new ≡ appended old text)
 AnswersEvents WriteFault what es old new = (text : List ℕ) × IsPicture what es text × AppendsStartOf old new text
 AnswersEvents OutOfMemory what es old new = new ≡ old
 AnswersEvents answer what es old new = ⊥
 
--- what an answer says of the files that the words name, where the folder tells them
-abbrev pub AnswersForm : Answer → Form → (List ℕ → Option (List ℕ)) → Option (List ℕ) → Option (List ℕ) → Type 0
-AnswersForm answer (RunForm names) file old new = AnswersTold answer (file names.script) (file names.arrivals) old new
-AnswersForm answer (PictureForm what trace) file old new = IfSome (file trace) (λ bytes. AnswersTrace answer what bytes old new)
+-- what an answer says of the files that the words name, where the folder tells them, and of the closures
+abbrev pub AnswersForm : Answer → Form → (file : List ℕ → Option (List ℕ)) → (hosts left : List HostClosure) → (old new : Option (List ℕ))
+    → Type 0
+AnswersForm answer (RunForm names) file hosts left old new =
+    AnswersTold answer (file names.script) (file names.arrivals) hosts left old new
+AnswersForm answer (PictureForm what trace) file hosts left old new = IfSome (file trace) (λ bytes. AnswersTrace answer what bytes old new)
 
--- what was written of those files is the whole: the trace of a run, or the text about a trace
-abbrev pub WroteAll : Form → (List ℕ → Option (List ℕ)) → Option (List ℕ) → Option (List ℕ) → Type 0
-WroteAll (RunForm names) file old new =
-    IfSome (file names.script) (λ script. IfSome (file names.arrivals) (λ arrivals. WroteTrace script arrivals old new))
-WroteAll (PictureForm what trace) file old new = IfSome (file trace) (λ bytes. WrotePicture what bytes old new)
+-- what was written of those files is the whole: the trace of a run that ended so, or the text about a trace
+abbrev pub WroteAll : End → Form → (file : List ℕ → Option (List ℕ)) → (hosts left : List HostClosure) → (old new : Option (List ℕ))
+    → Type 0
+WroteAll end (RunForm names) file hosts left old new =
+    IfSome (file names.script) (λ script. IfSome (file names.arrivals) (λ arrivals. WroteTrace end script arrivals hosts left old new))
+WroteAll end (PictureForm what trace) file hosts left old new =
+    IfSome (file trace) (λ bytes. (end ≡ Done) × WrotePicture what bytes old new)

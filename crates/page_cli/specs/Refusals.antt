@@ -5,18 +5,16 @@ use Rattle.lang_tokens.specs.declared.fault.TokensFault.{TokensFault}
 use Rattle.lang_tokens.specs.declared.fault.TokensFault.TheVariants as token
 use Rattle.lang_parse.specs.declared.fault.ParseFault.{ParseFault}
 use Rattle.lang_parse.specs.declared.fault.ParseFault.TheVariants as parse
-use Rattle.lang_parse.specs.declared.fault.TreeFault.{TreeFault}
-use Rattle.lang_parse.specs.declared.fault.TreeFault.TheVariants as tree
 use Rattle.lang_names.specs.declared.fault.ResolveFault.{ResolveFault}
 use Rattle.lang_names.specs.declared.fault.ResolveFault.TheVariants as resolve
 use Rattle.page_cli.specs.declared.script_fault.ScriptFault.{ScriptFault}
-use Rattle.page_cli.specs.declared.script_fault.ScriptFault.TheVariants.{NoParse, NotRun, Name, OutOfMemory}
+use Rattle.page_cli.specs.declared.script_fault.ScriptFault.TheVariants.{NoParse, Name, OutOfMemory}
 use Rattle.page_cli.specs.declared.reading.FileFault.{FileFault}
 use Rattle.page_cli.specs.declared.reading.FileFault.TheVariants as file
 use Rattle.page_cli.specs.declared.answer.Answer.{Answer}
 use Rattle.page_cli.specs.declared.answer.Answer.TheVariants as answer
 use Rattle.page_cli.specs.declared.answer.WhichFile.{WhichFile}
-use Rattle.page_cli.specs.Answering.{IsSyntaxError, IsNotRun, HasBadName}
+use Rattle.page_cli.specs.Scripts.{IsSyntaxError, HasBadName}
 
 abbrev pub of_tokens : TokensFault → ScriptFault
 of_tokens (token.Is bad) = NoParse bad.at
@@ -26,10 +24,6 @@ abbrev pub of_parse : ParseFault → ScriptFault
 of_parse (parse.Is fault) = NoParse fault.at
 of_parse parse.OutOfMemory = OutOfMemory
 
-abbrev pub of_log : TreeFault → ScriptFault
-of_log (tree.Is none) = NotRun
-of_log tree.OutOfMemory = OutOfMemory
-
 abbrev pub of_resolve : ResolveFault → ScriptFault
 of_resolve (resolve.Is fault) = Name fault
 of_resolve resolve.OutOfMemory = OutOfMemory
@@ -37,14 +31,12 @@ of_resolve resolve.OutOfMemory = OutOfMemory
 -- the answer to a script that is not run
 abbrev pub refusal : ScriptFault → Answer
 refusal (NoParse at) = answer.NoParse at
-refusal NotRun = answer.NotRun
 refusal (Name fault) = answer.BadName fault
 refusal OutOfMemory = answer.OutOfMemory
 
 -- what a fault says of the script
 abbrev pub Refuses : ScriptFault → List ℕ → Type 0
 Refuses (NoParse at) script = IsSyntaxError script at
-Refuses NotRun script = IsNotRun script
 Refuses (Name fault) script = HasBadName script fault
 Refuses OutOfMemory script = ⊤
 

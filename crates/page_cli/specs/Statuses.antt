@@ -1,13 +1,22 @@
 -- The status of each answer.
 use Rattle.std.specs.Prelude.{ℕ}
+use Rattle.page_types.specs.declared.End.{End}
+use Rattle.page_types.specs.declared.End.TheVariants as end
 use Rattle.page_cli.specs.declared.answer.Answer.{Answer}
-use Rattle.page_cli.specs.declared.answer.Answer.TheVariants.{Done, Usage, NoParse, NotRun, BadName, BadArrivals, BadTrace, TooLong, ReadFault, WriteFault, OutOfMemory}
+use Rattle.page_cli.specs.declared.answer.Answer.TheVariants.{Ended, Written, Usage, NoParse, BadName, BadArrivals}
+use Rattle.page_cli.specs.declared.answer.Answer.TheVariants.{BadTrace, TooLong, ReadFault, WriteFault, OutOfMemory}
+
+-- the status of a run that ended so
+abbrev pub status_of_end : End → ℕ
+status_of_end end.Done = 0
+status_of_end end.Fuel = 10
+status_of_end end.Clock = 11
 
 abbrev pub status_of : Answer → ℕ
-status_of Done = 0
+status_of (Ended end) = status_of_end end
+status_of Written = 0
 status_of Usage = 2
 status_of (NoParse at) = 3
-status_of NotRun = 3
 status_of (BadArrivals line) = 4
 status_of (BadName fault) = 5
 status_of (TooLong file) = 6

@@ -4,6 +4,7 @@ ghost use Rattle.std.specs.Prelude.{◌≡◌};
 ghost use Rattle.page_cli.specs.Statuses.{status_of};
 
 use lang_names::NameFault;
+use page_base::End;
 
 /// One of the files that the words name.
 #[derive(Clone, Copy, Debug, PartialEq, Eq)]
@@ -16,15 +17,15 @@ pub enum WhichFile {
 /// How the program answers. Each answer has its status.
 #[derive(Clone, Copy, Debug, PartialEq, Eq)]
 pub enum Answer {
-    /// The run ended for nothing is left to do, or what was asked of a trace was written.
-    Done,
+    /// The run ended in this way, and its whole trace was written.
+    Ended { end: End },
+    /// What was asked of a trace was written.
+    Written,
     /// The words are of no form.
     Usage,
     /// The script has no tree. At this byte stands its first bad byte or, where none is bad, the first token with which
     /// it stops to be the beginning of a script.
     NoParse { at: usize },
-    /// The script has a tree of a kind that is not run so far.
-    NotRun,
     /// A name in the script is at fault.
     BadName { fault: NameFault },
     /// The arrivals are refused at this line, counted from 1.
@@ -47,10 +48,11 @@ impl Answer {
         ensures { result ≡ status_of self }
     {
         match self {
-            Answer::Done => 0,
+            Answer::Ended { end: End::Done } | Answer::Written => 0,
+            Answer::Ended { end: End::Fuel } => 10,
+            Answer::Ended { end: End::Clock } => 11,
             Answer::Usage => 2,
             Answer::NoParse { .. } => 3,
-            Answer::NotRun => 3,
             Answer::BadArrivals { .. } => 4,
             Answer::BadName { .. } => 5,
             Answer::TooLong { .. } => 6,

@@ -45,13 +45,12 @@ fn put_complaint<E: Sink>(err: &mut E, answer: Answer, asked: Option<Asked>) -> 
         (E.faults err.new) }
 {
     match answer {
-        Answer::Done => Ok(()),
+        Answer::Ended { .. } | Answer::Written => Ok(()),
         Answer::Usage => put(
             err,
             b"usage: pageloop run S A | check S A T | storm N | stat T | export T | blame T\n",
         ),
         Answer::NoParse { at } => { put_numbered(err, b"pageloop: script: no parse at byte ", at) }
-        Answer::NotRun => put(err, b"pageloop: script: no parse\n"),
         Answer::BadName { fault } => put_bad_name(err, fault),
         Answer::BadArrivals { line } => put_numbered(err, b"pageloop: arrivals: line ", line),
         Answer::BadTrace { line } => put_numbered(err, b"pageloop: trace: line ", line),

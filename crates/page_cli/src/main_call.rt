@@ -1,13 +1,14 @@
 //! The top call.
 
 ghost use Rattle.std.specs.Prelude.{◌≡◌, ◌↔◌, ◌⊎◌, map, None, string_bytes, IfSome};
+ghost use Rattle.page_types.specs.declared.End.{End};
 ghost use Rattle.page_types.specs.Counts.{Rose};
 ghost use Rattle.host_jobs.specs.ToldTable.{closures_of};
 ghost use Rattle.page_cli.specs.declared.answer.WhichFile.{WhichFile};
-ghost use Rattle.page_cli.specs.Statuses.{status_of};
-ghost use Rattle.page_cli.specs.Forms.{form_of, name_of};
+ghost use Rattle.page_cli.specs.Statuses.{status_of, status_of_end};
+ghost use Rattle.page_cli.specs.Forms.{form_of, name_of, IsRunForm, IsPictureForm};
 ghost use Rattle.page_cli.specs.Names.{form_seen, names_seen};
-ghost use Rattle.page_cli.specs.Answering.{AnswersTold, IsRefusal};
+ghost use Rattle.page_cli.specs.Answering.{AnswersTold, IsRefusal, RunsNothing};
 ghost use Rattle.page_cli.specs.Pictures.{AnswersForm, WroteAll};
 ghost use Rattle.page_cli.specs.Complaints.{complaint, PutsOrFails};
 
@@ -16,18 +17,19 @@ use crate::complaint::complain;
 use crate::names::{Asked, Names, Picture};
 use crate::picturing::picture_named;
 use crate::reading::{MOST_BYTES, answer_to, fetched};
-use crate::running::{Answered, run_files};
+use crate::running::{Ran, run_files};
 use host_jobs::HostTable;
 use page_io::{Folder, Sink};
 use std::alloc::Global;
 
-/// How the program ended, and the sink as it stands.
+/// How the program ended, and the host closures and the sink as they stand.
 #[derive(Drop)]
 pub struct MainEnd<O> {
     /// The exit status.
     pub status: u8,
     /// The answer that the status stands for.
     pub answer: Answer,
+    pub hosts: HostTable,
     pub out: O,
 }
 
@@ -52,22 +54,31 @@ fn asked_in(words: &[String]) -> Option<Asked<'_>>
     }
 }
 
-/// Fetches the two files in the order of the words, and runs them.
-fn run_named<F: Folder, O: Sink>(alloc: Global, folder: &mut F, names: Names, out: O) -> Answered<O>
+/// Fetches the two files in the order of the words, and runs them with the closures of a table.
+fn run_named<F: Folder, O: Sink>(
+    alloc: Global,
+    folder: &mut F,
+    hosts: HostTable,
+    names: Names,
+    out: O,
+) -> Ran<O>
     ensures answers { AnswersTold result.answer (F.file folder.old names.entry.script.now) (F.file folder.old names.entry.arrivals.now)
-        (O.bytes out) (O.bytes result.out) }
+        (closures_of hosts) (closures_of result.hosts) (O.bytes out) (O.bytes result.out) }
+    ensures hosts { IsRefusal result.answer → closures_of result.hosts ≡ closures_of hosts }
     ensures refused { IsRefusal result.answer → O.bytes result.out ≡ O.bytes out }
     ensures read { (file : WhichFile) → result.answer ≡ Answer.ReadFault file →
         Rose (F.faults folder.old (name_of file (form_seen (Asked.Run names.entry))))
         (F.faults folder.new (name_of file (form_seen (Asked.Run names.entry)))) }
     ensures write { result.answer ≡ Answer.WriteFault → Rose (O.faults out) (O.faults result.out) }
     ensures usage { result.answer ≡ Answer.Usage → ⊥ }
+    ensures written { result.answer ≡ Answer.Written → ⊥ }
 {
     let script = match fetched(alloc, folder, names.script, MOST_BYTES) {
         Ok(bytes) => bytes,
         Err(fault) => {
-            return Answered {
+            return Ran {
                 answer: answer_to(fault, WhichFile::Script),
+                hosts,
                 out,
             };
         }
@@ -75,37 +86,50 @@ fn run_named<F: Folder, O: Sink>(alloc: Global, folder: &mut F, names: Names, ou
     let arrivals = match fetched(alloc, folder, names.arrivals, MOST_BYTES) {
         Ok(bytes) => bytes,
         Err(fault) => {
-            return Answered {
+            return Ran {
                 answer: answer_to(fault, WhichFile::Arrivals),
+                hosts,
                 out,
             };
         }
     };
-    run_files(alloc, &script, &arrivals, out)
+    run_files(alloc, hosts, &script, &arrivals, out)
 }
 
 /// The answer to the words, by what they ask for.
 fn answer_to_words<F: Folder, O: Sink>(
     alloc: Global,
     folder: &mut F,
+    hosts: HostTable,
     asked: Option<Asked>,
     out: O,
-) -> Answered<O>
-    ensures answers { IfSome (names_seen asked.entry) (λ form.
-        AnswersForm result.answer form (F.file folder.old) (O.bytes out) (O.bytes result.out)) }
+) -> Ran<O>
+    ensures answers { IfSome (names_seen asked.entry) (λ form. AnswersForm result.answer form (F.file folder.old)
+        (closures_of hosts) (closures_of result.hosts) (O.bytes out) (O.bytes result.out)) }
+    ensures hosts { RunsNothing result.answer (names_seen asked.entry) → closures_of result.hosts ≡ closures_of hosts }
     ensures usage { (result.answer ≡ Answer.Usage) ↔ (names_seen asked.entry ≡ None) }
     ensures refused { IsRefusal result.answer → O.bytes result.out ≡ O.bytes out }
     ensures read { (file : WhichFile) → result.answer ≡ Answer.ReadFault file → IfSome (names_seen asked.entry) (λ form.
         Rose (F.faults folder.old (name_of file form)) (F.faults folder.new (name_of file form))) }
     ensures write { result.answer ≡ Answer.WriteFault → Rose (O.faults out) (O.faults result.out) }
+    ensures ended { (end : End) → result.answer ≡ Answer.Ended end → IsRunForm (names_seen asked.entry) }
+    ensures written { result.answer ≡ Answer.Written → IsPictureForm (names_seen asked.entry) }
 {
     match asked {
-        None => Answered {
+        None => Ran {
             answer: Answer::Usage,
+            hosts,
             out,
         },
-        Some(Asked::Run(names)) => run_named(alloc, folder, names, out),
-        Some(Asked::Picture { what, trace }) => picture_named(alloc, folder, what, trace, out),
+        Some(Asked::Run(names)) => run_named(alloc, folder, hosts, names, out),
+        Some(Asked::Picture { what, trace }) => {
+            let told = picture_named(alloc, folder, what, trace, out);
+            Ran {
+                answer: told.answer,
+                hosts,
+                out: told.out,
+            }
+        }
     }
 }
 
@@ -115,45 +139,54 @@ fn answer_to_words<F: Folder, O: Sink>(
 /// refusals is: words, the fetch of S and its length, the fetch of A and its length, script, names, arrivals, writes. `export T` and
 /// `blame T` fetch the trace T, of at most 4,194,304 bytes, and write its calls for a timeline viewer or its long turns. Their order is:
 /// words, the fetch of T and its length, trace, writes. A refusal writes nothing to `out`. The line of the answer goes to `err`, whose
-/// faults change no answer. Want of memory may come at any point. The host table stays as it is, since a log script asks for no answer
-/// of a host.
+/// faults change no answer. Want of memory may come at any point; a table with more closures than a script has numbers for is one.
+///
+/// The closures of `hosts` answer what the script asks them, each at most once. A run owns the table and the sink, so both are taken by
+/// value, and handed back with every answer.
 pub fn page_main<F: Folder, O: Sink, E: Sink>(
     alloc: Global,
     words: &Vec<String>,
     folder: &mut F,
-    _hosts: &mut HostTable,
+    hosts: HostTable,
     out: O,
     err: &mut E,
 ) -> MainEnd<O>
     ensures status { result.status ≡ status_of result.answer }
 
-    // With status 0 the bytes written are exactly the page's trace of the script's tree and the setup of the arrivals, or the
-    // export of the calls of the trace, or the lines about its long turns.
-    ensures written { result.status ≡ 0 → IfSome (form_of (map string_bytes words.now.items)) (λ form.
-        WroteAll form (F.file folder.old) (O.bytes out) (O.bytes result.out)) }
+    // With the status of an end, 0, 10 or 11, the bytes written are exactly the page's trace of the script's program, the setup of the
+    // arrivals, the closures and the answers that these gave; the run by the written policy and clock has ended so, and left the closures
+    // as they are now. With status 0 they may instead be the export of the calls of the trace, or the lines about its long turns.
+    ensures written { (end : End) → result.status ≡ status_of_end end → IfSome (form_of (map string_bytes words.now.items)) (λ form.
+        WroteAll end form (F.file folder.old) (closures_of hosts) (closures_of result.hosts) (O.bytes out) (O.bytes result.out)) }
 
     // Each other answer comes only where its cause stands, with what it leaves.
-    ensures answers { IfSome (form_of (map string_bytes words.now.items)) (λ form.
-        AnswersForm result.answer form (F.file folder.old) (O.bytes out) (O.bytes result.out)) }
+    ensures answers { IfSome (form_of (map string_bytes words.now.items)) (λ form. AnswersForm result.answer form (F.file folder.old)
+        (closures_of hosts) (closures_of result.hosts) (O.bytes out) (O.bytes result.out)) }
     ensures usage { (result.answer ≡ Answer.Usage) ↔ (form_of (map string_bytes words.now.items) ≡ None) }
     ensures refused { IsRefusal result.answer → O.bytes result.out ≡ O.bytes out }
     ensures read { (file : WhichFile) → result.answer ≡ Answer.ReadFault file → IfSome (form_of (map string_bytes words.now.items)) (λ form.
         Rose (F.faults folder.old (name_of file form)) (F.faults folder.new (name_of file form))) }
     ensures write { result.answer ≡ Answer.WriteFault → Rose (O.faults out) (O.faults result.out) }
 
-    // No host closure was fired or dropped.
-    ensures hosts { closures_of _hosts.new ≡ closures_of _hosts.old }
+    // A run ends only where the words ask for one, and a text about a trace is written only where they ask for that.
+    ensures run { (end : End) → result.answer ≡ Answer.Ended end → IsRunForm (form_of (map string_bytes words.now.items)) }
+    ensures picture { result.answer ≡ Answer.Written → IsPictureForm (form_of (map string_bytes words.now.items)) }
+
+    // Where nothing is run, no closure is fired or dropped.
+    ensures hosts { RunsNothing result.answer (form_of (map string_bytes words.now.items))
+        → closures_of result.hosts ≡ closures_of hosts }
 
     // The line of the answer whole, or a start of it where the count of faults of `err` rose.
     ensures err { PutsOrFails (E.bytes err.old) (E.faults err.old) (complaint (form_of (map string_bytes words.now.items)) result.answer)
         (E.bytes err.new) (E.faults err.new) }
 {
     let asked = asked_in(words);
-    let answered = answer_to_words(alloc, folder, asked, out);
-    complain(err, answered.answer, asked);
+    let ran = answer_to_words(alloc, folder, hosts, asked, out);
+    complain(err, ran.answer, asked);
     MainEnd {
-        status: answered.answer.status(),
-        answer: answered.answer,
-        out: answered.out,
+        status: ran.answer.status(),
+        answer: ran.answer,
+        hosts: ran.hosts,
+        out: ran.out,
     }
 }

@@ -1,6 +1,7 @@
 //! What is told of a trace.
 
 ghost use Rattle.std.specs.Prelude.{◌≡◌, ◌≤◌, length, map, IfOk, IfSome};
+ghost use Rattle.page_types.specs.declared.End.{End};
 ghost use Rattle.page_types.specs.Counts.{Rose};
 ghost use Rattle.trace_text.specs.EventSeen.{stamped_seen};
 ghost use Rattle.page_cli.specs.declared.answer.WhichFile.{WhichFile};
@@ -33,6 +34,7 @@ pub(crate) fn picture_named<F: Folder, O: Sink>(
         (file ≡ Trace) × Rose (F.faults folder.old trace.now) (F.faults folder.new trace.now) }
     ensures write { result.answer ≡ Answer.WriteFault → Rose (O.faults out) (O.faults result.out) }
     ensures usage { result.answer ≡ Answer.Usage → ⊥ }
+    ensures ended { (end : End) → result.answer ≡ Answer.Ended end → ⊥ }
 {
     match fetched(alloc, folder, trace, MOST_TRACE_BYTES) {
         Ok(bytes) => picture_of(alloc, what, &bytes, out),
@@ -50,6 +52,7 @@ fn picture_of<O: Sink>(alloc: Global, what: Picture, bytes: &[u8], mut out: O) -
     ensures refused { IsRefusal result.answer → O.bytes result.out ≡ O.bytes out }
     ensures other { (file : WhichFile) → result.answer ≡ Answer.ReadFault file → ⊥ }
     ensures write { result.answer ≡ Answer.WriteFault → Rose (O.faults out) (O.faults result.out) }
+    ensures ended { (end : End) → result.answer ≡ Answer.Ended end → ⊥ }
 {
     let answer = match read_trace(alloc, bytes) {
         Ok(trace) => write_picture(alloc, what, &trace, &mut out),
@@ -68,7 +71,7 @@ fn write_picture<O: Sink>(alloc: Global, what: Picture, trace: &Events, out: &mu
         return Answer::OutOfMemory;
     };
     match out.put(&text) {
-        Ok(()) => Answer::Done,
+        Ok(()) => Answer::Written,
         Err(_) => Answer::WriteFault,
     }
 }

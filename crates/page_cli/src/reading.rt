@@ -2,15 +2,16 @@
 
 ghost use Rattle.std.specs.Prelude.{◌≡◌, ◌≤◌, ◌<◌, ℕ, List, IfOk, IfErr, IfSome, length};
 ghost use Rattle.page_types.specs.Counts.{Rose};
-ghost use Rattle.lang_parse.specs.LogScript.{IsScript, log_tree};
-ghost use Rattle.lang_parse.specs.LogSeen.{script_seen};
+ghost use Rattle.lang_ast.specs.SeenProgram.{seen_program};
+ghost use Rattle.page_cli.specs.Scripts.{HasProgram};
 ghost use Rattle.page_cli.specs.Refusals.{Refuses, GivesFile, answer_to_file};
 ghost use Rattle.page_cli.specs.declared.reading.FileFault.TheVariants.{Failed, TooLong};
 
 use crate::answer::{Answer, WhichFile};
 use crate::script_fault::ScriptFault;
+use lang_ast::Program;
 use lang_names::resolve;
-use lang_parse::{LogScript, parse, parse_log_script};
+use lang_parse::parse;
 use lang_tokens::tokens;
 use page_io::{FetchFault, Fetched, Folder};
 use std::alloc::Global;
@@ -65,16 +66,15 @@ pub(crate) fn answer_to(fault: FileFault, file: WhichFile) -> Answer
     }
 }
 
-/// The log script of a file's bytes.
+/// The program of a script's bytes.
 ///
-/// The order of refusals is: tokens and tree, names, and the kind of script that is run so far.
-pub(crate) fn read_script(alloc: Global, bytes: &[u8]) -> Result<LogScript, ScriptFault>
+/// The order of refusals is: tokens and tree, and names.
+pub(crate) fn read_script(alloc: Global, bytes: &[u8]) -> Result<Program, ScriptFault>
     requires { length bytes.now ≤ MOST_BYTES }
-    ensures found { IfOk result (λ script. IsScript bytes.now (log_tree (script_seen script))) }
+    ensures found { IfOk result (λ program. HasProgram bytes.now (seen_program program)) }
     ensures fault { IfErr result (λ e. Refuses e bytes.now) }
 {
     let tokens = tokens(alloc, bytes)?;
     let tree = parse(alloc, &tokens)?;
-    resolve(alloc, tree)?;
-    Ok(parse_log_script(alloc, &tokens)?)
+    Ok(resolve(alloc, tree)?)
 }

@@ -1,22 +1,30 @@
 //! Running what the two files say.
 
-ghost use Rattle.std.specs.Prelude.{◌≡◌, ◌≤◌, length};
+ghost use Rattle.std.specs.Prelude.{◌≡◌, ◌≤◌, ◌<◌, ◌^◌, length};
 ghost use Rattle.page_types.specs.Counts.{Rose};
+ghost use Rattle.page_base.specs.Readings.{AreShort};
+ghost use Rattle.host_jobs.specs.ToldTable.{closures_of};
+ghost use Rattle.lang_ast.specs.SeenProgram.{seen_program};
+ghost use Rattle.arrivals_text.specs.Seen.{settings_of};
 ghost use Rattle.page_cli.specs.declared.answer.WhichFile.{WhichFile};
-ghost use Rattle.lang_parse.specs.LogScript.{log_tree};
-ghost use Rattle.lang_parse.specs.LogSeen.{script_seen};
 ghost use Rattle.page_cli.specs.Refusals.{refusal};
-ghost use Rattle.page_cli.specs.Answering.{AnswersFiles, AnswersRun, CanStop, IsRefusal, answer_to};
+ghost use Rattle.page_cli.specs.Answering.{AnswersFiles, AnswersRun, IsRefusal};
+ghost use Rattle.page_cli.specs.Running.{CanStop, Wrote, answer_to};
 
 use crate::answer::Answer;
 use crate::reading::read_script;
 use crate::script_fault::ScriptFault;
-use arrivals_text::read_first_page;
-use lang_parse::LogScript;
-use loop_turn::{RunStop, run_page};
-use page_base::End;
+use arrivals_text::{PageFault, PageSetup, read_page};
+use cell_room::Steps;
+use host_jobs::{HostPort, HostTable};
+use lang_ast::Program;
+use loop_policy::PolicyChooser;
+use loop_turn::{Ended, RunStop, run_page};
+use page_base::{End, ScriptClock};
 use page_io::Sink;
 use std::alloc::Global;
+use std::marker::Brand;
+use std::sync::ledger::{Blank, Ledger};
 use trace_text::LineSink;
 
 /// An answer, and the sink as it stands.
@@ -26,17 +34,29 @@ pub(crate) struct Answered<O> {
     pub out: O,
 }
 
-/// The answer to a run whose lines go to a sink, which compares nothing. A log script ends with nothing left to do.
+/// The answer to a run, and the closures and the sink as they stand.
+#[derive(Drop)]
+pub(crate) struct Ran<O> {
+    pub answer: Answer,
+    pub hosts: HostTable,
+    pub out: O,
+}
+
+/// The answer to a run by the written policy and clock, whose lines go to a sink and whose closures answer themselves. None of these
+/// refuses anything.
 fn answer_to(outcome: Result<End, RunStop>) -> Answer
     requires { CanStop outcome }
     ensures answer { result ≡ answer_to outcome }
     ensures other { (file : WhichFile) → result ≡ Answer.ReadFault file → ⊥ }
+    ensures written { result ≡ Answer.Written → ⊥ }
 {
     match outcome {
-        Ok(_) => Answer::Done,
+        Ok(end) => Answer::Ended { end },
         Err(RunStop::WriteFault) => Answer::WriteFault,
         Err(RunStop::OutOfMemory) => Answer::OutOfMemory,
-        Err(RunStop::Differs) => unreachable!(),
+        Err(RunStop::Differs | RunStop::NoReading | RunStop::NoChoice | RunStop::NoHost) => {
+            unreachable!()
+        }
     }
 }
 
@@ -44,56 +64,129 @@ fn answer_to(outcome: Result<End, RunStop>) -> Answer
 fn refusal(fault: ScriptFault) -> Answer
     ensures answer { result ≡ refusal fault }
     ensures other { (file : WhichFile) → result ≡ Answer.ReadFault file → ⊥ }
+    ensures written { result ≡ Answer.Written → ⊥ }
 {
     match fault {
         ScriptFault::NoParse { at } => Answer::NoParse { at },
-        ScriptFault::NotRun => Answer::NotRun,
         ScriptFault::Name(fault) => Answer::BadName { fault },
         ScriptFault::OutOfMemory => Answer::OutOfMemory,
     }
 }
 
-/// Runs a script.
-fn run_script<O: Sink>(alloc: Global, script: &LogScript, out: O) -> Answered<O>
-    ensures answers { AnswersRun (log_tree (script_seen script.now)) result.answer (O.bytes out) (O.bytes result.out) }
+/// Runs a program by the written policy and by a clock that is late by these spans, with the closures of a table. The accesses to the
+/// room of its tasks are counted in a new ledger.
+fn run_in<O: Sink, M: Ledger>(
+    alloc: Global,
+    program: &Program,
+    setup: &PageSetup,
+    late: Vec<u64>,
+    table: HostTable,
+    out: O,
+    blank: Blank,
+) -> Ended<HostTable, LineSink<O>>
+    requires late { late.items ≡ setup.now.late.items }
+    requires count { length (closures_of table) ≤ 2 ^ 32 }
+    requires name { blank.name ≡ M.name }
+    requires parts { blank.parts ≡ M.parts }
+    requires some { 0 < blank.parts }
+    ensures wrote { Wrote (seen_program program.now) (settings_of setup.now).setup (closures_of table) (O.bytes out) result.outcome
+        (closures_of result.port) (O.bytes result.lines) }
+    ensures stops { CanStop result.outcome }
+    ensures fault { result.outcome ≡ Err RunStop.WriteFault → Rose (O.faults out) (O.faults result.lines) }
+{
+    let mut clock = ScriptClock::new(late);
+    let mut chooser = PolicyChooser::new(setup.policy);
+    let lines = LineSink::new(alloc, out);
+    let (book, share) = blank.open::<M>();
+    let accesses = Steps::new(book, share);
+    run_page(
+        alloc,
+        program,
+        setup,
+        &mut clock,
+        &mut chooser,
+        table,
+        lines,
+        accesses,
+    )
+}
+
+/// Runs a program with the closures of a table.
+fn run_program<O: Sink>(
+    alloc: Global,
+    hosts: HostTable,
+    program: &Program,
+    setup: &PageSetup,
+    out: O,
+) -> Ran<O>
+    ensures answers { AnswersRun result.answer (seen_program program.now) (settings_of setup.now).setup (closures_of hosts)
+        (closures_of result.hosts) (O.bytes out) (O.bytes result.out) }
     ensures fault { result.answer ≡ Answer.WriteFault → Rose (O.faults out) (O.faults result.out) }
     ensures other { (file : WhichFile) → result.answer ≡ Answer.ReadFault file → ⊥ }
+    ensures written { result.answer ≡ Answer.Written → ⊥ }
 {
-    let ended = run_page(alloc, script, LineSink::new(alloc, out));
-    Answered {
+    // A page numbers its closures by 32 bits.
+    let has_too_many = hosts.known(u32::MAX);
+    let Ok(late) = setup.late.to_vec(alloc) else {
+        return without_memory(hosts, out);
+    };
+    if has_too_many {
+        return without_memory(hosts, out);
+    }
+    let ended = run_in::<O, Brand>(alloc, program, setup, late, hosts, out, Blank::new(1));
+    Ran {
         answer: answer_to(ended.outcome),
+        hosts: ended.port,
         out: ended.lines.into_sink(),
     }
 }
 
-/// Reads the bytes of the two files, and runs them.
+/// Nothing is run for want of memory.
+fn without_memory<O: Sink>(hosts: HostTable, out: O) -> Ran<O>
+    ensures { result ≡ record { answer = Answer.OutOfMemory; hosts = hosts; out = out } }
+{
+    Ran {
+        answer: Answer::OutOfMemory,
+        hosts,
+        out,
+    }
+}
+
+/// Reads the bytes of the two files, and runs them with the closures of a table.
 pub(crate) fn run_files<O: Sink>(
     alloc: Global,
+    hosts: HostTable,
     script: &[u8],
     arrivals: &[u8],
     out: O,
-) -> Answered<O>
+) -> Ran<O>
     requires script { length script.now ≤ 1048576 }
     requires arrivals { length arrivals.now ≤ 1048576 }
-    ensures answers { AnswersFiles result.answer script.now arrivals.now (O.bytes out) (O.bytes result.out) }
+    ensures answers { AnswersFiles result.answer script.now arrivals.now (closures_of hosts) (closures_of result.hosts) (O.bytes out)
+        (O.bytes result.out) }
     ensures refused { IsRefusal result.answer → O.bytes result.out ≡ O.bytes out }
+    ensures hosts { IsRefusal result.answer → closures_of result.hosts ≡ closures_of hosts }
     ensures fault { result.answer ≡ Answer.WriteFault → Rose (O.faults out) (O.faults result.out) }
     ensures other { (file : WhichFile) → result.answer ≡ Answer.ReadFault file → ⊥ }
+    ensures written { result.answer ≡ Answer.Written → ⊥ }
 {
-    let script = match read_script(alloc, script) {
-        Ok(script) => script,
+    let program = match read_script(alloc, script) {
+        Ok(program) => program,
         Err(fault) => {
-            return Answered {
+            return Ran {
                 answer: refusal(fault),
+                hosts,
                 out,
             };
         }
     };
-    match read_first_page(arrivals) {
-        Ok(_) => run_script(alloc, &script, out),
-        Err(fault) => Answered {
-            answer: Answer::BadArrivals { line: fault.line },
+    match read_page(alloc, arrivals) {
+        Ok(setup) => run_program(alloc, hosts, &program, &setup, out),
+        Err(PageFault::Is(bad)) => Ran {
+            answer: Answer::BadArrivals { line: bad.line },
+            hosts,
             out,
         },
+        Err(PageFault::OutOfMemory) => without_memory(hosts, out),
     }
 }

@@ -1,10 +1,10 @@
 //! Why a script is not run.
 
-ghost use Rattle.page_cli.specs.Refusals.{of_tokens, of_parse, of_log, of_resolve};
+ghost use Rattle.page_cli.specs.Refusals.{of_tokens, of_parse, of_resolve};
 ghost use Rattle.std.specs.Prelude.{◌≡◌};
 
 use lang_names::{NameFault, ResolveFault};
-use lang_parse::{ParseFault, TreeFault};
+use lang_parse::ParseFault;
 use lang_tokens::TokensFault;
 
 /// Why a script is not run.
@@ -12,8 +12,6 @@ use lang_tokens::TokensFault;
 pub(crate) enum ScriptFault {
     /// It has no tree: the error is at this byte.
     NoParse { at: usize },
-    /// It has a tree of a kind that is not run so far.
-    NotRun,
     /// This name is at fault.
     Name(NameFault),
     OutOfMemory,
@@ -37,17 +35,6 @@ impl From<ParseFault> for ScriptFault {
         match e {
             ParseFault::Is(fault) => ScriptFault::NoParse { at: fault.at },
             ParseFault::OutOfMemory => ScriptFault::OutOfMemory,
-        }
-    }
-}
-
-impl From<TreeFault> for ScriptFault {
-    ghost from_gives = { λ e f. f ≡ of_log e };
-
-    fn from(e: TreeFault) -> ScriptFault {
-        match e {
-            TreeFault::Is(_) => ScriptFault::NotRun,
-            TreeFault::OutOfMemory => ScriptFault::OutOfMemory,
         }
     }
 }

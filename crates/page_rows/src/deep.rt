@@ -5,7 +5,7 @@ use lang_ast::Program;
 use lang_names::resolve;
 use lang_parse::parse;
 use lang_tokens::tokens;
-use page_interp::{Machine, Ran, sum};
+use page_interp::{Machine, Ran};
 use page_values::{Func, Items, Value, as_int};
 use std::alloc::Global;
 use std::test::Fail;
@@ -60,19 +60,4 @@ fn open_calls_stand_deep_in_brackets(rt: HostRuntime) -> Result<(), Fail> {
         );
     }
     Ok(())
-}
-
-#[test]
-fn sums_stay_within_64_bits(rt: HostRuntime) {
-    let sums: [(i64, &[i64], Option<i64>); 6] = [
-        (7, &[], Some(7)),
-        (1, &[2, 3], Some(6)),
-        (9223372036854775806, &[1], Some(9223372036854775807)),
-        (9223372036854775807, &[1], None),
-        (9223372036854775807, &[0, 1, -1], None),
-        (-9223372036854775808, &[-1], None),
-    ];
-    for (first, others, wanted) in sums {
-        assert_eq!(rt; sum(first, others), wanted, "{first} and {others:?}");
-    }
 }

@@ -7,7 +7,7 @@ use std::alloc::{AllocError, Global};
 use std::test::Fail;
 
 /// Room for more bytes than an example writes.
-const ROOM: usize = 4096;
+const ROOM: usize = 65_536;
 
 /// The status of want of memory, of which there is none here.
 const OUT_OF_MEMORY: u8 = 70;
@@ -33,6 +33,7 @@ pub(crate) struct Example<'a> {
 #[derive(Drop)]
 pub(crate) struct Ended {
     pub(crate) status: u8,
+    pub(crate) hosts: HostTable,
     pub(crate) out: String,
     pub(crate) err: String,
 }
@@ -60,19 +61,24 @@ impl<'a> Example<'a> {
         Example::of_files(b"log(1 + 2);", b"page 1\n")
     }
 
-    /// Runs the program. It is an error if that answers want of memory.
+    /// Runs the program with no host closure. It is an error if that answers want of memory.
     pub(crate) fn run(&self, alloc: Global) -> Result<Ended, Fail> {
+        self.run_with(alloc, HostTable::new(alloc))
+    }
+
+    /// The same with the closures of a table.
+    pub(crate) fn run_with(&self, alloc: Global, hosts: HostTable) -> Result<Ended, Fail> {
         let words = owned_words(alloc, self.words)?;
         let mut folder = self.folder(alloc)?;
         let out = sink(alloc, self.failing_out)?;
         let mut err = sink(alloc, self.failing_err)?;
-        let mut hosts = HostTable::new(alloc);
-        let end = page_main(alloc, &words, &mut folder, &mut hosts, out, &mut err);
+        let end = page_main(alloc, &words, &mut folder, hosts, out, &mut err);
         if end.status == OUT_OF_MEMORY {
             return Err(Fail::new("out of memory"));
         }
         Ok(Ended {
             status: end.status,
+            hosts: end.hosts,
             out: text(alloc, &end.out)?,
             err: text(alloc, &err)?,
         })

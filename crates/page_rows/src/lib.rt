@@ -9,7 +9,11 @@
 mod deep;
 #[cfg(test)]
 mod example;
+#[cfg(test)]
+mod host_closures;
 pub mod nested_host;
+#[cfg(test)]
+mod page_logs;
 #[cfg(test)]
 mod pictures;
 #[cfg(test)]
@@ -17,8 +21,8 @@ mod refusals;
 #[cfg(test)]
 mod scripts;
 #[cfg(test)]
-mod sums;
-#[cfg(test)]
 mod traces;
+#[cfg(test)]
+mod whole_pages;
 #[cfg(test)]
 mod write_faults;

@@ -3,8 +3,6 @@
 use crate::example::{Ended, Example};
 use std::test::Fail;
 
-const NOT_RUN: &str = "pageloop: script: no parse\n";
-
 const USAGE: &str =
     "usage: pageloop run S A | check S A T | storm N | stat T | export T | blame T\n";
 
@@ -47,7 +45,7 @@ fn scripts_and_arrivals_are_refused_in_this_order(rt: HostRuntime) -> Result<(),
         ("log(", "", 3, "pageloop: script: no parse at byte 4\n"),
         (
             "log(",
-            "page 1\nfuel 5\n",
+            "page 1\nfuel 0\n",
             3,
             "pageloop: script: no parse at byte 4\n",
         ),
@@ -66,8 +64,8 @@ fn scripts_and_arrivals_are_refused_in_this_order(rt: HostRuntime) -> Result<(),
         ),
         ("log(1 + 2);", "", 4, "pageloop: arrivals: line 1\n"),
         ("", "", 4, "pageloop: arrivals: line 1\n"),
-        ("", "page 2\n", 4, "pageloop: arrivals: line 1\n"),
-        ("", "page 1\nfuel 5\n", 4, "pageloop: arrivals: line 2\n"),
+        ("", "page 3\n", 4, "pageloop: arrivals: line 1\n"),
+        ("", "page 1\nfuel 0\n", 4, "pageloop: arrivals: line 2\n"),
     ];
     for (script, arrivals, status, line) in examples {
         let ended = Example::of_files(script.as_bytes(), arrivals.as_bytes()).run(rt.alloc())?;
@@ -123,21 +121,6 @@ fn the_first_name_at_fault_is_told_with_its_byte_and_status_5(rt: HostRuntime) -
     for (script, line) in examples {
         let ended = Example::of_files(script.as_bytes(), b"page 1\n").run(rt.alloc())?;
         assert!(rt; is_refusal(&ended, 5, line), "{script}");
-    }
-    Ok(())
-}
-
-#[test]
-fn scripts_of_other_kinds_are_not_run_so_far(rt: HostRuntime) -> Result<(), Fail> {
-    let examples = [
-        "var a = 1;",
-        "log(2 - 1);",
-        "setTimeout(f, 0); fn f() { }",
-        "while (1 == 1) { }",
-    ];
-    for script in examples {
-        let ended = Example::of_files(script.as_bytes(), b"page 1\n").run(rt.alloc())?;
-        assert!(rt; is_refusal(&ended, 3, NOT_RUN), "{script}");
     }
     Ok(())
 }

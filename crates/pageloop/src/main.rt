@@ -47,7 +47,7 @@ fn run(rt: HostRuntime) -> Result<u8, AllocError> {
     let mut folder = RealFolder::new(&rt);
     let out = StdSink::new(io::writer(&rt));
     let mut err = StdSink::new(rt.stderr());
-    let end = page_main(alloc, &words, &mut folder, &mut hosts, out, &mut err);
+    let end = page_main(alloc, &words, &mut folder, hosts, out, &mut err);
     Ok(end.status)
 }
 
