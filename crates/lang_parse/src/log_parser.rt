@@ -1,4 +1,4 @@
-//! The parser of log scripts, the scripts that are run so far.
+//! The parser of log scripts, whose statements log a text, or numbers joined by `+`. The program runs every script without it.
 
 ghost use Rattle.std.specs.Prelude.{◌≡◌, ◌++◌, List, IfOk, IfErr, IfSome, IsNone};
 ghost use Rattle.page_types.specs.Tree.{Item};
