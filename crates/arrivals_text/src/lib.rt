@@ -5,7 +5,6 @@ mod arrival;
 mod draft;
 mod fault;
 mod fields;
-mod first_page;
 mod line;
 mod lists;
 mod order;
@@ -16,6 +15,5 @@ mod values;
 
 pub use arrival::Arrival;
 pub use fault::{BadLine, PageFault};
-pub use first_page::read_first_page;
 pub use reading::read_page;
 pub use setup::PageSetup;

@@ -11,7 +11,7 @@ use Rattle.lang_parse.proofs.Signs.{head_tag}
 use Rattle.lang_parse.proofs.Script.{item_shape, of_function, of_statement, function_read, parameters_unique}
 use Rattle.lang_parse.proofs.StmtSteps.{any_fails, any_leads}
 use Rattle.lang_parse.proofs.Walks.{length-symbols}
-use Rattle.lang_parse.proofs.LogForms.{not_empty as some_left, is_empty as none_left}
+use Rattle.lang_parse.proofs.Lengths.{not_empty as some_left, is_empty as none_left}
 use Rattle.std.specs.Prelude.{◌==◌, true, false}
 use Rattle.lang_tokens.specs.Seen.{TokenSeen}
 use Rattle.lang_parse.specs.Symbols.{symbols_of}

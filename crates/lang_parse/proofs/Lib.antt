@@ -1,4 +1,4 @@
-pub mod LogForms
+pub mod Lengths
 pub mod Generic
 pub mod Signs
 pub mod Rows

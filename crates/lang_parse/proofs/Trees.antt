@@ -12,8 +12,7 @@ use Rattle.lang_parse.specs.Grammar.{HasTree, IsShallow, script_spelling}
 use Rattle.lang_place.specs.NameSets.{distinct}
 use Rattle.lang_parse.specs.Parts.{Many, ItemRead, AtEnd}
 use Rattle.lang_parse.specs.Deciding.{Never, Fails}
-use Rattle.lang_parse.specs.Faults.{IsFaultOf}
-use Rattle.lang_parse.specs.LogSeen.{IsNoTree}
+use Rattle.lang_parse.specs.Faults.{IsNoTree, IsFaultOf}
 use Rattle.lang_parse.proofs.Script.{script_read, script_unique, items_are, items_spelled}
 
 -- no tree has the symbols

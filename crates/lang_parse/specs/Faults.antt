@@ -8,7 +8,10 @@ use Rattle.lang_parse.specs.declared.fault.TreeFault.{TreeFault}
 use Rattle.lang_parse.specs.declared.fault.TreeFault.TheVariants as fault
 use Rattle.lang_parse.specs.declared.error.ParseError.{ParseError}
 use Rattle.lang_parse.specs.declared.error.ParseError.TheVariants as error
-use Rattle.lang_parse.specs.LogSeen.{IsNoTree}
+
+abbrev pub IsNoTree : TreeFault → Type 0
+IsNoTree (fault.Is none) = ⊤
+IsNoTree fault.OutOfMemory = ⊥
 
 -- a fault of each kind comes from the error of its kind
 abbrev pub IsFaultOf : ParseError → TreeFault → Type 0

@@ -1,10 +1,9 @@
 //! Why a script has no tree.
 
 ghost use Rattle.std.specs.Prelude.{◌≡◌};
-ghost use Rattle.lang_parse.specs.declared.fault.TreeFault.TheVariants.{OutOfMemory};
-ghost use Rattle.lang_parse.specs.declared.fault.ParseFault.TheVariants as parse;
+ghost use Rattle.lang_parse.specs.declared.fault.ParseFault.TheVariants.{OutOfMemory};
 
-use std::alloc::{AllocError, AllocFailed};
+use std::alloc::AllocError;
 use thiserror::Error;
 
 /// No tree has these tokens.
@@ -12,29 +11,13 @@ use thiserror::Error;
 #[error("no tree")]
 pub struct NoTree;
 
-/// Why [`parse_log_script`](crate::parse_log_script) gave no script.
+/// Why there is no tree, without the place.
 #[derive(Clone, Copy, Debug, PartialEq, Eq, Error)]
 pub enum TreeFault {
     #[error(transparent)]
     Is(NoTree),
     #[error("out of memory")]
     OutOfMemory,
-}
-
-impl From<AllocError> for TreeFault {
-    ghost from_gives = { λ _ e. e ≡ OutOfMemory };
-
-    fn from(_e: AllocError) -> TreeFault {
-        TreeFault::OutOfMemory
-    }
-}
-
-impl<T: Drop> From<AllocFailed<T>> for TreeFault {
-    ghost from_gives = { λ _ e. e ≡ OutOfMemory };
-
-    fn from(_e: AllocFailed<T>) -> TreeFault {
-        TreeFault::OutOfMemory
-    }
 }
 
 /// No tree has these tokens. Up to this byte they begin a script, and with the token at it they do not; where all of
@@ -55,7 +38,7 @@ pub enum ParseFault {
 }
 
 impl From<AllocError> for ParseFault {
-    ghost from_gives = { λ _ e. e ≡ parse.OutOfMemory };
+    ghost from_gives = { λ _ e. e ≡ OutOfMemory };
 
     fn from(_e: AllocError) -> ParseFault {
         ParseFault::OutOfMemory

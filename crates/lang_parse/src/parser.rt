@@ -8,8 +8,7 @@ ghost use Rattle.lang_ast.specs.Seen.{seen_tree};
 ghost use Rattle.lang_ast.specs.Names.{occurrences, Rise};
 ghost use Rattle.lang_parse.specs.Symbols.{Symbol, symbols_of};
 ghost use Rattle.lang_parse.specs.Grammar.{HasTree};
-ghost use Rattle.lang_parse.specs.LogSeen.{IsNoTree};
-ghost use Rattle.lang_parse.specs.Faults.{IsNoParse, IsPlaced};
+ghost use Rattle.lang_parse.specs.Faults.{IsNoTree, IsNoParse, IsPlaced};
 
 use crate::fault::{NoParse, NoTree, ParseFault, TreeFault};
 use crate::globals::{function_count, global_count};

@@ -1,10 +1,9 @@
 //! Reading a token from the front.
 
-ghost use Rattle.std.specs.Prelude.{◌≡◌, ◌∷◌, List, IfSome, IsNone, IsTrue, codes, ℕ, ℤ};
+ghost use Rattle.std.specs.Prelude.{◌≡◌, ◌∷◌, List, IfSome, IsNone, IsTrue, ℕ, ℤ};
 ghost use Rattle.page_values.specs.Texts.{is_text};
 ghost use Rattle.lang_tokens.specs.declared.token.TokenKind.TheVariants.{Name};
 ghost use Rattle.lang_parse.specs.Symbols.{Symbol, NameAt, WordOf, NumberOf, TextOf, SignOf, symbols_of};
-ghost use Rattle.lang_parse.specs.Readings.{NoNumberFollows};
 
 use lang_tokens::{Token, TokenKind};
 
@@ -20,18 +19,6 @@ pub(crate) fn after_sign<'a>(tokens: &'a [Token], sign: &[u8]) -> Option<&'a [To
     }
 }
 
-/// The offset of the name `log`, and what follows it.
-pub(crate) fn after_log(tokens: &[Token]) -> Option<(usize, &[Token])>
-    ensures found { IfSome result (λ r. symbols_of tokens.now ≡ NameAt (codes "log") r.0 ∷ symbols_of r.1.now) }
-    ensures none { IsNone result → (at : ℕ) (rest : List Symbol) → symbols_of tokens.now ≡ NameAt (codes "log") at ∷ rest → ⊥ }
-{
-    let (first, rest) = tokens.split_first()?;
-    match first.kind() {
-        TokenKind::Name if first.content() == b"log".as_slice() => Some((first.at(), rest)),
-        _ => None,
-    }
-}
-
 /// A number, and what follows it.
 pub(crate) fn after_number(tokens: &[Token]) -> Option<(i64, &[Token])>
     ensures found { IfSome result (λ r. symbols_of tokens.now ≡ NumberOf r.0 ∷ symbols_of r.1.now) }
@@ -42,15 +29,6 @@ pub(crate) fn after_number(tokens: &[Token]) -> Option<(i64, &[Token])>
         TokenKind::Number(n) => Some((n, rest)),
         _ => None,
     }
-}
-
-/// A number behind a `+`, and what follows it.
-pub(crate) fn after_plus_number(tokens: &[Token]) -> Option<(i64, &[Token])>
-    ensures found { IfSome result (λ r. symbols_of tokens.now ≡ SignOf (codes "+") ∷ NumberOf r.0 ∷ symbols_of r.1.now) }
-    ensures none { IsNone result → NoNumberFollows (symbols_of tokens.now) }
-{
-    let rest = after_sign(tokens, b"+")?;
-    after_number(rest)
 }
 
 /// The value of a text, and what follows it.

@@ -1,7 +1,6 @@
 //! The machine that evaluates a script, over any host.
 #![tactic(auto)]
 
-mod adding;
 mod asking;
 mod calling;
 mod code;
@@ -20,5 +19,4 @@ mod stepping;
 mod values;
 mod variables;
 
-pub use adding::sum;
 pub use machine::{Machine, Ran, Stopped};

@@ -1,6 +1,6 @@
 //! Whole files, and the line at which each of some others is refused.
 
-use arrivals_text::{BadLine, PageFault, PageSetup, read_first_page, read_page};
+use arrivals_text::{BadLine, PageFault, PageSetup, read_page};
 use loop_policy::Policy;
 use page_base::{Micros, Source};
 use page_values::{Value, as_text};
@@ -246,22 +246,4 @@ fn a_text_has_at_most_65535_bytes(rt: HostRuntime) -> Result<(), Fail> {
     let refused = read_page(alloc, &longer).err();
     assert_eq!(rt; refused, Some(PageFault::Is(BadLine { line: 2 })));
     Ok(())
-}
-
-#[test]
-fn only_the_line_page_1_is_taken(rt: HostRuntime) {
-    let files: [(&[u8], Result<(), BadLine>); 9] = [
-        (b"page 1", Ok(())),
-        (b"page 1\n", Ok(())),
-        (b"", Err(BadLine { line: 1 })),
-        (b"\n", Err(BadLine { line: 1 })),
-        (b"page", Err(BadLine { line: 1 })),
-        (b"page 2", Err(BadLine { line: 1 })),
-        (b"page 1 \n", Err(BadLine { line: 1 })),
-        (b"page 10\nfuel 5\n", Err(BadLine { line: 1 })),
-        (b"page 1\nfuel 5\n", Err(BadLine { line: 2 })),
-    ];
-    for (file, wanted) in files {
-        assert_eq!(rt; read_first_page(file), wanted, "of {file:?}");
-    }
 }

@@ -7,8 +7,6 @@
 #[cfg(test)]
 mod arrivals;
 #[cfg(test)]
-mod log_scripts;
-#[cfg(test)]
 mod operations;
 #[cfg(test)]
 mod places;

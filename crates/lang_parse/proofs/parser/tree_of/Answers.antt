@@ -5,7 +5,7 @@ use Rattle.lang_ast.specs.Seen.{seen_items}
 use Rattle.lang_parse.specs.Symbols.{symbols_of}
 use Rattle.lang_parse.specs.Grammar.{HasTree, IsShallow}
 use Rattle.lang_place.specs.NameSets.{distinct}
-use Rattle.lang_parse.specs.LogSeen.{IsNoTree}
+use Rattle.lang_parse.specs.Faults.{IsNoTree}
 use Rattle.lang_parse.proofs.Trees.{NoTree, has_tree, too_many_functions, too_many_globals, answered, unanswered}
 use Rattle.lang_parse.proofs.parser.tree_of.Goals as goal
 
