@@ -76,3 +76,10 @@ pub mod Priorities
 pub mod OpenCalls
 mod LawExamples
 mod LawBreaks
+pub mod FirstForm
+pub mod FirstFormChanges
+pub mod FirstFormCombinators
+pub mod FirstFormRuns
+pub mod FirstFormOperations
+pub mod FirstFormTurns
+pub mod Migrating

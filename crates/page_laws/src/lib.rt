@@ -8,6 +8,7 @@ ghost use Rattle.page_types.specs.Tree.{Program};
 ghost use Rattle.page_parts.specs.Setup.{Setup};
 ghost use Rattle.page_parts.specs.HostClosures.{HostClosure};
 ghost use Rattle.lang_meaning.specs.Evaluation.{call_from_outside};
+ghost use Rattle.page_model.specs.PageTrace.{IsLegal, Migrates};
 ghost use Rattle.page_model.specs.Operations.{page_operations};
 ghost use Rattle.page_model.specs.Turns.{turns, run_by, state_of, first_state, first_page, events_of_run};
 ghost use Rattle.page_model.specs.Numbers.{HoldsNoNumbers};
@@ -260,4 +261,11 @@ pub fn acts_keep_the_laws<R: Choosing>()
         → IntervalsAreOverAtEnd (events_of_run (run_gaps_by R.rules program setup list c)) }
     ensures hosts_at_end { (program : Program) (setup : Setup) (c : R.Held) (list : List Act) → HoldsNoNumbers setup
         → HostsHaveAnsweredAtEnd (events_of_run (run_gaps_by R.rules program setup list c)) }
+{}
+
+/// A trace told in its second form is of the same run: what migrating legal events gives is legal for the same setup in the second form,
+/// and without what the first form leaves out it is these events, where the setup's form is the first.
+pub fn a_trace_is_told_in_its_second_form()
+    ensures { (program : Program) (setup : Setup) (hosts : List HostClosure) (es : List Stamped)
+        → IsLegal program setup hosts es → Migrates program setup hosts es }
 {}
