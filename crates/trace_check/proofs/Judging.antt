@@ -91,7 +91,7 @@ module _ {C : Type 0} where
   stuck-ends es (Ended end m c) h k = k
   stuck-ends es (Stuck at m c) h k = h
 
-  events-are : (es : List Stamped) (r : Turned C) → EndsWith es r → events_of_run r ≡ es
+  pub events-are : (es : List Stamped) (r : Turned C) → EndsWith es r → events_of_run r ≡ es
   events-are es (GoesOn m c) h = absurd h
   events-are es (Ended end m c) h = h
   events-are es (Stuck at m c) h = absurd h

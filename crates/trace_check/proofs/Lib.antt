@@ -6,3 +6,5 @@ pub mod Judging
 pub mod OwnRuns
 pub mod Found
 pub mod Unasked
+pub mod ArrivedValues
+pub mod OwnLaws

@@ -4,8 +4,9 @@ ghost use Rattle.std.specs.Prelude.{◌≡◌, ◌≢◌, ◌≤◌, ◌^◌, �
 ghost use Rattle.lang_ast.specs.SeenProgram.{seen_program};
 ghost use Rattle.arrivals_text.specs.Seen.{settings_of};
 ghost use Rattle.host_jobs.specs.ToldTable.{closures_of};
+ghost use Rattle.loop_turn.specs.Lawful.{AreLawful};
 ghost use Rattle.loop_turn.specs.declared.run_stop.RunStop.TheVariants.{WriteFault};
-ghost use Rattle.trace_check.specs.Verdicts.{IsLegalHere, IsVerdict};
+ghost use Rattle.trace_check.specs.Verdicts.{IsLegalHere, IsVerdict, events_of};
 ghost use Rattle.trace_check.specs.Outcomes.{found_by};
 ghost use Rattle.trace_check.specs.declared.verdict.Verdict.TheVariants.{Yes};
 
@@ -27,8 +28,9 @@ use trace_text::{Events, LineCheck};
 ///
 /// `Yes` comes exactly where the trace is legal: it has the setup's form, and that run ends with exactly its events. Otherwise the lines
 /// of the trace are compared with those of the run: `Illegal` comes exactly where the run is stuck and the trace begins with all its
-/// lines, and `Differs` exactly where neither of the two comes. Want of memory is the one error. It takes the time and the memory of the
-/// run, the choices, and the text of two lines at a time. `accesses` counts the accesses to the room in which tasks are queued.
+/// lines, and `Differs` exactly where neither of the two comes. With `Yes` the events of the trace keep the ten laws of every run, whoever
+/// wrote them. Want of memory is the one error. It takes the time and the memory of the run, the choices, and the text of two lines at a
+/// time. `accesses` counts the accesses to the room in which tasks are queued.
 pub fn check_trace<M: Ledger>(
     alloc: Global,
     program: &Program,
@@ -42,6 +44,7 @@ pub fn check_trace<M: Ledger>(
         ↔ IsLegalHere (seen_program program.now) (settings_of setup.now).setup (closures_of hosts.now) trace.now) }
     ensures verdict { IfOk result
         (IsVerdict (seen_program program.now) (settings_of setup.now).setup (closures_of hosts.now) trace.now) }
+    ensures laws { IfOk result (λ verdict. verdict ≡ Yes → AreLawful (settings_of setup.now).setup (events_of trace.now)) }
 {
     let lines = LineCheck::new(alloc, trace);
     let replayed = run_again(alloc, program, setup, hosts, trace.items(), lines, accesses);

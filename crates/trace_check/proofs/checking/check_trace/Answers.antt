@@ -5,6 +5,8 @@ use Rattle.host_jobs.specs.ToldTable.{closures_of}
 use Rattle.trace_text.specs.Comparing.{kept_in}
 use Rattle.trace_check.proofs.Judging.{yes-where}
 use Rattle.trace_check.proofs.Found.{if-ok, found, never-failed}
+use Rattle.trace_check.proofs.ArrivedValues.{holds-no-numbers}
+use Rattle.trace_check.proofs.OwnLaws.{legal-lawful}
 use Rattle.trace_check.proofs.checking.check_trace.Goals as goal
 
 pub verdict_by-requires : goal.verdict_by-requires
@@ -28,3 +30,11 @@ returns-clause-legal g c =
     if-ok c.verdict_by.result
     (λ verdict is. yes-where (seen_program c.args.program.now) (settings_of c.args.setup.now).setup (closures_of c.args.hosts.now) c.args.trace.now verdict is)
     (returns-clause-verdict g c)
+
+pub returns-clause-laws : goal.returns-clause-laws
+returns-clause-laws g c =
+    if-ok c.verdict_by.result
+    (λ verdict legal is.
+    legal-lawful (seen_program c.args.program.now) (settings_of c.args.setup.now).setup (closures_of c.args.hosts.now) c.args.trace.now
+    (holds-no-numbers c.args.setup.now) (legal.0 is))
+    (returns-clause-legal g c)
