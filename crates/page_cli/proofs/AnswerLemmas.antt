@@ -34,6 +34,7 @@ use Rattle.page_cli.specs.Scripts.{IsScript, HasProgram, HasNoTree}
 use Rattle.page_cli.specs.Refusals.{Refuses, GivesFile, of_tokens, of_parse, refusal, answer_to_file}
 use Rattle.page_cli.specs.Answering.{Fits, WroteTrace, AnswersFiles, AnswersTold, AnswersRun}
 use Rattle.page_cli.specs.Pictures.{WrotePicture, AnswersForm, WroteAll}
+use Rattle.page_cli.proofs.ArrivedValues.{holds-no-numbers}
 
 -- ---- the script
 
@@ -73,7 +74,13 @@ parse-refuses parse.OutOfMemory bytes tokens ok size none place = tt
 module _ (script arrivals : List ℕ) (hosts left : List HostClosure) (old new : Option (List ℕ)) where
   pub files-answers : (answer : Answer) (program : Program) (settings : Settings) → HasProgram script program → Fits arrivals → SetsUp arrivals settings
       → AnswersRun answer program settings.setup hosts left old new → AnswersFiles answer script arrivals hosts left old new
-  files-answers (Ended end) program settings has fits sets h = record { program = program; settings = settings; is_run = record { has_program = has; fits = fits; sets_up = sets }; wrote = h }
+  files-answers (Ended end) program settings has fits sets h = record {
+    program = program;
+    settings = settings;
+    is_run = record { has_program = has; fits = fits; sets_up = sets };
+    wrote = h;
+    laws = h.laws (holds-no-numbers arrivals settings sets);
+  }
   files-answers Written program settings has fits sets h = h
   files-answers Usage program settings has fits sets h = h
   files-answers (NoParse at) program settings has fits sets h = absurd h

@@ -1,4 +1,5 @@
 pub mod Putting
+pub mod ArrivedValues
 pub mod AnswerLemmas
 pub mod WrittenRuns
 pub mod RunLemmas

@@ -4,7 +4,9 @@ use Rattle.page_types.specs.Tree.{Program}
 use Rattle.page_types.specs.declared.End.{End}
 use Rattle.page_parts.specs.HostClosures.{HostClosure}
 use Rattle.page_parts.specs.Setup.{Setup}
+use Rattle.page_model.specs.Turns.{events_of_run}
 use Rattle.arrivals_text.specs.Arrivals.{Settings, SetsUp, IsBadLine, lines_of}
+use Rattle.loop_turn.specs.Lawful.{AreLawful}
 use Rattle.page_cli.specs.declared.answer.WhichFile.{WhichFile}
 use Rattle.page_cli.specs.declared.answer.WhichFile.TheVariants.{Script, Arrivals, Trace}
 use Rattle.page_cli.specs.declared.answer.Answer.{Answer}
@@ -12,7 +14,7 @@ use Rattle.page_cli.specs.declared.answer.Answer.TheVariants.{Ended, Written, Us
 use Rattle.page_cli.specs.declared.answer.Answer.TheVariants.{BadTrace, TooLong, ReadFault, WriteFault, OutOfMemory}
 use Rattle.page_cli.specs.Forms.{Form, RunForm, PictureForm}
 use Rattle.page_cli.specs.Scripts.{HasProgram, HasSomeProgram, IsSyntaxError, HasBadName}
-use Rattle.page_cli.specs.Running.{WroteRun, WroteRunStart}
+use Rattle.page_cli.specs.Running.{WroteRun, WroteRunStart, written_run}
 
 -- a file within its limit
 abbrev pub Fits : List ℕ → Type 0
@@ -24,13 +26,14 @@ pub record IsRun (script arrivals : List ℕ) (program : Program) (settings : Se
   pub fits : Fits arrivals
   pub sets_up : SetsUp arrivals settings
 
--- The trace of this script, these arrivals and these closures was written, the whole of it and no more. The run has ended so, and left
--- the closures so.
+-- The trace of this script, these arrivals and these closures was written, the whole of it and no more. The run has ended so, left the
+-- closures so, and its events keep the ten laws of every run.
 pub record WroteTrace (end : End) (script arrivals : List ℕ) (hosts left : List HostClosure) (old new : Option (List ℕ)) : Type 0 where
   pub program : Program
   pub settings : Settings
   pub is_run : IsRun script arrivals program settings
   pub wrote : WroteRun program settings.setup hosts old end left new
+  pub laws : AreLawful settings.setup (events_of_run (written_run program settings.setup hosts wrote.answers))
 
 -- a start of that trace was written
 pub record WroteStart (script arrivals : List ℕ) (hosts : List HostClosure) (old new : Option (List ℕ)) : Type 0 where
