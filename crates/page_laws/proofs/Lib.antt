@@ -83,3 +83,8 @@ pub mod FirstFormRuns
 pub mod FirstFormOperations
 pub mod FirstFormTurns
 pub mod Migrating
+pub mod ClosureAsks
+pub mod ClosureSteps
+pub mod ClosureFates
+pub mod ClosureMarks
+mod ClosureExamples

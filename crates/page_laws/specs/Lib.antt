@@ -4,3 +4,4 @@ pub mod TimerLaws
 pub mod SchedulerLaws
 pub mod Scheduling
 pub mod Moves
+pub mod ClosureMarks

@@ -2,8 +2,9 @@
 //! the run stops: at its end, for fuel, or stuck at a choice.
 #![tactic(auto)]
 
-ghost use Rattle.std.specs.Prelude.{◌≡◌, ℕ, List, []};
+ghost use Rattle.std.specs.Prelude.{◌≡◌, ◌⊎◌, ℕ, List, [], true};
 ghost use Rattle.page_types.specs.Events.{Stamped};
+ghost use Rattle.page_types.specs.declared.HostMark.TheVariants.{Fired};
 ghost use Rattle.page_types.specs.Tree.{Program};
 ghost use Rattle.page_parts.specs.Setup.{Setup};
 ghost use Rattle.page_parts.specs.HostClosures.{HostClosure};
@@ -12,13 +13,14 @@ ghost use Rattle.page_model.specs.PageTrace.{IsLegal, Migrates};
 ghost use Rattle.page_model.specs.Operations.{page_operations};
 ghost use Rattle.page_model.specs.Turns.{turns, run_by, state_of, first_state, first_page, events_of_run};
 ghost use Rattle.page_model.specs.Numbers.{HoldsNoNumbers};
-ghost use Rattle.page_laws.specs.CallLaws.{Once, Cancel, SettleOnce, JobsInOrder, NoNesting};
-ghost use Rattle.page_laws.specs.History.{open_registrations};
+ghost use Rattle.page_laws.specs.CallLaws.{Once, Cancel, SettleOnce, JobsInOrder, NoNesting, is_answer_of};
+ghost use Rattle.page_laws.specs.History.{open_registrations, some_line};
 ghost use Rattle.page_laws.specs.SchedulerLaws.{ArmsAreDueAtEnd, ContinuationsAreOverAtEnd, EndParts, EndsTruly, FramesAreOverAtEnd};
 ghost use Rattle.page_laws.specs.SchedulerLaws.{HostsHaveAnsweredAtEnd, IdlesAreOverAtEnd, IntervalsAreOverAtEnd, LimitsAreKept};
 ghost use Rattle.page_laws.specs.SchedulerLaws.{MicrosAreOverAtEnd, PostsAreOverAtEnd, PriorityOrder, TimeoutsAreOverAtEnd};
 ghost use Rattle.page_laws.specs.TimerLaws.{DueInOrder, DueWhenArmed, FramesInOrder, IdleDeadlines, LevelsFollow, TimerParts};
 ghost use Rattle.page_laws.specs.TimerLaws.{TimersClamped, TimersFireWhenDue, TimersInOrder};
+ghost use Rattle.page_laws.specs.ClosureMarks.{ClosuresFollow, Exactly, HasMark};
 ghost use Rattle.page_laws.specs.Moves.{ComesTo};
 ghost use Rattle.page_model.specs.Gaps.{Act, run_gaps_by};
 
@@ -268,4 +270,17 @@ pub fn acts_keep_the_laws<R: Choosing>()
 pub fn a_trace_is_told_in_its_second_form()
     ensures { (program : Program) (setup : Setup) (hosts : List HostClosure) (es : List Stamped)
         → IsLegal program setup hosts es → Migrates program setup hosts es }
+{}
+
+/// The closures of the host after a run, wherever it stops, are those before it with the marks that the lines tell. Each registration of a
+/// host asked one of them that was live, and no closure was asked twice. A closure is fired exactly where it was so before or a line tells
+/// its answer, and dropped exactly where it was so before or an abort dropped its answer, pending or due, with the registration that asked
+/// it. No kind and no range has changed.
+pub fn closures_follow_the_lines<R: Choosing>()
+    ensures pages { (program : Program) (setup : Setup) (hosts : List HostClosure) (c : R.Held) → HoldsNoNumbers setup
+        → ClosuresFollow (first_page program setup hosts) (state_of (run_by R.rules program setup hosts c)).host }
+    ensures fired { (program : Program) (setup : Setup) (hosts : List HostClosure) (c : R.Held) → HoldsNoNumbers setup
+        → (k : ℕ) → let run = run_by R.rules program setup hosts c
+        in Exactly (HasMark Fired (state_of run).host.hosts k)
+        (HasMark Fired hosts k ⊎ some_line (is_answer_of k) (events_of_run run) ≡ true) }
 {}
