@@ -1,0 +1,10 @@
+//! Large valid inputs that are made from a number.
+#![tactic(auto)]
+
+mod laws;
+mod storming;
+#[cfg(test)]
+mod tests;
+
+pub use laws::storms_run;
+pub use storming::storm;
