@@ -20,21 +20,24 @@ use Rattle.lang_parse.specs.Faults.{IsNoParse, IsPlaced}
 use Rattle.lang_place.specs.Place.{IsPlace}
 use Rattle.lang_ast.specs.NameFaults.{IsResolved}
 use Rattle.lang_ast.specs.Programs.{program_of}
-use Rattle.page_cli.specs.declared.names.Picture.{Picture}
 use Rattle.page_cli.specs.declared.answer.Answer.{Answer}
-use Rattle.page_cli.specs.declared.answer.Answer.TheVariants.{Ended, Written, Usage, NoParse, BadName, BadArrivals, BadTrace, TooLong, ReadFault, WriteFault, OutOfMemory}
+use Rattle.page_cli.specs.declared.answer.Answer.TheVariants.{Ended, Written, NoParse, BadName, BadArrivals, WriteFault, OutOfMemory}
 use Rattle.page_cli.specs.declared.answer.WhichFile.TheVariants.{Script, Arrivals}
 use Rattle.page_cli.specs.declared.reading.FileFault.{FileFault}
 use Rattle.page_cli.specs.declared.reading.FileFault.TheVariants as file
 use Rattle.page_cli.specs.declared.script_fault.ScriptFault.{ScriptFault}
 use Rattle.page_cli.specs.declared.script_fault.ScriptFault.TheVariants as script
 use Rattle.page_cli.specs.Statuses.{status_of, status_of_end}
-use Rattle.page_cli.specs.Forms.{Form, RunForm, PictureForm}
+use Rattle.page_cli.specs.Forms.{Form, RunForm, CheckForm, PictureForm, ExpandForm}
 use Rattle.page_cli.specs.Scripts.{IsScript, HasProgram, HasNoTree}
 use Rattle.page_cli.specs.Refusals.{Refuses, GivesFile, of_tokens, of_parse, refusal, answer_to_file}
-use Rattle.page_cli.specs.Answering.{Fits, WroteTrace, AnswersFiles, AnswersTold, AnswersRun}
-use Rattle.page_cli.specs.Pictures.{WrotePicture, AnswersForm, WroteAll}
+use Rattle.page_cli.specs.Answering.{Fits, WroteTrace, RefusesFiles, AnswersFiles, AnswersTold, AnswersRun}
+use Rattle.page_cli.specs.Checked.{WroteLegal, AnswersThree}
+use Rattle.page_cli.specs.Pictures.{WrotePicture}
+use Rattle.page_cli.specs.Expanding.{WroteExpansion}
+use Rattle.page_cli.specs.FormAnswers.{AnswersForm, WroteAll}
 use Rattle.page_cli.proofs.ArrivedValues.{holds-no-numbers}
+use Rattle.page_cli.proofs.Closures.{closures-follow}
 
 -- ---- the script
 
@@ -80,24 +83,26 @@ module _ (script arrivals : List ℕ) (hosts left : List HostClosure) (old new :
     is_run = record { has_program = has; fits = fits; sets_up = sets };
     wrote = h;
     laws = h.laws (holds-no-numbers arrivals settings sets);
+    marks = closures-follow program settings.setup hosts h.answers (holds-no-numbers arrivals settings sets);
   }
-  files-answers Written program settings has fits sets h = h
-  files-answers Usage program settings has fits sets h = h
-  files-answers (NoParse at) program settings has fits sets h = absurd h
-  files-answers (BadName fault) program settings has fits sets h = absurd h
-  files-answers (BadArrivals line) program settings has fits sets h = absurd h
-  files-answers (BadTrace line) program settings has fits sets h = h
-  files-answers (TooLong file) program settings has fits sets h = absurd h
-  files-answers (ReadFault file) program settings has fits sets h = absurd h
   files-answers WriteFault program settings has fits sets h = record { program = program; settings = settings; is_run = record { has_program = has; fits = fits; sets_up = sets }; wrote = h }
   files-answers OutOfMemory program settings has fits sets h = inr (record { program = program; settings = settings; is_run = record { has_program = has; fits = fits; sets_up = sets }; wrote = h })
+  files-answers answer program settings has fits sets h = absurd h
 
--- the answer to a script that is not run
-pub refused-answers : (fault : ScriptFault) (script arrivals : List ℕ) (hosts left : List HostClosure) (told : Option (List ℕ)) → Fits script → Fits arrivals → Refuses fault script
-    → AnswersFiles (refusal fault) script arrivals hosts left told told
-refused-answers (script.NoParse at) script arrivals hosts left told fits also h = (fits, also, h, refl)
-refused-answers (script.Name fault) script arrivals hosts left told fits also h = (also, h, refl)
-refused-answers script.OutOfMemory script arrivals hosts left told fits also h = inl refl
+-- the answer to a script that has no program
+pub refusal-refuses : (fault : ScriptFault) (script arrivals : List ℕ) → Refuses fault script → RefusesFiles (refusal fault) script arrivals
+refusal-refuses (script.NoParse at) script arrivals h = h
+refusal-refuses (script.Name fault) script arrivals h = h
+refusal-refuses script.OutOfMemory script arrivals h = tt
+
+-- the answer to files that are not run
+pub refused-answers : (answer : Answer) (script arrivals : List ℕ) (hosts left : List HostClosure) (told : Option (List ℕ)) → Fits script → Fits arrivals → RefusesFiles answer script arrivals
+    → AnswersFiles answer script arrivals hosts left told told
+refused-answers (NoParse at) script arrivals hosts left told fits also h = (fits, also, h, refl)
+refused-answers (BadName fault) script arrivals hosts left told fits also h = (fits, also, h, refl)
+refused-answers (BadArrivals line) script arrivals hosts left told fits also h = (fits, also, h, refl)
+refused-answers OutOfMemory script arrivals hosts left told fits also h = inl refl
+refused-answers answer script arrivals hosts left told fits also h = absurd h
 
 -- ---- the files as they are told
 
@@ -153,33 +158,9 @@ IsWhole answer = ⊥
 whole : (answer : Answer) (of_end : End) → status_of answer ≡ status_of_end of_end → IsWhole answer
 whole (Ended one) of_end e = tt
 whole Written of_end e = tt
-whole Usage end.Done e = cc
-whole Usage end.Fuel e = cc
-whole Usage end.Clock e = cc
-whole (NoParse at) end.Done e = cc
-whole (NoParse at) end.Fuel e = cc
-whole (NoParse at) end.Clock e = cc
-whole (BadName fault) end.Done e = cc
-whole (BadName fault) end.Fuel e = cc
-whole (BadName fault) end.Clock e = cc
-whole (BadArrivals line) end.Done e = cc
-whole (BadArrivals line) end.Fuel e = cc
-whole (BadArrivals line) end.Clock e = cc
-whole (BadTrace line) end.Done e = cc
-whole (BadTrace line) end.Fuel e = cc
-whole (BadTrace line) end.Clock e = cc
-whole (TooLong file) end.Done e = cc
-whole (TooLong file) end.Fuel e = cc
-whole (TooLong file) end.Clock e = cc
-whole (ReadFault file) end.Done e = cc
-whole (ReadFault file) end.Fuel e = cc
-whole (ReadFault file) end.Clock e = cc
-whole WriteFault end.Done e = cc
-whole WriteFault end.Fuel e = cc
-whole WriteFault end.Clock e = cc
-whole OutOfMemory end.Done e = cc
-whole OutOfMemory end.Fuel e = cc
-whole OutOfMemory end.Clock e = cc
+whole answer end.Done e = cc
+whole answer end.Fuel e = cc
+whole answer end.Clock e = cc
 
 module _ (file : List ℕ → Option (List ℕ)) (hosts left : List HostClosure) (old new : Option (List ℕ)) where
   -- a run that ended so
@@ -192,34 +173,43 @@ module _ (file : List ℕ → Option (List ℕ)) (hosts left : List HostClosure)
       → IfSome script (λ s. IfSome arrivals (λ a. WroteTrace of_end s a hosts left old new))
   no-run of_end None arrivals h = tt
   no-run of_end (Some s) None h = tt
-  no-run of_end (Some s) (Some a) h = absurd h
+  no-run of_end (Some s) (Some a) h = absurd h.2
 
-  -- a text about a trace
-  picture-told : (of_end : End) (what : Picture) (trace : Option (List ℕ)) → of_end ≡ end.Done → IfSome trace (λ bytes. WrotePicture what bytes old new)
-      → IfSome trace (λ bytes. (of_end ≡ end.Done) × WrotePicture what bytes old new)
-  picture-told of_end what None e h = tt
-  picture-told of_end what (Some bytes) e h = (e, h)
+  -- that a trace is legal
+  legal-told : (of_end : End) (script arrivals trace : Option (List ℕ)) → of_end ≡ end.Done → AnswersThree Written script arrivals trace hosts old new
+      → IfSome script (λ s. IfSome arrivals (λ a. IfSome trace (λ t. (of_end ≡ end.Done) × WroteLegal s a t hosts old new)))
+  legal-told of_end None arrivals trace e h = tt
+  legal-told of_end (Some s) None trace e h = tt
+  legal-told of_end (Some s) (Some a) None e h = tt
+  legal-told of_end (Some s) (Some a) (Some t) e h = (e, h)
 
-  no-picture : (of_end : End) (what : Picture) (trace : Option (List ℕ)) → IfSome trace (λ bytes. ⊥)
-      → IfSome trace (λ bytes. (of_end ≡ end.Done) × WrotePicture what bytes old new)
-  no-picture of_end what None h = tt
-  no-picture of_end what (Some bytes) h = absurd h
+  no-legal : (one of_end : End) (script arrivals trace : Option (List ℕ)) → AnswersThree (Ended one) script arrivals trace hosts old new
+      → IfSome script (λ s. IfSome arrivals (λ a. IfSome trace (λ t. (of_end ≡ end.Done) × WroteLegal s a t hosts old new)))
+  no-legal one of_end None arrivals trace h = tt
+  no-legal one of_end (Some s) None trace h = tt
+  no-legal one of_end (Some s) (Some a) None h = tt
+  no-legal one of_end (Some s) (Some a) (Some t) h = absurd h.1
+
+  -- a text about a file
+  text-told : (P : List ℕ → Type 0) (of_end : End) (content : Option (List ℕ)) → of_end ≡ end.Done → IfSome content P → IfSome content (λ bytes. (of_end ≡ end.Done) × P bytes)
+  text-told P of_end None e h = tt
+  text-told P of_end (Some bytes) e h = (e, h)
+
+  no-text : (P : List ℕ → Type 0) (content : Option (List ℕ)) → IfSome content (λ bytes. ⊥) → IfSome content P
+  no-text P None h = tt
+  no-text P (Some bytes) h = absurd h
 
   pub whole-told : (answer : Answer) (of_end : End) (form : Form) → status_of answer ≡ status_of_end of_end
       → AnswersForm answer form file hosts left old new → WroteAll of_end form file hosts left old new
   whole-told (Ended one) of_end (RunForm names) e h = run-told one of_end (file names.script) (file names.arrivals) (same-end one of_end e) h
-  whole-told (Ended one) of_end (PictureForm what trace) e h = no-picture of_end what (file trace) h
+  whole-told (Ended one) of_end (CheckForm names) e h = no-legal one of_end (file names.script) (file names.arrivals) (file names.trace) h
+  whole-told (Ended one) of_end (PictureForm what trace) e h = no-text (λ bytes. (of_end ≡ end.Done) × WrotePicture what bytes old new) (file trace) h
+  whole-told (Ended one) of_end (ExpandForm script) e h = no-text (λ bytes. (of_end ≡ end.Done) × WroteExpansion bytes old new) (file script) h
   whole-told Written of_end (RunForm names) e h = no-run of_end (file names.script) (file names.arrivals) h
-  whole-told Written of_end (PictureForm what trace) e h = picture-told of_end what (file trace) (sym (same-end end.Done of_end e)) h
-  whole-told Usage of_end form e h = absurd (whole Usage of_end e)
-  whole-told (NoParse at) of_end form e h = absurd (whole (NoParse at) of_end e)
-  whole-told (BadName fault) of_end form e h = absurd (whole (BadName fault) of_end e)
-  whole-told (BadArrivals line) of_end form e h = absurd (whole (BadArrivals line) of_end e)
-  whole-told (BadTrace line) of_end form e h = absurd (whole (BadTrace line) of_end e)
-  whole-told (TooLong file) of_end form e h = absurd (whole (TooLong file) of_end e)
-  whole-told (ReadFault file) of_end form e h = absurd (whole (ReadFault file) of_end e)
-  whole-told WriteFault of_end form e h = absurd (whole WriteFault of_end e)
-  whole-told OutOfMemory of_end form e h = absurd (whole OutOfMemory of_end e)
+  whole-told Written of_end (CheckForm names) e h = legal-told of_end (file names.script) (file names.arrivals) (file names.trace) (sym (same-end end.Done of_end e)) h
+  whole-told Written of_end (PictureForm what trace) e h = text-told (λ bytes. WrotePicture what bytes old new) of_end (file trace) (sym (same-end end.Done of_end e)) h
+  whole-told Written of_end (ExpandForm script) e h = text-told (λ bytes. WroteExpansion bytes old new) of_end (file script) (sym (same-end end.Done of_end e)) h
+  whole-told answer of_end form e h = absurd (whole answer of_end e)
 
 -- the same for words that have a form
 pub written-told : (file : List ℕ → Option (List ℕ)) (hosts left : List HostClosure) (old new : Option (List ℕ)) (answer : Answer) (of_end : End) (form : Option Form)

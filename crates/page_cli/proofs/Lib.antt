@@ -1,7 +1,9 @@
 pub mod Putting
 pub mod ArrivedValues
+pub mod Closures
 pub mod AnswerLemmas
 pub mod WrittenRuns
 pub mod RunLemmas
 pub mod TableLemmas
 mod PictureLemmas
+mod CheckLemmas

@@ -4,15 +4,16 @@ use Rattle.page_types.specs.Tree.{Program}
 use Rattle.page_types.specs.declared.End.{End}
 use Rattle.page_parts.specs.HostClosures.{HostClosure}
 use Rattle.page_parts.specs.Setup.{Setup}
-use Rattle.page_model.specs.Turns.{events_of_run}
+use Rattle.page_model.specs.Turns.{first_page, events_of_run, state_of}
+use Rattle.page_laws.specs.ClosureMarks.{ClosuresFollow}
 use Rattle.arrivals_text.specs.Arrivals.{Settings, SetsUp, IsBadLine, lines_of}
 use Rattle.loop_turn.specs.Lawful.{AreLawful}
 use Rattle.page_cli.specs.declared.answer.WhichFile.{WhichFile}
 use Rattle.page_cli.specs.declared.answer.WhichFile.TheVariants.{Script, Arrivals, Trace}
 use Rattle.page_cli.specs.declared.answer.Answer.{Answer}
-use Rattle.page_cli.specs.declared.answer.Answer.TheVariants.{Ended, Written, Usage, NoParse, BadName, BadArrivals}
-use Rattle.page_cli.specs.declared.answer.Answer.TheVariants.{BadTrace, TooLong, ReadFault, WriteFault, OutOfMemory}
-use Rattle.page_cli.specs.Forms.{Form, RunForm, PictureForm}
+use Rattle.page_cli.specs.declared.answer.Answer.TheVariants.{Ended, Written, Usage, NoParse, NotAsync, BadName, BadArrivals}
+use Rattle.page_cli.specs.declared.answer.Answer.TheVariants.{BadTrace, Differs, Illegal, TooLong, ReadFault, WriteFault, OutOfMemory}
+use Rattle.page_cli.specs.Forms.{Form, RunForm, CheckForm, PictureForm, ExpandForm}
 use Rattle.page_cli.specs.Scripts.{HasProgram, HasSomeProgram, IsSyntaxError, HasBadName}
 use Rattle.page_cli.specs.Running.{WroteRun, WroteRunStart, written_run}
 
@@ -27,13 +28,14 @@ pub record IsRun (script arrivals : List ℕ) (program : Program) (settings : Se
   pub sets_up : SetsUp arrivals settings
 
 -- The trace of this script, these arrivals and these closures was written, the whole of it and no more. The run has ended so, left the
--- closures so, and its events keep the ten laws of every run.
+-- closures so, its events keep the ten laws of every run, and the closures are fired and dropped as the lines tell.
 pub record WroteTrace (end : End) (script arrivals : List ℕ) (hosts left : List HostClosure) (old new : Option (List ℕ)) : Type 0 where
   pub program : Program
   pub settings : Settings
   pub is_run : IsRun script arrivals program settings
   pub wrote : WroteRun program settings.setup hosts old end left new
   pub laws : AreLawful settings.setup (events_of_run (written_run program settings.setup hosts wrote.answers))
+  pub marks : ClosuresFollow (first_page program settings.setup hosts) (state_of (written_run program settings.setup hosts wrote.answers)).host
 
 -- a start of that trace was written
 pub record WroteStart (script arrivals : List ℕ) (hosts : List HostClosure) (old new : Option (List ℕ)) : Type 0 where
@@ -54,20 +56,23 @@ CanFail Script script = ⊤
 CanFail Arrivals script = Fits script
 CanFail Trace script = ⊥
 
+-- what a refusal says of what is read in the two files
+abbrev pub RefusesFiles : Answer → (script arrivals : List ℕ) → Type 0
+RefusesFiles (NoParse at) script arrivals = IsSyntaxError script at
+RefusesFiles (BadName fault) script arrivals = HasBadName script fault
+RefusesFiles (BadArrivals line) script arrivals = HasSomeProgram script × IsBadLine (lines_of arrivals) line
+RefusesFiles OutOfMemory script arrivals = ⊤
+RefusesFiles answer script arrivals = ⊥
+
 -- what an answer says of the two files and of the closures
 abbrev pub AnswersFiles : Answer → (script arrivals : List ℕ) → (hosts left : List HostClosure) → (old new : Option (List ℕ)) → Type 0
 AnswersFiles (Ended end) script arrivals hosts left old new = WroteTrace end script arrivals hosts left old new
-AnswersFiles Written script arrivals hosts left old new = ⊥
-AnswersFiles Usage script arrivals hosts left old new = ⊥
-AnswersFiles (NoParse at) script arrivals hosts left old new = Fits script × Fits arrivals × IsSyntaxError script at × (new ≡ old)
-AnswersFiles (BadName fault) script arrivals hosts left old new = Fits arrivals × HasBadName script fault × (new ≡ old)
-AnswersFiles (BadArrivals line) script arrivals hosts left old new =
-    Fits arrivals × HasSomeProgram script × IsBadLine (lines_of arrivals) line × (new ≡ old)
-AnswersFiles (BadTrace line) script arrivals hosts left old new = ⊥
 AnswersFiles (TooLong file) script arrivals hosts left old new = IsTooLong file script arrivals × (new ≡ old)
 AnswersFiles (ReadFault file) script arrivals hosts left old new = CanFail file script × (new ≡ old)
 AnswersFiles WriteFault script arrivals hosts left old new = WroteStart script arrivals hosts old new
 AnswersFiles OutOfMemory script arrivals hosts left old new = (new ≡ old) ⊎ WroteStart script arrivals hosts old new
+AnswersFiles answer script arrivals hosts left old new =
+    Fits script × Fits arrivals × RefusesFiles answer script arrivals × (new ≡ old)
 
 -- the same, where the folder tells both files
 abbrev pub AnswersTold : Answer → (script arrivals : Option (List ℕ)) → (hosts left : List HostClosure) → (old new : Option (List ℕ))
@@ -81,9 +86,12 @@ IsRefusal (Ended end) = ⊥
 IsRefusal Written = ⊥
 IsRefusal Usage = ⊤
 IsRefusal (NoParse at) = ⊤
+IsRefusal NotAsync = ⊤
 IsRefusal (BadName fault) = ⊤
 IsRefusal (BadArrivals line) = ⊤
 IsRefusal (BadTrace line) = ⊤
+IsRefusal (Differs line) = ⊤
+IsRefusal (Illegal line) = ⊤
 IsRefusal (TooLong file) = ⊤
 IsRefusal (ReadFault file) = ⊤
 IsRefusal WriteFault = ⊥
@@ -93,18 +101,13 @@ IsRefusal OutOfMemory = ⊥
 abbrev pub RunsNothing : Answer → Option Form → Type 0
 RunsNothing answer None = ⊤
 RunsNothing answer (Some (RunForm names)) = IsRefusal answer
+RunsNothing answer (Some (CheckForm names)) = ⊤
 RunsNothing answer (Some (PictureForm what trace)) = ⊤
+RunsNothing answer (Some (ExpandForm script)) = ⊤
 
 -- what an answer says of a program, a setup and the closures
 abbrev pub AnswersRun : Answer → Program → Setup → (hosts left : List HostClosure) → (old new : Option (List ℕ)) → Type 0
 AnswersRun (Ended end) program setup hosts left old new = WroteRun program setup hosts old end left new
-AnswersRun Written program setup hosts left old new = ⊥
-AnswersRun Usage program setup hosts left old new = ⊥
-AnswersRun (NoParse at) program setup hosts left old new = ⊥
-AnswersRun (BadName fault) program setup hosts left old new = ⊥
-AnswersRun (BadArrivals line) program setup hosts left old new = ⊥
-AnswersRun (BadTrace line) program setup hosts left old new = ⊥
-AnswersRun (TooLong file) program setup hosts left old new = ⊥
-AnswersRun (ReadFault file) program setup hosts left old new = ⊥
 AnswersRun WriteFault program setup hosts left old new = WroteRunStart program setup hosts old new
 AnswersRun OutOfMemory program setup hosts left old new = WroteRunStart program setup hosts old new
+AnswersRun answer program setup hosts left old new = ⊥

@@ -6,8 +6,8 @@ use Rattle.page_parts.specs.Words.{decimal_of}
 use Rattle.lang_names.specs.declared.fault.NameFault.{NameFault}
 use Rattle.lang_names.specs.declared.fault.NameFault.TheVariants as fault
 use Rattle.page_cli.specs.declared.answer.Answer.{Answer}
-use Rattle.page_cli.specs.declared.answer.Answer.TheVariants.{Ended, Written, Usage, NoParse, BadName, BadArrivals}
-use Rattle.page_cli.specs.declared.answer.Answer.TheVariants.{BadTrace, TooLong, ReadFault, WriteFault, OutOfMemory}
+use Rattle.page_cli.specs.declared.answer.Answer.TheVariants.{Ended, Written, Usage, NoParse, NotAsync, BadName, BadArrivals}
+use Rattle.page_cli.specs.declared.answer.Answer.TheVariants.{BadTrace, Differs, Illegal, TooLong, ReadFault, WriteFault, OutOfMemory}
 use Rattle.page_cli.specs.Forms.{Form, name_of}
 
 abbrev pub name_in : Option Form → (Form → List ℕ) → List ℕ
@@ -24,11 +24,14 @@ name_complaint (fault.Arity at) = codes "pageloop: wrong argument count at byte 
 abbrev pub complaint : Option Form → Answer → List ℕ
 complaint form (Ended end) = []
 complaint form Written = []
-complaint form Usage = codes "usage: pageloop run S A | check S A T | storm N | stat T | export T | blame T\n"
+complaint form Usage = codes "usage: pageloop run S A | check S A T | storm N | stat T | expand S | export T | blame T\n"
 complaint form (NoParse at) = codes "pageloop: script: no parse at byte " ++ (decimal_of at ++ codes "\n")
+complaint form NotAsync = codes "pageloop: script: not an async script\n"
 complaint form (BadArrivals line) = codes "pageloop: arrivals: line " ++ (decimal_of line ++ codes "\n")
 complaint form (BadName fault) = name_complaint fault
 complaint form (BadTrace line) = codes "pageloop: trace: line " ++ (decimal_of line ++ codes "\n")
+complaint form (Differs line) = codes "pageloop: trace differs at line " ++ (decimal_of line ++ codes "\n")
+complaint form (Illegal line) = codes "pageloop: choice not legal at line " ++ (decimal_of line ++ codes "\n")
 complaint form (TooLong file) = codes "pageloop: too long: " ++ (name_in form (name_of file) ++ codes "\n")
 complaint form (ReadFault file) = codes "pageloop: read fault: " ++ (name_in form (name_of file) ++ codes "\n")
 complaint form WriteFault = codes "pageloop: write fault\n"

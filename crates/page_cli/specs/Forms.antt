@@ -1,8 +1,8 @@
 -- The forms of words.
-use Rattle.std.specs.Prelude.{⊤, ℕ, List, [], ◌∷◌, Option, Some, None, codes, if◌then◌else◌}
+use Rattle.std.specs.Prelude.{⊤, ℕ, List, [], ◌∷◌, Option, Some, None, codes, option_map, if◌then◌else◌}
 use Rattle.std.specs.Str.{bytes_eq}
 use Rattle.page_cli.specs.declared.names.Picture.{Picture}
-use Rattle.page_cli.specs.declared.names.Picture.TheVariants.{Export, Blame}
+use Rattle.page_cli.specs.declared.names.Picture.TheVariants.{Export, Blame, Counts}
 use Rattle.page_cli.specs.declared.answer.WhichFile.{WhichFile}
 use Rattle.page_cli.specs.declared.answer.WhichFile.TheVariants.{Script, Arrivals, Trace}
 
@@ -11,38 +11,67 @@ pub record RunNames : Type 0 where
   pub script : List ℕ
   pub arrivals : List ℕ
 
--- `run S A`; `export T` and `blame T`, with the name of the trace
+-- the names of the script, of the arrivals and of the trace in `check S A T`
+pub record CheckNames : Type 0 where
+  pub script : List ℕ
+  pub arrivals : List ℕ
+  pub trace : List ℕ
+
+-- `run S A`; `check S A T`; `export T`, `blame T` and `stat T`, with the name of the trace; `expand S`, with the name of the script
 pub data Form : Type 0 where
   RunForm : RunNames → Form
+  CheckForm : CheckNames → Form
   PictureForm : Picture → List ℕ → Form
+  ExpandForm : List ℕ → Form
 
 -- the words ask for a run
 abbrev pub IsRunForm : Option Form → Type 0
 IsRunForm None = ⊥
 IsRunForm (Some (RunForm names)) = ⊤
+IsRunForm (Some (CheckForm names)) = ⊥
 IsRunForm (Some (PictureForm what trace)) = ⊥
+IsRunForm (Some (ExpandForm script)) = ⊥
 
--- the words ask what is told of a trace
-abbrev pub IsPictureForm : Option Form → Type 0
-IsPictureForm None = ⊥
-IsPictureForm (Some (RunForm names)) = ⊥
-IsPictureForm (Some (PictureForm what trace)) = ⊤
+-- the words ask for something else that is written: whether a trace is legal, what is told of one, or a plain script
+abbrev pub IsTextForm : Option Form → Type 0
+IsTextForm None = ⊥
+IsTextForm (Some (RunForm names)) = ⊥
+IsTextForm (Some (CheckForm names)) = ⊤
+IsTextForm (Some (PictureForm what trace)) = ⊤
+IsTextForm (Some (ExpandForm script)) = ⊤
+
+-- what a command tells of a trace
+abbrev pub picture_of : List ℕ → Option Picture
+picture_of command =
+    if bytes_eq command (codes "export") then Some Export
+    else if bytes_eq command (codes "blame") then Some Blame
+    else if bytes_eq command (codes "stat") then Some Counts
+    else None
+
+-- the form of a command and one file
+abbrev pub file_form : (command file : List ℕ) → Option Form
+file_form command file =
+    if bytes_eq command (codes "expand") then Some (ExpandForm file) else option_map (λ what. PictureForm what file) (picture_of command)
 
 -- The form of the words behind the program's name, where they have one.
 abbrev pub form_of : List (List ℕ) → Option Form
 form_of [] = None
 form_of (command ∷ []) = None
-form_of (command ∷ trace ∷ []) =
-    if bytes_eq command (codes "export") then Some (PictureForm Export trace)
-    else if bytes_eq command (codes "blame") then Some (PictureForm Blame trace)
-    else None
+form_of (command ∷ file ∷ []) = file_form command file
 form_of (command ∷ script ∷ arrivals ∷ []) =
     if bytes_eq command (codes "run") then Some (RunForm (record { script = script; arrivals = arrivals })) else None
-form_of (command ∷ script ∷ arrivals ∷ more ∷ words) = None
+form_of (command ∷ script ∷ arrivals ∷ trace ∷ []) =
+    if bytes_eq command (codes "check") then Some (CheckForm (record { script = script; arrivals = arrivals; trace = trace }))
+    else None
+form_of (command ∷ script ∷ arrivals ∷ trace ∷ more ∷ words) = None
 
 -- the name that a form gives to a file, and nothing where it has no such file
 abbrev pub name_of : WhichFile → Form → List ℕ
 name_of Script (RunForm names) = names.script
 name_of Arrivals (RunForm names) = names.arrivals
+name_of Script (CheckForm names) = names.script
+name_of Arrivals (CheckForm names) = names.arrivals
+name_of Trace (CheckForm names) = names.trace
 name_of Trace (PictureForm what trace) = trace
+name_of Script (ExpandForm script) = script
 name_of file form = []

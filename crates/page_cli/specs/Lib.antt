@@ -6,4 +6,9 @@ pub mod Running
 pub mod Answering
 pub mod Complaints
 pub mod Refusals
+pub mod Texts
+pub mod Counted
 pub mod Pictures
+pub mod Checked
+pub mod Expanding
+pub mod FormAnswers

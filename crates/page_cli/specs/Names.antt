@@ -2,11 +2,14 @@
 use Rattle.std.specs.Prelude.{Option, option_map}
 use Rattle.page_cli.specs.declared.names.Asked.{Asked}
 use Rattle.page_cli.specs.declared.names.Asked.TheVariants as asked
-use Rattle.page_cli.specs.Forms.{Form, RunForm, PictureForm}
+use Rattle.page_cli.specs.Forms.{Form, RunForm, CheckForm, PictureForm, ExpandForm}
 
 abbrev pub form_seen : Asked → Form
 form_seen (asked.Run names) = RunForm (record { script = names.script.now; arrivals = names.arrivals.now })
+form_seen (asked.Check names) =
+    CheckForm (record { script = names.script.now; arrivals = names.arrivals.now; trace = names.trace.now })
 form_seen (asked.Picture what trace) = PictureForm what trace.now
+form_seen (asked.Expand script) = ExpandForm script.now
 
 abbrev pub names_seen : Option Asked → Option Form
 names_seen asked = option_map form_seen asked

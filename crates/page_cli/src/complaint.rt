@@ -8,18 +8,9 @@ ghost use Rattle.page_cli.specs.Complaints.{complaint, name_complaint, name_in, 
 
 use crate::answer::{Answer, WhichFile};
 use crate::names::Asked;
+use crate::pieces::put;
 use lang_names::NameFault;
 use page_io::{Failed, Sink};
-
-/// Puts a piece, which may be empty. Takes no memory.
-fn put<E: Sink>(err: &mut E, piece: &[u8]) -> Result<(), Failed>
-    ensures { Puts (E.bytes err.old) (E.faults err.old) piece.now result (E.bytes err.new) (E.faults err.new) }
-{
-    if piece.is_empty() {
-        return Ok(());
-    }
-    err.put(piece)
-}
 
 /// Puts the decimal of a number, digit by digit. Takes no memory.
 fn put_decimal<E: Sink>(err: &mut E, n: usize) -> Result<(), Failed>
@@ -48,12 +39,15 @@ fn put_complaint<E: Sink>(err: &mut E, answer: Answer, asked: Option<Asked>) -> 
         Answer::Ended { .. } | Answer::Written => Ok(()),
         Answer::Usage => put(
             err,
-            b"usage: pageloop run S A | check S A T | storm N | stat T | export T | blame T\n",
+            b"usage: pageloop run S A | check S A T | storm N | stat T | expand S | export T | blame T\n",
         ),
         Answer::NoParse { at } => { put_numbered(err, b"pageloop: script: no parse at byte ", at) }
+        Answer::NotAsync => put(err, b"pageloop: script: not an async script\n"),
         Answer::BadName { fault } => put_bad_name(err, fault),
         Answer::BadArrivals { line } => put_numbered(err, b"pageloop: arrivals: line ", line),
         Answer::BadTrace { line } => put_numbered(err, b"pageloop: trace: line ", line),
+        Answer::Differs { line } => put_numbered(err, b"pageloop: trace differs at line ", line),
+        Answer::Illegal { line } => put_numbered(err, b"pageloop: choice not legal at line ", line),
         Answer::TooLong { file } => put_named(
             err,
             b"pageloop: too long: ",
@@ -109,7 +103,11 @@ fn name_of<'a>(file: WhichFile, asked: Option<Asked<'a>>) -> &'a str
     match (asked, file) {
         (Some(Asked::Run(names)), WhichFile::Script) => names.script,
         (Some(Asked::Run(names)), WhichFile::Arrivals) => names.arrivals,
+        (Some(Asked::Check(names)), WhichFile::Script) => names.script,
+        (Some(Asked::Check(names)), WhichFile::Arrivals) => names.arrivals,
+        (Some(Asked::Check(names)), WhichFile::Trace) => names.trace,
         (Some(Asked::Picture { trace, .. }), WhichFile::Trace) => trace,
+        (Some(Asked::Expand { script }), WhichFile::Script) => script,
         _ => "",
     }
 }

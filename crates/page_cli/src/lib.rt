@@ -2,10 +2,14 @@
 #![tactic(auto)]
 
 pub mod answer;
+mod checking;
 mod complaint;
+mod counting;
+mod expanding;
 mod main_call;
 pub mod names;
 mod picturing;
+mod pieces;
 mod reading;
 mod running;
 mod script_fault;

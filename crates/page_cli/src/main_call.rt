@@ -6,18 +6,20 @@ ghost use Rattle.page_types.specs.Counts.{Rose};
 ghost use Rattle.host_jobs.specs.ToldTable.{closures_of};
 ghost use Rattle.page_cli.specs.declared.answer.WhichFile.{WhichFile};
 ghost use Rattle.page_cli.specs.Statuses.{status_of, status_of_end};
-ghost use Rattle.page_cli.specs.Forms.{form_of, name_of, IsRunForm, IsPictureForm};
+ghost use Rattle.page_cli.specs.Forms.{form_of, name_of, IsRunForm, IsTextForm};
 ghost use Rattle.page_cli.specs.Names.{form_seen, names_seen};
 ghost use Rattle.page_cli.specs.Answering.{AnswersTold, IsRefusal, RunsNothing};
-ghost use Rattle.page_cli.specs.Pictures.{AnswersForm, WroteAll};
+ghost use Rattle.page_cli.specs.FormAnswers.{AnswersForm, WroteAll};
 ghost use Rattle.page_cli.specs.Complaints.{complaint, PutsOrFails};
 
 use crate::answer::{Answer, WhichFile};
+use crate::checking::check_named;
 use crate::complaint::complain;
-use crate::names::{Asked, Names, Picture};
+use crate::expanding::expand_named;
+use crate::names::{Asked, Names, asked_in};
 use crate::picturing::picture_named;
-use crate::reading::{MOST_BYTES, answer_to, fetched};
-use crate::running::{Ran, run_files};
+use crate::reading::{MOST_BYTES, fetched};
+use crate::running::{Ran, run_files, unread};
 use host_jobs::HostTable;
 use page_io::{Folder, Sink};
 use std::alloc::Global;
@@ -31,27 +33,6 @@ pub struct MainEnd<O> {
     pub answer: Answer,
     pub hosts: HostTable,
     pub out: O,
-}
-
-/// What the words ask for, where they have a form.
-fn asked_in(words: &[String]) -> Option<Asked<'_>>
-    ensures { names_seen result ≡ form_of (map string_bytes words.now) }
-{
-    match words {
-        [run, script, arrivals] if run.as_str() == "run" => Some(Asked::Run(Names {
-            script: script.as_str(),
-            arrivals: arrivals.as_str(),
-        })),
-        [export, trace] if export.as_str() == "export" => Some(Asked::Picture {
-            what: Picture::Export,
-            trace: trace.as_str(),
-        }),
-        [blame, trace] if blame.as_str() == "blame" => Some(Asked::Picture {
-            what: Picture::Blame,
-            trace: trace.as_str(),
-        }),
-        _ => None,
-    }
 }
 
 /// Fetches the two files in the order of the words, and runs them with the closures of a table.
@@ -75,23 +56,11 @@ fn run_named<F: Folder, O: Sink>(
 {
     let script = match fetched(alloc, folder, names.script, MOST_BYTES) {
         Ok(bytes) => bytes,
-        Err(fault) => {
-            return Ran {
-                answer: answer_to(fault, WhichFile::Script),
-                hosts,
-                out,
-            };
-        }
+        Err(fault) => return unread(fault, WhichFile::Script, out).with(hosts),
     };
     let arrivals = match fetched(alloc, folder, names.arrivals, MOST_BYTES) {
         Ok(bytes) => bytes,
-        Err(fault) => {
-            return Ran {
-                answer: answer_to(fault, WhichFile::Arrivals),
-                hosts,
-                out,
-            };
-        }
+        Err(fault) => return unread(fault, WhichFile::Arrivals, out).with(hosts),
     };
     run_files(alloc, hosts, &script, &arrivals, out)
 }
@@ -113,7 +82,7 @@ fn answer_to_words<F: Folder, O: Sink>(
         Rose (F.faults folder.old (name_of file form)) (F.faults folder.new (name_of file form))) }
     ensures write { result.answer ≡ Answer.WriteFault → Rose (O.faults out) (O.faults result.out) }
     ensures ended { (end : End) → result.answer ≡ Answer.Ended end → IsRunForm (names_seen asked.entry) }
-    ensures written { result.answer ≡ Answer.Written → IsPictureForm (names_seen asked.entry) }
+    ensures written { result.answer ≡ Answer.Written → IsTextForm (names_seen asked.entry) }
 {
     match asked {
         None => Ran {
@@ -122,27 +91,30 @@ fn answer_to_words<F: Folder, O: Sink>(
             out,
         },
         Some(Asked::Run(names)) => run_named(alloc, folder, hosts, names, out),
+        Some(Asked::Check(names)) => check_named(alloc, folder, &hosts, names, out).with(hosts),
         Some(Asked::Picture { what, trace }) => {
-            let told = picture_named(alloc, folder, what, trace, out);
-            Ran {
-                answer: told.answer,
-                hosts,
-                out: told.out,
-            }
+            picture_named(alloc, folder, what, trace, out).with(hosts)
         }
+        Some(Asked::Expand { script }) => expand_named(alloc, folder, script, out).with(hosts),
     }
 }
 
 /// All that the program does. The words are those behind the program's name.
 ///
-/// `run S A` fetches the script S and the arrivals A, runs the script, and writes the trace to `out`. The order of
-/// refusals is: words, the fetch of S and its length, the fetch of A and its length, script, names, arrivals, writes. `export T` and
-/// `blame T` fetch the trace T, of at most 4,194,304 bytes, and write its calls for a timeline viewer or its long turns. Their order is:
-/// words, the fetch of T and its length, trace, writes. A refusal writes nothing to `out`. The line of the answer goes to `err`, whose
-/// faults change no answer. Want of memory may come at any point; a table with more closures than a script has numbers for is one.
+/// - `run S A` fetches the script S and the arrivals A, runs the script, and writes the trace to `out`.
+/// - `check S A T` fetches these and the trace T, and writes `legal` and LF where the trace is legal: where it is that of the run under
+///   the choices that stand in it.
+/// - `stat T` fetches the trace T, and writes how many turns, calls, drops and settlings it has, and how it ends.
+/// - `expand S` fetches the script S, and writes the plain script for it and its async functions.
+/// - `export T` and `blame T` fetch the trace T, and write its calls for a timeline viewer or its long turns.
 ///
-/// The closures of `hosts` answer what the script asks them, each at most once. A run owns the table and the sink, so both are taken by
-/// value, and handed back with every answer.
+/// A script and arrivals have at most 1,048,576 bytes each, a trace at most 67,108,864 to be checked or counted, and at most 4,194,304
+/// else. The order of refusals is: words; the fetch of each file in the order of the words, first its fault, then its length; script,
+/// names, arrivals, trace; the run, and the writes. A refusal writes nothing to `out`. The line of the answer goes to `err`, whose faults
+/// change no answer. Want of memory may come at any point; a table with more closures than a script has numbers for is one.
+///
+/// The closures of `hosts` answer what a script that is run asks them, each at most once; no other command calls one. A run owns the
+/// table and the sink, so both are taken by value, and handed back with every answer.
 pub fn page_main<F: Folder, O: Sink, E: Sink>(
     alloc: Global,
     words: &Vec<String>,
@@ -155,7 +127,8 @@ pub fn page_main<F: Folder, O: Sink, E: Sink>(
 
     // With the status of an end, 0, 10 or 11, the bytes written are exactly the page's trace of the script's program, the setup of the
     // arrivals, the closures and the answers that these gave; the run by the written policy and clock has ended so, and left the closures
-    // as they are now. With status 0 they may instead be the export of the calls of the trace, or the lines about its long turns.
+    // as they are now. With status 0 they may instead be `legal` and LF, and the trace is so; or what was asked of the trace; or the
+    // expansion of the script.
     ensures written { (end : End) → result.status ≡ status_of_end end → IfSome (form_of (map string_bytes words.now.items)) (λ form.
         WroteAll end form (F.file folder.old) (closures_of hosts) (closures_of result.hosts) (O.bytes out) (O.bytes result.out)) }
 
@@ -168,9 +141,9 @@ pub fn page_main<F: Folder, O: Sink, E: Sink>(
         Rose (F.faults folder.old (name_of file form)) (F.faults folder.new (name_of file form))) }
     ensures write { result.answer ≡ Answer.WriteFault → Rose (O.faults out) (O.faults result.out) }
 
-    // A run ends only where the words ask for one, and a text about a trace is written only where they ask for that.
+    // A run ends only where the words ask for one, and another text is written only where they ask for that.
     ensures run { (end : End) → result.answer ≡ Answer.Ended end → IsRunForm (form_of (map string_bytes words.now.items)) }
-    ensures picture { result.answer ≡ Answer.Written → IsPictureForm (form_of (map string_bytes words.now.items)) }
+    ensures text { result.answer ≡ Answer.Written → IsTextForm (form_of (map string_bytes words.now.items)) }
 
     // Where nothing is run, no closure is fired or dropped.
     ensures hosts { RunsNothing result.answer (form_of (map string_bytes words.now.items))

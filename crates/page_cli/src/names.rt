@@ -1,10 +1,22 @@
 //! What the words ask for.
 
+ghost use Rattle.std.specs.Prelude.{◌≡◌, map, string_bytes};
+ghost use Rattle.page_cli.specs.Forms.{form_of, file_form, picture_of};
+ghost use Rattle.page_cli.specs.Names.{names_seen};
+
 /// The names of the files in `run S A`.
 #[derive(Clone, Copy, Debug)]
 pub struct Names<'a> {
     pub script: &'a str,
     pub arrivals: &'a str,
+}
+
+/// The names of the files in `check S A T`.
+#[derive(Clone, Copy, Debug)]
+pub struct CheckNames<'a> {
+    pub script: &'a str,
+    pub arrivals: &'a str,
+    pub trace: &'a str,
 }
 
 /// What is told of a trace.
@@ -14,6 +26,8 @@ pub enum Picture {
     Export,
     /// Its long turns, and what made them so.
     Blame,
+    /// How many turns, calls, drops and settlings it has, and how it ends.
+    Counts,
 }
 
 /// What the words ask for.
@@ -21,6 +35,57 @@ pub enum Picture {
 pub enum Asked<'a> {
     /// `run S A`
     Run(Names<'a>),
-    /// `export T` or `blame T`
+    /// `check S A T`
+    Check(CheckNames<'a>),
+    /// `export T`, `blame T` or `stat T`
     Picture { what: Picture, trace: &'a str },
+    /// `expand S`
+    Expand { script: &'a str },
+}
+
+/// What the words ask for, where they have a form.
+pub(crate) fn asked_in(words: &[String]) -> Option<Asked<'_>>
+    ensures { names_seen result ≡ form_of (map string_bytes words.now) }
+{
+    match words {
+        [command, file] => asked_of_file(command.as_str(), file.as_str()),
+        [run, script, arrivals] if run.as_str() == "run" => Some(Asked::Run(Names {
+            script: script.as_str(),
+            arrivals: arrivals.as_str(),
+        })),
+        [check, script, arrivals, trace] if check.as_str() == "check" => {
+            Some(Asked::Check(CheckNames {
+                script: script.as_str(),
+                arrivals: arrivals.as_str(),
+                trace: trace.as_str(),
+            }))
+        }
+        _ => None,
+    }
+}
+
+/// What a command asks of one file.
+fn asked_of_file<'a>(command: &str, file: &'a str) -> Option<Asked<'a>>
+    ensures { names_seen result ≡ file_form command.now file.now }
+{
+    if command == "expand" {
+        return Some(Asked::Expand { script: file });
+    }
+    let what = picture_of(command)?;
+    Some(Asked::Picture { what, trace: file })
+}
+
+/// What a command tells of a trace, where it tells something.
+fn picture_of(command: &str) -> Option<Picture>
+    ensures { result ≡ picture_of command.now }
+{
+    if command == "export" {
+        Some(Picture::Export)
+    } else if command == "blame" {
+        Some(Picture::Blame)
+    } else if command == "stat" {
+        Some(Picture::Counts)
+    } else {
+        None
+    }
 }

@@ -7,17 +7,19 @@ ghost use Rattle.trace_text.specs.EventSeen.{stamped_seen};
 ghost use Rattle.page_cli.specs.declared.answer.WhichFile.{WhichFile};
 ghost use Rattle.page_cli.specs.declared.answer.WhichFile.TheVariants.{Trace};
 ghost use Rattle.page_cli.specs.Answering.{IsRefusal};
-ghost use Rattle.page_cli.specs.Pictures.{AnswersTrace, AnswersEvents, IsPicture};
+ghost use Rattle.page_cli.specs.Pictures.{AnswersTrace, AnswersEvents, IsPicture, most_of};
 
 use crate::answer::{Answer, WhichFile};
+use crate::counting::counts_text;
 use crate::names::Picture;
-use crate::reading::{MOST_TRACE_BYTES, answer_to, fetched};
-use crate::running::Answered;
+use crate::pieces::write_text;
+use crate::reading::{MOST_CHECKED_BYTES, MOST_TRACE_BYTES, fetched};
+use crate::running::{Answered, unread};
 use page_io::{Folder, Sink};
 use std::alloc::{AllocError, Global};
 use trace_blame::blame;
 use trace_export::export;
-use trace_text::{Events, TraceFault, read_trace};
+use trace_text::{Events, TraceFault, read_trace, summary_of};
 
 /// Fetches a trace, and writes what is asked of it.
 pub(crate) fn picture_named<F: Folder, O: Sink>(
@@ -36,18 +38,25 @@ pub(crate) fn picture_named<F: Folder, O: Sink>(
     ensures usage { result.answer ≡ Answer.Usage → ⊥ }
     ensures ended { (end : End) → result.answer ≡ Answer.Ended end → ⊥ }
 {
-    match fetched(alloc, folder, trace, MOST_TRACE_BYTES) {
+    match fetched(alloc, folder, trace, most_of(what)) {
         Ok(bytes) => picture_of(alloc, what, &bytes, out),
-        Err(fault) => Answered {
-            answer: answer_to(fault, WhichFile::Trace),
-            out,
-        },
+        Err(fault) => unread(fault, WhichFile::Trace, out),
+    }
+}
+
+/// The greatest number of bytes of a trace of which this is told.
+fn most_of(what: Picture) -> usize
+    ensures { result ≡ most_of what }
+{
+    match what {
+        Picture::Export | Picture::Blame => MOST_TRACE_BYTES,
+        Picture::Counts => MOST_CHECKED_BYTES,
     }
 }
 
 /// Reads a trace, and writes what is asked of it.
 fn picture_of<O: Sink>(alloc: Global, what: Picture, bytes: &[u8], mut out: O) -> Answered<O>
-    requires { length bytes.now ≤ 4194304 }
+    requires { length bytes.now ≤ most_of what }
     ensures answers { AnswersTrace result.answer what bytes.now (O.bytes out) (O.bytes result.out) }
     ensures refused { IsRefusal result.answer → O.bytes result.out ≡ O.bytes out }
     ensures other { (file : WhichFile) → result.answer ≡ Answer.ReadFault file → ⊥ }
@@ -70,10 +79,7 @@ fn write_picture<O: Sink>(alloc: Global, what: Picture, trace: &Events, out: &mu
     let Ok(text) = picture_text(alloc, what, trace) else {
         return Answer::OutOfMemory;
     };
-    match out.put(&text) {
-        Ok(()) => Answer::Written,
-        Err(_) => Answer::WriteFault,
-    }
+    write_text(out, &text)
 }
 
 /// What is told of a trace.
@@ -83,5 +89,6 @@ fn picture_text(alloc: Global, what: Picture, trace: &Events) -> Result<Vec<u8>,
     match what {
         Picture::Export => export(alloc, trace),
         Picture::Blame => blame(alloc, trace),
+        Picture::Counts => counts_text(alloc, summary_of(trace)),
     }
 }

@@ -3,12 +3,15 @@
 ghost use Rattle.std.specs.Prelude.{◌≡◌, ◌≤◌, ◌<◌, ℕ, List, IfOk, IfErr, IfSome, length};
 ghost use Rattle.page_types.specs.Counts.{Rose};
 ghost use Rattle.lang_ast.specs.SeenProgram.{seen_program};
+ghost use Rattle.arrivals_text.specs.Seen.{settings_of};
 ghost use Rattle.page_cli.specs.Scripts.{HasProgram};
-ghost use Rattle.page_cli.specs.Refusals.{Refuses, GivesFile, answer_to_file};
+ghost use Rattle.page_cli.specs.Answering.{IsRun, RefusesFiles};
+ghost use Rattle.page_cli.specs.Refusals.{Refuses, GivesFile, answer_to_file, refusal};
 ghost use Rattle.page_cli.specs.declared.reading.FileFault.TheVariants.{Failed, TooLong};
 
 use crate::answer::{Answer, WhichFile};
 use crate::script_fault::ScriptFault;
+use arrivals_text::{PageFault, PageSetup, read_page};
 use lang_ast::Program;
 use lang_names::resolve;
 use lang_parse::parse;
@@ -19,8 +22,11 @@ use std::alloc::Global;
 /// The greatest number of bytes of a script and of an arrivals file.
 pub const MOST_BYTES: usize = 1_048_576;
 
-/// The greatest number of bytes of a trace.
+/// The greatest number of bytes of a trace that is exported or blamed.
 pub const MOST_TRACE_BYTES: usize = 4_194_304;
+
+/// The greatest number of bytes of a trace that is checked or counted.
+pub const MOST_CHECKED_BYTES: usize = 67_108_864;
 
 /// Why a file is not read.
 #[derive(Clone, Copy, Debug, PartialEq, Eq)]
@@ -30,6 +36,13 @@ pub(crate) enum FileFault {
     /// It is longer than its limit.
     TooLong,
     OutOfMemory,
+}
+
+/// What a script and its arrivals say.
+#[derive(Drop)]
+pub(crate) struct Page {
+    pub program: Program,
+    pub setup: PageSetup,
 }
 
 /// The bytes of a file that is no longer than this limit.
@@ -77,4 +90,35 @@ pub(crate) fn read_script(alloc: Global, bytes: &[u8]) -> Result<Program, Script
     let tokens = tokens(alloc, bytes)?;
     let tree = parse(alloc, &tokens)?;
     Ok(resolve(alloc, tree)?)
+}
+
+/// The answer to a script that has no program.
+fn refusal(fault: ScriptFault) -> Answer
+    ensures { result ≡ refusal fault }
+{
+    match fault {
+        ScriptFault::NoParse { at } => Answer::NoParse { at },
+        ScriptFault::Name(fault) => Answer::BadName { fault },
+        ScriptFault::OutOfMemory => Answer::OutOfMemory,
+    }
+}
+
+/// The program and the setup of the bytes of two files, or the answer that refuses them.
+///
+/// The order of refusals is: script, and arrivals.
+pub(crate) fn read_files(alloc: Global, script: &[u8], arrivals: &[u8]) -> Result<Page, Answer>
+    requires script { length script.now ≤ MOST_BYTES }
+    requires arrivals { length arrivals.now ≤ MOST_BYTES }
+    ensures found { IfOk result (λ page. IsRun script.now arrivals.now (seen_program page.program) (settings_of page.setup)) }
+    ensures refused { IfErr result (λ answer. RefusesFiles answer script.now arrivals.now) }
+{
+    let program = match read_script(alloc, script) {
+        Ok(program) => program,
+        Err(fault) => return Err(refusal(fault)),
+    };
+    match read_page(alloc, arrivals) {
+        Ok(setup) => Ok(Page { program, setup }),
+        Err(PageFault::Is(bad)) => Err(Answer::BadArrivals { line: bad.line }),
+        Err(PageFault::OutOfMemory) => Err(Answer::OutOfMemory),
+    }
 }

@@ -7,14 +7,13 @@ ghost use Rattle.host_jobs.specs.ToldTable.{closures_of};
 ghost use Rattle.lang_ast.specs.SeenProgram.{seen_program};
 ghost use Rattle.arrivals_text.specs.Seen.{settings_of};
 ghost use Rattle.page_cli.specs.declared.answer.WhichFile.{WhichFile};
-ghost use Rattle.page_cli.specs.Refusals.{refusal};
+ghost use Rattle.page_cli.specs.Refusals.{answer_to_file};
 ghost use Rattle.page_cli.specs.Answering.{AnswersFiles, AnswersRun, IsRefusal};
 ghost use Rattle.page_cli.specs.Running.{CanStop, Wrote, answer_to};
 
-use crate::answer::Answer;
-use crate::reading::read_script;
-use crate::script_fault::ScriptFault;
-use arrivals_text::{PageFault, PageSetup, read_page};
+use crate::answer::{Answer, WhichFile};
+use crate::reading::{FileFault, answer_to as answer_to_file, read_files};
+use arrivals_text::PageSetup;
 use cell_room::Steps;
 use host_jobs::{HostPort, HostTable};
 use lang_ast::Program;
@@ -42,6 +41,29 @@ pub(crate) struct Ran<O> {
     pub out: O,
 }
 
+impl<O: Sink> Answered<O> {
+    /// The same, with closures that no run has changed.
+    pub(crate) fn with(self, hosts: HostTable) -> Ran<O>
+        ensures { result ≡ record { answer = self.answer; hosts = hosts; out = self.out } }
+    {
+        Ran {
+            answer: self.answer,
+            hosts,
+            out: self.out,
+        }
+    }
+}
+
+/// A file was not read.
+pub(crate) fn unread<O: Sink>(fault: FileFault, file: WhichFile, out: O) -> Answered<O>
+    ensures { result ≡ record { answer = answer_to_file fault file; out = out } }
+{
+    Answered {
+        answer: answer_to_file(fault, file),
+        out,
+    }
+}
+
 /// The answer to a run by the written policy and clock, whose lines go to a sink and whose closures answer themselves. None of these
 /// refuses anything.
 fn answer_to(outcome: Result<End, RunStop>) -> Answer
@@ -57,19 +79,6 @@ fn answer_to(outcome: Result<End, RunStop>) -> Answer
         Err(RunStop::Differs | RunStop::NoReading | RunStop::NoChoice | RunStop::NoHost) => {
             unreachable!()
         }
-    }
-}
-
-/// The answer to a script that is not run.
-fn refusal(fault: ScriptFault) -> Answer
-    ensures answer { result ≡ refusal fault }
-    ensures other { (file : WhichFile) → result ≡ Answer.ReadFault file → ⊥ }
-    ensures written { result ≡ Answer.Written → ⊥ }
-{
-    match fault {
-        ScriptFault::NoParse { at } => Answer::NoParse { at },
-        ScriptFault::Name(fault) => Answer::BadName { fault },
-        ScriptFault::OutOfMemory => Answer::OutOfMemory,
     }
 }
 
@@ -170,23 +179,8 @@ pub(crate) fn run_files<O: Sink>(
     ensures other { (file : WhichFile) → result.answer ≡ Answer.ReadFault file → ⊥ }
     ensures written { result.answer ≡ Answer.Written → ⊥ }
 {
-    let program = match read_script(alloc, script) {
-        Ok(program) => program,
-        Err(fault) => {
-            return Ran {
-                answer: refusal(fault),
-                hosts,
-                out,
-            };
-        }
-    };
-    match read_page(alloc, arrivals) {
-        Ok(setup) => run_program(alloc, hosts, &program, &setup, out),
-        Err(PageFault::Is(bad)) => Ran {
-            answer: Answer::BadArrivals { line: bad.line },
-            hosts,
-            out,
-        },
-        Err(PageFault::OutOfMemory) => without_memory(hosts, out),
+    match read_files(alloc, script, arrivals) {
+        Ok(page) => run_program(alloc, hosts, &page.program, &page.setup, out),
+        Err(answer) => Ran { answer, hosts, out },
     }
 }

@@ -15,12 +15,16 @@ const OUT_OF_MEMORY: u8 = 70;
 /// The words that run the script `s` under the arrivals `a`.
 const RUN: [&str; 3] = ["run", "s", "a"];
 
+/// The words that check the trace `t` of the script `s` under the arrivals `a`.
+const CHECK: [&str; 4] = ["check", "s", "a", "t"];
+
 /// What the program is given.
 #[derive(Clone, Copy)]
 pub(crate) struct Example<'a> {
     pub(crate) words: &'a [&'a str],
     pub(crate) script: Option<&'a [u8]>,
     pub(crate) arrivals: Option<&'a [u8]>,
+    pub(crate) trace: Option<&'a [u8]>,
     /// The numbers, from 1, of the fetches that fail.
     pub(crate) failing_fetches: &'a [u64],
     /// The numbers, from 1, of the pieces of `out` that are not taken, and how many bytes of each are kept.
@@ -45,6 +49,7 @@ impl<'a> Example<'a> {
             words,
             script: Some(script),
             arrivals: Some(arrivals),
+            trace: None,
             failing_fetches: &[],
             failing_out: &[],
             failing_err: &[],
@@ -54,6 +59,14 @@ impl<'a> Example<'a> {
     /// A script and arrivals that are run.
     pub(crate) fn of_files(script: &'a [u8], arrivals: &'a [u8]) -> Example<'a> {
         Example::new(&RUN, script, arrivals)
+    }
+
+    /// A trace that is checked with a script and arrivals.
+    pub(crate) fn of_trace(script: &'a [u8], arrivals: &'a [u8], trace: &'a [u8]) -> Example<'a> {
+        Example {
+            trace: Some(trace),
+            ..Example::new(&CHECK, script, arrivals)
+        }
     }
 
     /// The sum of 1 and 2 under arrivals that set nothing.
@@ -86,13 +99,22 @@ impl<'a> Example<'a> {
 
     fn folder(&self, alloc: Global) -> Result<MemFolder, AllocError> {
         let mut files = Vec::new(alloc);
-        for (name, content) in [("s", self.script), ("a", self.arrivals)] {
+        for (name, content) in [("s", self.script), ("a", self.arrivals), ("t", self.trace)] {
             if let Some(bytes) = content {
                 files.push((String::from_str(alloc, name)?, bytes.to_vec(alloc)?))?;
             }
         }
         Ok(MemFolder::new(files, self.failing_fetches.to_vec(alloc)?))
     }
+}
+
+/// The pieces in a row.
+pub(crate) fn joined(alloc: Global, pieces: &[&[u8]]) -> Result<Vec<u8>, AllocError> {
+    let mut bytes = Vec::new(alloc);
+    for piece in pieces {
+        bytes.extend_from_slice(*piece)?;
+    }
+    Ok(bytes)
 }
 
 fn owned_words(alloc: Global, words: &[&str]) -> Result<Vec<String>, AllocError> {

@@ -27,8 +27,8 @@ fn square(x: i64) -> Result<i64, i64>
     Ok(x * x)
 }
 
-// A table whose one closure squares.
-fn table(alloc: Global) -> Result<HostTable, AllocError> {
+/// A table whose one closure squares.
+pub(crate) fn table(alloc: Global) -> Result<HostTable, AllocError> {
     let mut hosts = HostTable::new(alloc);
     let job = Box::new(alloc, square)?;
     hosts.push(HostOnce::new(HostKind::Square, -3_037_000_499, 3_037_000_499, job))?;

@@ -6,9 +6,13 @@
 #![tactic(auto)]
 
 #[cfg(test)]
+mod checks;
+#[cfg(test)]
 mod deep;
 #[cfg(test)]
 mod example;
+#[cfg(test)]
+mod expansions;
 #[cfg(test)]
 mod host_closures;
 pub mod nested_host;

@@ -20,8 +20,8 @@ fn logged(line: &[u8]) -> Option<&[u8]> {
     behind(event, b"log ")
 }
 
-// The values that a trace logs, a line each.
-fn logs(alloc: Global, trace: &[u8]) -> Result<Vec<u8>, AllocError> {
+/// The values that a trace logs, a line each.
+pub(crate) fn logs(alloc: Global, trace: &[u8]) -> Result<Vec<u8>, AllocError> {
     let mut values = Vec::new(alloc);
     let mut rest = trace;
     'lines: while let Some((line, after)) = cut_at(rest, b'\n') {

@@ -1,0 +1,93 @@
+-- From the verdict on a trace to what the top call answers.
+use Rattle.std.proofs.Common.{◌≡◌, ◌≤◌, ℕ, List, length, Option, Some, None, Ok, Err, refl, sym, subst}
+use Rattle.std.specs.Prelude.{IfSome, Vec}
+use Rattle.std.specs.declared.alloc.Global.{Global}
+use Rattle.page_parts.specs.HostClosures.{HostClosure}
+use Rattle.trace_check.proofs.OwnLaws.{legal-lawful}
+use Rattle.trace_check.specs.declared.verdict.Verdict.{Verdict}
+use Rattle.trace_check.specs.declared.verdict.Verdict.TheVariants as found
+use Rattle.page_cli.specs.declared.answer.WhichFile.TheVariants.{Script, Arrivals, Trace}
+use Rattle.page_cli.specs.declared.answer.Answer.{Answer}
+use Rattle.page_cli.specs.declared.answer.Answer.TheVariants.{Written, NoParse, BadName, BadArrivals, BadTrace, Differs, Illegal}
+use Rattle.page_cli.specs.declared.answer.Answer.TheVariants.{WriteFault, OutOfMemory}
+use Rattle.page_cli.specs.declared.reading.FileFault.{FileFault}
+use Rattle.page_cli.specs.declared.reading.FileFault.TheVariants as file
+use Rattle.page_cli.proofs.ArrivedValues.{holds-no-numbers}
+use Rattle.page_cli.specs.Refusals.{GivesFile, answer_to_file}
+use Rattle.page_cli.specs.Texts.{WritesText}
+use Rattle.page_cli.specs.Checked.{AllFit, RefusesTrace, HasVerdict, TellsVerdict, AnswersCheck, AnswersThree, legal_text}
+
+-- ---- the verdict
+
+module _ (script arrivals trace : List ℕ) (hosts : List HostClosure) where
+  module _ (old new : Option (List ℕ)) where
+    legal-answers : (answer : Answer) → HasVerdict found.Yes script arrivals trace hosts → WritesText answer legal_text old new → AnswersCheck answer script arrivals trace hosts old new
+    legal-answers Written has h = record {
+      legal = has;
+      wrote = h;
+      laws = legal-lawful has.program has.settings.setup hosts has.seen (holds-no-numbers arrivals has.settings has.is_run.sets_up) has.is_verdict;
+    }
+    legal-answers WriteFault has h = record { legal = has; start = h }
+    legal-answers answer has h = absurd h
+
+    -- the verdict is told
+    pub verdict-told : (verdict : Verdict) (answer : Answer) → HasVerdict verdict script arrivals trace hosts → TellsVerdict verdict answer old new → AnswersCheck answer script arrivals trace hosts old new
+    verdict-told found.Yes answer has h = legal-answers answer has h
+    verdict-told (found.Differs line) answer has h = let P : Answer → Type 0 = λ a. AnswersCheck a script arrivals trace hosts old new in subst P (sym h.0) (has, h.1)
+    verdict-told (found.Illegal line) answer has h = let P : Answer → Type 0 = λ a. AnswersCheck a script arrivals trace hosts old new in subst P (sym h.0) (has, h.1)
+
+  -- the trace is not judged
+  pub refused-check : (answer : Answer) (told : Option (List ℕ)) → AllFit script arrivals trace → RefusesTrace answer script arrivals trace → AnswersCheck answer script arrivals trace hosts told told
+  refused-check (NoParse at) told fit h = (fit, h, refl)
+  refused-check (BadName fault) told fit h = (fit, h, refl)
+  refused-check (BadArrivals line) told fit h = (fit, h, refl)
+  refused-check (BadTrace line) told fit h = (fit, h, refl)
+  refused-check OutOfMemory told fit h = refl
+  refused-check answer told fit h = absurd h
+
+-- ---- the files as they are told
+
+within : (most : ℕ) (bytes : Vec ℕ Global) (content : List ℕ) → length bytes.items ≤ most → bytes.items ≡ content → length content ≤ most
+within most bytes content size s = let P : List ℕ → Type 0 = λ z. length z ≤ most in subst P s size
+
+module _ (hosts : List HostClosure) where
+  -- the script was not read
+  pub three-script : (fault : FileFault) (script arrivals trace : Option (List ℕ)) (out : Option (List ℕ)) → IfSome script (λ content. GivesFile 1048576 content (Err fault))
+      → AnswersThree (answer_to_file fault Script) script arrivals trace hosts out out
+  three-script fault None arrivals trace out s = tt
+  three-script fault (Some script) None trace out s = tt
+  three-script fault (Some script) (Some arrivals) None out s = tt
+  three-script file.Failed (Some script) (Some arrivals) (Some trace) out s = (tt, refl)
+  three-script file.TooLong (Some script) (Some arrivals) (Some trace) out s = (s, refl)
+  three-script file.OutOfMemory (Some script) (Some arrivals) (Some trace) out s = refl
+
+  -- the arrivals were not read
+  pub three-arrivals : (fault : FileFault) (read : Vec ℕ Global) (script arrivals trace : Option (List ℕ)) (out : Option (List ℕ)) → length read.items ≤ 1048576 →
+      IfSome script (λ content. GivesFile 1048576 content (Ok read)) → IfSome arrivals (λ content. GivesFile 1048576 content (Err fault)) → AnswersThree (answer_to_file fault Arrivals) script arrivals trace hosts out out
+  three-arrivals fault read None arrivals trace out size s a = tt
+  three-arrivals fault read (Some script) None trace out size s a = tt
+  three-arrivals fault read (Some script) (Some arrivals) None out size s a = tt
+  three-arrivals file.Failed read (Some script) (Some arrivals) (Some trace) out size s a = (within 1048576 read script size s, refl)
+  three-arrivals file.TooLong read (Some script) (Some arrivals) (Some trace) out size s a = ((within 1048576 read script size s, a), refl)
+  three-arrivals file.OutOfMemory read (Some script) (Some arrivals) (Some trace) out size s a = refl
+
+  -- the trace was not read
+  pub three-trace : (fault : FileFault) (read also : Vec ℕ Global) (script arrivals trace : Option (List ℕ)) (out : Option (List ℕ)) → length read.items ≤ 1048576 → length also.items ≤ 1048576 →
+      IfSome script (λ content. GivesFile 1048576 content (Ok read)) → IfSome arrivals (λ content. GivesFile 1048576 content (Ok also)) → IfSome trace (λ content. GivesFile 67108864 content (Err fault)) →
+      AnswersThree (answer_to_file fault Trace) script arrivals trace hosts out out
+  three-trace fault read also None arrivals trace out size size2 s a t = tt
+  three-trace fault read also (Some script) None trace out size size2 s a t = tt
+  three-trace fault read also (Some script) (Some arrivals) None out size size2 s a t = tt
+  three-trace file.Failed read also (Some script) (Some arrivals) (Some trace) out size size2 s a t = ((within 1048576 read script size s, within 1048576 also arrivals size2 a), refl)
+  three-trace file.TooLong read also (Some script) (Some arrivals) (Some trace) out size size2 s a t = ((within 1048576 read script size s, within 1048576 also arrivals size2 a, t), refl)
+  three-trace file.OutOfMemory read also (Some script) (Some arrivals) (Some trace) out size size2 s a t = refl
+
+  -- all were read
+  pub three-answers : (answer : Answer) (script arrivals trace : Option (List ℕ)) (s a t : Vec ℕ Global) (old new : Option (List ℕ)) → IfSome script (λ content. GivesFile 1048576 content (Ok s)) → IfSome arrivals (λ content. GivesFile 1048576 content (Ok a)) →
+      IfSome trace (λ content. GivesFile 67108864 content (Ok t)) → AnswersCheck answer s.items a.items t.items hosts old new → AnswersThree answer script arrivals trace hosts old new
+  three-answers answer None arrivals trace s a t old new p q r h = tt
+  three-answers answer (Some script) None trace s a t old new p q r h = tt
+  three-answers answer (Some script) (Some arrivals) None s a t old new p q r h = tt
+  three-answers answer (Some script) (Some arrivals) (Some trace) s a t old new p q r h =
+      let P : List ℕ → List ℕ → List ℕ → Type 0 = λ x y z. AnswersCheck answer x y z hosts old new in
+      subst (λ z. P script arrivals z) r (subst (λ y. P script y t.items) q (subst (λ x. P x a.items t.items) p h))

@@ -1,0 +1,35 @@
+-- What an answer says, by the form of the words.
+use Rattle.std.specs.Prelude.{◌≡◌, ℕ, List, Option, IfSome}
+use Rattle.page_types.specs.declared.End.{End}
+use Rattle.page_types.specs.declared.End.TheVariants.{Done}
+use Rattle.page_parts.specs.HostClosures.{HostClosure}
+use Rattle.page_cli.specs.declared.answer.Answer.{Answer}
+use Rattle.page_cli.specs.Forms.{Form, RunForm, CheckForm, PictureForm, ExpandForm}
+use Rattle.page_cli.specs.Answering.{AnswersTold, WroteTrace}
+use Rattle.page_cli.specs.Checked.{AnswersThree, WroteLegal}
+use Rattle.page_cli.specs.Pictures.{AnswersTrace, WrotePicture}
+use Rattle.page_cli.specs.Expanding.{AnswersExpand, WroteExpansion}
+
+-- what an answer says of the files that the words name, where the folder tells them, and of the closures
+abbrev pub AnswersForm : Answer → Form → (file : List ℕ → Option (List ℕ)) → (hosts left : List HostClosure) → (old new : Option (List ℕ))
+    → Type 0
+AnswersForm answer (RunForm names) file hosts left old new =
+    AnswersTold answer (file names.script) (file names.arrivals) hosts left old new
+AnswersForm answer (CheckForm names) file hosts left old new =
+    AnswersThree answer (file names.script) (file names.arrivals) (file names.trace) hosts old new
+AnswersForm answer (PictureForm what trace) file hosts left old new = IfSome (file trace) (λ bytes. AnswersTrace answer what bytes old new)
+AnswersForm answer (ExpandForm script) file hosts left old new = IfSome (file script) (λ bytes. AnswersExpand answer bytes old new)
+
+-- What was written of those files is the whole: the trace of a run that ended so; or, with status 0, that a trace is legal, what is
+-- told of one, or a plain script.
+abbrev pub WroteAll : End → Form → (file : List ℕ → Option (List ℕ)) → (hosts left : List HostClosure) → (old new : Option (List ℕ))
+    → Type 0
+WroteAll end (RunForm names) file hosts left old new =
+    IfSome (file names.script) (λ script. IfSome (file names.arrivals) (λ arrivals. WroteTrace end script arrivals hosts left old new))
+WroteAll end (CheckForm names) file hosts left old new =
+    IfSome (file names.script) (λ script. IfSome (file names.arrivals) (λ arrivals. IfSome (file names.trace) (λ trace.
+    (end ≡ Done) × WroteLegal script arrivals trace hosts old new)))
+WroteAll end (PictureForm what trace) file hosts left old new =
+    IfSome (file trace) (λ bytes. (end ≡ Done) × WrotePicture what bytes old new)
+WroteAll end (ExpandForm script) file hosts left old new =
+    IfSome (file script) (λ bytes. (end ≡ Done) × WroteExpansion bytes old new)

@@ -1,0 +1,166 @@
+//! Judging a trace by the run under its own choices.
+
+ghost use Rattle.std.specs.Prelude.{◌≡◌, ◌≤◌, ◌<◌, ◌^◌, length, IfOk, IfErr};
+ghost use Rattle.page_types.specs.declared.End.{End};
+ghost use Rattle.page_types.specs.Counts.{Rose};
+ghost use Rattle.host_jobs.specs.ToldTable.{closures_of};
+ghost use Rattle.lang_ast.specs.SeenProgram.{seen_program};
+ghost use Rattle.arrivals_text.specs.Seen.{settings_of};
+ghost use Rattle.trace_check.specs.Verdicts.{IsVerdict};
+ghost use Rattle.page_cli.specs.declared.answer.WhichFile.{WhichFile};
+ghost use Rattle.page_cli.specs.Forms.{name_of};
+ghost use Rattle.page_cli.specs.declared.names.Asked.{Asked};
+ghost use Rattle.page_cli.specs.Names.{form_seen};
+ghost use Rattle.page_cli.specs.Answering.{IsRefusal};
+ghost use Rattle.page_cli.specs.Checked.{AnswersThree, AnswersCheck, HasVerdict, RefusesTrace, TellsVerdict};
+
+use crate::answer::{Answer, WhichFile};
+use crate::names::CheckNames;
+use crate::pieces::write_text;
+use crate::reading::{MOST_BYTES, MOST_CHECKED_BYTES, Page, fetched, read_files};
+use crate::running::{Answered, unread};
+use cell_room::Steps;
+use host_jobs::{HostPort, HostTable};
+use page_io::{Folder, Sink};
+use std::alloc::{AllocError, Global};
+use std::marker::Brand;
+use std::sync::ledger::{Blank, Ledger};
+use trace_check::{Verdict, check_trace};
+use trace_text::{Events, TraceFault, read_trace};
+
+/// Fetches the three files in the order of the words, and writes whether the trace is legal. The closures of the table are asked for
+/// their kinds, ranges and marks, and none is called.
+pub(crate) fn check_named<F: Folder, O: Sink>(
+    alloc: Global,
+    folder: &mut F,
+    hosts: &HostTable,
+    names: CheckNames,
+    out: O,
+) -> Answered<O>
+    ensures answers { AnswersThree result.answer (F.file folder.old names.entry.script.now)
+        (F.file folder.old names.entry.arrivals.now) (F.file folder.old names.entry.trace.now) (closures_of hosts.now) (O.bytes out)
+        (O.bytes result.out) }
+    ensures refused { IsRefusal result.answer → O.bytes result.out ≡ O.bytes out }
+    ensures read { (file : WhichFile) → result.answer ≡ Answer.ReadFault file →
+        Rose (F.faults folder.old (name_of file (form_seen (Asked.Check names.entry))))
+        (F.faults folder.new (name_of file (form_seen (Asked.Check names.entry)))) }
+    ensures write { result.answer ≡ Answer.WriteFault → Rose (O.faults out) (O.faults result.out) }
+    ensures usage { result.answer ≡ Answer.Usage → ⊥ }
+    ensures ended { (end : End) → result.answer ≡ Answer.Ended end → ⊥ }
+{
+    let script = match fetched(alloc, folder, names.script, MOST_BYTES) {
+        Ok(bytes) => bytes,
+        Err(fault) => return unread(fault, WhichFile::Script, out),
+    };
+    let arrivals = match fetched(alloc, folder, names.arrivals, MOST_BYTES) {
+        Ok(bytes) => bytes,
+        Err(fault) => return unread(fault, WhichFile::Arrivals, out),
+    };
+    let trace = match fetched(alloc, folder, names.trace, MOST_CHECKED_BYTES) {
+        Ok(bytes) => bytes,
+        Err(fault) => return unread(fault, WhichFile::Trace, out),
+    };
+    check_files(alloc, hosts, &script, &arrivals, &trace, out)
+}
+
+/// Reads the bytes of the three files, and writes whether the trace is legal.
+fn check_files<O: Sink>(
+    alloc: Global,
+    hosts: &HostTable,
+    script: &[u8],
+    arrivals: &[u8],
+    trace: &[u8],
+    mut out: O,
+) -> Answered<O>
+    requires script { length script.now ≤ 1048576 }
+    requires arrivals { length arrivals.now ≤ 1048576 }
+    requires trace { length trace.now ≤ 67108864 }
+    ensures answers { AnswersCheck result.answer script.now arrivals.now trace.now (closures_of hosts.now) (O.bytes out)
+        (O.bytes result.out) }
+    ensures refused { IsRefusal result.answer → O.bytes result.out ≡ O.bytes out }
+    ensures other { (file : WhichFile) → result.answer ≡ Answer.ReadFault file → ⊥ }
+    ensures write { result.answer ≡ Answer.WriteFault → Rose (O.faults out) (O.faults result.out) }
+    ensures usage { result.answer ≡ Answer.Usage → ⊥ }
+    ensures ended { (end : End) → result.answer ≡ Answer.Ended end → ⊥ }
+{
+    let answer = match verdict_on(alloc, hosts, script, arrivals, trace) {
+        Ok(verdict) => tell_verdict(verdict, &mut out),
+        Err(refusal) => refusal,
+    };
+    Answered { answer, out }
+}
+
+/// The verdict on a trace, by the bytes of the three files.
+///
+/// The order of refusals is: script, arrivals, and trace.
+fn verdict_on(
+    alloc: Global,
+    hosts: &HostTable,
+    script: &[u8],
+    arrivals: &[u8],
+    trace: &[u8],
+) -> Result<Verdict, Answer>
+    requires script { length script.now ≤ 1048576 }
+    requires arrivals { length arrivals.now ≤ 1048576 }
+    requires trace { length trace.now ≤ 67108864 }
+    ensures found { IfOk result (λ verdict. HasVerdict verdict script.now arrivals.now trace.now (closures_of hosts.now)) }
+    ensures refused { IfErr result (λ answer. RefusesTrace answer script.now arrivals.now trace.now) }
+{
+    let page = match read_files(alloc, script, arrivals) {
+        Ok(page) => page,
+        Err(answer) => return Err(answer),
+    };
+    match read_trace(alloc, trace) {
+        Ok(events) => judge(alloc, hosts, &page, &events),
+        Err(TraceFault::Is(bad)) => Err(Answer::BadTrace { line: bad.line }),
+        Err(TraceFault::OutOfMemory) => Err(Answer::OutOfMemory),
+    }
+}
+
+/// The verdict on a trace, by a program, a setup and the closures of a table.
+fn judge(alloc: Global, hosts: &HostTable, page: &Page, trace: &Events) -> Result<Verdict, Answer>
+    ensures found { IfOk result (IsVerdict (seen_program page.now.program) (settings_of page.now.setup).setup (closures_of hosts.now)
+        trace.now) }
+    ensures refused { IfErr result (λ answer. answer ≡ Answer.OutOfMemory) }
+{
+    // A page numbers its closures by 32 bits.
+    if hosts.known(u32::MAX) {
+        return Err(Answer::OutOfMemory);
+    }
+    match judge_in::<Brand>(alloc, hosts, page, trace, Blank::new(1)) {
+        Ok(verdict) => Ok(verdict),
+        Err(AllocError) => Err(Answer::OutOfMemory),
+    }
+}
+
+/// The same. The accesses to the room of the tasks are counted in a new ledger.
+fn judge_in<M: Ledger>(
+    alloc: Global,
+    hosts: &HostTable,
+    page: &Page,
+    trace: &Events,
+    blank: Blank,
+) -> Result<Verdict, AllocError>
+    requires count { length (closures_of hosts.now) ≤ 2 ^ 32 }
+    requires name { blank.name ≡ M.name }
+    requires parts { blank.parts ≡ M.parts }
+    requires some { 0 < blank.parts }
+    ensures { IfOk result (IsVerdict (seen_program page.now.program) (settings_of page.now.setup).setup (closures_of hosts.now)
+        trace.now) }
+{
+    let (book, share) = blank.open::<M>();
+    let accesses = Steps::new(book, share);
+    check_trace(alloc, &page.program, &page.setup, hosts, trace, accesses)
+}
+
+/// Writes `legal` where the trace is legal; else the answer tells why it is not.
+fn tell_verdict<O: Sink>(verdict: Verdict, out: &mut O) -> Answer
+    ensures tells { TellsVerdict verdict result (O.bytes out.old) (O.bytes out.new) }
+    ensures fault { result ≡ Answer.WriteFault → Rose (O.faults out.old) (O.faults out.new) }
+{
+    match verdict {
+        Verdict::Yes => write_text(out, b"legal\n"),
+        Verdict::Differs { line } => Answer::Differs { line },
+        Verdict::Illegal { line } => Answer::Illegal { line },
+    }
+}
