@@ -28,13 +28,15 @@ use Rattle.page_cli.specs.declared.reading.FileFault.TheVariants as file
 use Rattle.page_cli.specs.declared.script_fault.ScriptFault.{ScriptFault}
 use Rattle.page_cli.specs.declared.script_fault.ScriptFault.TheVariants as script
 use Rattle.page_cli.specs.Statuses.{status_of, status_of_end}
-use Rattle.page_cli.specs.Forms.{Form, RunForm, CheckForm, PictureForm, ExpandForm}
+use Rattle.page_cli.specs.Forms.{Form, RunForm, CheckForm, MigrateForm, StormForm, PictureForm, ExpandForm}
 use Rattle.page_cli.specs.Scripts.{IsScript, HasProgram, HasNoTree}
 use Rattle.page_cli.specs.Refusals.{Refuses, GivesFile, of_tokens, of_parse, refusal, answer_to_file}
 use Rattle.page_cli.specs.Answering.{Fits, WroteTrace, RefusesFiles, AnswersFiles, AnswersTold, AnswersRun}
 use Rattle.page_cli.specs.Checked.{WroteLegal, AnswersThree}
 use Rattle.page_cli.specs.Pictures.{WrotePicture}
 use Rattle.page_cli.specs.Expanding.{WroteExpansion}
+use Rattle.page_cli.specs.Migrated.{WroteMigrated}
+use Rattle.page_cli.specs.Stormed.{WroteStorm}
 use Rattle.page_cli.specs.FormAnswers.{AnswersForm, WroteAll}
 use Rattle.page_cli.proofs.ArrivedValues.{holds-no-numbers}
 use Rattle.page_cli.proofs.Closures.{closures-follow}
@@ -175,20 +177,20 @@ module _ (file : List ℕ → Option (List ℕ)) (hosts left : List HostClosure)
   no-run of_end (Some s) None h = tt
   no-run of_end (Some s) (Some a) h = absurd h.2
 
-  -- that a trace is legal
-  legal-told : (of_end : End) (script arrivals trace : Option (List ℕ)) → of_end ≡ end.Done → AnswersThree Written script arrivals trace hosts old new
-      → IfSome script (λ s. IfSome arrivals (λ a. IfSome trace (λ t. (of_end ≡ end.Done) × WroteLegal s a t hosts old new)))
-  legal-told of_end None arrivals trace e h = tt
-  legal-told of_end (Some s) None trace e h = tt
-  legal-told of_end (Some s) (Some a) None e h = tt
-  legal-told of_end (Some s) (Some a) (Some t) e h = (e, h)
+  -- a text about three files
+  three-told : (P : List ℕ → List ℕ → List ℕ → Type 0) (of_end : End) (script arrivals trace : Option (List ℕ)) → of_end ≡ end.Done → IfSome script (λ s. IfSome arrivals (λ a. IfSome trace (λ t. P s a t)))
+      → IfSome script (λ s. IfSome arrivals (λ a. IfSome trace (λ t. (of_end ≡ end.Done) × P s a t)))
+  three-told P of_end None arrivals trace e h = tt
+  three-told P of_end (Some s) None trace e h = tt
+  three-told P of_end (Some s) (Some a) None e h = tt
+  three-told P of_end (Some s) (Some a) (Some t) e h = (e, h)
 
-  no-legal : (one of_end : End) (script arrivals trace : Option (List ℕ)) → AnswersThree (Ended one) script arrivals trace hosts old new
-      → IfSome script (λ s. IfSome arrivals (λ a. IfSome trace (λ t. (of_end ≡ end.Done) × WroteLegal s a t hosts old new)))
-  no-legal one of_end None arrivals trace h = tt
-  no-legal one of_end (Some s) None trace h = tt
-  no-legal one of_end (Some s) (Some a) None h = tt
-  no-legal one of_end (Some s) (Some a) (Some t) h = absurd h.1
+  no-three : (P : List ℕ → List ℕ → List ℕ → Type 0) (one : End) (script arrivals trace : Option (List ℕ)) → AnswersThree (Ended one) script arrivals trace hosts old new
+      → IfSome script (λ s. IfSome arrivals (λ a. IfSome trace (λ t. P s a t)))
+  no-three P one None arrivals trace h = tt
+  no-three P one (Some s) None trace h = tt
+  no-three P one (Some s) (Some a) None h = tt
+  no-three P one (Some s) (Some a) (Some t) h = absurd h.1
 
   -- a text about a file
   text-told : (P : List ℕ → Type 0) (of_end : End) (content : Option (List ℕ)) → of_end ≡ end.Done → IfSome content P → IfSome content (λ bytes. (of_end ≡ end.Done) × P bytes)
@@ -202,11 +204,15 @@ module _ (file : List ℕ → Option (List ℕ)) (hosts left : List HostClosure)
   pub whole-told : (answer : Answer) (of_end : End) (form : Form) → status_of answer ≡ status_of_end of_end
       → AnswersForm answer form file hosts left old new → WroteAll of_end form file hosts left old new
   whole-told (Ended one) of_end (RunForm names) e h = run-told one of_end (file names.script) (file names.arrivals) (same-end one of_end e) h
-  whole-told (Ended one) of_end (CheckForm names) e h = no-legal one of_end (file names.script) (file names.arrivals) (file names.trace) h
+  whole-told (Ended one) of_end (CheckForm names) e h = no-three (λ s a t. (of_end ≡ end.Done) × WroteLegal s a t hosts old new) one (file names.script) (file names.arrivals) (file names.trace) h
+  whole-told (Ended one) of_end (MigrateForm names) e h = no-three (λ s a t. (of_end ≡ end.Done) × WroteMigrated s a t hosts old new) one (file names.script) (file names.arrivals) (file names.trace) h
+  whole-told (Ended one) of_end (StormForm n) e h = let P : End → Type 0 = λ x. WroteStorm n x hosts old new in subst P (same-end one of_end e) h
   whole-told (Ended one) of_end (PictureForm what trace) e h = no-text (λ bytes. (of_end ≡ end.Done) × WrotePicture what bytes old new) (file trace) h
   whole-told (Ended one) of_end (ExpandForm script) e h = no-text (λ bytes. (of_end ≡ end.Done) × WroteExpansion bytes old new) (file script) h
   whole-told Written of_end (RunForm names) e h = no-run of_end (file names.script) (file names.arrivals) h
-  whole-told Written of_end (CheckForm names) e h = legal-told of_end (file names.script) (file names.arrivals) (file names.trace) (sym (same-end end.Done of_end e)) h
+  whole-told Written of_end (CheckForm names) e h = three-told (λ s a t. WroteLegal s a t hosts old new) of_end (file names.script) (file names.arrivals) (file names.trace) (sym (same-end end.Done of_end e)) h
+  whole-told Written of_end (MigrateForm names) e h = three-told (λ s a t. WroteMigrated s a t hosts old new) of_end (file names.script) (file names.arrivals) (file names.trace) (sym (same-end end.Done of_end e)) h
+  whole-told Written of_end (StormForm n) e h = absurd h
   whole-told Written of_end (PictureForm what trace) e h = text-told (λ bytes. WrotePicture what bytes old new) of_end (file trace) (sym (same-end end.Done of_end e)) h
   whole-told Written of_end (ExpandForm script) e h = text-told (λ bytes. WroteExpansion bytes old new) of_end (file script) (sym (same-end end.Done of_end e)) h
   whole-told answer of_end form e h = absurd (whole answer of_end e)

@@ -8,14 +8,14 @@ use Rattle.trace_check.specs.declared.verdict.Verdict.{Verdict}
 use Rattle.trace_check.specs.declared.verdict.Verdict.TheVariants as found
 use Rattle.page_cli.specs.declared.answer.WhichFile.TheVariants.{Script, Arrivals, Trace}
 use Rattle.page_cli.specs.declared.answer.Answer.{Answer}
-use Rattle.page_cli.specs.declared.answer.Answer.TheVariants.{Written, NoParse, BadName, BadArrivals, BadTrace, Differs, Illegal}
-use Rattle.page_cli.specs.declared.answer.Answer.TheVariants.{WriteFault, OutOfMemory}
+use Rattle.page_cli.specs.declared.answer.Answer.TheVariants.{Written, NoParse, BadName, BadArrivals, BadTrace}
+use Rattle.page_cli.specs.declared.answer.Answer.TheVariants.{TooLong, ReadFault, WriteFault, OutOfMemory}
 use Rattle.page_cli.specs.declared.reading.FileFault.{FileFault}
 use Rattle.page_cli.specs.declared.reading.FileFault.TheVariants as file
 use Rattle.page_cli.proofs.ArrivedValues.{holds-no-numbers}
 use Rattle.page_cli.specs.Refusals.{GivesFile, answer_to_file}
 use Rattle.page_cli.specs.Texts.{WritesText}
-use Rattle.page_cli.specs.Checked.{AllFit, RefusesTrace, HasVerdict, TellsVerdict, AnswersCheck, AnswersThree, legal_text}
+use Rattle.page_cli.specs.Checked.{AllFit, IsNotRead, IsUnread, RefusesTrace, HasVerdict, TellsVerdict, AnswersCheck, AnswersThree, legal_text}
 
 -- ---- the verdict
 
@@ -47,40 +47,52 @@ module _ (script arrivals trace : List ℕ) (hosts : List HostClosure) where
 
 -- ---- the files as they are told
 
+-- the script was not read
+pub unread-script : (fault : FileFault) (script arrivals trace : Option (List ℕ)) → IfSome script (λ content. GivesFile 1048576 content (Err fault)) → IsUnread (answer_to_file fault Script) script arrivals trace
+unread-script fault None arrivals trace h = tt
+unread-script fault (Some s) None trace h = tt
+unread-script fault (Some s) (Some a) None h = tt
+unread-script file.Failed (Some s) (Some a) (Some t) h = tt
+unread-script file.TooLong (Some s) (Some a) (Some t) h = h
+unread-script file.OutOfMemory (Some s) (Some a) (Some t) h = tt
+
 within : (most : ℕ) (bytes : Vec ℕ Global) (content : List ℕ) → length bytes.items ≤ most → bytes.items ≡ content → length content ≤ most
 within most bytes content size s = let P : List ℕ → Type 0 = λ z. length z ≤ most in subst P s size
 
+-- the arrivals were not read
+pub unread-arrivals : (fault : FileFault) (read : Vec ℕ Global) (script arrivals trace : Option (List ℕ)) → length read.items ≤ 1048576 →
+    IfSome script (λ content. GivesFile 1048576 content (Ok read)) → IfSome arrivals (λ content. GivesFile 1048576 content (Err fault)) → IsUnread (answer_to_file fault Arrivals) script arrivals trace
+unread-arrivals fault read None arrivals trace size s a = tt
+unread-arrivals fault read (Some script) None trace size s a = tt
+unread-arrivals fault read (Some script) (Some arrivals) None size s a = tt
+unread-arrivals file.Failed read (Some script) (Some arrivals) (Some trace) size s a = within 1048576 read script size s
+unread-arrivals file.TooLong read (Some script) (Some arrivals) (Some trace) size s a = (within 1048576 read script size s, a)
+unread-arrivals file.OutOfMemory read (Some script) (Some arrivals) (Some trace) size s a = tt
+
+-- the trace was not read
+pub unread-trace : (fault : FileFault) (read also : Vec ℕ Global) (script arrivals trace : Option (List ℕ)) → length read.items ≤ 1048576 → length also.items ≤ 1048576 →
+    IfSome script (λ content. GivesFile 1048576 content (Ok read)) → IfSome arrivals (λ content. GivesFile 1048576 content (Ok also)) → IfSome trace (λ content. GivesFile 67108864 content (Err fault)) →
+    IsUnread (answer_to_file fault Trace) script arrivals trace
+unread-trace fault read also None arrivals trace size size2 s a t = tt
+unread-trace fault read also (Some script) None trace size size2 s a t = tt
+unread-trace fault read also (Some script) (Some arrivals) None size size2 s a t = tt
+unread-trace file.Failed read also (Some script) (Some arrivals) (Some trace) size size2 s a t = (within 1048576 read script size s, within 1048576 also arrivals size2 a)
+unread-trace file.TooLong read also (Some script) (Some arrivals) (Some trace) size size2 s a t = (within 1048576 read script size s, within 1048576 also arrivals size2 a, t)
+unread-trace file.OutOfMemory read also (Some script) (Some arrivals) (Some trace) size size2 s a t = tt
+
 module _ (hosts : List HostClosure) where
-  -- the script was not read
-  pub three-script : (fault : FileFault) (script arrivals trace : Option (List ℕ)) (out : Option (List ℕ)) → IfSome script (λ content. GivesFile 1048576 content (Err fault))
-      → AnswersThree (answer_to_file fault Script) script arrivals trace hosts out out
-  three-script fault None arrivals trace out s = tt
-  three-script fault (Some script) None trace out s = tt
-  three-script fault (Some script) (Some arrivals) None out s = tt
-  three-script file.Failed (Some script) (Some arrivals) (Some trace) out s = (tt, refl)
-  three-script file.TooLong (Some script) (Some arrivals) (Some trace) out s = (s, refl)
-  three-script file.OutOfMemory (Some script) (Some arrivals) (Some trace) out s = refl
+  not_read-check : (answer : Answer) (script arrivals trace : List ℕ) (out : Option (List ℕ)) → IsNotRead answer script arrivals trace → AnswersCheck answer script arrivals trace hosts out out
+  not_read-check (TooLong file) script arrivals trace out h = (h, refl)
+  not_read-check (ReadFault file) script arrivals trace out h = (h, refl)
+  not_read-check OutOfMemory script arrivals trace out h = refl
+  not_read-check answer script arrivals trace out h = absurd h
 
-  -- the arrivals were not read
-  pub three-arrivals : (fault : FileFault) (read : Vec ℕ Global) (script arrivals trace : Option (List ℕ)) (out : Option (List ℕ)) → length read.items ≤ 1048576 →
-      IfSome script (λ content. GivesFile 1048576 content (Ok read)) → IfSome arrivals (λ content. GivesFile 1048576 content (Err fault)) → AnswersThree (answer_to_file fault Arrivals) script arrivals trace hosts out out
-  three-arrivals fault read None arrivals trace out size s a = tt
-  three-arrivals fault read (Some script) None trace out size s a = tt
-  three-arrivals fault read (Some script) (Some arrivals) None out size s a = tt
-  three-arrivals file.Failed read (Some script) (Some arrivals) (Some trace) out size s a = (within 1048576 read script size s, refl)
-  three-arrivals file.TooLong read (Some script) (Some arrivals) (Some trace) out size s a = ((within 1048576 read script size s, a), refl)
-  three-arrivals file.OutOfMemory read (Some script) (Some arrivals) (Some trace) out size s a = refl
-
-  -- the trace was not read
-  pub three-trace : (fault : FileFault) (read also : Vec ℕ Global) (script arrivals trace : Option (List ℕ)) (out : Option (List ℕ)) → length read.items ≤ 1048576 → length also.items ≤ 1048576 →
-      IfSome script (λ content. GivesFile 1048576 content (Ok read)) → IfSome arrivals (λ content. GivesFile 1048576 content (Ok also)) → IfSome trace (λ content. GivesFile 67108864 content (Err fault)) →
-      AnswersThree (answer_to_file fault Trace) script arrivals trace hosts out out
-  three-trace fault read also None arrivals trace out size size2 s a t = tt
-  three-trace fault read also (Some script) None trace out size size2 s a t = tt
-  three-trace fault read also (Some script) (Some arrivals) None out size size2 s a t = tt
-  three-trace file.Failed read also (Some script) (Some arrivals) (Some trace) out size size2 s a t = ((within 1048576 read script size s, within 1048576 also arrivals size2 a), refl)
-  three-trace file.TooLong read also (Some script) (Some arrivals) (Some trace) out size size2 s a t = ((within 1048576 read script size s, within 1048576 also arrivals size2 a, t), refl)
-  three-trace file.OutOfMemory read also (Some script) (Some arrivals) (Some trace) out size size2 s a t = refl
+  -- a file was not read
+  pub unread-check : (answer : Answer) (script arrivals trace out : Option (List ℕ)) → IsUnread answer script arrivals trace → AnswersThree answer script arrivals trace hosts out out
+  unread-check answer None arrivals trace out h = tt
+  unread-check answer (Some s) None trace out h = tt
+  unread-check answer (Some s) (Some a) None out h = tt
+  unread-check answer (Some s) (Some a) (Some t) out h = not_read-check answer s a t out h
 
   -- all were read
   pub three-answers : (answer : Answer) (script arrivals trace : Option (List ℕ)) (s a t : Vec ℕ Global) (old new : Option (List ℕ)) → IfSome script (λ content. GivesFile 1048576 content (Ok s)) → IfSome arrivals (λ content. GivesFile 1048576 content (Ok a)) →

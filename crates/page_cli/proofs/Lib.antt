@@ -7,3 +7,7 @@ pub mod RunLemmas
 pub mod TableLemmas
 mod PictureLemmas
 mod CheckLemmas
+mod Completing
+mod OwnChoices
+mod MigrateLemmas
+mod StormLemmas

@@ -39,12 +39,12 @@ module _ {C D : Type 0} (Tog : C → D → Type 0) where
   alike-state (Ended end m c) t' h = ap state_of h.1
   alike-state (Stuck at m c) t' h = ap state_of h.1
 
-  alike-outcome : (t : Turned C) (t' : Turned D) → EndAlike Tog t t' → outcome_in t' ≡ outcome_in t
+  pub alike-outcome : (t : Turned C) (t' : Turned D) → EndAlike Tog t t' → outcome_in t' ≡ outcome_in t
   alike-outcome (GoesOn m c) t' h = ap outcome_in h.1
   alike-outcome (Ended end m c) t' h = ap outcome_in h.1
   alike-outcome (Stuck at m c) t' h = ap outcome_in h.1
 
-ends-as : {C : Type 0} (end : End) (t : Turned C) → Finished end ≡ outcome_in t → EndsAs end t
+pub ends-as : {C : Type 0} (end : End) (t : Turned C) → Finished end ≡ outcome_in t → EndsAs end t
 ends-as end (GoesOn m c) e = absurd (cc)
 ends-as end (Ended other m c) e = cc
 ends-as end (Stuck NoSource m c) e = absurd (cc)
@@ -56,7 +56,7 @@ ends-as end (Stuck AtBound m c) e = absurd (cc)
 -- ---- what is written
 
 -- the whole text is a start of it
-whole-start : (old new : Option (List ℕ)) (text : List ℕ) → new ≡ appended old text → AppendsStartOf old new text
+pub whole-start : (old new : Option (List ℕ)) (text : List ℕ) → new ≡ appended old text → AppendsStartOf old new text
 whole-start old new text e = (text, ([], sym (append-nil text)), e)
 
 module _ (program : Program) (setup : Setup) (hosts : List HostClosure) (answers : List (Result ℤ ℤ)) where

@@ -13,7 +13,7 @@ use Rattle.page_cli.specs.declared.answer.WhichFile.TheVariants.{Script, Arrival
 use Rattle.page_cli.specs.declared.answer.Answer.{Answer}
 use Rattle.page_cli.specs.declared.answer.Answer.TheVariants.{Ended, Written, Usage, NoParse, NotAsync, BadName, BadArrivals}
 use Rattle.page_cli.specs.declared.answer.Answer.TheVariants.{BadTrace, Differs, Illegal, TooLong, ReadFault, WriteFault, OutOfMemory}
-use Rattle.page_cli.specs.Forms.{Form, RunForm, CheckForm, PictureForm, ExpandForm}
+use Rattle.page_cli.specs.Forms.{Form, RunForm, CheckForm, MigrateForm, StormForm, PictureForm, ExpandForm}
 use Rattle.page_cli.specs.Scripts.{HasProgram, HasSomeProgram, IsSyntaxError, HasBadName}
 use Rattle.page_cli.specs.Running.{WroteRun, WroteRunStart, written_run}
 
@@ -97,11 +97,13 @@ IsRefusal (ReadFault file) = ⊤
 IsRefusal WriteFault = ⊥
 IsRefusal OutOfMemory = ⊥
 
--- no run was begun: the words do not ask for one, or it was refused
+-- no run with the closures was begun: the words do not ask for one, or it was refused
 abbrev pub RunsNothing : Answer → Option Form → Type 0
 RunsNothing answer None = ⊤
 RunsNothing answer (Some (RunForm names)) = IsRefusal answer
 RunsNothing answer (Some (CheckForm names)) = ⊤
+RunsNothing answer (Some (MigrateForm names)) = ⊤
+RunsNothing answer (Some (StormForm n)) = ⊤
 RunsNothing answer (Some (PictureForm what trace)) = ⊤
 RunsNothing answer (Some (ExpandForm script)) = ⊤
 

@@ -45,6 +45,17 @@ CanFailAmong Script script arrivals = CanFail Script script
 CanFailAmong Arrivals script arrivals = CanFail Arrivals script
 CanFailAmong Trace script arrivals = Fits script × Fits arrivals
 
+-- what an answer says of the files where one of them was not read
+abbrev pub IsNotRead : Answer → (script arrivals trace : List ℕ) → Type 0
+IsNotRead (TooLong file) script arrivals trace = IsTooLongAmong file script arrivals trace
+IsNotRead (ReadFault file) script arrivals trace = CanFailAmong file script arrivals
+IsNotRead OutOfMemory script arrivals trace = ⊤
+IsNotRead answer script arrivals trace = ⊥
+
+-- the same, where the folder tells the three files
+abbrev pub IsUnread : Answer → (script arrivals trace : Option (List ℕ)) → Type 0
+IsUnread answer script arrivals trace = IfSome script (λ s. IfSome arrivals (λ a. IfSome trace (λ t. IsNotRead answer s a t)))
+
 -- what a refusal says of what is read in the files: the trace is read behind the others
 abbrev pub RefusesTrace : Answer → (script arrivals trace : List ℕ) → Type 0
 RefusesTrace (BadTrace line) script arrivals trace = HasSomeProgram script × HasSomeSetup arrivals × IsBadLine trace line

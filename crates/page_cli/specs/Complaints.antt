@@ -24,7 +24,7 @@ name_complaint (fault.Arity at) = codes "pageloop: wrong argument count at byte 
 abbrev pub complaint : Option Form → Answer → List ℕ
 complaint form (Ended end) = []
 complaint form Written = []
-complaint form Usage = codes "usage: pageloop run S A | check S A T | storm N | stat T | expand S | export T | blame T\n"
+complaint form Usage = codes "usage: pageloop run S A | check S A T | storm N | stat T | migrate S A T | expand S | export T | blame T\n"
 complaint form (NoParse at) = codes "pageloop: script: no parse at byte " ++ (decimal_of at ++ codes "\n")
 complaint form NotAsync = codes "pageloop: script: not an async script\n"
 complaint form (BadArrivals line) = codes "pageloop: arrivals: line " ++ (decimal_of line ++ codes "\n")

@@ -10,5 +10,8 @@ pub mod Texts
 pub mod Counted
 pub mod Pictures
 pub mod Checked
+pub mod Migrated
+pub mod Stormed
 pub mod Expanding
 pub mod FormAnswers
+pub mod Completeness

@@ -1,5 +1,5 @@
 -- Why a file is not read and a script is not run.
-use Rattle.std.specs.Prelude.{◌≡◌, ◌<◌, ◌≤◌, ◌⊎◌, ⊤, ℕ, List, length, Result, Ok, Err, Vec}
+use Rattle.std.specs.Prelude.{◌≡◌, ◌<◌, ⊤, ℕ, List, length, Result, Ok, Err, Vec}
 use Rattle.std.specs.declared.alloc.Global.{Global}
 use Rattle.lang_tokens.specs.declared.fault.TokensFault.{TokensFault}
 use Rattle.lang_tokens.specs.declared.fault.TokensFault.TheVariants as token

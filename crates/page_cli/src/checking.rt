@@ -12,13 +12,14 @@ ghost use Rattle.page_cli.specs.Forms.{name_of};
 ghost use Rattle.page_cli.specs.declared.names.Asked.{Asked};
 ghost use Rattle.page_cli.specs.Names.{form_seen};
 ghost use Rattle.page_cli.specs.Answering.{IsRefusal};
-ghost use Rattle.page_cli.specs.Checked.{AnswersThree, AnswersCheck, HasVerdict, RefusesTrace, TellsVerdict};
+ghost use Rattle.page_cli.specs.Checked.{AllFit, AnswersThree, AnswersCheck, HasVerdict, RefusesTrace, TellsVerdict};
 
 use crate::answer::{Answer, WhichFile};
 use crate::names::CheckNames;
 use crate::pieces::write_text;
-use crate::reading::{MOST_BYTES, MOST_CHECKED_BYTES, Page, fetched, read_files};
+use crate::reading::Page;
 use crate::running::{Answered, unread};
+use crate::three_files::{ThreeFiles, fetch_three, read_three};
 use cell_room::Steps;
 use host_jobs::{HostPort, HostTable};
 use page_io::{Folder, Sink};
@@ -26,7 +27,7 @@ use std::alloc::{AllocError, Global};
 use std::marker::Brand;
 use std::sync::ledger::{Blank, Ledger};
 use trace_check::{Verdict, check_trace};
-use trace_text::{Events, TraceFault, read_trace};
+use trace_text::Events;
 
 /// Fetches the three files in the order of the words, and writes whether the trace is legal. The closures of the table are asked for
 /// their kinds, ranges and marks, and none is called.
@@ -48,42 +49,29 @@ pub(crate) fn check_named<F: Folder, O: Sink>(
     ensures usage { result.answer ≡ Answer.Usage → ⊥ }
     ensures ended { (end : End) → result.answer ≡ Answer.Ended end → ⊥ }
 {
-    let script = match fetched(alloc, folder, names.script, MOST_BYTES) {
-        Ok(bytes) => bytes,
-        Err(fault) => return unread(fault, WhichFile::Script, out),
-    };
-    let arrivals = match fetched(alloc, folder, names.arrivals, MOST_BYTES) {
-        Ok(bytes) => bytes,
-        Err(fault) => return unread(fault, WhichFile::Arrivals, out),
-    };
-    let trace = match fetched(alloc, folder, names.trace, MOST_CHECKED_BYTES) {
-        Ok(bytes) => bytes,
-        Err(fault) => return unread(fault, WhichFile::Trace, out),
-    };
-    check_files(alloc, hosts, &script, &arrivals, &trace, out)
+    match fetch_three(alloc, folder, names) {
+        Ok(files) => check_files(alloc, hosts, &files, out),
+        Err(e) => unread(e.fault, e.file, out),
+    }
 }
 
 /// Reads the bytes of the three files, and writes whether the trace is legal.
 fn check_files<O: Sink>(
     alloc: Global,
     hosts: &HostTable,
-    script: &[u8],
-    arrivals: &[u8],
-    trace: &[u8],
+    files: &ThreeFiles,
     mut out: O,
 ) -> Answered<O>
-    requires script { length script.now ≤ 1048576 }
-    requires arrivals { length arrivals.now ≤ 1048576 }
-    requires trace { length trace.now ≤ 67108864 }
-    ensures answers { AnswersCheck result.answer script.now arrivals.now trace.now (closures_of hosts.now) (O.bytes out)
-        (O.bytes result.out) }
+    requires { AllFit files.now.script.items files.now.arrivals.items files.now.trace.items }
+    ensures answers { AnswersCheck result.answer files.now.script.items files.now.arrivals.items files.now.trace.items
+        (closures_of hosts.now) (O.bytes out) (O.bytes result.out) }
     ensures refused { IsRefusal result.answer → O.bytes result.out ≡ O.bytes out }
     ensures other { (file : WhichFile) → result.answer ≡ Answer.ReadFault file → ⊥ }
     ensures write { result.answer ≡ Answer.WriteFault → Rose (O.faults out) (O.faults result.out) }
     ensures usage { result.answer ≡ Answer.Usage → ⊥ }
     ensures ended { (end : End) → result.answer ≡ Answer.Ended end → ⊥ }
 {
-    let answer = match verdict_on(alloc, hosts, script, arrivals, trace) {
+    let answer = match verdict_on(alloc, hosts, files) {
         Ok(verdict) => tell_verdict(verdict, &mut out),
         Err(refusal) => refusal,
     };
@@ -93,34 +81,29 @@ fn check_files<O: Sink>(
 /// The verdict on a trace, by the bytes of the three files.
 ///
 /// The order of refusals is: script, arrivals, and trace.
-fn verdict_on(
-    alloc: Global,
-    hosts: &HostTable,
-    script: &[u8],
-    arrivals: &[u8],
-    trace: &[u8],
-) -> Result<Verdict, Answer>
-    requires script { length script.now ≤ 1048576 }
-    requires arrivals { length arrivals.now ≤ 1048576 }
-    requires trace { length trace.now ≤ 67108864 }
-    ensures found { IfOk result (λ verdict. HasVerdict verdict script.now arrivals.now trace.now (closures_of hosts.now)) }
-    ensures refused { IfErr result (λ answer. RefusesTrace answer script.now arrivals.now trace.now) }
+fn verdict_on(alloc: Global, hosts: &HostTable, files: &ThreeFiles) -> Result<Verdict, Answer>
+    requires { AllFit files.now.script.items files.now.arrivals.items files.now.trace.items }
+    ensures found { IfOk result (λ verdict. HasVerdict verdict files.now.script.items files.now.arrivals.items files.now.trace.items
+        (closures_of hosts.now)) }
+    ensures refused { IfErr result (λ answer.
+        RefusesTrace answer files.now.script.items files.now.arrivals.items files.now.trace.items) }
 {
-    let page = match read_files(alloc, script, arrivals) {
-        Ok(page) => page,
-        Err(answer) => return Err(answer),
-    };
-    match read_trace(alloc, trace) {
-        Ok(events) => judge(alloc, hosts, &page, &events),
-        Err(TraceFault::Is(bad)) => Err(Answer::BadTrace { line: bad.line }),
-        Err(TraceFault::OutOfMemory) => Err(Answer::OutOfMemory),
+    match read_three(alloc, files) {
+        Ok(read) => judge(alloc, hosts, &read.page, &read.trace),
+        Err(answer) => Err(answer),
     }
 }
 
 /// The verdict on a trace, by a program, a setup and the closures of a table.
-fn judge(alloc: Global, hosts: &HostTable, page: &Page, trace: &Events) -> Result<Verdict, Answer>
+pub(crate) fn judge(
+    alloc: Global,
+    hosts: &HostTable,
+    page: &Page,
+    trace: &Events,
+) -> Result<Verdict, Answer>
     ensures found { IfOk result (IsVerdict (seen_program page.now.program) (settings_of page.now.setup).setup (closures_of hosts.now)
         trace.now) }
+    ensures count { IfOk result (λ _. length (closures_of hosts.now) ≤ 2 ^ 32) }
     ensures refused { IfErr result (λ answer. answer ≡ Answer.OutOfMemory) }
 {
     // A page numbers its closures by 32 bits.

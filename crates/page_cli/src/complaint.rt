@@ -39,7 +39,7 @@ fn put_complaint<E: Sink>(err: &mut E, answer: Answer, asked: Option<Asked>) -> 
         Answer::Ended { .. } | Answer::Written => Ok(()),
         Answer::Usage => put(
             err,
-            b"usage: pageloop run S A | check S A T | storm N | stat T | expand S | export T | blame T\n",
+            b"usage: pageloop run S A | check S A T | storm N | stat T | migrate S A T | expand S | export T | blame T\n",
         ),
         Answer::NoParse { at } => { put_numbered(err, b"pageloop: script: no parse at byte ", at) }
         Answer::NotAsync => put(err, b"pageloop: script: not an async script\n"),
@@ -106,6 +106,9 @@ fn name_of<'a>(file: WhichFile, asked: Option<Asked<'a>>) -> &'a str
         (Some(Asked::Check(names)), WhichFile::Script) => names.script,
         (Some(Asked::Check(names)), WhichFile::Arrivals) => names.arrivals,
         (Some(Asked::Check(names)), WhichFile::Trace) => names.trace,
+        (Some(Asked::Migrate(names)), WhichFile::Script) => names.script,
+        (Some(Asked::Migrate(names)), WhichFile::Arrivals) => names.arrivals,
+        (Some(Asked::Migrate(names)), WhichFile::Trace) => names.trace,
         (Some(Asked::Picture { trace, .. }), WhichFile::Trace) => trace,
         (Some(Asked::Expand { script }), WhichFile::Script) => script,
         _ => "",

@@ -10,19 +10,23 @@ ghost use Rattle.page_cli.specs.Forms.{form_of, name_of, IsRunForm, IsTextForm};
 ghost use Rattle.page_cli.specs.Names.{form_seen, names_seen};
 ghost use Rattle.page_cli.specs.Answering.{AnswersTold, IsRefusal, RunsNothing};
 ghost use Rattle.page_cli.specs.FormAnswers.{AnswersForm, WroteAll};
+ghost use Rattle.page_cli.specs.Completeness.{NothingRose, Completes};
 ghost use Rattle.page_cli.specs.Complaints.{complaint, PutsOrFails};
 
 use crate::answer::{Answer, WhichFile};
 use crate::checking::check_named;
 use crate::complaint::complain;
 use crate::expanding::expand_named;
+use crate::migrating::migrate_named;
 use crate::names::{Asked, Names, asked_in};
 use crate::picturing::picture_named;
 use crate::reading::{MOST_BYTES, fetched};
 use crate::running::{Ran, run_files, unread};
+use crate::storming::write_storm;
 use host_jobs::HostTable;
 use page_io::{Folder, Sink};
 use std::alloc::Global;
+use trace_text::a_trace_is_read;
 
 /// How the program ended, and the host closures and the sink as they stand.
 #[derive(Drop)]
@@ -92,6 +96,10 @@ fn answer_to_words<F: Folder, O: Sink>(
         },
         Some(Asked::Run(names)) => run_named(alloc, folder, hosts, names, out),
         Some(Asked::Check(names)) => check_named(alloc, folder, &hosts, names, out).with(hosts),
+        Some(Asked::Migrate(names)) => {
+            migrate_named(alloc, folder, &hosts, names, out).with(hosts)
+        }
+        Some(Asked::Storm(size)) => write_storm(alloc, &hosts, size, out).with(hosts),
         Some(Asked::Picture { what, trace }) => {
             picture_named(alloc, folder, what, trace, out).with(hosts)
         }
@@ -104,16 +112,19 @@ fn answer_to_words<F: Folder, O: Sink>(
 /// - `run S A` fetches the script S and the arrivals A, runs the script, and writes the trace to `out`.
 /// - `check S A T` fetches these and the trace T, and writes `legal` and LF where the trace is legal: where it is that of the run under
 ///   the choices that stand in it.
+/// - `storm N` runs a script of its own, whose loop has N turns, 1 to 100,000, and writes what `stat` tells of the trace.
 /// - `stat T` fetches the trace T, and writes how many turns, calls, drops and settlings it has, and how it ends.
+/// - `migrate S A T` fetches and judges as `check` does, and writes the trace in form 2 where it is legal.
 /// - `expand S` fetches the script S, and writes the plain script for it and its async functions.
 /// - `export T` and `blame T` fetch the trace T, and write its calls for a timeline viewer or its long turns.
 ///
-/// A script and arrivals have at most 1,048,576 bytes each, a trace at most 67,108,864 to be checked or counted, and at most 4,194,304
-/// else. The order of refusals is: words; the fetch of each file in the order of the words, first its fault, then its length; script,
-/// names, arrivals, trace; the run, and the writes. A refusal writes nothing to `out`. The line of the answer goes to `err`, whose faults
-/// change no answer. Want of memory may come at any point; a table with more closures than a script has numbers for is one.
+/// A script and arrivals have at most 1,048,576 bytes each, a trace at most 67,108,864 to be checked, counted or migrated, and at most
+/// 4,194,304 else. The order of refusals is: words; the fetch of each file in the order of the words, first its fault, then its length;
+/// script, names, arrivals, trace, and whether it is legal; the run, and the writes. A refusal writes nothing to `out`. The line of the
+/// answer goes to `err`, whose faults change no answer. Want of memory may come at any point; a table with more closures than a script
+/// has numbers for is one.
 ///
-/// The closures of `hosts` answer what a script that is run asks them, each at most once; no other command calls one. A run owns the
+/// The closures of `hosts` answer what a script that `run` runs asks them, each at most once; no other command calls one. A run owns the
 /// table and the sink, so both are taken by value, and handed back with every answer.
 pub fn page_main<F: Folder, O: Sink, E: Sink>(
     alloc: Global,
@@ -127,8 +138,8 @@ pub fn page_main<F: Folder, O: Sink, E: Sink>(
 
     // With the status of an end, 0, 10 or 11, the bytes written are exactly the page's trace of the script's program, the setup of the
     // arrivals, the closures and the answers that these gave; the run by the written policy and clock has ended so, and left the closures
-    // as they are now. With status 0 they may instead be `legal` and LF, and the trace is so; or what was asked of the trace; or the
-    // expansion of the script.
+    // as they are now. Of a storm they are the counts of that trace. With status 0 they may instead be `legal` and LF, and the trace is
+    // so; or its second form, and it is legal; or what was asked of it; or the expansion of the script.
     ensures written { (end : End) → result.status ≡ status_of_end end → IfSome (form_of (map string_bytes words.now.items)) (λ form.
         WroteAll end form (F.file folder.old) (closures_of hosts) (closures_of result.hosts) (O.bytes out) (O.bytes result.out)) }
 
@@ -140,6 +151,11 @@ pub fn page_main<F: Folder, O: Sink, E: Sink>(
     ensures read { (file : WhichFile) → result.answer ≡ Answer.ReadFault file → IfSome (form_of (map string_bytes words.now.items)) (λ form.
         Rose (F.faults folder.old (name_of file form)) (F.faults folder.new (name_of file form))) }
     ensures write { result.answer ≡ Answer.WriteFault → Rose (O.faults out) (O.faults result.out) }
+
+    // Where nothing failed and the files are what the words ask for, that is done, or memory is wanting.
+    ensures completes { IfSome (form_of (map string_bytes words.now.items)) (λ form.
+        NothingRose form (F.faults folder.old) (F.faults folder.new) (O.faults out) (O.faults result.out)
+        → Completes result.answer form (F.file folder.old)) }
 
     // A run ends only where the words ask for one, and another text is written only where they ask for that.
     ensures run { (end : End) → result.answer ≡ Answer.Ended end → IsRunForm (form_of (map string_bytes words.now.items)) }
@@ -156,6 +172,8 @@ pub fn page_main<F: Folder, O: Sink, E: Sink>(
     let asked = asked_in(words);
     let ran = answer_to_words(alloc, folder, hosts, asked, out);
     complain(err, ran.answer, asked);
+    // So no trace is refused as none.
+    a_trace_is_read();
     MainEnd {
         status: ran.answer.status(),
         answer: ran.answer,

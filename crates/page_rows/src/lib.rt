@@ -15,6 +15,8 @@ mod example;
 mod expansions;
 #[cfg(test)]
 mod host_closures;
+#[cfg(test)]
+mod migrations;
 pub mod nested_host;
 #[cfg(test)]
 mod page_logs;
@@ -24,6 +26,8 @@ mod pictures;
 mod refusals;
 #[cfg(test)]
 mod scripts;
+#[cfg(test)]
+mod storms;
 #[cfg(test)]
 mod traces;
 #[cfg(test)]

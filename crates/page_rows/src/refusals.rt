@@ -4,7 +4,7 @@ use crate::example::{Ended, Example};
 use std::test::Fail;
 
 const USAGE: &str =
-    "usage: pageloop run S A | check S A T | storm N | stat T | expand S | export T | blame T\n";
+    "usage: pageloop run S A | check S A T | storm N | stat T | migrate S A T | expand S | export T | blame T\n";
 
 const SCRIPT_FAULT: &str = "pageloop: read fault: s\n";
 
@@ -16,13 +16,16 @@ fn is_refusal(ended: &Ended, status: u8, line: &str) -> bool {
 
 #[test]
 fn words_of_no_form_give_the_usage_line_and_status_2(rt: HostRuntime) -> Result<(), Fail> {
-    let examples: [&[&str]; 14] = [
+    let examples: [&[&str]; 17] = [
         &[],
         &["export"],
         &["check", "s", "a"],
         &["check", "s", "a", "t", "t"],
         &["Check", "s", "a", "t"],
         &["run", "s", "a", "t"],
+        &["migrate", "s", "a"],
+        &["migrate", "s", "a", "t", "t"],
+        &["Migrate", "s", "a", "t"],
         &["stat"],
         &["expand", "s", "a"],
         &["blame", "s", "a"],

@@ -1,0 +1,170 @@
+//! Telling a legal trace in its second form.
+
+ghost use Rattle.std.specs.Prelude.{◌≡◌, ◌≤◌, ◌<◌, ◌^◌, length};
+ghost use Rattle.page_types.specs.declared.End.{End};
+ghost use Rattle.page_types.specs.Counts.{Rose};
+ghost use Rattle.page_parts.specs.TraceText.{text_of};
+ghost use Rattle.page_model.specs.PageTrace.{IsLegal, migrated, told_more};
+ghost use Rattle.host_jobs.specs.ToldTable.{closures_of};
+ghost use Rattle.lang_ast.specs.SeenProgram.{seen_program};
+ghost use Rattle.arrivals_text.specs.Seen.{settings_of};
+ghost use Rattle.trace_text.specs.Sinks.{seen_through, sink_keeping};
+ghost use Rattle.trace_check.specs.Verdicts.{events_of, own_run};
+ghost use Rattle.trace_check.specs.Replays.{Replays};
+ghost use Rattle.page_cli.specs.declared.answer.WhichFile.{WhichFile};
+ghost use Rattle.page_cli.specs.declared.names.Asked.{Asked};
+ghost use Rattle.page_cli.specs.Forms.{name_of};
+ghost use Rattle.page_cli.specs.Names.{form_seen};
+ghost use Rattle.page_cli.specs.Running.{CanStop};
+ghost use Rattle.page_cli.specs.Answering.{IsRefusal};
+ghost use Rattle.page_cli.specs.Checked.{AllFit};
+ghost use Rattle.page_cli.specs.Migrated.{AnswersMigration, AnswersMigrate, AnswersRetold, retold_to};
+
+use crate::answer::{Answer, WhichFile};
+use crate::checking::judge;
+use crate::names::CheckNames;
+use crate::reading::Page;
+use crate::running::{Answered, unread};
+use crate::three_files::{ThreeFiles, fetch_three, read_three};
+use cell_room::Steps;
+use host_jobs::HostTable;
+use loop_turn::RunStop;
+use page_base::End;
+use page_io::{Folder, Sink};
+use std::alloc::Global;
+use std::marker::Brand;
+use std::sync::ledger::{Blank, Ledger};
+use trace_check::{Replayed, Verdict, replay};
+use trace_text::{Events, LineSink};
+
+/// Fetches the three files in the order of the words, and writes the trace in its second form where it is legal. The closures of the
+/// table are asked for their kinds, ranges and marks, and none is called.
+pub(crate) fn migrate_named<F: Folder, O: Sink>(
+    alloc: Global,
+    folder: &mut F,
+    hosts: &HostTable,
+    names: CheckNames,
+    out: O,
+) -> Answered<O>
+    ensures answers { AnswersMigration result.answer (F.file folder.old names.entry.script.now)
+        (F.file folder.old names.entry.arrivals.now) (F.file folder.old names.entry.trace.now) (closures_of hosts.now) (O.bytes out)
+        (O.bytes result.out) }
+    ensures refused { IsRefusal result.answer → O.bytes result.out ≡ O.bytes out }
+    ensures read { (file : WhichFile) → result.answer ≡ Answer.ReadFault file →
+        Rose (F.faults folder.old (name_of file (form_seen (Asked.Migrate names.entry))))
+        (F.faults folder.new (name_of file (form_seen (Asked.Migrate names.entry)))) }
+    ensures write { result.answer ≡ Answer.WriteFault → Rose (O.faults out) (O.faults result.out) }
+    ensures usage { result.answer ≡ Answer.Usage → ⊥ }
+    ensures ended { (end : End) → result.answer ≡ Answer.Ended end → ⊥ }
+{
+    match fetch_three(alloc, folder, names) {
+        Ok(files) => migrate_files(alloc, hosts, &files, out),
+        Err(e) => unread(e.fault, e.file, out),
+    }
+}
+
+/// Reads the bytes of the three files, and writes the trace in its second form where it is legal.
+///
+/// The order of refusals is: script, arrivals, trace, and its verdict.
+fn migrate_files<O: Sink>(
+    alloc: Global,
+    hosts: &HostTable,
+    files: &ThreeFiles,
+    out: O,
+) -> Answered<O>
+    requires { AllFit files.now.script.items files.now.arrivals.items files.now.trace.items }
+    ensures answers { AnswersMigrate result.answer files.now.script.items files.now.arrivals.items files.now.trace.items
+        (closures_of hosts.now) (O.bytes out) (O.bytes result.out) }
+    ensures refused { IsRefusal result.answer → O.bytes result.out ≡ O.bytes out }
+    ensures other { (file : WhichFile) → result.answer ≡ Answer.ReadFault file → ⊥ }
+    ensures write { result.answer ≡ Answer.WriteFault → Rose (O.faults out) (O.faults result.out) }
+    ensures usage { result.answer ≡ Answer.Usage → ⊥ }
+    ensures ended { (end : End) → result.answer ≡ Answer.Ended end → ⊥ }
+{
+    let read = match read_three(alloc, files) {
+        Ok(read) => read,
+        Err(answer) => return Answered { answer, out },
+    };
+    match judge(alloc, hosts, &read.page, &read.trace) {
+        Ok(Verdict::Yes) => retell(alloc, hosts, read.page, &read.trace, out),
+        Ok(Verdict::Differs { line }) => Answered {
+            answer: Answer::Differs { line },
+            out,
+        },
+        Ok(Verdict::Illegal { line }) => Answered {
+            answer: Answer::Illegal { line },
+            out,
+        },
+        Err(answer) => Answered { answer, out },
+    }
+}
+
+/// Writes a legal trace in its second form: the lines of the run under its choices, where a trace tells of each registration which
+/// callback made it.
+fn retell<O: Sink>(
+    alloc: Global,
+    hosts: &HostTable,
+    mut page: Page,
+    trace: &Events,
+    out: O,
+) -> Answered<O>
+    requires count { length (closures_of hosts.now) ≤ 2 ^ 32 }
+    requires legal { IsLegal (seen_program page.program) (settings_of page.setup).setup (closures_of hosts.now) (events_of trace.now) }
+    ensures answers { AnswersRetold result.answer (text_of 2 (migrated (seen_program page.program) (settings_of page.setup).setup
+        (closures_of hosts.now) (events_of trace.now))) (O.bytes out) (O.bytes result.out) }
+    ensures write { result.answer ≡ Answer.WriteFault → Rose (O.faults out) (O.faults result.out) }
+{
+    page.setup.trace = 2;
+    let replayed = replay_in::<O, Brand>(alloc, hosts, &page, trace, out, Blank::new(1));
+    Answered {
+        answer: retold(replayed.outcome),
+        out: replayed.lines.into_sink(),
+    }
+}
+
+/// The run under the choices of a trace, whose lines go to a sink. The accesses to the room of its tasks are counted in a new ledger.
+fn replay_in<O: Sink, M: Ledger>(
+    alloc: Global,
+    hosts: &HostTable,
+    page: &Page,
+    trace: &Events,
+    out: O,
+    blank: Blank,
+) -> Replayed<LineSink<O>>
+    requires count { length (closures_of hosts.now) ≤ 2 ^ 32 }
+    requires name { blank.name ≡ M.name }
+    requires parts { blank.parts ≡ M.parts }
+    requires some { 0 < blank.parts }
+    ensures { let run = own_run (seen_program page.now.program) (settings_of page.now.setup).setup (closures_of hosts.now)
+        (events_of trace.now)
+        in Replays sink_keeping (seen_through O.bytes O.faults out) page.now.setup.trace run result.outcome
+        (seen_through O.bytes O.faults result.lines) }
+{
+    let lines = LineSink::new(alloc, out);
+    let (book, share) = blank.open::<M>();
+    let accesses = Steps::new(book, share);
+    replay(
+        alloc,
+        &page.program,
+        &page.setup,
+        hosts,
+        trace,
+        lines,
+        accesses,
+    )
+}
+
+/// The answer to the run under the choices of a legal trace, whose lines go to a sink. It refuses none of these, and no line differs.
+fn retold(outcome: Result<End, RunStop>) -> Answer
+    requires { CanStop outcome }
+    ensures { result ≡ retold_to outcome }
+{
+    match outcome {
+        Ok(_) => Answer::Written,
+        Err(RunStop::WriteFault) => Answer::WriteFault,
+        Err(RunStop::OutOfMemory) => Answer::OutOfMemory,
+        Err(RunStop::Differs | RunStop::NoReading | RunStop::NoChoice | RunStop::NoHost) => {
+            unreachable!()
+        }
+    }
+}
