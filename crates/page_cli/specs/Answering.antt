@@ -35,7 +35,8 @@ pub record WroteTrace (end : End) (script arrivals : List ℕ) (hosts left : Lis
   pub is_run : IsRun script arrivals program settings
   pub wrote : WroteRun program settings.setup hosts old end left new
   pub laws : AreLawful settings.setup (events_of_run (written_run program settings.setup hosts wrote.answers))
-  pub marks : ClosuresFollow (first_page program settings.setup hosts) (state_of (written_run program settings.setup hosts wrote.answers)).host
+  pub marks :
+      ClosuresFollow (first_page program settings.setup hosts) (state_of (written_run program settings.setup hosts wrote.answers)).host
 
 -- a start of that trace was written
 pub record WroteStart (script arrivals : List ℕ) (hosts : List HostClosure) (old new : Option (List ℕ)) : Type 0 where
