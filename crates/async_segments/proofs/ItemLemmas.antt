@@ -76,7 +76,7 @@ pub expanded-append : (a b : List MarkedItem) → expanded (a ++ b) ≡ expanded
 expanded-append [] b = refl
 expanded-append (m ∷ a) b = ap (λ z. expanded_item m ++ z) (expanded-append a b) ∙ sym (append_assoc (expanded_item m) (expanded a) (expanded b))
 
-functions-append : (a b : List Item) → functions_of (a ++ b) ≡ functions_of a ++ functions_of b
+pub functions-append : (a b : List Item) → functions_of (a ++ b) ≡ functions_of a ++ functions_of b
 functions-append [] b = refl
 functions-append (FnItem f xs body ∷ a) b = ap (λ z. record { name = f.name; parameters = map (λ x. x.name) xs; body = body } ∷ z) (functions-append a b)
 functions-append (StmtItem s ∷ a) b = functions-append a b

@@ -9,3 +9,6 @@ pub mod Awaits
 pub mod Segments
 pub mod Items
 pub mod Signed
+pub mod Meaning
+pub mod Promising
+pub mod OnPage

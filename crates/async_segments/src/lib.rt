@@ -14,6 +14,7 @@ mod laws;
 mod layout;
 mod locals;
 mod marking;
+mod meaning;
 #[cfg(test)]
 mod rows;
 mod segments;
@@ -23,3 +24,4 @@ mod written;
 pub use expanding::expand;
 pub use fault::{ExpandFault, NotAsync};
 pub use laws::signs_stand_for_names;
+pub use meaning::{PromiseHost, a_page_keeps_promises, functions_mean_their_segments};
