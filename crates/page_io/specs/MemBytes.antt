@@ -1,15 +1,20 @@
 -- A sink in memory.
-use Rattle.std.specs.Prelude.{ℕ, ◌-◌, List, [], ◌++◌, take, length, find, Option, Some, option_map, unwrap_or, is_some, ◌==◌, nat_lt, if◌then◌else◌}
+use Rattle.std.specs.Prelude.{ℕ, ◌-◌, List, [], ◌++◌, take, length, find, Bool, false, Option, Some, option_map, unwrap_or, is_some, ◌==◌, nat_lt, if◌then◌else◌}
 use Rattle.page_types.specs.Counts.{raised}
 
 -- the bytes that it holds, for how many more there is room, how many bytes each failing call keeps, by the call's
--- number, and how many calls and faults there were
+-- number, how many calls and faults there were, and whether its end fails
 pub record MemBytes : Type 0 where
   pub bytes : List ℕ
   pub left : ℕ
   pub fails : List (ℕ × ℕ)
   pub calls : ℕ
   pub faults : ℕ
+  pub fails_at_end : Bool
+
+-- an empty sink with room for so many bytes, whose calls fail so
+abbrev pub first_bytes : ℕ → List (ℕ × ℕ) → MemBytes
+first_bytes reserve fails = record { bytes = []; left = reserve; fails = fails; calls = 0; faults = 0; fails_at_end = false }
 
 -- how many bytes the call of a number keeps, where it fails; the first pair of a number counts
 abbrev pub kept_by : List (ℕ × ℕ) → ℕ → Option ℕ
@@ -38,3 +43,7 @@ after_put sink piece = record sink {
   calls = raised sink.calls;
   faults = if is_some (failing_put sink piece) then raised sink.faults else sink.faults;
 }
+
+-- the sink after its end: it counted a fault where that failed
+abbrev pub after_finish : MemBytes → MemBytes
+after_finish sink = record sink { faults = if sink.fails_at_end then raised sink.faults else sink.faults }

@@ -1,11 +1,13 @@
-ghost use Rattle.std.specs.Prelude.{◌≡◌, ◌≤◌, ◌<◌, ℕ, None, length, IsErrOf, OnOk};
+ghost use Rattle.std.specs.Prelude.{◌≡◌, ◌≤◌, ◌<◌, ℕ, [], None, length, IfOk, IsErrOf, OnOk};
 ghost use Rattle.page_types.specs.Counts.{raised, HasCause, Rose, refusals_after};
-ghost use Rattle.std.specs.Io.KnownBytes.{Appends};
+ghost use Rattle.std.specs.Io.Buffered.{writer_buffer, writer_inner};
+ghost use Rattle.std.specs.Io.KnownBytes.{Appends, Keeps};
 ghost use Rattle.page_io.specs.Files.{faults_after};
-ghost use Rattle.page_io.specs.Stream.{Stream};
+ghost use Rattle.page_io.specs.Stream.{Stream, taken};
 
 use crate::{Failed, FetchFault, Fetched, Folder, Sink};
-use std::io::{ErrorKind, Read, Write};
+use std::alloc::{AllocError, Global};
+use std::io::{BufWriter, ErrorKind, Read, Write};
 use std::marker::Model;
 use std::rt::Files;
 use std::{fs, io};
@@ -59,35 +61,48 @@ impl<'a, R: Files> Folder for RealFolder<'a, R> {
     }
 }
 
-/// A stream of the system. As a sink it tells no content. It is seen as what its writer holds, where that is known, and the
-/// counts of its faults and of the pieces that were put.
+/// How many bytes a stream gathers before it writes them, where no longer piece comes.
+const MOST_WAITING: usize = 65_536;
+
+/// A stream of the system, which is written to in large pieces. As a sink it tells no content. It is seen as what its writer
+/// holds, where that is known, the bytes that wait, and the counts of its faults and of the pieces that were put.
+///
+/// What waits when it is dropped is written then, and a fault is not told.
 #[derive(Drop)]
-pub struct StdSink<W: Write> {
-    out: W,
+pub struct StdSink<W: Write + Drop> {
+    out: BufWriter<W>,
     faults: u64,
     puts: u64,
 }
 
-impl<W: Write> Model for StdSink<W> {
+impl<W: Write + Drop> Model for StdSink<W> {
     ghost Value = { Stream };
 
-    ghost view = { λ sink. record { written = W.contents sink.out; faults = sink.faults; puts = sink.puts } };
+    ghost view = { λ sink. record {
+      written = W.contents (writer_inner sink.out);
+      waiting = writer_buffer sink.out;
+      faults = sink.faults;
+      puts = sink.puts;
+    } };
 }
 
-impl<W: Write> StdSink<W> {
-    /// Takes no memory.
-    pub fn new(out: W) -> StdSink<W>
-        ensures { result ≡ record { written = W.contents out; faults = 0; puts = 0 } }
+impl<W: Write + Drop> StdSink<W> {
+    /// All its memory is taken here, and want of it is the only error.
+    pub fn new(alloc: Global, out: W) -> Result<StdSink<W>, AllocError>
+        ensures { IfOk result (λ sink. sink ≡ record { written = W.contents out; waiting = []; faults = 0; puts = 0 }) }
     {
-        StdSink {
-            out,
-            faults: 0,
-            puts: 0,
+        match BufWriter::with_capacity(alloc, MOST_WAITING, out) {
+            Ok(out) => Ok(StdSink {
+                out,
+                faults: 0,
+                puts: 0,
+            }),
+            Err(_) => Err(AllocError),
         }
     }
 }
 
-impl<W: Write> Sink for StdSink<W> {
+impl<W: Write + Drop> Sink for StdSink<W> {
     ghost bytes = { λ _. None };
 
     ghost faults = { λ sink. sink.faults };
@@ -99,23 +114,30 @@ impl<W: Write> Sink for StdSink<W> {
         ensures cause { HasCause self.old.faults self.new.faults result }
         ensures counted { self.new.puts ≡ raised self.old.puts }
         ensures count { self.new.faults ≡ refusals_after self.old.faults result }
-        ensures written { OnOk result (Appends self.old.written self.new.written piece.now) }
+        ensures taken { OnOk result (Appends (taken self.old) (taken self.new) piece.now) }
     {
         self.puts = self.puts.saturating_add(1);
-        if write_through(&mut self.out, piece).is_err() {
+        if self.out.write_all(piece).is_err() {
             self.faults = self.faults.saturating_add(1);
             return Err(Failed);
         }
         Ok(())
     }
-}
 
-// Writes a piece. The flush shows a full device at the put that met it.
-fn write_through<W: Write>(out: &mut W, piece: &[u8]) -> io::Result<()>
-    ensures { OnOk result (Appends (W.contents out.old) (W.contents out.new) piece.now) }
-{
-    out.write_all(piece)?;
-    out.flush()
+    /// A device that has become full is met here at the latest.
+    fn finish(&mut self) -> Result<(), Failed>
+        ensures cause { HasCause self.old.faults self.new.faults result }
+        ensures counted { self.new.puts ≡ self.old.puts }
+        ensures count { self.new.faults ≡ refusals_after self.old.faults result }
+        ensures taken { Keeps (taken self.old) (taken self.new) }
+        ensures written { OnOk result (self.new.waiting ≡ []) }
+    {
+        if self.out.flush().is_err() {
+            self.faults = self.faults.saturating_add(1);
+            return Err(Failed);
+        }
+        Ok(())
+    }
 }
 
 #[cfg(test)]
@@ -144,11 +166,27 @@ mod tests {
     }
 
     #[test]
-    fn std_sink_writes_until_its_stream_is_full(rt: HostRuntime) {
+    fn std_sink_hands_on_at_its_end(rt: HostRuntime) -> Result<(), Fail> {
         let mut page = [0u8; 8];
-        let mut sink = StdSink::new(&mut page[..]);
+        let mut sink = StdSink::new(rt.alloc(), &mut page[..])?;
         assert_eq!(rt; sink.put(b"ret\n"), Ok(()));
-        assert_eq!(rt; sink.put(b"run 1\n"), Err(Failed));
+        assert_eq!(rt; sink.finish(), Ok(()));
+        assert_eq!(rt; sink.put(b"run 1\n"), Ok(()));
+        assert_eq!(rt; sink.finish(), Err(Failed));
+        drop(sink);
         assert_eq!(rt; page.as_slice(), b"ret\nrun ".as_slice());
+        Ok(())
+    }
+
+    #[test]
+    fn std_sink_writes_long_pieces_at_once(rt: HostRuntime) -> Result<(), Fail> {
+        let mut page = [0u8; 8];
+        let long = vec![in rt.alloc(); 32u8; MOST_WAITING]?;
+        let mut sink = StdSink::new(rt.alloc(), &mut page[..])?;
+        assert_eq!(rt; sink.put(b"ret\n"), Ok(()));
+        assert_eq!(rt; sink.put(&long), Err(Failed));
+        drop(sink);
+        assert_eq!(rt; page.as_slice(), b"ret\n    ".as_slice());
+        Ok(())
     }
 }

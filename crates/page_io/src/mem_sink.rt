@@ -1,8 +1,8 @@
-ghost use Rattle.std.specs.Prelude.{◌≡◌, ◌+◌, ◌-◌, ◌≤◌, ◌<◌, ◌↔◌, ℕ, List, [], ◌++◌, length, take, Option, Some, IsSome, IfSome, IsErr, IfOk, OnOk, OnErr, vec_len, vec_capacity};
+ghost use Rattle.std.specs.Prelude.{◌≡◌, ◌+◌, ◌-◌, ◌≤◌, ◌<◌, ◌↔◌, ℕ, List, [], ◌++◌, length, take, Option, Some, IsSome, IfSome, IsErr, IfOk, OnOk, OnErr, vec_len, vec_capacity, true, IsTrue};
 ghost use Rattle.std.specs.Option.{option_copied};
 ghost use Rattle.page_types.specs.Counts.{raised, HasCause};
 ghost use Rattle.page_types.specs.Told.{appended, IsStartOf, AppendsStartOf};
-ghost use Rattle.page_io.specs.MemBytes.{MemBytes, kept_by, part_kept, failing_put, after_put};
+ghost use Rattle.page_io.specs.MemBytes.{MemBytes, kept_by, part_kept, failing_put, after_put, after_finish, first_bytes};
 
 use crate::{Failed, Sink};
 use std::alloc::{AllocError, Global};
@@ -16,6 +16,7 @@ pub struct MemSink {
     fails: Vec<(u64, usize)>,
     calls: u64,
     faults: u64,
+    fails_at_end: bool,
 }
 
 impl Model for MemSink {
@@ -27,6 +28,7 @@ impl Model for MemSink {
       fails = sink.fails.items;
       calls = sink.calls;
       faults = sink.faults;
+      fails_at_end = sink.fails_at_end;
     } };
 
     ghost invariant = { λ sink. vec_len sink.bytes + sink.left ≤ vec_capacity sink.bytes };
@@ -42,7 +44,7 @@ impl MemSink {
         reserve: usize,
         fails: Vec<(u64, usize)>,
     ) -> Result<MemSink, AllocError>
-        ensures { IfOk result (λ sink. sink ≡ record { bytes = []; left = reserve; fails = fails.items; calls = 0; faults = 0 }) }
+        ensures { IfOk result (λ sink. sink ≡ first_bytes reserve fails.items) }
     {
         Ok(MemSink {
             bytes: Vec::with_capacity(alloc, reserve)?,
@@ -50,7 +52,18 @@ impl MemSink {
             fails,
             calls: 0,
             faults: 0,
+            fails_at_end: false,
         })
+    }
+
+    /// The same sink, whose `finish` fails. Takes no memory.
+    pub fn failing_at_end(self) -> MemSink
+        ensures { result ≡ record self { fails_at_end = true } }
+    {
+        MemSink {
+            fails_at_end: true,
+            ..self
+        }
     }
 
     /// The bytes that were put. Takes no memory.
@@ -118,6 +131,22 @@ impl Sink for MemSink {
         self.faults = self.faults.saturating_add(1);
         Err(Failed)
     }
+
+    /// It fails exactly where the sink was made so. Takes no memory.
+    fn finish(&mut self) -> Result<(), Failed>
+        ensures bytes { Some self.new.bytes ≡ Some self.old.bytes }
+        ensures cause { HasCause self.old.faults self.new.faults result }
+        ensures counted { self.new.calls ≡ self.old.calls }
+
+        ensures fails { IsErr result ↔ IsTrue self.old.fails_at_end }
+        ensures after { self.new ≡ after_finish self.old }
+    {
+        if self.fails_at_end {
+            self.faults = self.faults.saturating_add(1);
+            return Err(Failed);
+        }
+        Ok(())
+    }
 }
 
 #[cfg(test)]
@@ -136,6 +165,10 @@ mod tests {
         assert_eq!(rt; sink.put(b"end"), Err(Failed), "call 4");
         assert_eq!(rt; sink.put(b"en\n"), Ok(()));
         assert_eq!(rt; sink.put(b"d"), Err(Failed), "no room");
+        assert_eq!(rt; sink.bytes(), b"pageloop 1\nturenden\n".as_slice());
+        assert_eq!(rt; sink.finish(), Ok(()));
+        let mut sink = sink.failing_at_end();
+        assert_eq!(rt; sink.finish(), Err(Failed));
         assert_eq!(rt; sink.bytes(), b"pageloop 1\nturenden\n".as_slice());
         Ok(())
     }

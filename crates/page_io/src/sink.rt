@@ -6,7 +6,7 @@ ghost use Rattle.page_types.specs.Told.{appended, AppendsStartOf};
 #[derive(Clone, Copy, PartialEq, Eq, Debug)]
 pub struct Failed;
 
-/// Takes bytes, a piece at a time.
+/// Takes bytes, a piece at a time. It may gather them, and hands them on at the end at the latest.
 pub trait Sink {
     /// The bytes that it holds, where it tells them.
     ghost bytes: { Self → Option (List ℕ) };
@@ -26,4 +26,12 @@ pub trait Sink {
         ensures failed { OnErr result (AppendsStartOf (bytes self.old) (bytes self.new) piece.now) }
         ensures cause { HasCause (faults self.old) (faults self.new) result }
         ensures counted { puts self.new ≡ raised (puts self.old) };
+
+    /// Says that no more comes. With `Ok` all that was put was handed on.
+    ///
+    /// It fails only where the count of faults rose. The bytes that the sink tells stay, also then.
+    fn finish(&mut self) -> Result<(), Failed>
+        ensures bytes { bytes self.new ≡ bytes self.old }
+        ensures cause { HasCause (faults self.old) (faults self.new) result }
+        ensures counted { puts self.new ≡ puts self.old };
 }

@@ -45,8 +45,8 @@ fn run(rt: HostRuntime) -> Result<u8, AllocError> {
         hosts.push(HostOnce::new(HostKind::Fail, i64::MIN, i64::MAX, job))?;
     }
     let mut folder = RealFolder::new(&rt);
-    let out = StdSink::new(io::writer(&rt));
-    let mut err = StdSink::new(rt.stderr());
+    let out = StdSink::new(alloc, io::writer(&rt))?;
+    let mut err = StdSink::new(alloc, rt.stderr())?;
     let end = page_main(alloc, &words, &mut folder, hosts, out, &mut err);
     Ok(end.status)
 }
