@@ -6,13 +6,12 @@
 
 mod algorithms;
 mod by_value;
-mod fault;
 mod marked;
 mod numbers;
 mod signal;
 mod signals;
 
 pub use by_value::{reasons_are_among_the_values, reasons_by_number_are_reasons_by_value};
-pub use fault::MemoryFault;
 pub use marked::Marked;
+pub use page_base::MemoryFault;
 pub use signals::Signals;

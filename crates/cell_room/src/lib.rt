@@ -3,10 +3,9 @@
 //! An access is one call of `insert`, `get`, `get_mut` or `remove`, and each adds one to the [`Steps`] that it is handed.
 #![tactic(auto)]
 
-mod fault;
 mod room;
 mod steps;
 
-pub use fault::MemoryFault;
+pub use page_base::MemoryFault;
 pub use room::{Cell, Room};
 pub use steps::Steps;

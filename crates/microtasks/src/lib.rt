@@ -2,27 +2,11 @@
 #![tactic(auto)]
 
 ghost use Rattle.std.specs.Prelude.{◌≡◌, ◌++◌, [], ◌∷◌, List, length, nat_lt, OnOk, OnErr, IfSome, IfNone};
-ghost use Rattle.microtasks.specs.declared.MemoryFault.TheVariants as memory;
 
-use std::alloc::{AllocFailed, Global};
+pub use page_base::MemoryFault;
+use std::alloc::Global;
 use std::collections::VecDeque;
 use std::marker::Model;
-use thiserror::Error;
-
-/// Why a job was not queued.
-#[derive(Clone, Copy, Debug, PartialEq, Eq, Error)]
-pub enum MemoryFault {
-    #[error("out of memory")]
-    OutOfMemory,
-}
-
-impl<T: Drop> From<AllocFailed<T>> for MemoryFault {
-    ghost from_gives = { λ _ e. e ≡ memory.OutOfMemory };
-
-    fn from(_e: AllocFailed<T>) -> MemoryFault {
-        MemoryFault::OutOfMemory
-    }
-}
 
 /// A queue of jobs. It is seen as the list of those that wait, the oldest first.
 #[derive(Drop)]

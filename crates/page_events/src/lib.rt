@@ -4,13 +4,12 @@
 #![tactic(auto)]
 
 mod dispatch;
-mod fault;
 mod index;
 mod listener;
 mod listeners;
 mod target;
 
 pub use dispatch::Dispatch;
-pub use fault::MemoryFault;
 pub use listeners::Listeners;
+pub use page_base::MemoryFault;
 pub use target::Target;

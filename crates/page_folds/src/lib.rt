@@ -5,7 +5,6 @@
 #![tactic(auto)]
 
 mod changes;
-mod fault;
 mod fold;
 mod folds;
 mod model;
@@ -13,9 +12,9 @@ mod stage;
 mod step;
 
 pub use abort_graph::Signals;
-pub use fault::MemoryFault;
 pub use folds::Folds;
 pub use model::steps_are_those_of_a_page;
+pub use page_base::MemoryFault;
 pub use page_events::{Listeners, Target};
 pub use step::{Aborting, FoldStep};
 pub use task_signal::{ChangeFault, Changing, Priority, Prios};

@@ -5,17 +5,15 @@
 //! microseconds.
 #![tactic(auto)]
 
-mod fault;
 mod laws;
 mod moments;
 mod part;
 #[cfg(test)]
 mod tests;
 
-pub use fault::MemoryFault;
 pub use laws::{
     callbacks_called_are_those_of_a_page, frame_calls_are_steps_of_a_page,
     idle_calls_are_steps_of_a_page, idle_periods_are_those_of_a_page,
 };
-pub use page_base::Micros;
+pub use page_base::{MemoryFault, Micros};
 pub use part::PageFrames;

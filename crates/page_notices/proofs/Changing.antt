@@ -3,7 +3,7 @@ use Rattle.std.proofs.Common.{◌≡◌, ℕ, ◌<◌, ◌≤◌, List, [], leng
 use Rattle.std.specs.Prelude.{IfOk, ◌==◌}
 use Rattle.page_types.specs.Values.{Value}
 use Rattle.page_types.specs.declared.FaultName.TheVariants.{TypeError}
-use Rattle.page_values.specs.declared.faults.MemoryFault.{MemoryFault}
+use Rattle.page_base.specs.declared.memory.MemoryFault.{MemoryFault}
 use Rattle.page_parts.specs.Words.{and_last}
 use Rattle.page_parts.specs.Kinds.{promise_in, a_fault}
 use Rattle.page_parts.specs.Promises as Parts

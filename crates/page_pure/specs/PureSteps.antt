@@ -1,7 +1,7 @@
 -- What an answer of an operation on values is as a step of a host.
 use Rattle.std.specs.Prelude.{◌≡◌, [], Result, Ok, Err, IfOk}
 use Rattle.page_types.specs.Values.{FaultValue}
-use Rattle.page_values.specs.declared.faults.MemoryFault.{MemoryFault}
+use Rattle.page_base.specs.declared.memory.MemoryFault.{MemoryFault}
 use Rattle.lang_meaning.specs.Evaluation.{Answer}
 use Rattle.lang_meaning.specs.HostSteps as Model
 use Rattle.lang_meaning.specs.HostSteps.{StepValue, StepThrow}

@@ -5,18 +5,17 @@
 #![tactic(auto)]
 
 mod algorithms;
-mod fault;
 mod laws;
 mod opened;
 mod signals;
 mod visit;
 
 pub use algorithms::Algorithms;
-pub use fault::MemoryFault;
 pub use laws::{
     calls_are_steps_of_a_page, folds_are_those_of_a_page, less_is_left_after_each_step,
 };
 pub use opened::WhenReported;
+pub use page_base::MemoryFault;
 pub use page_events::{Dispatch, Target};
 pub use signals::PageSignals;
 pub use task_signal::Priority;

@@ -2,8 +2,7 @@
 
 ghost use Rattle.std.specs.Prelude.{◌≡◌, ◌++◌, IfOk};
 
-use crate::faults::MemoryFault;
-use crate::{Func, Items, Str, Value};
+use crate::{Func, Items, MemoryFault, Str, Value};
 use std::alloc::Global;
 
 /// A value equal to this one.

@@ -1,9 +1,9 @@
-//! Why a value was not made, copied or printed.
+//! Why a value was not made.
 
 ghost use Rattle.std.specs.Prelude.{◌≡◌};
-ghost use Rattle.page_values.specs.declared.faults.MemoryFault.TheVariants as memory;
 ghost use Rattle.page_values.specs.declared.faults.ValueFault.TheVariants as value;
 
+use page_base::MemoryFault;
 use std::alloc::{AllocError, AllocFailed};
 use thiserror::Error;
 
@@ -17,13 +17,6 @@ pub struct TooHeavy;
 pub enum ValueFault {
     #[error(transparent)]
     Is(TooHeavy),
-    #[error("out of memory")]
-    OutOfMemory,
-}
-
-/// Why a value was not copied or printed.
-#[derive(Clone, Copy, Debug, PartialEq, Eq, Error)]
-pub enum MemoryFault {
     #[error("out of memory")]
     OutOfMemory,
 }
@@ -49,21 +42,5 @@ impl From<MemoryFault> for ValueFault {
 
     fn from(_e: MemoryFault) -> ValueFault {
         ValueFault::OutOfMemory
-    }
-}
-
-impl From<AllocError> for MemoryFault {
-    ghost from_gives = { λ _ e. e ≡ memory.OutOfMemory };
-
-    fn from(_e: AllocError) -> MemoryFault {
-        MemoryFault::OutOfMemory
-    }
-}
-
-impl<T: Drop> From<AllocFailed<T>> for MemoryFault {
-    ghost from_gives = { λ _ e. e ≡ memory.OutOfMemory };
-
-    fn from(_e: AllocFailed<T>) -> MemoryFault {
-        MemoryFault::OutOfMemory
     }
 }

@@ -19,7 +19,7 @@ mod weighing;
 
 pub use comparing::{is_word, same, same_text};
 pub use copying::{copy, copy_items, copy_text};
-pub use faults::{MemoryFault, TooHeavy, ValueFault};
+pub use faults::{TooHeavy, ValueFault};
 pub use kinds::{
     as_bool, as_controller, as_deadline, as_fault, as_function, as_int, as_list, as_promise,
     as_signal, as_text, is_unit,
@@ -27,6 +27,7 @@ pub use kinds::{
 pub use limits::{
     NESTING_LIMIT, WEIGHT_LIMIT, bind, fault, function_value, join, make_list, make_text, push,
 };
+pub use page_base::MemoryFault;
 pub use page_types::FaultName;
 pub use printing::{FunNames, print, print_int, print_number, print_quoted};
 use std::marker::Model;

@@ -11,8 +11,7 @@ ghost use Rattle.page_values.specs.Spellings.{IsSpelling};
 ghost use Rattle.page_values.specs.Texts.{is_text};
 ghost use Rattle.page_values.specs.Written.{IsWritten, AreWritten, IsNumbered};
 
-use crate::faults::MemoryFault;
-use crate::{FaultName, Items, Str, Value};
+use crate::{FaultName, Items, MemoryFault, Str, Value};
 use std::alloc::{AllocError, Global};
 use std::marker::Model;
 

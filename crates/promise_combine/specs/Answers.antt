@@ -5,7 +5,7 @@ use Rattle.page_types.specs.Values as Model
 use Rattle.page_types.specs.Values.{ListValue, values_of}
 use Rattle.page_values.specs.Seen.{seen}
 use Rattle.page_values.specs.declared.Value.{Value}
-use Rattle.page_values.specs.declared.faults.MemoryFault.{MemoryFault}
+use Rattle.page_base.specs.declared.memory.MemoryFault.{MemoryFault}
 use Rattle.page_values.specs.declared.faults.ValueFault.{ValueFault}
 use Rattle.page_values.specs.declared.faults.ValueFault.TheVariants.{Is, OutOfMemory}
 use Rattle.page_parts.specs.Kinds.{within_limits}

@@ -1,9 +1,8 @@
-//! Why a call on signals with a priority was refused.
+//! Why a priority was not changed.
 ghost use Rattle.std.specs.Prelude.{◌≡◌};
-ghost use Rattle.task_signal.specs.declared.fault.MemoryFault.TheVariants as memory;
 ghost use Rattle.task_signal.specs.declared.fault.ChangeFault.TheVariants as change;
 
-use std::alloc::{AllocError, AllocFailed};
+use std::alloc::AllocError;
 use thiserror::Error;
 
 /// A change of this signal's priority is in progress.
@@ -20,33 +19,10 @@ pub enum ChangeFault {
     OutOfMemory,
 }
 
-/// Why a priority was not given, or a signal does not follow.
-#[derive(Clone, Copy, Debug, PartialEq, Eq, Error)]
-pub enum MemoryFault {
-    #[error("out of memory")]
-    OutOfMemory,
-}
-
 impl From<AllocError> for ChangeFault {
     ghost from_gives = { λ _ e. e ≡ change.OutOfMemory };
 
     fn from(_e: AllocError) -> ChangeFault {
         ChangeFault::OutOfMemory
-    }
-}
-
-impl From<AllocError> for MemoryFault {
-    ghost from_gives = { λ _ e. e ≡ memory.OutOfMemory };
-
-    fn from(_e: AllocError) -> MemoryFault {
-        MemoryFault::OutOfMemory
-    }
-}
-
-impl<T: Drop> From<AllocFailed<T>> for MemoryFault {
-    ghost from_gives = { λ _ e. e ≡ memory.OutOfMemory };
-
-    fn from(_e: AllocFailed<T>) -> MemoryFault {
-        MemoryFault::OutOfMemory
     }
 }

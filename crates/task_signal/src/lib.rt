@@ -7,6 +7,7 @@
 mod fault;
 mod prios;
 
-pub use fault::{ChangeFault, Changing, MemoryFault};
+pub use fault::{ChangeFault, Changing};
+pub use page_base::MemoryFault;
 pub use page_types::Priority;
 pub use prios::{Moved, Prios};

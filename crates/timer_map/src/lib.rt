@@ -3,11 +3,10 @@
 #![tactic(auto)]
 
 mod armed;
-mod fault;
 mod ids;
 mod timers;
 mod waiting;
 
 pub use armed::Armed;
-pub use fault::MemoryFault;
+pub use page_base::MemoryFault;
 pub use timers::Timers;

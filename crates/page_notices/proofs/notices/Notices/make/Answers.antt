@@ -1,6 +1,6 @@
 use Rattle.std.proofs.Common.{◌≡◌, ℕ, ◌+◌, ◌<◌, ◌≤◌, ◌^◌, ◌∙◌, ap, suc, sym, subst, true, length, List, arith, Result, Ok, Err}
 use Rattle.std.specs.Prelude.{OnOk, OnErr, IfOk}
-use Rattle.page_values.specs.declared.faults.MemoryFault.{MemoryFault}
+use Rattle.page_base.specs.declared.memory.MemoryFault.{MemoryFault}
 use Rattle.page_parts.specs.Promises.{pending_promise}
 use Rattle.page_parts.specs.Notices.{Notices, make}
 use Rattle.promise_core.specs.Held.{Held, made, all_within}

@@ -1,11 +1,12 @@
 //! Want of memory.
+
 ghost use Rattle.std.specs.Prelude.{◌≡◌};
-ghost use Rattle.idle_periods.specs.declared.fault.MemoryFault.TheVariants.{OutOfMemory};
+ghost use Rattle.page_base.specs.declared.memory.MemoryFault.TheVariants.{OutOfMemory};
 
 use std::alloc::{AllocError, AllocFailed};
 use thiserror::Error;
 
-/// Why a callback was not stored, or an idle period not started.
+/// Why a call was not done that fails for want of memory alone. Its contract says what it leaves then.
 #[derive(Clone, Copy, Debug, PartialEq, Eq, Error)]
 pub enum MemoryFault {
     #[error("out of memory")]
