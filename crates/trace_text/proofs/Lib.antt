@@ -16,8 +16,8 @@ mod FieldWords
 mod EventsRead
 mod SpelledLines
 mod EventsWritten
-mod LinesRead
-mod SoFar
-mod TracesRead
+pub mod LinesRead
+pub mod SoFar
+pub mod TracesRead
 mod ValuesRead
 mod BadLines

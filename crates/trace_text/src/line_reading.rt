@@ -15,8 +15,9 @@ use page_base::{Micros, behind, cut_at, is_word};
 use std::alloc::{AllocError, Global};
 
 /// The time and the event of a line without its line feed, in a trace of this form. None where it is not the line of an
-/// event.
-pub(crate) fn read_line(
+/// event; whether it may stand in its place is not asked. Want of memory is the one error. It takes the time of the line,
+/// and the memory of the value in it.
+pub fn read_line(
     alloc: Global,
     form: u32,
     line: &[u8],

@@ -37,9 +37,10 @@ pub fn read_trace(alloc: Global, bytes: &[u8]) -> Result<Events, TraceFault>
     }
 }
 
-// The form of the head, and what stands behind it.
+/// The form of the head with which a trace begins, and what stands behind it. None where the bytes begin with no head. Takes
+/// no memory.
 #[tactic(auto, using(crate::proofs::TracesRead::first_head_read, crate::proofs::TracesRead::second_head_read, crate::proofs::TracesRead::no_head_read))]
-fn read_head(bytes: &[u8]) -> Option<(u32, &[u8])>
+pub fn read_head(bytes: &[u8]) -> Option<(u32, &[u8])>
     ensures { IsHeadRead bytes.now (option_map (λ head. (head.0, head.1.now)) result) }
 {
     if let Some(text) = behind(bytes, b"trace 1\n") {
