@@ -1,5 +1,5 @@
 -- What a sink of lines holds after some lines, and after a call that stopped among them.
-use Rattle.std.proofs.Common.{◌≡◌, ℕ, List, [], ◌∷◌, ◌++◌, refl, sym, ◌∙◌, ap, subst, inl, inr, Option, Some, None, append_assoc, append-nil, ◌≤◌, map}
+use Rattle.std.proofs.Common.{◌≡◌, ℕ, List, [], ◌∷◌, ◌++◌, refl, sym, ◌∙◌, ap, subst, inl, inr, Option, Some, None, append_assoc, append-nil, ◌≤◌, map, is_some}
 use Rattle.page_types.specs.Counts.{Rose}
 use Rattle.page_types.specs.Events.{Stamped}
 use Rattle.page_parts.specs.TraceText.{head_text, line_text, lines_text, text_of}
@@ -7,7 +7,7 @@ use Rattle.page_types.specs.Told.{appended, AppendsStartOf}
 use Rattle.trace_text.specs.Line.{Line, Head, Of, text_of_line, text_of_lines}
 use Rattle.trace_text.specs.declared.lines.NoLine.{NoLine}
 use Rattle.trace_text.specs.declared.lines.NoLine.TheVariants.{Failed, Differs, OutOfMemory}
-use Rattle.trace_text.specs.Given.{Seen, after_all, StopsAmong, Leaves, NotTaken, Gives}
+use Rattle.trace_text.specs.Given.{Seen, after_all, StopsAmong, Leaves, NotTaken, Gives, GivesTold}
 use Rattle.trace_text.specs.Sinks.{sink_keeping}
 
 pub after_all-sink : (told : Option (List ℕ)) (lines : List Line) → after_all sink_keeping told lines ≡ appended told (text_of_lines lines)
@@ -70,6 +70,19 @@ Gives-sink_failed line piece told after before now is starts later rose = record
     leaves : (line : Line) (told after : Option (List ℕ)) → AppendsStartOf told after (text_of_line line) → Leaves sink_keeping told line after
     leaves line None after h = h.2
     leaves line (Some bytes) after h = (bytes ++ h.0, h.2, (h.0, h.1, refl))
+
+-- a put that took its piece is a line that was taken
+pub Gives-sink_taken : (line : Line) (piece : List ℕ) (told after : Option (List ℕ)) (before now : ℕ) → piece ≡ text_of_line line → after ≡ appended told piece → before ≤ now → Gives sink_keeping (record { told = told; faults = before; refusals = 0 }) (line ∷ []) None (record { told = after; faults = now; refusals = 0 })
+Gives-sink_taken line piece told after before now is h later = record {
+  told = taken told after (h ∙ ap (appended told) is);
+  later = later;
+  failed = λ is. let bad : None ≡ Some Failed = is in absurd cc;
+  differs = refl;
+}
+  where
+    taken : (told after : Option (List ℕ)) → after ≡ appended told (text_of_line line) → GivesTold sink_keeping told (line ∷ []) None after
+    taken None after h = (h, ap is_some h)
+    taken (Some bytes) after h = (h, ap is_some h)
 
 -- the text of a head and of events is that of a trace
 pub text_of_lines-events : (es : List Stamped) → text_of_lines (map Of es) ≡ lines_text es

@@ -12,8 +12,9 @@ use std::marker::Model;
 /// Hands each line, with its line feed, to one `put` of the sink that it owns.
 #[derive(Drop)]
 pub struct LineSink<O: Sink> {
-    alloc: Global,
     out: O,
+    /// Where a line is written before it is put.
+    line: Vec<u8>,
 }
 
 impl<O: Sink> Model for LineSink<O> {
@@ -27,14 +28,17 @@ impl<O: Sink> LineSink<O> {
     pub fn new(alloc: Global, out: O) -> LineSink<O>
         ensures { result ≡ out }
     {
-        LineSink { alloc, out }
+        LineSink {
+            out,
+            line: Vec::new(alloc),
+        }
     }
 
     /// The sink, as it stands. Takes no memory.
     pub fn into_sink(self) -> O
         ensures { result ≡ self }
     {
-        let LineSink { alloc: _, out } = self;
+        let LineSink { out, line: _ } = self;
         out
     }
 }
@@ -72,9 +76,9 @@ impl<O: Sink> Lines for LineSink<O> {
         ensures gives { PutsLine O.bytes O.faults self.old (Of (stamped_seen e.now)) result self.new }
         ensures one_put { O.puts self.new ≡ puts_after (O.puts self.old) result }
     {
-        let mut line = Vec::new(self.alloc);
-        write_line(e, &mut line)?;
-        match self.out.put(&line) {
+        self.line.clear();
+        write_line(e, &mut self.line)?;
+        match self.out.put(&self.line) {
             Ok(()) => Ok(()),
             Err(_) => Err(NoLine::Failed),
         }
