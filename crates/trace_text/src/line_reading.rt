@@ -17,11 +17,7 @@ use std::alloc::{AllocError, Global};
 /// The time and the event of a line without its line feed, in a trace of this form. None where it is not the line of an
 /// event; whether it may stand in its place is not asked. Want of memory is the one error. It takes the time of the line,
 /// and the memory of the value in it.
-pub fn read_line(
-    alloc: Global,
-    form: u32,
-    line: &[u8],
-) -> Result<Option<Stamped>, AllocError>
+pub fn read_line(alloc: Global, form: u32, line: &[u8]) -> Result<Option<Stamped>, AllocError>
     requires { IsForm form }
     ensures { IfOk result (λ read. IsRead form line.now (option_map stamped_seen read)) }
 {
