@@ -1,7 +1,7 @@
 //! The steps of a turn besides its task: what goes on in parallel, what is waited for, and the idle step (HTML, "Event loops: processing
 //! model").
 
-ghost use Rattle.std.specs.Prelude.{◌≡◌, IfErr, IfOk, is_some, true, None};
+ghost use Rattle.std.specs.Prelude.{◌≡◌, ◌≤◌, IfErr, IfOk, is_some, true, None};
 ghost use Rattle.std.specs.Option.{option_map};
 ghost use Rattle.loop_policy.specs.Views.{runnables};
 ghost use Rattle.page_parts.specs.Words.{is_empty};
@@ -10,7 +10,7 @@ ghost use Rattle.page_model.specs.Parallel as items;
 ghost use Rattle.page_model.specs.Turns as model;
 ghost use Rattle.page_model.specs.View as seeing;
 ghost use Rattle.page_state.specs.PageActs.{on_page, read_by};
-ghost use Rattle.page_state.specs.Pooled.{HoldsTasks};
+ghost use Rattle.page_state.specs.Pooled.{HoldsTasks, spare_of};
 ghost use Rattle.page_host.specs.Stops.{KeepsSetting, PageDoes, Stops};
 ghost use Rattle.page_host.specs.declared.stop.PageStop.TheVariants.{OutOfMemory};
 
@@ -96,10 +96,11 @@ impl<P: HostPort, L: Lines, M: Ledger> Page<P, L, M> {
         }
     }
 
-    /// The pool that the queued tasks stand in: its lists hold exactly these, each once, under its number and with its content. Takes no
-    /// memory, and costs one read.
+    /// The pool that the queued tasks stand in: its lists hold exactly these, each once, under its number and with its content, and as many
+    /// more as are sure to find memory do so in it. Takes no memory, and costs one read.
     pub fn pool(&self) -> &Pool<PageTask>
-        ensures { HoldsTasks result.now self.now.state.tasks }
+        ensures held { HoldsTasks result.now self.now.state.tasks }
+        ensures spare { spare_of self.now.state ≤ result.now.spare }
     {
         self.state.pool()
     }

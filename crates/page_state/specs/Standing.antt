@@ -25,7 +25,8 @@ pub record SignalFields : Type 0 where
   pub listeners : List Listener
 
 -- all that a page keeps: the fields of the model's page but its events; the folds that are open while their callbacks run, the innermost
--- first; and what its host port tells besides: the answers that it still keeps, where it tells them, and how often it refused
+-- first; what its host port tells besides: the answers that it still keeps, where it tells them, and how often it refused; and how many
+-- tasks in all, from the first number on, are sure to find memory in the pool
 pub record Standing : Type 0 where
   pub script : Script
   pub tasks : TaskFields
@@ -37,6 +38,7 @@ pub record Standing : Type 0 where
   pub folds : List Open
   pub kept : Option (List (Result ℤ ℤ))
   pub refusals : ℕ
+  pub room : ℕ
 
 -- the model's page of these fields, with no event
 abbrev pub page_of : Standing → Page

@@ -58,6 +58,8 @@ pub struct PageState<P: HostPort, M: Ledger> {
     signals: PageSignals,
     hosts: PageHosts<P>,
     latencies: IndexMap<u32, Micros>,
+    // How many tasks in all, from the first number on, are sure to find memory in the pool.
+    room: usize,
 }
 
 impl<P: HostPort, M: Ledger> Model for PageState<P, M> {
@@ -81,11 +83,13 @@ impl<P: HostPort, M: Ledger> Model for PageState<P, M> {
       folds = a.signals.folds;
       kept = a.hosts.kept;
       refusals = a.hosts.refusals;
+      room = a.room;
     } };
 
     ghost use Rattle.page_state.specs.Selecting.{AreSelectedBy};
+    ghost use Rattle.page_state.specs.Pooled.{HasRoom};
 
-    ghost invariant = { λ a. AreSelectedBy a.signals.prios a.tasks.priorities };
+    ghost invariant = { λ a. AreSelectedBy a.signals.prios a.tasks.priorities × HasRoom a.room a.tasks };
 }
 
 impl<P: HostPort, M: Ledger> PageState<P, M> {

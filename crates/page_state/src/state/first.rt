@@ -1,12 +1,13 @@
 //! A page before its first turn.
 
-ghost use Rattle.std.specs.Prelude.{◌≡◌, ◌^◌, ◌/◌, ◌<◌, ◌≤◌, length, map, IfErr, IfOk, IsTrue};
+ghost use Rattle.std.specs.Prelude.{◌≡◌, ◌+◌, ◌^◌, ◌/◌, ◌<◌, ◌≤◌, length, map, IfErr, IfOk, IsTrue};
 ghost use Rattle.std.specs.List.{list_all};
 ghost use Rattle.page_parts.specs.Setup.{are_in_order};
 ghost use Rattle.arrivals_text.specs.Seen.{settings_of};
 ghost use Rattle.arrivals_text.specs.SeenParts.{arrival_of};
 ghost use Rattle.page_hosts.specs.Hosts.{is_unqueued};
 ghost use Rattle.page_state.specs.First.{IsFirst, AreFirst, HasScriptTask};
+ghost use Rattle.page_state.specs.Pooled.{spare_of};
 
 use super::PageState;
 use crate::latencies::latencies_given;
@@ -35,7 +36,7 @@ struct FirstParts<M: Ledger> {
 
 impl<P: HostPort, M: Ledger> PageState<P, M> {
     /// The page before the first turn: the script, whose functions have these names, is its one task, on the DOM source, and the
-    /// time is 0.
+    /// time is 0. So many more tasks as the setup tells are sure to find memory in the pool.
     ///
     /// Want of memory is the one error, and hands the port back as it was. It costs what the setup's arrivals and hosts cost.
     pub fn new(
@@ -51,6 +52,7 @@ impl<P: HostPort, M: Ledger> PageState<P, M> {
         ensures first { IfOk result (IsFirst names (settings_of setup.now).setup (P.closures port)) }
         ensures kept { IfOk result (λ page. page.kept ≡ P.kept port) }
         ensures refused { IfOk result (λ page. page.refusals ≡ P.refusals port) }
+        ensures room { IfOk result (λ page. setup.now.room ≤ spare_of page) }
         ensures err { IfErr result (λ back. back ≡ port) }
     {
         let Ok(parts) = first_parts(alloc, names, setup, accesses) else {
@@ -65,6 +67,7 @@ impl<P: HostPort, M: Ledger> PageState<P, M> {
             signals: PageSignals::new(alloc),
             hosts: PageHosts::new(alloc, port),
             latencies: parts.latencies,
+            room: setup.room + 1,
         })
     }
 }
@@ -77,10 +80,11 @@ fn first_parts<M: Ledger>(
     accesses: Steps<M>,
 ) -> Result<FirstParts<M>, MemoryFault>
     requires names { length names < 2 ^ 32 }
-    ensures { IfOk result (AreFirst names (settings_of setup.now).setup) }
+    ensures first { IfOk result (AreFirst names (settings_of setup.now).setup) }
+    ensures room { IfOk result (λ parts. setup.now.room ≤ parts.tasks.spare) }
 {
     let script = PageScript::new(alloc, setup.form, setup.trace, names)?;
-    let tasks = script_task(alloc, setup.room, accesses)?;
+    let tasks = script_task(alloc, setup.room + 1, accesses)?;
     let arrivals = copied_arrivals(alloc, &setup.arrivals)?;
     let Ok(items) = ParallelItems::new(alloc, arrivals) else {
         return Err(MemoryFault::OutOfMemory);
@@ -103,15 +107,16 @@ fn period(setup: &PageSetup) -> Micros
     Micros(1_000_000 / u64::from(setup.refresh))
 }
 
-// The tasks of a page before the first turn: that of the script.
+// The tasks of a page before the first turn: that of the script, which has one of the cells that are made.
 fn script_task<M: Ledger>(
     alloc: Global,
-    room: usize,
+    cells: usize,
     accesses: Steps<M>,
 ) -> Result<PageTasks<M>, MemoryFault>
-    ensures { IfOk result HasScriptTask }
+    ensures task { IfOk result HasScriptTask }
+    ensures room { IfOk result (λ tasks. cells ≤ tasks.spare + 1) }
 {
-    let Ok(mut tasks) = PageTasks::new(alloc, room, accesses) else {
+    let Ok(mut tasks) = PageTasks::new(alloc, cells, accesses) else {
         return Err(MemoryFault::OutOfMemory);
     };
     match tasks.queue(Source::Dom, TaskSteps::RunScript) {

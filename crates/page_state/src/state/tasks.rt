@@ -1,6 +1,6 @@
 //! Queued tasks of the task sources and of the scheduler (HTML, "Event loops: definitions"; Prioritized Task Scheduling, "Scheduling
 //! Tasks and Continuations").
-ghost use Rattle.std.specs.Prelude.{◌≡◌, ◌≢◌, ◌+◌, ℕ, suc, map, IfErr, IfNone, IfOk, IfSome, OnOk, option_map};
+ghost use Rattle.std.specs.Prelude.{◌≡◌, ◌≢◌, ◌≤◌, ◌+◌, ℕ, suc, map, IfErr, IfNone, IfOk, IfSome, OnOk, option_map};
 ghost use Rattle.std.specs.Result.{result_err};
 ghost use Rattle.page_types.specs.declared.Source.TheVariants.{Sched};
 ghost use Rattle.page_parts.specs.Sources.{default_list};
@@ -17,7 +17,7 @@ ghost use Rattle.trace_text.specs.declared.lines.NoLine.TheVariants.{OutOfMemory
 ghost use Rattle.trace_text.specs.Acts.{Does};
 ghost use Rattle.trace_text.specs.EventSeen.{queue_seen};
 ghost use Rattle.page_state.specs.PageActs.{at, on_page, changed_by, read_by};
-ghost use Rattle.page_state.specs.Pooled.{HoldsTasks};
+ghost use Rattle.page_state.specs.Pooled.{HoldsTasks, spare_of};
 ghost use Rattle.page_state.specs.Selecting.{sched_put};
 
 use super::PageState;
@@ -99,7 +99,8 @@ impl<P: HostPort, M: Ledger> PageState<P, M> {
 
     /// The pool that the tasks stand in. Takes no memory.
     pub fn pool(&self) -> &Pool<PageTask>
-        ensures { HoldsTasks result.now self.now.tasks }
+        ensures held { HoldsTasks result.now self.now.tasks }
+        ensures spare { spare_of self.now ≤ result.now.spare }
     {
         self.tasks.pool()
     }

@@ -10,10 +10,10 @@ pub returns-in-Some-clause-dropped : goal.returns-in-Some-clause-dropped
 returns-in-Some-clause-dropped g c =
     let s = c.args.self.now in
     on_ok_weaker c.drop_closure.result
-    (λ dropped. dropped ∙ ap (λ (o : Option HostTask). record s { hosts = drop_closure o s.hosts }) (c.in-Some.ensures (page_of s) (is_of c.self.inside.tasks s c.self.view_is refl c.self.invariant)))
+    (λ dropped. dropped ∙ ap (λ (o : Option HostTask). record s { hosts = drop_closure o s.hosts }) (c.in-Some.ensures (page_of s) (is_of c.self.inside.tasks s c.self.view_is refl c.self.invariant.0)))
     c.drop_closure.ensures.dropped
 
 pub returns-in-None-clause-dropped : goal.returns-in-None-clause-dropped
 returns-in-None-clause-dropped g c =
     let s = c.args.self.now in
-    ap (λ (o : Option HostTask). record s { hosts = drop_closure o s.hosts }) (c.in-None.ensures (page_of s) (is_of c.self.inside.tasks s c.self.view_is refl c.self.invariant))
+    ap (λ (o : Option HostTask). record s { hosts = drop_closure o s.hosts }) (c.in-None.ensures (page_of s) (is_of c.self.inside.tasks s c.self.view_is refl c.self.invariant.0))

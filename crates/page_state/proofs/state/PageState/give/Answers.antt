@@ -8,8 +8,10 @@ use Rattle.page_state.proofs.state.PageState.give.Goals.{in-Ok, in-Err}
 pub invariant_of-self : goal.invariant_of-self
 invariant_of-self g c =
     let rooms = c.self.inside.tasks.priorities in
-    let P : Signalling → Type 0 = λ st. AreSelectedBy st.prios rooms in
-    elim c.match-give.branch [
-      | in-Ok w ↦ subst P (sym w.in-Ok.ensures.given) (given-selected c.args.s c.args.priority c.self.inside.signals.prios rooms c.self.invariant)
-      | in-Err w ↦ subst P (sym w.in-Err.ensures.err) c.self.invariant
-    ]
+    let P : Signalling → Type 0 = λ st. AreSelectedBy st.prios rooms in (
+      elim c.match-give.branch [
+        | in-Ok w ↦ subst P (sym w.in-Ok.ensures.given) (given-selected c.args.s c.args.priority c.self.inside.signals.prios rooms c.self.invariant.0)
+        | in-Err w ↦ subst P (sym w.in-Err.ensures.err) c.self.invariant.0
+      ],
+      c.self.invariant.1,
+    )

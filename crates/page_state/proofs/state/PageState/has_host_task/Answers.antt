@@ -22,7 +22,7 @@ returns-else-is_some g c =
     ∙ sym c.is_some.ensures
     ∙ c.if-is_some.false
     in
-    let net = c.net_task_of.ensures (page_of s) (is_of c.self.inside.tasks s c.self.view_is refl c.self.invariant) in
+    let net = c.net_task_of.ensures (page_of s) (is_of c.self.inside.tasks s c.self.view_is refl c.self.invariant.0) in
     let waits : is_there (waiting_net_task r (page_of s)) ≡ c.is_some-else-is_some.result =
     sym (asked_there r s.tasks.tasks)
     ∙ ap (λ (o : Option HostTask). is_there o) (sym net)

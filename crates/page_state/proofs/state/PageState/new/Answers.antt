@@ -1,4 +1,4 @@
-use Rattle.std.proofs.Common.{map, refl, ap, ◌∙◌}
+use Rattle.std.proofs.Common.{map, refl, ap, ◌∙◌, ◌+◌}
 use Rattle.arrivals_text.specs.Seen.{settings_of}
 use Rattle.page_frames.specs.Fields.{no_callbacks}
 use Rattle.page_signals.specs.Signalling.{Signalling}
@@ -8,7 +8,7 @@ use Rattle.page_state.proofs.state.PageState.new.Goals as goal
 
 pub returns-clause-first : goal.returns-clause-first
 returns-clause-first g c =
-    let parts = c.in-Ok.ensures in
+    let parts = c.in-Ok.ensures.first in
     let setup = (settings_of c.args.setup.now).setup in
     record {
       page = λ program names.
@@ -24,6 +24,7 @@ returns-clause-first g c =
             folds = c.new-2.result.folds;
             kept = c.new-3.result.kept;
             refusals = c.new-3.result.refusals;
+            room = c.args.setup.now.room + 1;
           })
           (parts.script.first program setup (g.P.HostPort.closures c.args.port) names refl refl)
           (tasks-are c.in-Ok.parts.tasks parts.tasks) parts.waiting (c.new.ensures ∙ ap no_callbacks c.period.ensures.period)
