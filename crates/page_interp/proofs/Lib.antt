@@ -20,3 +20,4 @@ pub mod Bodies
 pub mod Gathered
 pub mod NumberTests
 pub mod FromOutside
+pub mod AtOnce

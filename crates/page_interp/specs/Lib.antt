@@ -10,3 +10,4 @@ pub mod Machines
 pub mod Clauses
 pub mod Frames
 pub mod Direct
+pub mod AtOnce

@@ -14,9 +14,10 @@ use crate::code::Code;
 use crate::exit::Store;
 use crate::operators::{int_product, item_of};
 use crate::stack::Current;
+use crate::values::copied;
 use crate::variables::find;
 use lang_ast::{CompareSign, Expr, ProductSign, SumSign};
-use page_values::{MemoryFault, Str, Value, as_int, as_list, copy};
+use page_values::{MemoryFault, Str, Value, as_int, as_list};
 
 /// How deep the parts of an expression may nest that is evaluated at once.
 const LEVELS: u32 = 8;
@@ -190,8 +191,9 @@ pub fn direct_value(
     ensures { IfOk result (λ o. IfSome o (λ v. direct_there code.now store.now current.now expr.now ≡ Some (seen v))) }
 {
     match expr {
-        Expr::Sum(_, _) => Ok(int_value(int(code, store, current, expr, LEVELS))),
-        Expr::Product(_, _) => Ok(int_value(int(code, store, current, expr, LEVELS))),
+        Expr::Number(_) | Expr::Sum(_, _) | Expr::Product(_, _) => {
+            Ok(int_value(int(code, store, current, expr, LEVELS)))
+        }
         Expr::Compare(left, sign, right) => {
             let Some(x) = int(code, store, current, left, LEVELS) else {
                 return Ok(None);
@@ -201,8 +203,8 @@ pub fn direct_value(
             };
             Ok(Some(Value::Bool(compared(*sign, x, y))))
         }
-        Expr::Post(_, _) => match item(code, store, current, expr, LEVELS) {
-            Some(value) => Ok(Some(copy(code.alloc(), value)?)),
+        Expr::Name(_) | Expr::Post(_, _) => match item(code, store, current, expr, LEVELS) {
+            Some(value) => Ok(Some(copied(code.alloc(), value)?)),
             None => Ok(None),
         },
         _ => Ok(None),

@@ -2,6 +2,7 @@
 #![tactic(auto)]
 
 mod asking;
+mod at_once;
 mod calling;
 mod code;
 mod direct;

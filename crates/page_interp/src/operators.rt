@@ -11,11 +11,9 @@ ghost use Rattle.page_interp.specs.Runs.{value_left, exit_left, ends, throws};
 ghost use Rattle.page_interp.specs.Answers.{Answers, AreInts, AreNoInts, text_answer, int_sum_answer, int_product};
 
 use crate::exit::Exit;
-use crate::values::made;
+use crate::values::{copied, made};
 use page_types::{CompareSign, ProductSign, SumSign, UnarySign};
-use page_values::{
-    FaultName, Str, Value, as_bool, as_int, as_list, as_text, copy, fault, join, same,
-};
+use page_values::{FaultName, Str, Value, as_bool, as_int, as_list, as_text, fault, join, same};
 use std::alloc::Global;
 
 /// A fault with an empty text.
@@ -171,7 +169,7 @@ pub fn item_at<S: Drop>(alloc: Global, list: &Value, place: &Value) -> Result<Va
         return Err(throw(alloc, FaultName::TypeError));
     };
     match item_of(items.items(), n) {
-        Some(v) => match copy(alloc, v) {
+        Some(v) => match copied(alloc, v) {
             Ok(v) => Ok(v),
             Err(_) => Err(Exit::OutOfMemory),
         },

@@ -1,32 +1,27 @@
 //! The steps of a run, until the outermost call ends.
 
-ghost use Rattle.std.specs.Prelude.{◌≡◌, [], ◌∷◌, ◌+◌, ◌<◌, ◌≤◌, List, ℕ, true, Some, IfOk, IfErr, map};
+ghost use Rattle.std.specs.Prelude.{◌≡◌, [], ◌∷◌, ◌+◌, ◌<◌, ◌≤◌, List, ℕ, IfOk, IfErr, map};
 ghost use Rattle.std.specs.Option.{option_map};
-ghost use Rattle.page_types.specs.Tree.{Program};
-ghost use Rattle.page_parts.specs.Kinds.{bool_in};
 ghost use Rattle.page_values.specs.Seen.{seen};
 ghost use Rattle.lang_ast.specs.Steps.{AllNumbered};
 ghost use Rattle.page_interp.specs.Clauses.{script, CanCall};
-ghost use Rattle.page_interp.specs.Frames.{does, stacked, place, Stood, Steps, Holds, Goes, Finishes, IsWant, IsSet, IsCallable};
+ghost use Rattle.page_interp.specs.Frames.{does, stacked, place, Stood, Steps, Holds, Goes, Finishes, IsWant, IsCallable};
 ghost use Rattle.page_interp.specs.Runs.{Runs, outside, moment_of, caller_of, value_left, count_of_functions};
-ghost use Rattle.page_interp.specs.declared.stack.Current.{Current};
 ghost use Rattle.page_interp.specs.declared.stack.Focus.TheVariants as focus;
-ghost use Rattle.page_interp.specs.declared.stack.Frame.TheVariants as frame;
 
 use crate::asking::{ask, resume};
+use crate::at_once::{into_block, into_test, next_in_row, next_turn, set};
 use crate::code::Code;
 use crate::exit::{Exit, Store};
-use crate::expressions::{from_expr, from_row};
+use crate::expressions::from_expr;
 use crate::names::Names;
 use crate::opening::{callable, callee_body, callee_locals, callee_names, open};
 use crate::receiving::receive;
-use crate::stack::{Current, Focus, Frame, pop, within};
-use crate::statements::{from_block, from_items, from_others, from_stmt};
+use crate::stack::{Current, Focus, Frame, pop};
+use crate::statements::{from_items, from_others, from_stmt};
 use crate::values::{ended, joined};
-use crate::variables::assign;
-use lang_ast::{Expr, Host, Named, Outcome, Stmt};
-use page_values::{FaultName, Value, as_bool, fault};
-use std::alloc::Global;
+use lang_ast::{Host, Outcome};
+use page_values::{Value, fault};
 
 /// A call ends: the variables of its caller are the innermost ones again.
 fn close<'c>(current: &mut Current<'c>, names: &'c Names, locals: Vec<Value>)
@@ -38,52 +33,6 @@ fn close<'c>(current: &mut Current<'c>, names: &'c Names, locals: Vec<Value>)
     current.names = names;
     current.locals = locals;
     current.depth -= 1;
-}
-
-/// A variable takes a value.
-fn set<'c>(code: &Code, store: &mut Store, current: &mut Current<'c>, name: &Named, value: Value)
-    ensures { IsSet code.now store.old current.old name.now.name value store.new current.new }
-{
-    assign(
-        code,
-        store,
-        current.names,
-        &mut current.locals,
-        &name.name,
-        value,
-    );
-}
-
-/// The condition of a loop: its block is next, with a unit less.
-fn into_test<'c, H: Host>(
-    alloc: Global,
-    store: &mut Store,
-    stack: &mut Vec<Frame<'c>>,
-    value: Value,
-    test: &'c Expr,
-    block: &'c [Stmt],
-) -> Result<Focus<'c>, Exit<H::Stop>>
-    ensures ok { IfOk result (λ f. (p : Program) (current : Current) →
-        Holds p (place store.old current (frame.Test test.entry block.entry ∷ stacked stack.old.items) (focus.Value value)) →
-        Goes H.rules p
-        (place store.old current (frame.Test test.entry block.entry ∷ stacked stack.old.items) (focus.Value value))
-        (place store.new current (stacked stack.new.items) f)) }
-    ensures err { IfErr result (IsWant store.old.fuel) }
-    ensures enters { IfErr result (λ _. bool_in (seen value) ≡ Some true) }
-    ensures globals { store.new.globals ≡ store.old.globals }
-    ensures fuel { store.new.fuel ≤ store.old.fuel }
-{
-    match as_bool(&value) {
-        Some(true) => {
-            if store.fuel == 0 {
-                return Err(Exit::Fuel);
-            }
-            store.fuel -= 1;
-            within(stack, Frame::Turn(test, block), Focus::Block(block))
-        }
-        Some(false) => Ok(Focus::Value(Value::Unit)),
-        None => Ok(Focus::Throw(fault(alloc, FaultName::TypeError))),
-    }
 }
 
 /// A call of what a name stood for.
@@ -142,7 +91,7 @@ fn from_value<'c, H: Host>(
             into_test::<H>(code.alloc(), store, stack, value, test, block)
         }
         Some(Frame::Turn(test, block)) => {
-            within(stack, Frame::Test(test, block), Focus::Expr(test))
+            next_turn::<H>(code, store, current, stack, test, block)
         }
         Some(Frame::Try(_, _)) => Ok(Focus::Value(value)),
         Some(Frame::Open(names, locals)) => {
@@ -264,10 +213,10 @@ fn step<'c, H: Host>(
     match focus {
         Focus::Expr(expr) => from_expr::<H>(code, store, current, stack, expr),
         Focus::Row(purpose, values, exprs) => {
-            from_row::<H>(code.alloc(), stack, purpose, values, exprs)
+            next_in_row::<H>(code, store, current, stack, purpose, values, exprs)
         }
         Focus::Stmt(stmt) => from_stmt::<H>(stack, stmt),
-        Focus::Block(stmts) => from_block::<H>(stack, stmts),
+        Focus::Block(stmts) => into_block::<H>(code, store, current, stack, stmts),
         Focus::Items(items) => from_items::<H>(stack, items),
         Focus::Others(others, last) => from_others::<H>(stack, others, last),
         Focus::Ask(op, args) => ask(code, host, store, current, stack, op, args),

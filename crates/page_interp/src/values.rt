@@ -12,7 +12,9 @@ ghost use Rattle.page_interp.specs.Runs.{value_left, unit_left, exit_left, call_
 ghost use Rattle.page_interp.specs.Answers.{Answers, MadeGives};
 
 use crate::exit::Exit;
-use page_values::{FaultName, Func, Items, Str, Value, ValueFault, copy_text, fault, make_list};
+use page_values::{
+    FaultName, Func, Items, MemoryFault, Str, Value, ValueFault, copy, copy_text, fault, make_list,
+};
 use std::alloc::{AllocError, Global};
 
 /// A value that was made, or RangeError where it is too heavy.
@@ -43,6 +45,38 @@ pub fn text<S: Drop>(alloc: Global, text: &Str) -> Result<Value, Exit<S>>
     }
 }
 
+/// A value equal to this one.
+pub fn copied(alloc: Global, value: &Value) -> Result<Value, MemoryFault>
+    ensures { IfOk result (λ v. v ≡ value.now) }
+{
+    match value {
+        Value::List(items) => Ok(Value::List(copied_items(alloc, items)?)),
+        _ => copied_item(alloc, value),
+    }
+}
+
+/// The same, where most values are integers.
+fn copied_item(alloc: Global, value: &Value) -> Result<Value, MemoryFault>
+    ensures { IfOk result (λ v. v ≡ value.now) }
+{
+    match value {
+        Value::Int(n) => Ok(Value::Int(*n)),
+        _ => copy(alloc, value),
+    }
+}
+
+/// The same items.
+fn copied_items(alloc: Global, items: &Items) -> Result<Items, MemoryFault>
+    ensures { IfOk result (λ vs. vs ≡ items.now) }
+{
+    let from = items.items();
+    let mut copies = Vec::with_capacity(alloc, from.len())?;
+    for item in from {
+        copies.push(copied_item(alloc, item)?)?;
+    }
+    Ok(Items::new(copies))
+}
+
 /// One more value at the end.
 pub fn append<S: Drop>(values: &mut Vec<Value>, value: Value) -> Result<(), Exit<S>>
     ensures appended { IfOk result (λ _. values.new.items ≡ values.old.items ++ value ∷ []) }
@@ -67,6 +101,9 @@ pub fn joined(bound: Items, mut args: Vec<Value>) -> Result<Vec<Value>, AllocErr
     ensures { IfOk result (λ vs. map seen vs.items ≡ items_of bound ++ map seen args.items) }
 {
     let mut all = bound.into_items();
+    if all.is_empty() {
+        return Ok(args);
+    }
     all.append(&mut args)?;
     Ok(all)
 }

@@ -9,7 +9,8 @@ ghost use Rattle.page_interp.specs.Variables.{value_at, has_variable, IsWritten,
 use crate::code::Code;
 use crate::exit::{Exit, Store};
 use crate::names::Names;
-use page_values::{FaultName, MemoryFault, Str, Value, copy, fault, function_value};
+use crate::values::copied;
+use page_values::{FaultName, MemoryFault, Str, Value, fault, function_value};
 use std::alloc::Global;
 
 /// The value of the variable of this name.
@@ -35,7 +36,7 @@ fn read(
     ensures { IfOk result (λ o. option_map seen o ≡ value_at names.now values.now name.now) }
 {
     match find(names, values, name) {
-        Some(value) => Ok(Some(copy(alloc, value)?)),
+        Some(value) => Ok(Some(copied(alloc, value)?)),
         None => Ok(None),
     }
 }

@@ -1,6 +1,7 @@
 use Rattle.std.proofs.Common.{refl, ◌∙◌, [], ◌-◌}
 use Rattle.lang_ast.specs.SeenProgram.{seen_program}
 use Rattle.page_interp.proofs.Steps.{still}
+use Rattle.page_interp.proofs.AtOnce.{steps_leads}
 use Rattle.page_interp.proofs.RunSteps.{steps_goes, steps_moves, steps_call}
 use Rattle.page_interp.proofs.stepping.step.Goals as goal
 
@@ -8,13 +9,13 @@ pub returns-in-Expr : goal.returns-in-Expr
 returns-in-Expr g c = rw c.in-Expr.is (steps_goes g.H.Host.rules g.H.Host.leaves (seen_program c.args.code.now) (g.H.Host.now c.args.host.now) c.from_expr.result _ _ _ _ c.from_expr.ensures.ok c.from_expr.ensures.err refl (still _))
 
 pub returns-in-Row : goal.returns-in-Row
-returns-in-Row g c = rw c.in-Row.is (steps_moves g.H.Host.rules g.H.Host.leaves (seen_program c.args.code.now) (g.H.Host.now c.args.host.now) c.from_row.result _ _ _ _ _ c.from_row.ensures.ok c.from_row.ensures.err)
+returns-in-Row g c = rw c.in-Row.is (steps_goes g.H.Host.rules g.H.Host.leaves (seen_program c.args.code.now) (g.H.Host.now c.args.host.now) c.next_in_row.result _ _ _ _ c.next_in_row.ensures.ok c.next_in_row.ensures.err refl (still _))
 
 pub returns-in-Stmt : goal.returns-in-Stmt
 returns-in-Stmt g c = rw c.in-Stmt.is (steps_moves g.H.Host.rules g.H.Host.leaves (seen_program c.args.code.now) (g.H.Host.now c.args.host.now) c.from_stmt.result _ _ _ _ _ c.from_stmt.ensures.ok c.from_stmt.ensures.err)
 
 pub returns-in-Block : goal.returns-in-Block
-returns-in-Block g c = rw c.in-Block.is (steps_moves g.H.Host.rules g.H.Host.leaves (seen_program c.args.code.now) (g.H.Host.now c.args.host.now) c.from_block.result _ _ _ _ _ c.from_block.ensures.ok c.from_block.ensures.err)
+returns-in-Block g c = rw c.in-Block.is (steps_leads g.H.Host.rules g.H.Host.leaves (seen_program c.args.code.now) (g.H.Host.now c.args.host.now) c.into_block.result _ _ _ _ c.into_block.ensures.ok c.into_block.ensures.err c.into_block.ensures.as_before)
 
 pub returns-in-Items : goal.returns-in-Items
 returns-in-Items g c = rw c.in-Items.is (steps_moves g.H.Host.rules g.H.Host.leaves (seen_program c.args.code.now) (g.H.Host.now c.args.host.now) c.from_items.result _ _ _ _ _ c.from_items.ensures.ok c.from_items.ensures.err)

@@ -1,0 +1,126 @@
+-- Several steps as one, where an expression calls nothing.
+use Rattle.std.proofs.Common.{◌≡◌, ℕ, ◌<◌, ◌≤◌, List, [], ◌∷◌, ◌++◌, Result, Ok, Err, IfOk, IfErr, Some, Vec, Global, refl, ◌∙◌, arith}
+use Rattle.std.specs.Borrow.{Bor}
+use Rattle.page_types.specs.Tree.{Program}
+use Rattle.page_values.specs.declared.Value.{Value}
+use Rattle.page_values.specs.declared.Value.TheVariants as value
+use Rattle.page_values.specs.Seen.{seen}
+use Rattle.lang_ast.specs.SeenProgram.{seen_program}
+use Rattle.lang_ast.specs.Hosts.{HostNow}
+use Rattle.lang_ast.specs.declared.program.Program as Code
+use Rattle.lang_ast.specs.declared.tree.Named.{Named}
+use Rattle.lang_ast.specs.declared.tree.Expr.{Expr}
+use Rattle.lang_ast.specs.declared.tree.Stmt.{Stmt}
+use Rattle.lang_ast.specs.declared.tree.Stmt as S
+use Rattle.lang_meaning.specs.HostSteps.{HostRules, Ask}
+use Rattle.page_interp.specs.declared.exit.Exit.{Exit}
+use Rattle.page_interp.specs.declared.exit.Exit.TheVariants as exit
+use Rattle.page_interp.specs.declared.exit.Store.{Store}
+use Rattle.page_interp.specs.declared.stack.Current.{Current}
+use Rattle.page_interp.specs.declared.stack.Focus.{Focus}
+use Rattle.page_interp.specs.declared.stack.Focus.TheVariants as focus
+use Rattle.page_interp.specs.declared.stack.Frame.{Frame}
+use Rattle.page_interp.specs.declared.stack.Frame.TheVariants as frame
+use Rattle.page_interp.specs.declared.stack.Waiting.TheVariants as waiting
+use Rattle.page_interp.specs.declared.stack.Purpose.{Purpose}
+use Rattle.page_interp.specs.AtOnce.{Assigns, Gives, Leads, turned}
+use Rattle.page_interp.specs.Direct.{direct_there}
+use Rattle.page_interp.specs.Frames.{does, place, Place, Holds, Goes, Moves, Steps, IsSet, IsWant, steps_left}
+use Rattle.page_interp.proofs.Steps.{still}
+use Rattle.page_interp.proofs.SmallSteps.{pushes_moves, pops_moves, within}
+use Rattle.page_interp.proofs.StmtSteps.{block_pushes, var_moves, assign_moves}
+use Rattle.page_interp.proofs.ValueSteps.{stmts_pops, row_pops}
+use Rattle.page_interp.proofs.ExprSteps.{row_pushes}
+use Rattle.page_interp.proofs.FrameSteps.{assign_goes, turn_goes}
+use Rattle.page_interp.proofs.DirectSteps.{direct_goes}
+use Rattle.page_interp.proofs.AskSteps.{goes_advances, memory_finishes}
+
+less_trans : (a b c : ℕ) → a < b → b < c → a < c
+less_trans a b c h k = omega arith
+
+module _ {T : Type 0} (rules : HostRules T) (p : Program) where
+  pub goes_trans : (a b c : Place) → Goes rules p a b → Goes rules p b c → Goes rules p a c
+  goes_trans a b c x y = record {
+    means = λ ns k. let s = x.means ns k in let t = y.means s.numbers s.enough in record { numbers = t.numbers; enough = t.enough; same = λ host. s.same host ∙ t.same host };
+    holds = y.holds;
+    fuel = within _ _ _ y.fuel x.fuel;
+    tickets = λ ts. y.tickets ts ∙ x.tickets ts;
+    fewer = less_trans _ _ _ y.fewer x.fewer;
+  }
+
+-- a step that may change the variables, or for which memory is wanting
+pub steps_leads : {T S : Type 0} (rules : HostRules T) (leaves : Ask → T → T → Type 0) (p : Program) (h : HostNow T S) (result : Result Focus (Exit S)) (a : Place) (store1 : Store) (current1 : Current) (fs1 : List Frame)
+    → IfOk result (λ f. Leads rules p a (place store1 current1 fs1 f)) → IfErr result (λ x. x ≡ exit.OutOfMemory) → IfErr result (λ _. store1 ≡ a.store) → Steps rules leaves p h a result h store1 current1 fs1
+steps_leads rules leaves p h (Ok f) a store1 current1 fs1 g e s = λ ts st. goes_advances rules leaves p ts h a (place store1 current1 fs1 f) st (g st.holds)
+steps_leads rules leaves p h (Err x) a store1 current1 fs1 g e s = λ ts st. rw (e, s) (memory_finishes rules leaves p ts (λ d. does d a.focus) h a a.store st.ready refl (still a.store.fuel))
+
+assigns_moves : {T : Type 0} (rules : HostRules T) (fs : List Frame) (s : Bor Stmt) (x : Stmt) (n : Bor Named) (e : Bor Expr) → s.now ≡ x → Assigns x n.now e.now → Moves rules fs (focus.Stmt s) (frame.Assign n ∷ fs) (focus.Expr e)
+assigns_moves rules fs s (S.Var name f) n e q r = var_moves rules fs s n e n.now e.now (rw (r.0, r.1) at q) refl refl
+assigns_moves rules fs s (S.Assign name f) n e q r = assign_moves rules fs s n e n.now e.now (rw (r.0, r.1) at q) refl refl
+assigns_moves rules fs s x n e q r = absurd r
+
+module _ {T : Type 0} (rules : HostRules T) (p : Code.Program) (store : Store) (current : Current) where
+  given_goes : (fs : List Frame) (store1 : Store) (current1 : Current) (n : Bor Named) (e : Bor Expr) (v : Value) → direct_there p store current e.now ≡ Some (seen v) → IsSet p store current n.now.name v store1 current1
+      → Holds (seen_program p) (place store current (frame.Assign n ∷ fs) (focus.Expr e)) → Goes rules (seen_program p) (place store current (frame.Assign n ∷ fs) (focus.Expr e)) (place store1 current1 fs (focus.Value value.Unit))
+  given_goes fs store1 current1 n e v q s h =
+      let one = direct_goes rules p store current (frame.Assign n ∷ fs) e v q h in
+      goes_trans rules (seen_program p) _ _ _ one (assign_goes rules (seen_program p) store current fs store1 current1 n v s.names s.depth s.locals s.globals s.fuel one.holds)
+
+  -- a statement that only gives a variable a value
+  pub block_gives : (fs : List Frame) (store1 : Store) (current1 : Current) (ss rest : Bor (List Stmt)) (n : Bor Named) (v : Value) → Gives p store current ss.now n.now v rest.now → IsSet p store current n.now.name v store1 current1
+      → Leads rules (seen_program p) (place store current fs (focus.Block ss)) (place store1 current1 fs (focus.Block rest))
+  block_gives fs store1 current1 ss rest n v g i = λ h.
+      let one = (pushes_moves rules fs (block_pushes ss rest g.stmt g.first)).goes (seen_program p) store current h in
+      let two = (assigns_moves rules (frame.Wait (waiting.Stmts rest) ∷ fs) g.stmt g.stmt.now n g.expr refl g.assigns).goes (seen_program p) store current one.holds in
+      let three = given_goes (frame.Wait (waiting.Stmts rest) ∷ fs) store1 current1 n g.expr v g.value i two.holds in
+      let four = (pops_moves rules fs (stmts_pops value.Unit rest)).goes (seen_program p) store1 current1 three.holds in
+      goes_trans rules (seen_program p) _ _ _ one (goes_trans rules (seen_program p) _ _ _ two (goes_trans rules (seen_program p) _ _ _ three four))
+
+  -- the value of an expression in a row
+  pub row_direct : (fs : List Frame) (purpose : Purpose) (vs vs1 : Vec Value Global) (row rest : Bor (List Expr)) (e : Bor Expr) (v : Value) → row.now ≡ e.now ∷ rest.now → direct_there p store current e.now ≡ Some (seen v) → vs1.items ≡ vs.items ++ v ∷ []
+      → Leads rules (seen_program p) (place store current fs (focus.Row purpose vs row)) (place store current fs (focus.Row purpose vs1 rest))
+  row_direct fs purpose vs vs1 row rest e v q d a = λ h.
+      let one = (pushes_moves rules fs (row_pushes purpose vs row rest e q)).goes (seen_program p) store current h in
+      let two = direct_goes rules p store current (frame.Wait (waiting.Row purpose vs rest) ∷ fs) e v d one.holds in
+      let three = (pops_moves rules fs (row_pops v purpose vs vs1 rest a)).goes (seen_program p) store current two.holds in
+      goes_trans rules (seen_program p) _ _ _ one (goes_trans rules (seen_program p) _ _ _ two three)
+
+  -- the condition of a loop, after a turn
+  pub turn_tests : (fs : List Frame) (test : Bor Expr) (block : Bor (List Stmt)) (u v : Value) (b : Place) → direct_there p store current test.now ≡ Some (seen v)
+      → Leads rules (seen_program p) (place store current (frame.Test test block ∷ fs) (focus.Value v)) b → Leads rules (seen_program p) (turned store current test block fs u) b
+  turn_tests fs test block u v b d next = λ h.
+      let one = turn_goes rules (seen_program p) store current fs test test block block u refl refl h in
+      let two = direct_goes rules p store current (frame.Test test block ∷ fs) test v d one.holds in
+      goes_trans rules (seen_program p) _ _ _ one (goes_trans rules (seen_program p) _ _ _ two (next two.holds))
+
+-- where units are left, the want is one of memory
+pub memory_wanted : {S : Type 0} (fuel : ℕ) (x : Exit S) → 0 < fuel → IsWant fuel x → x ≡ exit.OutOfMemory
+memory_wanted fuel (exit.Throw v) h w = absurd w
+memory_wanted fuel (exit.Return v) h w = absurd w
+memory_wanted fuel exit.Fuel h w = absurd (omega (arith, h, w))
+memory_wanted fuel (exit.Host stop) h w = absurd w
+memory_wanted fuel exit.OutOfMemory h w = refl
+
+pub test_wants : {A S : Type 0} (result : Result A (Exit S)) (fuel : ℕ) → 0 < fuel → IfErr result (IsWant fuel) → IfErr result (λ x. x ≡ exit.OutOfMemory)
+test_wants (Ok a) fuel h w = tt
+test_wants (Err x) fuel h w = memory_wanted fuel x h w
+
+module _ {T S : Type 0} (rules : HostRules T) (p : Code.Program) (store : Store) (current : Current) (fs : List Frame) (test : Bor Expr) (block : Bor (List Stmt)) where
+  -- the condition is next, and the loop waits for it
+  pub turn_pushed : (result : Result Focus (Exit S)) (fs1 : List Frame) → IfOk result (λ _. fs1 ≡ frame.Test test block ∷ fs) → IfOk result (λ x. x ≡ focus.Expr test)
+      → IfOk result (λ f. (v : Value) → Leads rules (seen_program p) (turned store current test block fs v) (place store current fs1 f))
+  turn_pushed (Ok x) fs1 a b = λ v. rw (a, b) (λ h. turn_goes rules (seen_program p) store current fs test test block block v refl refl h)
+  turn_pushed (Err x) fs1 a b = tt
+
+  -- the condition has its value at once
+  pub turn_entered : (result : Result Focus (Exit S)) (store1 : Store) (fs1 : List Frame) (value : Value) → direct_there p store current test.now ≡ Some (seen value)
+      → IfOk result (λ f. (q : Program) (now : Current) → Holds q (place store now (frame.Test test block ∷ fs) (focus.Value value)) → Goes rules q (place store now (frame.Test test block ∷ fs) (focus.Value value)) (place store1 now fs1 f))
+      → IfOk result (λ f. (v : Value) → Leads rules (seen_program p) (turned store current test block fs v) (place store1 current fs1 f))
+  turn_entered (Ok f) store1 fs1 value d m = λ v. turn_tests rules p store current fs test block v value (place store1 current fs1 f) d (m (seen_program p) current)
+  turn_entered (Err x) store1 fs1 value d m = tt
+
+  -- whatever value the turn ended with
+  pub turn_at : (result : Result Focus (Exit S)) (store1 : Store) (fs1 : List Frame) (v : Value) → IfOk result (λ f. (v : Value) → Leads rules (seen_program p) (turned store current test block fs v) (place store1 current fs1 f))
+      → IfOk result (λ f. Leads rules (seen_program p) (turned store current test block fs v) (place store1 current fs1 f))
+  turn_at (Ok f) store1 fs1 v h = h v
+  turn_at (Err x) store1 fs1 v h = tt

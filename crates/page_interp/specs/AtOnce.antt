@@ -1,0 +1,48 @@
+-- What is done in one step where an expression calls nothing.
+use Rattle.std.specs.Prelude.{◌≡◌, List, ◌∷◌, Some}
+use Rattle.std.specs.Borrow.{Bor}
+use Rattle.page_types.specs.Tree.{Program}
+use Rattle.page_values.specs.declared.Value.{Value}
+use Rattle.page_values.specs.Seen.{seen}
+use Rattle.lang_ast.specs.declared.program.Program as Code
+use Rattle.lang_ast.specs.declared.tree.Named.{Named}
+use Rattle.lang_ast.specs.declared.tree.Expr.{Expr}
+use Rattle.lang_ast.specs.declared.tree.Stmt.{Stmt}
+use Rattle.lang_ast.specs.declared.tree.Stmt as S
+use Rattle.lang_meaning.specs.HostSteps.{HostRules}
+use Rattle.page_interp.specs.declared.exit.Store.{Store}
+use Rattle.page_interp.specs.declared.stack.Current.{Current}
+use Rattle.page_interp.specs.declared.stack.Focus.TheVariants as focus
+use Rattle.page_interp.specs.declared.stack.Frame.{Frame}
+use Rattle.page_interp.specs.declared.stack.Frame.TheVariants as frame
+use Rattle.page_interp.specs.Direct.{direct_there}
+use Rattle.page_interp.specs.Frames.{Place, Holds, Goes, place}
+
+-- a statement gives the variable of this name the value of this expression
+abbrev pub Assigns : Stmt → Named → Expr → Type 0
+Assigns (S.Var x e) name expr = (x ≡ name) × (e ≡ expr)
+Assigns (S.Assign x e) name expr = (x ≡ name) × (e ≡ expr)
+Assigns s name expr = ⊥
+
+-- the first of some statements only gives the variable of this name this value, and these come after it
+pub record Gives (p : Code.Program) (store : Store) (current : Current) (ss : List Stmt) (name : Named) (v : Value) (rest : List Stmt)
+    : Type 0 where
+  pub stmt : Bor Stmt
+  pub expr : Bor Expr
+  pub first : ss ≡ stmt.now ∷ rest
+  pub assigns : Assigns stmt.now name expr.now
+  pub value : direct_there p store current expr.now ≡ Some (seen v)
+
+-- the first of some expressions has this value, and these come after it
+pub record HasFirst (p : Code.Program) (store : Store) (current : Current) (es : List Expr) (v : Value) (rest : List Expr) : Type 0 where
+  pub expr : Bor Expr
+  pub first : es ≡ expr.now ∷ rest
+  pub value : direct_there p store current expr.now ≡ Some (seen v)
+
+-- a step that does not ask the host leads from one place to another, where what holds everywhere holds at the first
+abbrev pub Leads : {T : Type 0} → HostRules T → Program → Place → Place → Type 0
+Leads rules p a b = Holds p a → Goes rules p a b
+
+-- where a loop stands at the end of a turn
+abbrev pub turned : Store → Current → Bor Expr → Bor (List Stmt) → List Frame → Value → Place
+turned store current test block fs v = place store current (frame.Turn test block ∷ fs) (focus.Value v)

@@ -1,0 +1,207 @@
+//! Steps that are done at once where an expression calls nothing: the assignments of a block, the arguments of a row, and
+//! the condition of a loop.
+
+ghost use Rattle.std.specs.Prelude.{◌≡◌, ◌∷◌, ◌≤◌, true, Some, IfOk, IfErr, IfSome};
+ghost use Rattle.page_types.specs.Tree.{Program};
+ghost use Rattle.page_parts.specs.Kinds.{bool_in};
+ghost use Rattle.page_values.specs.Seen.{seen};
+ghost use Rattle.page_values.specs.declared.Value.{Value};
+ghost use Rattle.page_interp.specs.AtOnce.{Assigns, Gives, HasFirst, Leads, turned};
+ghost use Rattle.page_interp.specs.Clauses.{script};
+ghost use Rattle.page_interp.specs.Frames.{stacked, place, Holds, Goes, IsWant, IsSet};
+ghost use Rattle.page_interp.specs.declared.exit.Exit.TheVariants as exit;
+ghost use Rattle.page_interp.specs.declared.stack.Current.{Current};
+ghost use Rattle.page_interp.specs.declared.stack.Focus.TheVariants as focus;
+ghost use Rattle.page_interp.specs.declared.stack.Frame.TheVariants as frame;
+
+use crate::code::Code;
+use crate::direct::direct_value;
+use crate::exit::{Exit, Store};
+use crate::expressions::from_row;
+use crate::stack::{Current, Focus, Frame, Purpose, within};
+use crate::statements::from_block;
+use crate::values::append;
+use crate::variables::assign;
+use lang_ast::{Expr, Host, Named, Stmt};
+use page_values::{FaultName, MemoryFault, Value, as_bool, fault};
+use std::alloc::Global;
+
+/// A variable takes a value.
+pub fn set<'c>(
+    code: &Code,
+    store: &mut Store,
+    current: &mut Current<'c>,
+    name: &Named,
+    value: Value,
+)
+    ensures { IsSet code.now store.old current.old name.now.name value store.new current.new }
+{
+    assign(
+        code,
+        store,
+        current.names,
+        &mut current.locals,
+        &name.name,
+        value,
+    );
+}
+
+/// The condition of a loop: its block is next, with a unit less.
+pub fn into_test<'c, H: Host>(
+    alloc: Global,
+    store: &mut Store,
+    stack: &mut Vec<Frame<'c>>,
+    value: Value,
+    test: &'c Expr,
+    block: &'c [Stmt],
+) -> Result<Focus<'c>, Exit<H::Stop>>
+    ensures ok { IfOk result (λ f. (p : Program) (current : Current) →
+        Holds p (place store.old current (frame.Test test.entry block.entry ∷ stacked stack.old.items) (focus.Value value)) →
+        Goes H.rules p
+        (place store.old current (frame.Test test.entry block.entry ∷ stacked stack.old.items) (focus.Value value))
+        (place store.new current (stacked stack.new.items) f)) }
+    ensures err { IfErr result (IsWant store.old.fuel) }
+    ensures enters { IfErr result (λ _. bool_in (seen value) ≡ Some true) }
+    ensures globals { store.new.globals ≡ store.old.globals }
+    ensures fuel { store.new.fuel ≤ store.old.fuel }
+{
+    match as_bool(&value) {
+        Some(true) => {
+            if store.fuel == 0 {
+                return Err(Exit::Fuel);
+            }
+            store.fuel -= 1;
+            within(stack, Frame::Turn(test, block), Focus::Block(block))
+        }
+        Some(false) => Ok(Focus::Value(Value::Unit)),
+        None => Ok(Focus::Throw(fault(alloc, FaultName::TypeError))),
+    }
+}
+
+/// The variable that a statement gives a value, and the expression of that value.
+fn assignment(stmt: &Stmt) -> Option<(&Named, &Expr)>
+    ensures { IfSome result (λ a. Assigns stmt.now a.0.now a.1.now) }
+{
+    match stmt {
+        Stmt::Var(name, expr) => Some((name, expr)),
+        Stmt::Assign(name, expr) => Some((name, expr)),
+        _ => None,
+    }
+}
+
+/// The variable and its value, where the first statement only gives a variable a value that is found at once, and the
+/// statements after it.
+fn given<'c>(
+    code: &Code,
+    store: &Store,
+    current: &Current,
+    stmts: &'c [Stmt],
+) -> Result<Option<(&'c Named, Value, &'c [Stmt])>, MemoryFault>
+    ensures { IfOk result (λ o. IfSome o (λ g.
+        Gives code.now store.now current.now stmts.now g.0.now g.1 g.2.now)) }
+{
+    let Some((stmt, rest)) = stmts.split_first() else {
+        return Ok(None);
+    };
+    let Some((name, expr)) = assignment(stmt) else {
+        return Ok(None);
+    };
+    match direct_value(code, store, current, expr)? {
+        Some(value) => Ok(Some((name, value, rest))),
+        None => Ok(None),
+    }
+}
+
+/// From the statements of a block.
+pub fn into_block<'c, H: Host>(
+    code: &Code,
+    store: &mut Store,
+    current: &mut Current<'c>,
+    stack: &mut Vec<Frame<'c>>,
+    stmts: &'c [Stmt],
+) -> Result<Focus<'c>, Exit<H::Stop>>
+    ensures ok { IfOk result (λ f. Leads H.rules (script code.now)
+        (place store.old current.old (stacked stack.old.items) (focus.Block stmts.entry))
+        (place store.new current.new (stacked stack.new.items) f)) }
+    ensures err { IfErr result (λ x. x ≡ exit.OutOfMemory) }
+    ensures as_before { IfErr result (λ _. store.new ≡ store.old) }
+{
+    match given(code, store, current, stmts) {
+        Ok(Some((name, value, rest))) => {
+            set(code, store, current, name, value);
+            Ok(Focus::Block(rest))
+        }
+        Ok(None) => from_block::<H>(stack, stmts),
+        Err(_) => Err(Exit::OutOfMemory),
+    }
+}
+
+/// The value of the first of some expressions, where it is found at once, and the expressions after it.
+fn first_value<'c>(
+    code: &Code,
+    store: &Store,
+    current: &Current,
+    exprs: &'c [Expr],
+) -> Result<Option<(Value, &'c [Expr])>, MemoryFault>
+    ensures { IfOk result (λ o. IfSome o (λ g.
+        HasFirst code.now store.now current.now exprs.now g.0 g.1.now)) }
+{
+    let Some((expr, rest)) = exprs.split_first() else {
+        return Ok(None);
+    };
+    match direct_value(code, store, current, expr)? {
+        Some(value) => Ok(Some((value, rest))),
+        None => Ok(None),
+    }
+}
+
+/// From expressions in a row.
+pub fn next_in_row<'c, H: Host>(
+    code: &Code,
+    store: &Store,
+    current: &Current,
+    stack: &mut Vec<Frame<'c>>,
+    purpose: Purpose,
+    mut values: Vec<Value>,
+    exprs: &'c [Expr],
+) -> Result<Focus<'c>, Exit<H::Stop>>
+    ensures ok { IfOk result (λ f. Leads H.rules (script code.now)
+        (place store.now current.now (stacked stack.old.items) (focus.Row purpose values exprs.entry))
+        (place store.now current.now (stacked stack.new.items) f)) }
+    ensures err { IfErr result (λ x. x ≡ exit.OutOfMemory) }
+{
+    match first_value(code, store, current, exprs) {
+        Ok(Some((value, rest))) => {
+            append(&mut values, value)?;
+            Ok(Focus::Row(purpose, values, rest))
+        }
+        Ok(None) => from_row::<H>(code.alloc(), stack, purpose, values, exprs),
+        Err(_) => Err(Exit::OutOfMemory),
+    }
+}
+
+/// A turn of a loop ends: its condition is next.
+pub fn next_turn<'c, H: Host>(
+    code: &Code,
+    store: &mut Store,
+    current: &Current,
+    stack: &mut Vec<Frame<'c>>,
+    test: &'c Expr,
+    block: &'c [Stmt],
+) -> Result<Focus<'c>, Exit<H::Stop>>
+    ensures ok { IfOk result (λ f. (v : Value) → Leads H.rules (script code.now)
+        (turned store.old current.now test.entry block.entry (stacked stack.old.items) v)
+        (place store.new current.now (stacked stack.new.items) f)) }
+    ensures err { IfErr result (λ x. x ≡ exit.OutOfMemory) }
+    ensures globals { store.new.globals ≡ store.old.globals }
+    ensures fuel { store.new.fuel ≤ store.old.fuel }
+{
+    if store.fuel == 0 {
+        return within(stack, Frame::Test(test, block), Focus::Expr(test));
+    }
+    match direct_value(code, store, current, test) {
+        Ok(Some(value)) => into_test::<H>(code.alloc(), store, stack, value, test, block),
+        Ok(None) => within(stack, Frame::Test(test, block), Focus::Expr(test)),
+        Err(_) => Err(Exit::OutOfMemory),
+    }
+}
