@@ -7,7 +7,8 @@ use Rattle.arrivals_text.specs.Limits.{may_arrive, is_arrival, are_arrivals}
 use Rattle.arrivals_text.specs.Seen.{settings_of}
 use Rattle.arrivals_text.specs.declared.setup.PageSetup.{PageSetup}
 
-value-known : (v : Value) → may_arrive v ≡ true → IsKnown nothing_made v
+-- a value that may arrive holds none
+pub value-known : (v : Value) → may_arrive v ≡ true → IsKnown nothing_made v
 value-known UnitValue h = tt
 value-known (BoolValue b) h = tt
 value-known (IntValue n) h = tt
@@ -24,7 +25,7 @@ left : (a b : Bool) → (a && b) ≡ true → a ≡ true
 left true b h = refl
 left false b h = absurd (cc)
 
-right : (a b : Bool) → (a && b) ≡ true → b ≡ true
+pub right : (a b : Bool) → (a && b) ≡ true → b ≡ true
 right true b h = h
 right false b h = absurd (cc)
 

@@ -14,16 +14,16 @@ pub record Collects (all : List Stamped) (choices : TraceChoices) (left : List S
   pub readings : numbers_of choices.readings.items ++ readings_in left ≡ readings_in all
   pub answers : answers_of choices.answers.items ++ answers_in left ≡ answers_in all
 
-source-front : (e : Event) (more : List Source) → source_in e [] ++ more ≡ source_in e more
+pub source-front : (e : Event) (more : List Source) → source_in e [] ++ more ≡ source_in e more
 source-front (Turn n (Some s)) more = refl
 source-front (Turn n None) more = refl
 source-front e more = refl
 
-reading-front : (at : Stamped) (e : Event) (more : List ℕ) → reading_in at e [] ++ more ≡ reading_in at e more
+pub reading-front : (at : Stamped) (e : Event) (more : List ℕ) → reading_in at e [] ++ more ≡ reading_in at e more
 reading-front at (Wait t) more = refl
 reading-front at e more = refl
 
-answer-front : (e : Event) (more : List (Result ℤ ℤ)) → answer_in e [] ++ more ≡ answer_in e more
+pub answer-front : (e : Event) (more : List (Result ℤ ℤ)) → answer_in e [] ++ more ≡ answer_in e more
 answer-front (Host k x answer) more = refl
 answer-front e more = refl
 

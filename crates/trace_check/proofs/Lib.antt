@@ -8,3 +8,7 @@ pub mod Found
 pub mod Unasked
 pub mod ArrivedValues
 pub mod OwnLaws
+pub mod TextLines
+pub mod ScannedLines
+pub mod WholeLines
+pub mod FoundInText

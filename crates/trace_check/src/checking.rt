@@ -7,11 +7,17 @@ ghost use Rattle.host_jobs.specs.ToldTable.{closures_of};
 ghost use Rattle.loop_turn.specs.Lawful.{AreLawful};
 ghost use Rattle.loop_turn.specs.declared.run_stop.RunStop.TheVariants.{WriteFault};
 ghost use Rattle.trace_check.specs.Verdicts.{IsLegalHere, IsVerdict, events_of};
+ghost use Rattle.trace_text.specs.Trace.{IsBadLine};
+ghost use Rattle.trace_text.specs.declared.fault.BadLine.{BadLine as BadLineSeen};
+ghost use Rattle.trace_text.specs.declared.fault.TraceFault.TheVariants as fault;
+ghost use Rattle.trace_check.specs.Scanned.{HasVerdictOn};
 ghost use Rattle.trace_check.specs.Outcomes.{found_by};
 ghost use Rattle.trace_check.specs.declared.verdict.Verdict.TheVariants.{Yes};
 
 use crate::Verdict;
-use crate::replaying::run_again;
+use crate::replaying::{replay_choices, run_again};
+use crate::scanning::choices_behind;
+use crate::text_check::TextCheck;
 use arrivals_text::PageSetup;
 use cell_room::Steps;
 use host_jobs::HostTable;
@@ -20,7 +26,7 @@ use loop_turn::RunStop;
 use page_base::End;
 use std::alloc::{AllocError, Global};
 use std::sync::ledger::Ledger;
-use trace_text::{Events, LineCheck};
+use trace_text::{BadLine, Events, LineCheck, TraceFault, read_head};
 
 /// Judges a trace by the run of a program under a setup and the choices that stand in the trace: the sources of its turns, the times of
 /// its waits, and the answers of its host closures. The policy and the lateness of the setup are not used. The closures of the table are
@@ -49,6 +55,37 @@ pub fn check_trace<M: Ledger>(
     let lines = LineCheck::new(alloc, trace);
     let replayed = run_again(alloc, program, setup, hosts, trace.items(), lines, accesses);
     verdict_by(replayed.outcome, replayed.lines.matched() + 1)
+}
+
+/// Judges the trace that some bytes spell, as `check_trace` judges its events, and keeps no event: it takes the memory of the run and the
+/// choices, and the text of a line at a time. `Is` comes exactly where the bytes are no trace, with the first line that is refused in its
+/// place. Want of memory is the one other error.
+pub fn check_text<M: Ledger>(
+    alloc: Global,
+    program: &Program,
+    setup: &PageSetup,
+    hosts: &HostTable,
+    bytes: &[u8],
+    accesses: Steps<M>,
+) -> Result<Verdict, TraceFault>
+    requires { length (closures_of hosts.now) ≤ 2 ^ 32 }
+    ensures verdict { IfOk result
+        (HasVerdictOn (seen_program program.now) (settings_of setup.now).setup (closures_of hosts.now) bytes.now) }
+    ensures bad { (line : BadLineSeen) → result ≡ Err (fault.Is line) → IsBadLine bytes.now line.line }
+{
+    let Some((form, text)) = read_head(bytes) else {
+        return Err(TraceFault::Is(BadLine { line: 1 }));
+    };
+    let choices = match choices_behind(alloc, form, text) {
+        Ok(choices) => choices,
+        Err(fault) => return Err(fault),
+    };
+    let lines = TextCheck::new(alloc, form, text);
+    let replayed = replay_choices(alloc, program, setup, hosts, choices, lines, accesses);
+    match verdict_by(replayed.outcome, replayed.lines.next_line()) {
+        Ok(verdict) => Ok(verdict),
+        Err(AllocError) => Err(TraceFault::OutOfMemory),
+    }
 }
 
 /// What is found of a trace by the outcome of a run over the comparison of its lines. All lines before this one were met.

@@ -21,7 +21,7 @@ pub struct TraceChoices {
 }
 
 impl TraceChoices {
-    fn new(alloc: Global) -> TraceChoices
+    pub(crate) fn new(alloc: Global) -> TraceChoices
         ensures { AreChoicesOf [] result }
     {
         TraceChoices {
@@ -32,7 +32,7 @@ impl TraceChoices {
     }
 
     /// Adds the choice of an event, where it has one.
-    fn add(&mut self, e: &Stamped) -> Result<(), AllocError>
+    pub(crate) fn add(&mut self, e: &Stamped) -> Result<(), AllocError>
         ensures sources { OnOk result (self.new.sources.items ≡ self.old.sources.items ++ source_in (event_seen e.now.event) []) }
         ensures readings { OnOk result (numbers_of self.new.readings.items
             ≡ numbers_of self.old.readings.items ++ reading_in (stamped_seen e.now) (event_seen e.now.event) []) }
@@ -54,6 +54,17 @@ impl TraceChoices {
             _ => {}
         }
         Ok(())
+    }
+
+    /// The same, and lets the event go.
+    pub(crate) fn take(&mut self, e: Stamped) -> Result<(), AllocError>
+        ensures sources { OnOk result (self.new.sources.items ≡ self.old.sources.items ++ source_in (event_seen e.event) []) }
+        ensures readings { OnOk result (numbers_of self.new.readings.items
+            ≡ numbers_of self.old.readings.items ++ reading_in (stamped_seen e) (event_seen e.event) []) }
+        ensures answers { OnOk result (answers_of self.new.answers.items
+            ≡ answers_of self.old.answers.items ++ answer_in (event_seen e.event) []) }
+    {
+        self.add(&e)
     }
 }
 

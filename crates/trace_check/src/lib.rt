@@ -4,11 +4,14 @@
 mod checking;
 mod collecting;
 mod replaying;
+mod scanning;
 #[cfg(test)]
 mod tests;
+mod text_check;
 mod verdict;
 
-pub use checking::check_trace;
+pub use checking::{check_text, check_trace};
 pub use collecting::{TraceChoices, choices_of};
-pub use replaying::{Replayed, replay};
+pub use replaying::{Replayed, replay, replay_choices};
+pub use scanning::text_choices;
 pub use verdict::Verdict;

@@ -1,15 +1,19 @@
 //! The run under the choices of a trace.
 
-ghost use Rattle.std.specs.Prelude.{◌≡◌, ◌≤◌, ◌^◌, length, map, Err};
+ghost use Rattle.std.specs.Prelude.{◌≡◌, ◌≤◌, ◌^◌, length, map, List, IfOk, Err};
+ghost use Rattle.page_types.specs.Events.{Stamped as StampedSeen};
 ghost use Rattle.lang_ast.specs.SeenProgram.{seen_program};
 ghost use Rattle.arrivals_text.specs.Seen.{settings_of};
+ghost use Rattle.page_base.specs.Clocks.{numbers_of};
+ghost use Rattle.host_jobs.specs.RecordedPort.{answers_of};
 ghost use Rattle.host_jobs.specs.ToldTable.{closures_of};
 ghost use Rattle.trace_text.specs.EventSeen.{stamped_seen};
 ghost use Rattle.loop_turn.specs.declared.run_stop.RunStop.TheVariants.{OutOfMemory};
+ghost use Rattle.trace_check.specs.Collected.{AreChoicesOf};
 ghost use Rattle.trace_check.specs.Verdicts.{events_of, own_run};
 ghost use Rattle.trace_check.specs.Replays.{Replays};
 
-use crate::collecting::choices_of;
+use crate::collecting::{TraceChoices, choices_of};
 use arrivals_text::PageSetup;
 use cell_room::Steps;
 use host_jobs::{HostTable, RecordedHosts};
@@ -17,7 +21,7 @@ use lang_ast::Program;
 use loop_policy::RecordedChooser;
 use loop_turn::{RunStop, run_page};
 use page_base::{End, RecordedClock};
-use std::alloc::Global;
+use std::alloc::{AllocError, Global};
 use std::sync::ledger::Ledger;
 use trace_text::{Events, Lines, Stamped};
 
@@ -26,6 +30,31 @@ use trace_text::{Events, Lines, Stamped};
 pub struct Replayed<L: Lines> {
     pub outcome: Result<End, RunStop>,
     pub lines: L,
+}
+
+/// What answers a run by given choices, each in its order.
+#[derive(Drop)]
+struct Recording {
+    clock: RecordedClock,
+    chooser: RecordedChooser,
+    port: RecordedHosts,
+}
+
+impl Recording {
+    /// The clock, the chooser and the host port of given choices. The port has the kinds, ranges and marks of the table's closures. Want of
+    /// memory is the one error.
+    fn new(alloc: Global, hosts: &HostTable, choices: TraceChoices) -> Result<Recording, AllocError>
+        ensures clock { IfOk result (λ recording. recording.clock.left ≡ numbers_of choices.readings.items) }
+        ensures chooser { IfOk result (λ recording. recording.chooser.left ≡ choices.sources.items) }
+        ensures closures { IfOk result (λ recording. recording.port.closures ≡ closures_of hosts.now) }
+        ensures answers { IfOk result (λ recording. recording.port.answers ≡ answers_of choices.answers.items) }
+    {
+        Ok(Recording {
+            clock: RecordedClock::new(choices.readings),
+            chooser: RecordedChooser::new(choices.sources),
+            port: RecordedHosts::new(alloc, hosts, choices.answers)?,
+        })
+    }
 }
 
 /// Runs a program under a setup and the choices that stand in a trace: the sources of its turns, the times of its waits, and the answers
@@ -66,14 +95,36 @@ pub(crate) fn run_again<L: Lines, M: Ledger>(
         (map stamped_seen events.now)
         in Replays L.keeping (L.seen lines) setup.now.trace run result.outcome (L.seen result.lines) }
 {
-    let Ok(choices) = choices_of(alloc, events) else {
+    match choices_of(alloc, events) {
+        Ok(choices) => replay_choices(alloc, program, setup, hosts, choices, lines, accesses),
+        Err(_) => wanting(lines),
+    }
+}
+
+/// Runs a program under a setup and given choices, as `replay` does it under those of a trace. The lines are those of the run under the
+/// choices of whatever events have these.
+pub fn replay_choices<L: Lines, M: Ledger>(
+    alloc: Global,
+    program: &Program,
+    setup: &PageSetup,
+    hosts: &HostTable,
+    choices: TraceChoices,
+    lines: L,
+    accesses: Steps<M>,
+) -> Replayed<L>
+    requires { length (closures_of hosts.now) ≤ 2 ^ 32 }
+    ensures { (es : List StampedSeen) → AreChoicesOf es choices →
+        (let run = own_run (seen_program program.now) (settings_of setup.now).setup (closures_of hosts.now) es
+        in Replays L.keeping (L.seen lines) setup.now.trace run result.outcome (L.seen result.lines)) }
+{
+    let Ok(recording) = Recording::new(alloc, hosts, choices) else {
         return wanting(lines);
     };
-    let Ok(port) = RecordedHosts::new(alloc, hosts, choices.answers) else {
-        return wanting(lines);
-    };
-    let mut clock = RecordedClock::new(choices.readings);
-    let mut chooser = RecordedChooser::new(choices.sources);
+    let Recording {
+        mut clock,
+        mut chooser,
+        port,
+    } = recording;
     let ended = run_page(
         alloc,
         program,

@@ -17,7 +17,7 @@ use std::alloc::Global;
 use std::marker::Brand;
 use std::sync::ledger::{Blank, Ledger};
 use std::test::Fail;
-use trace_text::{Events, LineCheck, read_trace};
+use trace_text::{BadLine, Events, LineCheck, TraceFault, read_trace};
 
 // A timer and a posted task. By the default rank the posted task would go first.
 const TWO_TASKS: &[u8] =
@@ -222,11 +222,16 @@ fn program(alloc: Global, script: &[u8]) -> Result<Program, Fail> {
     Ok(resolve(alloc, parse(alloc, &tokens)?)?)
 }
 
-fn trace(alloc: Global, pieces: &[&[u8]]) -> Result<Events, Fail> {
+fn text(alloc: Global, pieces: &[&[u8]]) -> Result<Vec<u8>, Fail> {
     let mut text = Vec::new(alloc);
     for piece in pieces {
         text.extend_from_slice(piece)?;
     }
+    Ok(text)
+}
+
+fn trace(alloc: Global, pieces: &[&[u8]]) -> Result<Events, Fail> {
+    let text = text(alloc, pieces)?;
     Ok(read_trace(alloc, &text)?)
 }
 
@@ -249,6 +254,26 @@ fn judge<M: Ledger>(
     Ok(check_trace(alloc, &program, &setup, hosts, &trace, accesses)?)
 }
 
+// The same, by the bytes of the trace.
+fn judge_text<M: Ledger>(
+    alloc: Global,
+    hosts: &HostTable,
+    example: &Example,
+    blank: Blank,
+) -> Result<Result<Verdict, TraceFault>, Fail>
+    requires count { length (closures_of hosts.now) ≤ 2 ^ 32 }
+    requires name { blank.name ≡ M.name }
+    requires parts { blank.parts ≡ M.parts }
+    requires some { 0 < blank.parts }
+{
+    let program = program(alloc, example.script)?;
+    let setup = read_page(alloc, example.arrivals)?;
+    let text = text(alloc, &example.trace)?;
+    let (book, share) = blank.open::<M>();
+    let accesses = Steps::new(book, share);
+    Ok(check_text(alloc, &program, &setup, hosts, &text, accesses))
+}
+
 #[test]
 fn a_trace_is_judged_by_the_run_under_its_own_choices(rt: HostRuntime) -> Result<(), Fail> {
     let alloc = rt.alloc();
@@ -259,6 +284,35 @@ fn a_trace_is_judged_by_the_run_under_its_own_choices(rt: HostRuntime) -> Result
         assert_eq!(rt;
             judge::<Brand>(alloc, &hosts, example, Blank::new(1))?,
             example.verdict
+        );
+        assert_eq!(rt;
+            judge_text::<Brand>(alloc, &hosts, example, Blank::new(1))?,
+            Ok(example.verdict)
+        );
+    }
+    Ok(())
+}
+
+#[test]
+fn bytes_that_are_no_trace_are_refused_in_their_line(rt: HostRuntime) -> Result<(), Fail> {
+    let alloc = rt.alloc();
+    let hosts = HostTable::new(alloc);
+    let traces: [([&[u8]; 5], usize); 4] = [
+        ([b"trace 3\n", b"0 end done\n", b"", b"", b""], 1),
+        ([POSTED, b"0 turn 2 timer\n", b"0 ret", b"", b""], 11),
+        ([POSTED, b"0 turn 2 timer\n", b"0 ret\n", b"", b""], 12),
+        ([POSTED, b"0 end done\n", b"0 end done\n", b"", b""], 11),
+    ];
+    for (trace, line) in traces {
+        let example = Example {
+            script: TWO_TASKS,
+            arrivals: b"page 1\n",
+            trace,
+            verdict: Verdict::Yes,
+        };
+        assert_eq!(rt;
+            judge_text::<Brand>(alloc, &hosts, &example, Blank::new(1))?,
+            Err(TraceFault::Is(BadLine { line }))
         );
     }
     Ok(())

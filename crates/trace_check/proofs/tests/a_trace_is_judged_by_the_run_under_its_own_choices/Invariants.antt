@@ -2,3 +2,6 @@ use Rattle.trace_check.proofs.tests.a_trace_is_judged_by_the_run_under_its_own_c
 
 abbrev pub ghosts-judge : goal.ghosts-judge
 ghosts-judge g a = record { name = a.blank.name; parts = a.blank.parts }
+
+abbrev pub ghosts-judge_text : goal.ghosts-judge_text
+ghosts-judge_text g a = record { name = a.blank.name; parts = a.blank.parts }
