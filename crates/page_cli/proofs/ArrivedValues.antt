@@ -1,33 +1,13 @@
 -- What an arrivals file sets up carries no numbers of promises, signals or the like.
-use Rattle.std.proofs.Common.{◌≡◌, ℕ, ◌&&◌, Bool, true, false, List, [], ◌∷◌, map, filter, Option, Some, None, sym, subst}
+use Rattle.std.proofs.Common.{◌≡◌, ℕ, true, List, [], ◌∷◌, map, filter, Option, Some, None, sym, subst}
 use Rattle.std.specs.List.{filter_map, cons_option}
 use Rattle.std.specs.Option.{IfSome}
-use Rattle.page_types.specs.Values.{Value, UnitValue, BoolValue, IntValue, TextValue, ListValue, FunValue, PromiseValue, SignalValue, ControllerValue, DeadlineValue, FaultValue}
 use Rattle.page_parts.specs.Setup.{Arrival}
 use Rattle.page_model.specs.Numbers.{Each, IsKnown, nothing_made, HoldsNoNumbers}
 use Rattle.arrivals_text.specs.Arrivals.{Line, PageLine, TraceLine, PolicyLine, FuelLine, UntilLine, RefreshLine, LateLine, RoomLine, HostLine, ArrivalLine, Settings, SetsUp, line_at, says_something, arrival_in, lines_of}
 use Rattle.arrivals_text.specs.Limits.{may_arrive, is_arrival}
 use Rattle.arrivals_text.proofs.Within.{LineWithin, line_within}
-
--- ---- values
-
--- a value that may arrive is unit, a Bool, an integer or a text
-value-known : (v : Value) → may_arrive v ≡ true → IsKnown nothing_made v
-value-known UnitValue h = tt
-value-known (BoolValue b) h = tt
-value-known (IntValue n) h = tt
-value-known (TextValue text) h = tt
-value-known (ListValue vs) h = absurd (cc)
-value-known (FunValue f vs) h = absurd (cc)
-value-known (PromiseValue n) h = absurd (cc)
-value-known (SignalValue n) h = absurd (cc)
-value-known (ControllerValue n) h = absurd (cc)
-value-known (DeadlineValue t) h = tt
-value-known (FaultValue name text) h = tt
-
-right : (a b : Bool) → (a && b) ≡ true → b ≡ true
-right true b h = h
-right false b h = absurd (cc)
+use Rattle.trace_check.proofs.ArrivedValues.{value-known, right}
 
 abbrev ArrivesKnown : Arrival → Type 0
 ArrivesKnown a = IsKnown nothing_made a.value

@@ -1,8 +1,11 @@
 -- From the verdict on a trace to what the top call answers.
-use Rattle.std.proofs.Common.{◌≡◌, ◌≤◌, ℕ, List, length, Option, Some, None, Ok, Err, refl, sym, subst}
-use Rattle.std.specs.Prelude.{IfSome, Vec}
+use Rattle.std.proofs.Common.{◌≡◌, ◌≤◌, ℕ, List, length, Option, Some, None, Result, Ok, Err, refl, sym, subst}
+use Rattle.std.specs.Prelude.{IfOk, IfErr, IfSome, Vec}
 use Rattle.std.specs.declared.alloc.Global.{Global}
+use Rattle.page_types.specs.Tree.{Program}
 use Rattle.page_parts.specs.HostClosures.{HostClosure}
+use Rattle.arrivals_text.specs.Arrivals.{Settings}
+use Rattle.trace_check.specs.Scanned.{HasVerdictOn}
 use Rattle.trace_check.proofs.OwnLaws.{legal-lawful}
 use Rattle.trace_check.specs.declared.verdict.Verdict.{Verdict}
 use Rattle.trace_check.specs.declared.verdict.Verdict.TheVariants as found
@@ -15,7 +18,8 @@ use Rattle.page_cli.specs.declared.reading.FileFault.TheVariants as file
 use Rattle.page_cli.proofs.ArrivedValues.{holds-no-numbers}
 use Rattle.page_cli.specs.Refusals.{GivesFile, answer_to_file}
 use Rattle.page_cli.specs.Texts.{WritesText}
-use Rattle.page_cli.specs.Checked.{AllFit, IsNotRead, IsUnread, RefusesTrace, HasVerdict, TellsVerdict, AnswersCheck, AnswersThree, legal_text}
+use Rattle.page_cli.specs.Answering.{IsRun, RefusesFiles}
+use Rattle.page_cli.specs.Checked.{AllFit, TraceFits, RefusesText, IsNotRead, IsUnread, RefusesTrace, HasVerdict, TellsVerdict, AnswersCheck, AnswersThree, legal_text}
 
 -- ---- the verdict
 
@@ -44,6 +48,29 @@ module _ (script arrivals trace : List ℕ) (hosts : List HostClosure) where
   refused-check (BadTrace line) told fit h = (fit, h, refl)
   refused-check OutOfMemory told fit h = refl
   refused-check answer told fit h = absurd h
+
+-- ---- what is judged
+
+-- what refuses the other files refuses them before the trace
+pub files-refused : (script arrivals trace : List ℕ) (answer : Answer) → RefusesFiles answer script arrivals → RefusesTrace answer script arrivals trace
+files-refused script arrivals trace (BadTrace line) h = absurd h
+files-refused script arrivals trace answer h = h
+
+module _ (script arrivals trace : List ℕ) (hosts : List HostClosure) (program : Program) (settings : Settings) (run : IsRun script arrivals program settings) where
+  -- the verdict on a trace is that on the three files
+  pub verdict-on : (r : Result Verdict Answer) → TraceFits trace → IfOk r (HasVerdictOn program settings.setup hosts trace) → IfOk r (λ verdict. HasVerdict verdict script arrivals trace hosts)
+  verdict-on (Ok verdict) fits h = record { program = program; settings = settings; seen = h.seen; is_run = run; fits = fits; is_trace = h.is_trace; is_verdict = h.is_verdict }
+  verdict-on (Err answer) fits h = tt
+
+  pub text-refused : (answer : Answer) → RefusesText answer trace → RefusesTrace answer script arrivals trace
+  text-refused (BadTrace line) h = ((program, run.has_program), (settings, run.sets_up), h)
+  text-refused OutOfMemory h = tt
+  text-refused answer h = absurd h
+
+  -- what refuses the trace refuses it behind the other files
+  pub refused-on : (r : Result Verdict Answer) → IfErr r (λ answer. RefusesText answer trace) → IfErr r (λ answer. RefusesTrace answer script arrivals trace)
+  refused-on (Ok verdict) h = tt
+  refused-on (Err answer) h = text-refused answer h
 
 -- ---- the files as they are told
 

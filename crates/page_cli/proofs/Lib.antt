@@ -4,7 +4,6 @@ pub mod Closures
 pub mod AnswerLemmas
 pub mod WrittenRuns
 pub mod RunLemmas
-pub mod TableLemmas
 mod PictureLemmas
 mod CheckLemmas
 mod Completing

@@ -1,8 +1,9 @@
 -- From a legal trace to its second form, and to what the top call answers.
-use Rattle.std.proofs.Common.{◌≡◌, ◌≤◌, ℕ, List, length, Option, Some, None, Result, Ok, Err, refl, sym, ap, ◌∙◌, subst, inl, inr, arith}
+use Rattle.std.proofs.Common.{◌≡◌, ◌≤◌, ℕ, List, length, map, Option, Some, None, Result, Ok, Err, [], append-nil, refl, sym, ap, ◌∙◌, subst, inl, inr, arith}
 use Rattle.std.specs.Prelude.{IfSome}
 use Rattle.page_types.specs.Tree.{Program}
 use Rattle.page_types.specs.Counts.{Rose}
+use Rattle.page_types.specs.Told.{AppendsStartOf}
 use Rattle.page_types.specs.Events.{Stamped}
 use Rattle.page_types.specs.declared.End.{End}
 use Rattle.page_parts.specs.Setup.{Setup}
@@ -10,11 +11,12 @@ use Rattle.page_parts.specs.HostClosures.{HostClosure}
 use Rattle.page_parts.specs.TraceText.{text_of}
 use Rattle.page_model.specs.Turns.{Turned, GoesOn, Ended as HasEndedSo, Stuck, events_of_run}
 use Rattle.page_model.specs.ChoicesAreData.{HasEnded}
-use Rattle.page_model.specs.PageTrace.{migrated, told_more}
+use Rattle.page_model.specs.PageTrace.{IsLegal, migrated, told_more}
 use Rattle.page_laws.proofs.Migrating.{migrates}
 use Rattle.arrivals_text.specs.Arrivals.{Settings}
-use Rattle.trace_text.specs.EventSeen.{TraceSeen}
-use Rattle.trace_text.specs.Trace.{IsTrace}
+use Rattle.trace_text.specs.EventSeen.{TraceSeen, stamped_seen}
+use Rattle.trace_text.specs.Trace.{IsTrace, IsBadLine}
+use Rattle.trace_text.proofs.TracesRead.{one_reading, no_bad_line}
 use Rattle.trace_text.specs.Given.{Seen}
 use Rattle.trace_text.specs.Sinks.{sink_keeping}
 use Rattle.trace_text.proofs.SinkText.{Gives-sink_trace, Gives-sink_trace_stop}
@@ -23,13 +25,17 @@ use Rattle.loop_turn.specs.declared.run_stop.RunStop.{RunStop}
 use Rattle.loop_turn.specs.declared.run_stop.RunStop.TheVariants as stop
 use Rattle.trace_check.specs.Verdicts.{events_of, own_run, IsLegalHere}
 use Rattle.trace_check.specs.Replays.{Replays}
+use Rattle.trace_check.specs.Collected.{AreChoicesOf}
+use Rattle.trace_check.specs.Scanned.{AreChoicesIn, HasVerdictOn}
+use Rattle.trace_check.specs.declared.collecting.TraceChoices.{TraceChoices}
+use Rattle.trace_check.specs.declared.verdict.Verdict.TheVariants as found
 use Rattle.page_cli.specs.declared.answer.WhichFile.{WhichFile}
 use Rattle.page_cli.specs.declared.answer.Answer.{Answer}
 use Rattle.page_cli.specs.declared.answer.Answer.TheVariants.{Ended, Written, Usage, NoParse, BadName, BadArrivals, BadTrace, TooLong, ReadFault, WriteFault, OutOfMemory}
 use Rattle.page_cli.specs.Running.{CanStop}
 use Rattle.page_cli.specs.Answering.{IsRun, IsRefusal}
 use Rattle.page_cli.specs.Checked.{AllFit, IsNotRead, IsUnread, RefusesTrace}
-use Rattle.page_cli.specs.Migrated.{IsMigration, AnswersMigrate, AnswersMigration, AnswersRetold, retold_to}
+use Rattle.page_cli.specs.Migrated.{IsMigration, AnswersMigrate, AnswersMigration, AnswersRetold, HasLegalChoices, RetellsText, retold_to}
 use Rattle.page_cli.proofs.RunLemmas.{whole-start}
 
 -- ---- the second form of a legal trace
@@ -68,6 +74,11 @@ module _ (script arrivals trace : List ℕ) (hosts : List HostClosure) where
         → IsLegalHere program settings.setup hosts seen → AnswersRetold answer (text_of 2 (migrated program settings.setup hosts (events_of seen))) old new → AnswersMigrate answer script arrivals trace hosts old new
     retold-answers answer program settings seen run fits is legal h = by-text answer _ (migration-of program settings seen run fits is legal) h
 
+    -- the same of the bytes of a trace
+    pub text-answers : (answer : Answer) (program : Program) (settings : Settings) → IsRun script arrivals program settings → length trace ≤ 67108864
+        → RetellsText program settings.setup hosts trace answer old new → AnswersMigrate answer script arrivals trace hosts old new
+    text-answers answer program settings run fits h = retold-answers answer program settings h.seen run fits h.is_trace h.is_legal h.retold
+
   -- the trace is not told
   pub refused-migrate : (answer : Answer) (told : Option (List ℕ)) → AllFit script arrivals trace → RefusesTrace answer script arrivals trace → AnswersMigrate answer script arrivals trace hosts told told
   refused-migrate (NoParse at) told fit h = (fit, h, refl)
@@ -76,6 +87,46 @@ module _ (script arrivals trace : List ℕ) (hosts : List HostClosure) where
   refused-migrate (BadTrace line) told fit h = (fit, h, refl)
   refused-migrate OutOfMemory told fit h = inl refl
   refused-migrate answer told fit h = absurd h
+
+-- ---- the bytes of a legal trace
+
+-- nothing is written
+none-written : (old : Option (List ℕ)) (text : List ℕ) → AppendsStartOf old old text
+none-written None text = ([], (text, refl), refl)
+none-written (Some bytes) text = ([], (text, refl), ap Some (sym (append-nil bytes)))
+
+module _ (program : Program) (setup : Setup) (hosts : List HostClosure) (trace : List ℕ) (legal : HasVerdictOn program setup hosts trace found.Yes) where
+  same-legal : (es : List Stamped) → events_of legal.seen ≡ es → IsLegal program setup hosts es
+  same-legal es same = subst (IsLegal program setup hosts) same legal.is_verdict.1
+
+  module _ (form : ℕ) (choices : TraceChoices) (h : AreChoicesIn form trace choices) where
+    same-events : events_of legal.seen ≡ map stamped_seen h.events
+    same-events = one_reading legal.seen.form form trace (events_of legal.seen) (map stamped_seen h.events) legal.is_trace h.is_trace
+
+    -- its choices are those of a legal trace
+    pub legal-choices : HasLegalChoices program setup hosts choices
+    legal-choices = record { events = map stamped_seen h.events; choices_are = h.choices_are; is_legal = same-legal (map stamped_seen h.events) same-events }
+
+    -- it is told by the run under its choices
+    pub text-retold : (answer : Answer) (old new : Option (List ℕ))
+        → ((es : List Stamped) → AreChoicesOf es choices → IsLegal program setup hosts es → AnswersRetold answer (text_of 2 (migrated program setup hosts es)) old new)
+        → RetellsText program setup hosts trace answer old new
+    text-retold answer old new told = record {
+      seen = legal.seen;
+      is_trace = legal.is_trace;
+      is_legal = legal.is_verdict;
+      retold = told (events_of legal.seen) (subst (λ es. AreChoicesOf es choices) (sym same-events) h.choices_are) legal.is_verdict.1;
+    }
+
+  -- it has no bad line
+  pub no-bad-line : (line : ℕ) → IsBadLine trace line → ⊥
+  no-bad-line line bad = no_bad_line legal.seen.form trace (events_of legal.seen) line legal.is_trace bad
+
+  -- nothing is told of it for want of memory
+  pub none-retold : (old : Option (List ℕ)) → RetellsText program setup hosts trace OutOfMemory old old
+  none-retold old = record { seen = legal.seen; is_trace = legal.is_trace; is_legal = legal.is_verdict; retold = none-written old _ }
+
+-- ---- what is not said
 
 -- a text is written, or nothing is
 pub retold-refusal : (answer : Answer) (text : List ℕ) (old new : Option (List ℕ)) → AnswersRetold answer text old new → IsRefusal answer → new ≡ old

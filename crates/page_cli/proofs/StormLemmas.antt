@@ -15,7 +15,9 @@ use Rattle.lang_tokens.specs.Seen.{TokenSeen}
 use Rattle.lang_ast.specs.NameFaults.{Fault, IsResolved}
 use Rattle.lang_names.specs.Told.{seen_fault}
 use Rattle.page_model.specs.Choosing.{choice_rules}
-use Rattle.page_model.specs.Turns.{Turned, GoesOn, Ended, Stuck, run, run_by, events_of_run}
+use Rattle.page_model.specs.Turns.{Turned, GoesOn, Ended, Stuck, run, run_by, events_of_run, state_of}
+use Rattle.page_model.specs.ChoicesAreData.{Continues}
+use Rattle.page_model.proofs.FurtherChoices.{run-further}
 use Rattle.page_model.proofs.RunsAlike.{alike-events}
 use Rattle.trace_text.specs.Summaries.{Counts, counts_of, count_keeping, seen_counts, last_end, end_after, summarised}
 use Rattle.trace_text.specs.declared.summary.Summary.{Summary}
@@ -31,7 +33,7 @@ use Rattle.page_cli.specs.declared.answer.Answer.TheVariants as answer
 use Rattle.page_cli.specs.Running.{EndsAs}
 use Rattle.page_cli.specs.Scripts.{IsScript}
 use Rattle.page_cli.specs.Answering.{RefusesFiles}
-use Rattle.page_cli.specs.Stormed.{unanswered_run, HasCounts, IsStormOf, AnswersCounts, AnswersStorm}
+use Rattle.page_cli.specs.Stormed.{unanswered_run, AsksNone, HasCounts, IsStormOf, AnswersCounts, AnswersStorm}
 use Rattle.page_cli.proofs.WrittenRuns.{WrittenHeld, Together, written_rules, first_held, written-run}
 use Rattle.page_cli.proofs.RunLemmas.{alike-outcome, ends-as}
 
@@ -114,6 +116,15 @@ module _ (program : Program) (setup : Setup) (hosts : List HostClosure) where
         same_counts counts (counts_of (events_of_run by_rules)) (h.lines.told.0 ∙ lines-counted (events_of_run by_rules))
         ∙ ap counts_of (sym (alike-events Together by_rules by_choices (written-run program setup hosts [])))
 
+    -- a run that has ended without answers is the same with any, and they are left
+    same-state : (t t' : Turned Choices) (answers : List (Result ℤ ℤ)) → EndsAs end t → Continues [] [] answers t t' → state_of t' ≡ state_of t
+    same-state (GoesOn m c) t' answers at h = absurd at
+    same-state (Ended other m c) t' answers at h = ap state_of h
+    same-state (Stuck why m c) t' answers at h = absurd at
+
+    asks-none : AsksNone program setup hosts
+    asks-none = λ answers. same-state by_choices (run program setup hosts (written setup answers)) answers has-ended (run-further [] [] answers program setup hosts (written setup []))
+
     some-end : (one other : End) → Some one ≡ Some other → one ≡ other
     some-end one other e = cc
 
@@ -122,7 +133,7 @@ module _ (program : Program) (setup : Setup) (hosts : List HostClosure) where
     run-counted told summary same is =
         let e : Some end ≡ Some told = sym (told-end end by_choices has-ended ends-by) ∙ (ap (λ (c : Counts). c.end) (sym counts-are) ∙ (ap (λ (c : Counts). c.end) (sym same) ∙ is)) in
         let P : End → Type 0 = λ x. EndsAs x by_choices in
-        record { ended = subst P (some-end end told e) has-ended; counts_are = same ∙ counts-are }
+        record { ended = subst P (some-end end told e) has-ended; counts_are = same ∙ counts-are; asks_none = asks-none }
 
   -- the same of the answers that a port without answers keeps
   pub run-summarised : {clock : List ℕ} {chooser : PolicyState} {port : PortThen} {end : End} {counts : Counts} (o : Option Summary) (form : ℕ) (answers : List (Result ℤ ℤ)) → answers ≡ []

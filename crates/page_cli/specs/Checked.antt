@@ -56,6 +56,12 @@ IsNotRead answer script arrivals trace = ⊥
 abbrev pub IsUnread : Answer → (script arrivals trace : Option (List ℕ)) → Type 0
 IsUnread answer script arrivals trace = IfSome script (λ s. IfSome arrivals (λ a. IfSome trace (λ t. IsNotRead answer s a t)))
 
+-- what a refusal says of the bytes of a trace
+abbrev pub RefusesText : Answer → (trace : List ℕ) → Type 0
+RefusesText (BadTrace line) trace = IsBadLine trace line
+RefusesText OutOfMemory trace = ⊤
+RefusesText answer trace = ⊥
+
 -- what a refusal says of what is read in the files: the trace is read behind the others
 abbrev pub RefusesTrace : Answer → (script arrivals trace : List ℕ) → Type 0
 RefusesTrace (BadTrace line) script arrivals trace = HasSomeProgram script × HasSomeSetup arrivals × IsBadLine trace line
@@ -110,6 +116,7 @@ AnswersCheck answer script arrivals trace hosts old new =
     AllFit script arrivals trace × RefusesTrace answer script arrivals trace × (new ≡ old)
 
 -- the same, where the folder tells the three files
-abbrev pub AnswersThree : Answer → (script arrivals trace : Option (List ℕ)) → List HostClosure → (old new : Option (List ℕ)) → Type 0
+abbrev pub AnswersThree : Answer → (script arrivals trace : Option (List ℕ)) → List HostClosure → (old new : Option (List ℕ))
+    → Type 0
 AnswersThree answer script arrivals trace hosts old new =
     IfSome script (λ s. IfSome arrivals (λ a. IfSome trace (λ t. AnswersCheck answer s a t hosts old new)))

@@ -5,10 +5,15 @@ use Rattle.page_types.specs.Events.{Stamped}
 use Rattle.page_types.specs.Told.{appended, AppendsStartOf}
 use Rattle.page_types.specs.declared.End.{End}
 use Rattle.page_parts.specs.HostClosures.{HostClosure}
+use Rattle.page_parts.specs.Setup.{Setup}
 use Rattle.page_parts.specs.TraceText.{text_of, all_without_by}
 use Rattle.page_model.specs.PageTrace.{IsLegal, IsLegalTrace, Migrates, migrated, told_more}
 use Rattle.arrivals_text.specs.Arrivals.{Settings}
 use Rattle.trace_text.specs.Trace.{IsTrace}
+use Rattle.trace_text.specs.EventSeen.{TraceSeen}
+use Rattle.trace_check.specs.declared.collecting.TraceChoices.{TraceChoices}
+use Rattle.trace_check.specs.Collected.{AreChoicesOf}
+use Rattle.trace_check.specs.Verdicts.{events_of, IsLegalHere}
 use Rattle.loop_turn.specs.declared.run_stop.RunStop.{RunStop}
 use Rattle.loop_turn.specs.declared.run_stop.RunStop.TheVariants as stop
 use Rattle.page_cli.specs.declared.answer.Answer.{Answer}
@@ -66,6 +71,20 @@ AnswersRetold Written text old new = new ≡ appended old text
 AnswersRetold WriteFault text old new = AppendsStartOf old new text
 AnswersRetold OutOfMemory text old new = AppendsStartOf old new text
 AnswersRetold answer text old new = ⊥
+
+-- these are the choices that stand in legal events
+pub record HasLegalChoices (program : Program) (setup : Setup) (hosts : List HostClosure) (choices : TraceChoices) : Type 0 where
+  pub events : List Stamped
+  pub choices_are : AreChoicesOf events choices
+  pub is_legal : IsLegal program setup hosts events
+
+-- the bytes are a legal trace, and this is what an answer says of its second form
+pub record RetellsText (program : Program) (setup : Setup) (hosts : List HostClosure) (trace : List ℕ) (answer : Answer)
+    (old new : Option (List ℕ)) : Type 0 where
+  pub seen : TraceSeen
+  pub is_trace : IsTrace seen.form trace (events_of seen)
+  pub is_legal : IsLegalHere program setup hosts seen
+  pub retold : AnswersRetold answer (text_of 2 (migrated program setup hosts (events_of seen))) old new
 
 -- the answer to a run under the choices of a legal trace
 abbrev pub retold_to : Result End RunStop → Answer

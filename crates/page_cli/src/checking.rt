@@ -1,33 +1,36 @@
 //! Judging a trace by the run under its own choices.
 
-ghost use Rattle.std.specs.Prelude.{◌≡◌, ◌≤◌, ◌<◌, ◌^◌, length, IfOk, IfErr};
+ghost use Rattle.std.specs.Prelude.{◌≡◌, ◌≤◌, ◌<◌, ◌^◌, length, IfOk, IfErr, Err};
 ghost use Rattle.page_types.specs.declared.End.{End};
 ghost use Rattle.page_types.specs.Counts.{Rose};
 ghost use Rattle.host_jobs.specs.ToldTable.{closures_of};
 ghost use Rattle.lang_ast.specs.SeenProgram.{seen_program};
 ghost use Rattle.arrivals_text.specs.Seen.{settings_of};
-ghost use Rattle.trace_check.specs.Verdicts.{IsVerdict};
+ghost use Rattle.trace_text.specs.Trace.{IsBadLine};
+ghost use Rattle.trace_text.specs.declared.fault.BadLine.{BadLine as BadLineSeen};
+ghost use Rattle.trace_text.specs.declared.fault.TraceFault.TheVariants as fault;
+ghost use Rattle.trace_check.specs.Scanned.{HasVerdictOn};
 ghost use Rattle.page_cli.specs.declared.answer.WhichFile.{WhichFile};
 ghost use Rattle.page_cli.specs.Forms.{name_of};
 ghost use Rattle.page_cli.specs.declared.names.Asked.{Asked};
 ghost use Rattle.page_cli.specs.Names.{form_seen};
 ghost use Rattle.page_cli.specs.Answering.{IsRefusal};
-ghost use Rattle.page_cli.specs.Checked.{AllFit, AnswersThree, AnswersCheck, HasVerdict, RefusesTrace, TellsVerdict};
+ghost use Rattle.page_cli.specs.Checked.{AllFit, AnswersThree, AnswersCheck, HasVerdict, RefusesText, RefusesTrace, TellsVerdict};
 
 use crate::answer::{Answer, WhichFile};
 use crate::names::CheckNames;
 use crate::pieces::write_text;
-use crate::reading::Page;
+use crate::reading::{Page, read_files};
 use crate::running::{Answered, unread};
-use crate::three_files::{ThreeFiles, fetch_three, read_three};
+use crate::three_files::{ThreeFiles, fetch_three};
 use cell_room::Steps;
 use host_jobs::{HostPort, HostTable};
 use page_io::{Folder, Sink};
-use std::alloc::{AllocError, Global};
+use std::alloc::Global;
 use std::marker::Brand;
 use std::sync::ledger::{Blank, Ledger};
-use trace_check::{Verdict, check_trace};
-use trace_text::Events;
+use trace_check::{Verdict, check_text};
+use trace_text::TraceFault;
 
 /// Fetches the three files in the order of the words, and writes whether the trace is legal. The closures of the table are asked for
 /// their kinds, ranges and marks, and none is called.
@@ -88,23 +91,23 @@ fn verdict_on(alloc: Global, hosts: &HostTable, files: &ThreeFiles) -> Result<Ve
     ensures refused { IfErr result (λ answer.
         RefusesTrace answer files.now.script.items files.now.arrivals.items files.now.trace.items) }
 {
-    match read_three(alloc, files) {
-        Ok(read) => judge(alloc, hosts, &read.page, &read.trace),
+    match read_files(alloc, &files.script, &files.arrivals) {
+        Ok(page) => judge(alloc, hosts, &page, &files.trace),
         Err(answer) => Err(answer),
     }
 }
 
-/// The verdict on a trace, by a program, a setup and the closures of a table.
+/// The verdict on the trace that some bytes spell, by a program, a setup and the closures of a table. No event of it is kept.
 pub(crate) fn judge(
     alloc: Global,
     hosts: &HostTable,
     page: &Page,
-    trace: &Events,
+    trace: &[u8],
 ) -> Result<Verdict, Answer>
-    ensures found { IfOk result (IsVerdict (seen_program page.now.program) (settings_of page.now.setup).setup (closures_of hosts.now)
+    ensures found { IfOk result (HasVerdictOn (seen_program page.now.program) (settings_of page.now.setup).setup (closures_of hosts.now)
         trace.now) }
     ensures count { IfOk result (λ _. length (closures_of hosts.now) ≤ 2 ^ 32) }
-    ensures refused { IfErr result (λ answer. answer ≡ Answer.OutOfMemory) }
+    ensures refused { IfErr result (λ answer. RefusesText answer trace.now) }
 {
     // A page numbers its closures by 32 bits.
     if hosts.known(u32::MAX) {
@@ -112,7 +115,8 @@ pub(crate) fn judge(
     }
     match judge_in::<Brand>(alloc, hosts, page, trace, Blank::new(1)) {
         Ok(verdict) => Ok(verdict),
-        Err(AllocError) => Err(Answer::OutOfMemory),
+        Err(TraceFault::Is(bad)) => Err(Answer::BadTrace { line: bad.line }),
+        Err(TraceFault::OutOfMemory) => Err(Answer::OutOfMemory),
     }
 }
 
@@ -121,19 +125,20 @@ fn judge_in<M: Ledger>(
     alloc: Global,
     hosts: &HostTable,
     page: &Page,
-    trace: &Events,
+    trace: &[u8],
     blank: Blank,
-) -> Result<Verdict, AllocError>
+) -> Result<Verdict, TraceFault>
     requires count { length (closures_of hosts.now) ≤ 2 ^ 32 }
     requires name { blank.name ≡ M.name }
     requires parts { blank.parts ≡ M.parts }
     requires some { 0 < blank.parts }
-    ensures { IfOk result (IsVerdict (seen_program page.now.program) (settings_of page.now.setup).setup (closures_of hosts.now)
+    ensures found { IfOk result (HasVerdictOn (seen_program page.now.program) (settings_of page.now.setup).setup (closures_of hosts.now)
         trace.now) }
+    ensures bad { (line : BadLineSeen) → result ≡ Err (fault.Is line) → IsBadLine trace.now line.line }
 {
     let (book, share) = blank.open::<M>();
     let accesses = Steps::new(book, share);
-    check_trace(alloc, &page.program, &page.setup, hosts, trace, accesses)
+    check_text(alloc, &page.program, &page.setup, hosts, trace, accesses)
 }
 
 /// Writes `legal` where the trace is legal; else the answer tells why it is not.

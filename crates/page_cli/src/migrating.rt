@@ -1,6 +1,7 @@
 //! Telling a legal trace in its second form.
 
-ghost use Rattle.std.specs.Prelude.{◌≡◌, ◌≤◌, ◌<◌, ◌^◌, length};
+ghost use Rattle.std.specs.Prelude.{◌≡◌, ◌≤◌, ◌<◌, ◌^◌, List, length};
+ghost use Rattle.page_types.specs.Events.{Stamped};
 ghost use Rattle.page_types.specs.declared.End.{End};
 ghost use Rattle.page_types.specs.Counts.{Rose};
 ghost use Rattle.page_parts.specs.TraceText.{text_of};
@@ -9,7 +10,10 @@ ghost use Rattle.host_jobs.specs.ToldTable.{closures_of};
 ghost use Rattle.lang_ast.specs.SeenProgram.{seen_program};
 ghost use Rattle.arrivals_text.specs.Seen.{settings_of};
 ghost use Rattle.trace_text.specs.Sinks.{seen_through, sink_keeping};
-ghost use Rattle.trace_check.specs.Verdicts.{events_of, own_run};
+ghost use Rattle.trace_check.specs.declared.verdict.Verdict.TheVariants.{Yes};
+ghost use Rattle.trace_check.specs.Collected.{AreChoicesOf};
+ghost use Rattle.trace_check.specs.Scanned.{HasVerdictOn};
+ghost use Rattle.trace_check.specs.Verdicts.{own_run};
 ghost use Rattle.trace_check.specs.Replays.{Replays};
 ghost use Rattle.page_cli.specs.declared.answer.WhichFile.{WhichFile};
 ghost use Rattle.page_cli.specs.declared.names.Asked.{Asked};
@@ -18,14 +22,14 @@ ghost use Rattle.page_cli.specs.Names.{form_seen};
 ghost use Rattle.page_cli.specs.Running.{CanStop};
 ghost use Rattle.page_cli.specs.Answering.{IsRefusal};
 ghost use Rattle.page_cli.specs.Checked.{AllFit};
-ghost use Rattle.page_cli.specs.Migrated.{AnswersMigration, AnswersMigrate, AnswersRetold, retold_to};
+ghost use Rattle.page_cli.specs.Migrated.{AnswersMigration, AnswersMigrate, AnswersRetold, HasLegalChoices, RetellsText, retold_to};
 
 use crate::answer::{Answer, WhichFile};
 use crate::checking::judge;
 use crate::names::CheckNames;
-use crate::reading::Page;
+use crate::reading::{Page, read_files};
 use crate::running::{Answered, unread};
-use crate::three_files::{ThreeFiles, fetch_three, read_three};
+use crate::three_files::{ThreeFiles, fetch_three};
 use cell_room::Steps;
 use host_jobs::HostTable;
 use loop_turn::RunStop;
@@ -34,8 +38,8 @@ use page_io::{Folder, Sink};
 use std::alloc::Global;
 use std::marker::Brand;
 use std::sync::ledger::{Blank, Ledger};
-use trace_check::{Replayed, Verdict, replay};
-use trace_text::{Events, LineSink};
+use trace_check::{Replayed, TraceChoices, Verdict, replay_choices, text_choices};
+use trace_text::{LineSink, TraceFault};
 
 /// Fetches the three files in the order of the words, and writes the trace in its second form where it is legal. The closures of the
 /// table are asked for their kinds, ranges and marks, and none is called.
@@ -81,12 +85,12 @@ fn migrate_files<O: Sink>(
     ensures usage { result.answer ≡ Answer.Usage → ⊥ }
     ensures ended { (end : End) → result.answer ≡ Answer.Ended end → ⊥ }
 {
-    let read = match read_three(alloc, files) {
-        Ok(read) => read,
+    let page = match read_files(alloc, &files.script, &files.arrivals) {
+        Ok(page) => page,
         Err(answer) => return Answered { answer, out },
     };
-    match judge(alloc, hosts, &read.page, &read.trace) {
-        Ok(Verdict::Yes) => retell(alloc, hosts, read.page, &read.trace, out),
+    match judge(alloc, hosts, &page, &files.trace) {
+        Ok(Verdict::Yes) => retell_text(alloc, hosts, page, &files.trace, out),
         Ok(Verdict::Differs { line }) => Answered {
             answer: Answer::Differs { line },
             out,
@@ -99,35 +103,62 @@ fn migrate_files<O: Sink>(
     }
 }
 
-/// Writes a legal trace in its second form: the lines of the run under its choices, where a trace tells of each registration which
+/// Writes the legal trace that some bytes spell in its second form. No event of it is kept.
+fn retell_text<O: Sink>(
+    alloc: Global,
+    hosts: &HostTable,
+    page: Page,
+    trace: &[u8],
+    out: O,
+) -> Answered<O>
+    requires count { length (closures_of hosts.now) ≤ 2 ^ 32 }
+    requires legal { HasVerdictOn (seen_program page.program) (settings_of page.setup).setup (closures_of hosts.now) trace.now Yes }
+    ensures answers { RetellsText (seen_program page.program) (settings_of page.setup).setup (closures_of hosts.now) trace.now
+        result.answer (O.bytes out) (O.bytes result.out) }
+    ensures write { result.answer ≡ Answer.WriteFault → Rose (O.faults out) (O.faults result.out) }
+{
+    match text_choices(alloc, trace) {
+        Ok(choices) => retell(alloc, hosts, page, choices, out),
+        // A trace has no such line.
+        Err(TraceFault::Is(_)) => unreachable!(),
+        Err(TraceFault::OutOfMemory) => Answered {
+            answer: Answer::OutOfMemory,
+            out,
+        },
+    }
+}
+
+/// Writes the lines of the run under the choices of a legal trace in its second form, where a trace tells of each registration which
 /// callback made it.
 fn retell<O: Sink>(
     alloc: Global,
     hosts: &HostTable,
     mut page: Page,
-    trace: &Events,
+    choices: TraceChoices,
     out: O,
 ) -> Answered<O>
     requires count { length (closures_of hosts.now) ≤ 2 ^ 32 }
-    requires legal { IsLegal (seen_program page.program) (settings_of page.setup).setup (closures_of hosts.now) (events_of trace.now) }
-    ensures answers { AnswersRetold result.answer (text_of 2 (migrated (seen_program page.program) (settings_of page.setup).setup
-        (closures_of hosts.now) (events_of trace.now))) (O.bytes out) (O.bytes result.out) }
+    requires legal { HasLegalChoices (seen_program page.program) (settings_of page.setup).setup (closures_of hosts.now) choices }
+    ensures answers { (es : List Stamped) → AreChoicesOf es choices
+        → IsLegal (seen_program page.program) (settings_of page.setup).setup (closures_of hosts.now) es
+        → AnswersRetold result.answer (text_of 2 (migrated (seen_program page.program) (settings_of page.setup).setup
+        (closures_of hosts.now) es)) (O.bytes out) (O.bytes result.out) }
     ensures write { result.answer ≡ Answer.WriteFault → Rose (O.faults out) (O.faults result.out) }
 {
     page.setup.trace = 2;
-    let replayed = replay_in::<O, Brand>(alloc, hosts, &page, trace, out, Blank::new(1));
+    let replayed = replay_in::<O, Brand>(alloc, hosts, &page, choices, out, Blank::new(1));
     Answered {
         answer: retold(replayed.outcome),
         out: replayed.lines.into_sink(),
     }
 }
 
-/// The run under the choices of a trace, whose lines go to a sink. The accesses to the room of its tasks are counted in a new ledger.
+/// The run under given choices, whose lines go to a sink. The accesses to the room of its tasks are counted in a new ledger.
 fn replay_in<O: Sink, M: Ledger>(
     alloc: Global,
     hosts: &HostTable,
     page: &Page,
-    trace: &Events,
+    choices: TraceChoices,
     out: O,
     blank: Blank,
 ) -> Replayed<LineSink<O>>
@@ -135,20 +166,20 @@ fn replay_in<O: Sink, M: Ledger>(
     requires name { blank.name ≡ M.name }
     requires parts { blank.parts ≡ M.parts }
     requires some { 0 < blank.parts }
-    ensures { let run = own_run (seen_program page.now.program) (settings_of page.now.setup).setup (closures_of hosts.now)
-        (events_of trace.now)
+    ensures { (es : List Stamped) → AreChoicesOf es choices →
+        (let run = own_run (seen_program page.now.program) (settings_of page.now.setup).setup (closures_of hosts.now) es
         in Replays sink_keeping (seen_through O.bytes O.faults out) page.now.setup.trace run result.outcome
-        (seen_through O.bytes O.faults result.lines) }
+        (seen_through O.bytes O.faults result.lines)) }
 {
     let lines = LineSink::new(alloc, out);
     let (book, share) = blank.open::<M>();
     let accesses = Steps::new(book, share);
-    replay(
+    replay_choices(
         alloc,
         &page.program,
         &page.setup,
         hosts,
-        trace,
+        choices,
         lines,
         accesses,
     )

@@ -31,7 +31,7 @@ use std::sync::ledger::{Blank, Ledger};
 use trace_text::{LineCount, Summary};
 
 /// Runs the storm with this number of turns, and writes the summary of its trace. The closures of the table are asked for their kinds,
-/// ranges and marks, and none is called: no storm asks one.
+/// ranges and marks, and none is called. What is counted is a run in which none is asked: it is the same whatever they would answer.
 pub(crate) fn write_storm<O: Sink>(
     alloc: Global,
     hosts: &HostTable,

@@ -2,23 +2,17 @@
 
 ghost use Rattle.std.specs.Prelude.{◌≡◌, IfOk, IfErr, IfSome};
 ghost use Rattle.page_types.specs.Counts.{Rose};
-ghost use Rattle.lang_ast.specs.SeenProgram.{seen_program};
-ghost use Rattle.arrivals_text.specs.Seen.{settings_of};
-ghost use Rattle.trace_text.specs.Trace.{IsTrace};
-ghost use Rattle.trace_check.specs.Verdicts.{events_of};
 ghost use Rattle.page_cli.specs.declared.reading.FileFault.TheVariants.{Failed};
 ghost use Rattle.page_cli.specs.Forms.{name_of, CheckForm};
 ghost use Rattle.page_cli.specs.Names.{check_names_seen};
 ghost use Rattle.page_cli.specs.Refusals.{answer_to_file};
-ghost use Rattle.page_cli.specs.Answering.{IsRun};
-ghost use Rattle.page_cli.specs.Checked.{AllFit, IsUnread, RefusesTrace};
+ghost use Rattle.page_cli.specs.Checked.{AllFit, IsUnread};
 
-use crate::answer::{Answer, WhichFile};
+use crate::answer::WhichFile;
 use crate::names::CheckNames;
-use crate::reading::{FileFault, MOST_BYTES, MOST_CHECKED_BYTES, Page, fetched, read_files};
+use crate::reading::{FileFault, MOST_BYTES, MOST_CHECKED_BYTES, fetched};
 use page_io::Folder;
 use std::alloc::Global;
-use trace_text::{Events, TraceFault, read_trace};
 
 /// The bytes of the three files.
 #[derive(Drop)]
@@ -35,20 +29,14 @@ pub(crate) struct Unread {
     pub file: WhichFile,
 }
 
-/// What the three files say.
-#[derive(Drop)]
-pub(crate) struct TracedPage {
-    pub page: Page,
-    pub trace: Events,
-}
-
 /// The bytes of the three files, which are fetched in the order of the words.
 pub(crate) fn fetch_three<F: Folder>(
     alloc: Global,
     folder: &mut F,
     names: CheckNames,
 ) -> Result<ThreeFiles, Unread>
-    ensures script { IfOk result (λ files. IfSome (F.file folder.old names.entry.script.now) (λ content. files.script.items ≡ content)) }
+    ensures script { IfOk result (λ files. IfSome (F.file folder.old names.entry.script.now) (λ content.
+        files.script.items ≡ content)) }
     ensures arrivals { IfOk result (λ files. IfSome (F.file folder.old names.entry.arrivals.now) (λ content.
         files.arrivals.items ≡ content)) }
     ensures trace { IfOk result (λ files. IfSome (F.file folder.old names.entry.trace.now) (λ content. files.trace.items ≡ content)) }
@@ -83,27 +71,5 @@ pub(crate) fn fetch_three<F: Folder>(
             fault,
             file: WhichFile::Trace,
         }),
-    }
-}
-
-/// What the three files say, or the answer that refuses them.
-///
-/// The order of refusals is: script, arrivals, and trace.
-pub(crate) fn read_three(alloc: Global, files: &ThreeFiles) -> Result<TracedPage, Answer>
-    requires { AllFit files.now.script.items files.now.arrivals.items files.now.trace.items }
-    ensures run { IfOk result (λ read. IsRun files.now.script.items files.now.arrivals.items (seen_program read.page.program)
-        (settings_of read.page.setup)) }
-    ensures trace { IfOk result (λ read. IsTrace read.trace.form files.now.trace.items (events_of read.trace)) }
-    ensures refused { IfErr result (λ answer.
-        RefusesTrace answer files.now.script.items files.now.arrivals.items files.now.trace.items) }
-{
-    let page = match read_files(alloc, &files.script, &files.arrivals) {
-        Ok(page) => page,
-        Err(answer) => return Err(answer),
-    };
-    match read_trace(alloc, &files.trace) {
-        Ok(trace) => Ok(TracedPage { page, trace }),
-        Err(TraceFault::Is(bad)) => Err(Answer::BadTrace { line: bad.line }),
-        Err(TraceFault::OutOfMemory) => Err(Answer::OutOfMemory),
     }
 }

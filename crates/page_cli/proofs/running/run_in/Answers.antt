@@ -2,7 +2,7 @@ use Rattle.host_jobs.specs.ToldTable.{closures_of}
 use Rattle.lang_ast.specs.SeenProgram.{seen_program}
 use Rattle.arrivals_text.specs.Seen.{settings_of}
 use Rattle.page_cli.proofs.RunLemmas.{run-wrote}
-use Rattle.page_cli.proofs.TableLemmas.{unqueued-table}
+use Rattle.trace_check.proofs.Unasked.{unqueued-table}
 use Rattle.page_cli.proofs.running.run_in.Goals as goal
 
 pub run_page-requires-clause-unqueued : goal.run_page-requires-clause-unqueued

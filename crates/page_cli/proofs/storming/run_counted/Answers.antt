@@ -3,7 +3,7 @@ use Rattle.host_jobs.specs.ToldTable.{closures_of}
 use Rattle.lang_ast.specs.SeenProgram.{seen_program}
 use Rattle.arrivals_text.specs.Seen.{settings_of}
 use Rattle.page_cli.proofs.StormLemmas.{run-summarised}
-use Rattle.page_cli.proofs.TableLemmas.{unqueued-table}
+use Rattle.trace_check.proofs.Unasked.{unqueued-table}
 use Rattle.page_cli.proofs.storming.run_counted.Goals as goal
 
 pub run_page-ended-requires-clause-unqueued : goal.run_page-ended-requires-clause-unqueued
