@@ -37,7 +37,12 @@ fn the_trace_of_a_storm_is_counted_with_status_0(rt: HostRuntime) -> Result<(), 
 fn each_turn_of_the_loop_leads_to_one_call_and_each_run_is_the_same(
     rt: HostRuntime,
 ) -> Result<(), Fail> {
-    for (number, calls) in [("1", "calls 2"), ("1000", "calls 1001")] {
+    let examples = [
+        ("1", "calls 2"),
+        ("1000", "calls 1001"),
+        ("100000", "calls 100001"),
+    ];
+    for (number, calls) in examples {
         let ended = storm(rt.alloc(), number)?;
         assert_eq!(rt; line(ended.out.as_str(), 1), Some(calls));
         assert_eq!(rt; line(ended.out.as_str(), 4), Some("end done"));
