@@ -1,6 +1,8 @@
 -- From what the parts promise to what the top call answers.
 use Rattle.std.proofs.Common.{◌≡◌, ◌≤◌, ℕ, List, length, Option, Some, None, Result, Ok, Err, refl, sym, ◌∙◌, subst, inl, inr}
 use Rattle.std.specs.Prelude.{IfSome, Vec}
+use Rattle.page_cli.specs.ToldFiles.{OfFile}
+use Rattle.page_cli.proofs.ToldLemmas.{some-file, read-holds}
 use Rattle.std.specs.declared.alloc.Global.{Global}
 use Rattle.page_types.specs.Tree.{Item, Program}
 use Rattle.page_types.specs.declared.End.{End}
@@ -109,34 +111,35 @@ refused-answers answer script arrivals hosts left told fits also h = absurd h
 -- ---- the files as they are told
 
 module _ (hosts left : List HostClosure) where
-  -- the script was not read
-  pub told-script : (fault : FileFault) (told_script told_arrivals : Option (List ℕ)) (out : Option (List ℕ)) → IfSome told_script (λ content. GivesFile 1048576 content (Err fault))
-      → AnswersTold (answer_to_file fault Script) told_script told_arrivals hosts left out out
-  told-script fault None told_arrivals out s = tt
-  told-script fault (Some script) None out s = tt
-  told-script file.Failed (Some script) (Some arrivals) out s = (tt, refl)
-  told-script file.TooLong (Some script) (Some arrivals) out s = (s, refl)
-  told-script file.OutOfMemory (Some script) (Some arrivals) out s = inl refl
+  script-unread : (fault : FileFault) (script arrivals : List ℕ) (out : Option (List ℕ)) → GivesFile 1048576 script (Err fault)
+      → AnswersFiles (answer_to_file fault Script) script arrivals hosts left out out
+  script-unread file.Failed script arrivals out h = (tt, refl)
+  script-unread file.TooLong script arrivals out h = (h, refl)
+  script-unread file.OutOfMemory script arrivals out h = inl refl
 
-  within : (script : Vec ℕ Global) (content : List ℕ) → length script.items ≤ 1048576 → script.items ≡ content → Fits content
-  within script content size s = let P : List ℕ → Type 0 = λ z. length z ≤ 1048576 in subst P s size
+  -- the script was not read
+  pub told-script : (fault : FileFault) (told_script told_arrivals : Option (List ℕ)) (out : Option (List ℕ)) → OfFile told_script (λ content. GivesFile 1048576 content (Err fault))
+      → AnswersTold (answer_to_file fault Script) told_script told_arrivals hosts left out out
+  told-script fault told_script told_arrivals out s =
+      let a = some-file told_arrivals in
+      (s.0, s.1, (a.0, a.1, script-unread fault s.0 a.0 out s.2))
+
+  arrivals-unread : (fault : FileFault) (script arrivals : List ℕ) (out : Option (List ℕ)) → Fits script → GivesFile 1048576 arrivals (Err fault)
+      → AnswersFiles (answer_to_file fault Arrivals) script arrivals hosts left out out
+  arrivals-unread file.Failed script arrivals out size h = (size, refl)
+  arrivals-unread file.TooLong script arrivals out size h = ((size, h), refl)
+  arrivals-unread file.OutOfMemory script arrivals out size h = inl refl
 
   -- the arrivals were not read
-  pub told-arrivals : (fault : FileFault) (script : Vec ℕ Global) (told_script told_arrivals : Option (List ℕ)) (out : Option (List ℕ)) → length script.items ≤ 1048576 → IfSome told_script (λ content. GivesFile 1048576 content (Ok script)) →
-      IfSome told_arrivals (λ content. GivesFile 1048576 content (Err fault)) → AnswersTold (answer_to_file fault Arrivals) told_script told_arrivals hosts left out out
-  told-arrivals fault script None told_arrivals out size s a = tt
-  told-arrivals fault script (Some content) None out size s a = tt
-  told-arrivals file.Failed script (Some content) (Some arrivals) out size s a = (within script content size s, refl)
-  told-arrivals file.TooLong script (Some content) (Some arrivals) out size s a = ((within script content size s, a), refl)
-  told-arrivals file.OutOfMemory script (Some content) (Some arrivals) out size s a = inl refl
+  pub told-arrivals : (fault : FileFault) (script : Vec ℕ Global) (told_script told_arrivals : Option (List ℕ)) (out : Option (List ℕ)) → length script.items ≤ 1048576 → OfFile told_script (λ content. GivesFile 1048576 content (Ok script)) →
+      OfFile told_arrivals (λ content. GivesFile 1048576 content (Err fault)) → AnswersTold (answer_to_file fault Arrivals) told_script told_arrivals hosts left out out
+  told-arrivals fault script told_script told_arrivals out size s a =
+      (script.items, read-holds 1048576 told_script script s, (a.0, a.1, arrivals-unread fault script.items a.0 out size a.2))
 
-  pub told-answers : (answer : Answer) (told_script told_arrivals : Option (List ℕ)) (script arrivals : Vec ℕ Global) (old new : Option (List ℕ)) → IfSome told_script (λ content. GivesFile 1048576 content (Ok script)) → IfSome told_arrivals (λ content. GivesFile 1048576 content (Ok arrivals)) →
+  pub told-answers : (answer : Answer) (told_script told_arrivals : Option (List ℕ)) (script arrivals : Vec ℕ Global) (old new : Option (List ℕ)) → OfFile told_script (λ content. GivesFile 1048576 content (Ok script)) → OfFile told_arrivals (λ content. GivesFile 1048576 content (Ok arrivals)) →
       AnswersFiles answer script.items arrivals.items hosts left old new → AnswersTold answer told_script told_arrivals hosts left old new
-  told-answers answer None told_arrivals script arrivals old new s a h = tt
-  told-answers answer (Some script_file) None script arrivals old new s a h = tt
-  told-answers answer (Some script_file) (Some arrivals_file) script arrivals old new s a h =
-      let P : List ℕ → List ℕ → Type 0 = λ x y. AnswersFiles answer x y hosts left old new in
-      subst (λ y. P script_file y) a (subst (λ x. P x arrivals.items) s h)
+  told-answers answer told_script told_arrivals script arrivals old new s a h =
+      (script.items, read-holds 1048576 told_script script s, (arrivals.items, read-holds 1048576 told_arrivals arrivals a, h))
 
 -- ---- the whole, by its status
 
@@ -167,39 +170,29 @@ whole answer end.Clock e = cc
 module _ (file : List ℕ → Option (List ℕ)) (hosts left : List HostClosure) (old new : Option (List ℕ)) where
   -- a run that ended so
   run-told : (one other : End) (script arrivals : Option (List ℕ)) → one ≡ other → AnswersTold (Ended one) script arrivals hosts left old new
-      → IfSome script (λ s. IfSome arrivals (λ a. WroteTrace other s a hosts left old new))
+      → OfFile script (λ s. OfFile arrivals (λ a. WroteTrace other s a hosts left old new))
   run-told one other script arrivals same h =
-      let P : End → Type 0 = λ e. IfSome script (λ s. IfSome arrivals (λ a. WroteTrace e s a hosts left old new)) in subst P same h
+      let P : End → Type 0 = λ e. OfFile script (λ s. OfFile arrivals (λ a. WroteTrace e s a hosts left old new)) in subst P same h
 
   no-run : (of_end : End) (script arrivals : Option (List ℕ)) → AnswersTold Written script arrivals hosts left old new
-      → IfSome script (λ s. IfSome arrivals (λ a. WroteTrace of_end s a hosts left old new))
-  no-run of_end None arrivals h = tt
-  no-run of_end (Some s) None h = tt
-  no-run of_end (Some s) (Some a) h = absurd h.2
+      → OfFile script (λ s. OfFile arrivals (λ a. WroteTrace of_end s a hosts left old new))
+  no-run of_end script arrivals h = absurd h.2.2.2
 
   -- a text about three files
-  three-told : (P : List ℕ → List ℕ → List ℕ → Type 0) (of_end : End) (script arrivals trace : Option (List ℕ)) → of_end ≡ end.Done → IfSome script (λ s. IfSome arrivals (λ a. IfSome trace (λ t. P s a t)))
-      → IfSome script (λ s. IfSome arrivals (λ a. IfSome trace (λ t. (of_end ≡ end.Done) × P s a t)))
-  three-told P of_end None arrivals trace e h = tt
-  three-told P of_end (Some s) None trace e h = tt
-  three-told P of_end (Some s) (Some a) None e h = tt
-  three-told P of_end (Some s) (Some a) (Some t) e h = (e, h)
+  three-told : (P : List ℕ → List ℕ → List ℕ → Type 0) (of_end : End) (script arrivals trace : Option (List ℕ)) → of_end ≡ end.Done → OfFile script (λ s. OfFile arrivals (λ a. OfFile trace (λ t. P s a t)))
+      → OfFile script (λ s. OfFile arrivals (λ a. OfFile trace (λ t. (of_end ≡ end.Done) × P s a t)))
+  three-told P of_end script arrivals trace e h = (h.0, h.1, (h.2.0, h.2.1, (h.2.2.0, h.2.2.1, (e, h.2.2.2))))
 
   no-three : (P : List ℕ → List ℕ → List ℕ → Type 0) (one : End) (script arrivals trace : Option (List ℕ)) → AnswersThree (Ended one) script arrivals trace hosts old new
-      → IfSome script (λ s. IfSome arrivals (λ a. IfSome trace (λ t. P s a t)))
-  no-three P one None arrivals trace h = tt
-  no-three P one (Some s) None trace h = tt
-  no-three P one (Some s) (Some a) None h = tt
-  no-three P one (Some s) (Some a) (Some t) h = absurd h.1
+      → OfFile script (λ s. OfFile arrivals (λ a. OfFile trace (λ t. P s a t)))
+  no-three P one script arrivals trace h = absurd h.2.2.2.1
 
   -- a text about a file
-  text-told : (P : List ℕ → Type 0) (of_end : End) (content : Option (List ℕ)) → of_end ≡ end.Done → IfSome content P → IfSome content (λ bytes. (of_end ≡ end.Done) × P bytes)
-  text-told P of_end None e h = tt
-  text-told P of_end (Some bytes) e h = (e, h)
+  text-told : (P : List ℕ → Type 0) (of_end : End) (content : Option (List ℕ)) → of_end ≡ end.Done → OfFile content P → OfFile content (λ bytes. (of_end ≡ end.Done) × P bytes)
+  text-told P of_end content e h = (h.0, h.1, (e, h.2))
 
-  no-text : (P : List ℕ → Type 0) (content : Option (List ℕ)) → IfSome content (λ bytes. ⊥) → IfSome content P
-  no-text P None h = tt
-  no-text P (Some bytes) h = absurd h
+  no-text : (P : List ℕ → Type 0) (content : Option (List ℕ)) → OfFile content (λ bytes. ⊥) → OfFile content P
+  no-text P content h = absurd h.2
 
   pub whole-told : (answer : Answer) (of_end : End) (form : Form) → status_of answer ≡ status_of_end of_end
       → AnswersForm answer form file hosts left old new → WroteAll of_end form file hosts left old new

@@ -1,6 +1,6 @@
 -- From the verdict on a trace to what the top call answers.
 use Rattle.std.proofs.Common.{◌≡◌, ◌≤◌, ℕ, List, length, Option, Some, None, Result, Ok, Err, refl, sym, subst}
-use Rattle.std.specs.Prelude.{IfOk, IfErr, IfSome, Vec}
+use Rattle.std.specs.Prelude.{IfOk, IfErr, Vec}
 use Rattle.std.specs.declared.alloc.Global.{Global}
 use Rattle.page_types.specs.Tree.{Program}
 use Rattle.page_parts.specs.HostClosures.{HostClosure}
@@ -17,6 +17,8 @@ use Rattle.page_cli.specs.declared.reading.FileFault.{FileFault}
 use Rattle.page_cli.specs.declared.reading.FileFault.TheVariants as file
 use Rattle.page_cli.proofs.ArrivedValues.{holds-no-numbers}
 use Rattle.page_cli.specs.Refusals.{GivesFile, answer_to_file}
+use Rattle.page_cli.specs.ToldFiles.{CanHold, OfFile}
+use Rattle.page_cli.proofs.ToldLemmas.{some-file, read-holds}
 use Rattle.page_cli.specs.Texts.{WritesText}
 use Rattle.page_cli.specs.Answering.{IsRun, RefusesFiles}
 use Rattle.page_cli.specs.Checked.{AllFit, TraceFits, RefusesText, IsNotRead, IsUnread, RefusesTrace, HasVerdict, TellsVerdict, AnswersCheck, AnswersThree, legal_text}
@@ -74,38 +76,41 @@ module _ (script arrivals trace : List ℕ) (hosts : List HostClosure) (program 
 
 -- ---- the files as they are told
 
--- the script was not read
-pub unread-script : (fault : FileFault) (script arrivals trace : Option (List ℕ)) → IfSome script (λ content. GivesFile 1048576 content (Err fault)) → IsUnread (answer_to_file fault Script) script arrivals trace
-unread-script fault None arrivals trace h = tt
-unread-script fault (Some s) None trace h = tt
-unread-script fault (Some s) (Some a) None h = tt
-unread-script file.Failed (Some s) (Some a) (Some t) h = tt
-unread-script file.TooLong (Some s) (Some a) (Some t) h = h
-unread-script file.OutOfMemory (Some s) (Some a) (Some t) h = tt
+script-unread : (fault : FileFault) (script arrivals trace : List ℕ) → GivesFile 1048576 script (Err fault) → IsNotRead (answer_to_file fault Script) script arrivals trace
+script-unread file.Failed script arrivals trace h = tt
+script-unread file.TooLong script arrivals trace h = h
+script-unread file.OutOfMemory script arrivals trace h = tt
 
-within : (most : ℕ) (bytes : Vec ℕ Global) (content : List ℕ) → length bytes.items ≤ most → bytes.items ≡ content → length content ≤ most
-within most bytes content size s = let P : List ℕ → Type 0 = λ z. length z ≤ most in subst P s size
+-- the script was not read
+pub unread-script : (fault : FileFault) (script arrivals trace : Option (List ℕ)) → OfFile script (λ content. GivesFile 1048576 content (Err fault)) → IsUnread (answer_to_file fault Script) script arrivals trace
+unread-script fault script arrivals trace h =
+    let a = some-file arrivals in
+    let t = some-file trace in
+    (h.0, h.1, (a.0, a.1, (t.0, t.1, script-unread fault h.0 a.0 t.0 h.2)))
+
+arrivals-unread : (fault : FileFault) (script arrivals trace : List ℕ) → length script ≤ 1048576 → GivesFile 1048576 arrivals (Err fault) → IsNotRead (answer_to_file fault Arrivals) script arrivals trace
+arrivals-unread file.Failed script arrivals trace size h = size
+arrivals-unread file.TooLong script arrivals trace size h = (size, h)
+arrivals-unread file.OutOfMemory script arrivals trace size h = tt
 
 -- the arrivals were not read
 pub unread-arrivals : (fault : FileFault) (read : Vec ℕ Global) (script arrivals trace : Option (List ℕ)) → length read.items ≤ 1048576 →
-    IfSome script (λ content. GivesFile 1048576 content (Ok read)) → IfSome arrivals (λ content. GivesFile 1048576 content (Err fault)) → IsUnread (answer_to_file fault Arrivals) script arrivals trace
-unread-arrivals fault read None arrivals trace size s a = tt
-unread-arrivals fault read (Some script) None trace size s a = tt
-unread-arrivals fault read (Some script) (Some arrivals) None size s a = tt
-unread-arrivals file.Failed read (Some script) (Some arrivals) (Some trace) size s a = within 1048576 read script size s
-unread-arrivals file.TooLong read (Some script) (Some arrivals) (Some trace) size s a = (within 1048576 read script size s, a)
-unread-arrivals file.OutOfMemory read (Some script) (Some arrivals) (Some trace) size s a = tt
+    OfFile script (λ content. GivesFile 1048576 content (Ok read)) → OfFile arrivals (λ content. GivesFile 1048576 content (Err fault)) → IsUnread (answer_to_file fault Arrivals) script arrivals trace
+unread-arrivals fault read script arrivals trace size s a =
+    let t = some-file trace in
+    (read.items, read-holds 1048576 script read s, (a.0, a.1, (t.0, t.1, arrivals-unread fault read.items a.0 t.0 size a.2)))
+
+trace-unread : (fault : FileFault) (script arrivals trace : List ℕ) → length script ≤ 1048576 → length arrivals ≤ 1048576 → GivesFile 67108864 trace (Err fault) → IsNotRead (answer_to_file fault Trace) script arrivals trace
+trace-unread file.Failed script arrivals trace size also h = (size, also)
+trace-unread file.TooLong script arrivals trace size also h = (size, also, h)
+trace-unread file.OutOfMemory script arrivals trace size also h = tt
 
 -- the trace was not read
 pub unread-trace : (fault : FileFault) (read also : Vec ℕ Global) (script arrivals trace : Option (List ℕ)) → length read.items ≤ 1048576 → length also.items ≤ 1048576 →
-    IfSome script (λ content. GivesFile 1048576 content (Ok read)) → IfSome arrivals (λ content. GivesFile 1048576 content (Ok also)) → IfSome trace (λ content. GivesFile 67108864 content (Err fault)) →
+    OfFile script (λ content. GivesFile 1048576 content (Ok read)) → OfFile arrivals (λ content. GivesFile 1048576 content (Ok also)) → OfFile trace (λ content. GivesFile 67108864 content (Err fault)) →
     IsUnread (answer_to_file fault Trace) script arrivals trace
-unread-trace fault read also None arrivals trace size size2 s a t = tt
-unread-trace fault read also (Some script) None trace size size2 s a t = tt
-unread-trace fault read also (Some script) (Some arrivals) None size size2 s a t = tt
-unread-trace file.Failed read also (Some script) (Some arrivals) (Some trace) size size2 s a t = (within 1048576 read script size s, within 1048576 also arrivals size2 a)
-unread-trace file.TooLong read also (Some script) (Some arrivals) (Some trace) size size2 s a t = (within 1048576 read script size s, within 1048576 also arrivals size2 a, t)
-unread-trace file.OutOfMemory read also (Some script) (Some arrivals) (Some trace) size size2 s a t = tt
+unread-trace fault read also script arrivals trace size size2 s a t =
+    (read.items, read-holds 1048576 script read s, (also.items, read-holds 1048576 arrivals also a, (t.0, t.1, trace-unread fault read.items also.items t.0 size size2 t.2)))
 
 module _ (hosts : List HostClosure) where
   not_read-check : (answer : Answer) (script arrivals trace : List ℕ) (out : Option (List ℕ)) → IsNotRead answer script arrivals trace → AnswersCheck answer script arrivals trace hosts out out
@@ -116,17 +121,10 @@ module _ (hosts : List HostClosure) where
 
   -- a file was not read
   pub unread-check : (answer : Answer) (script arrivals trace out : Option (List ℕ)) → IsUnread answer script arrivals trace → AnswersThree answer script arrivals trace hosts out out
-  unread-check answer None arrivals trace out h = tt
-  unread-check answer (Some s) None trace out h = tt
-  unread-check answer (Some s) (Some a) None out h = tt
-  unread-check answer (Some s) (Some a) (Some t) out h = not_read-check answer s a t out h
+  unread-check answer script arrivals trace out h =
+      (h.0, h.1, (h.2.0, h.2.1, (h.2.2.0, h.2.2.1, not_read-check answer h.0 h.2.0 h.2.2.0 out h.2.2.2)))
 
   -- all were read
-  pub three-answers : (answer : Answer) (script arrivals trace : Option (List ℕ)) (s a t : Vec ℕ Global) (old new : Option (List ℕ)) → IfSome script (λ content. GivesFile 1048576 content (Ok s)) → IfSome arrivals (λ content. GivesFile 1048576 content (Ok a)) →
-      IfSome trace (λ content. GivesFile 67108864 content (Ok t)) → AnswersCheck answer s.items a.items t.items hosts old new → AnswersThree answer script arrivals trace hosts old new
-  three-answers answer None arrivals trace s a t old new p q r h = tt
-  three-answers answer (Some script) None trace s a t old new p q r h = tt
-  three-answers answer (Some script) (Some arrivals) None s a t old new p q r h = tt
-  three-answers answer (Some script) (Some arrivals) (Some trace) s a t old new p q r h =
-      let P : List ℕ → List ℕ → List ℕ → Type 0 = λ x y z. AnswersCheck answer x y z hosts old new in
-      subst (λ z. P script arrivals z) r (subst (λ y. P script y t.items) q (subst (λ x. P x a.items t.items) p h))
+  pub three-answers : (answer : Answer) (script arrivals trace : Option (List ℕ)) (s a t : List ℕ) (old new : Option (List ℕ)) → CanHold script s → CanHold arrivals a → CanHold trace t →
+      AnswersCheck answer s a t hosts old new → AnswersThree answer script arrivals trace hosts old new
+  three-answers answer script arrivals trace s a t old new p q r h = (s, p, (a, q, (t, r, h)))

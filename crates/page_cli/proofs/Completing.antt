@@ -23,6 +23,8 @@ use Rattle.page_cli.specs.declared.answer.Answer.TheVariants.{Ended, Written, No
 use Rattle.page_cli.specs.declared.answer.Answer.TheVariants.{TooLong, ReadFault, WriteFault, OutOfMemory}
 use Rattle.page_cli.specs.Forms.{Form, RunForm, CheckForm, MigrateForm, StormForm, PictureForm, ExpandForm, name_of}
 use Rattle.page_cli.specs.Scripts.{IsScript, HasSomeProgram, IsSyntaxError, HasBadName}
+use Rattle.page_cli.specs.ToldFiles.{OfFile}
+use Rattle.page_cli.proofs.ToldLemmas.{of-told, of-each}
 use Rattle.page_cli.specs.Answering.{AnswersFiles, AnswersTold}
 use Rattle.page_cli.specs.Checked.{TraceFits, HasSomeSetup, AnswersCheck, AnswersThree}
 use Rattle.page_cli.specs.Pictures.{most_of, AnswersTrace}
@@ -122,30 +124,35 @@ module _ (law : NoBadLine) (hosts left : List HostClosure) (old new : Option (Li
 
   -- ---- the files as they are told
 
+  two-told : (script arrivals : Option (List ℕ)) (P Q : List ℕ → List ℕ → Type 0) → ((s a : List ℕ) → P s a → Q s a) → OfFile script (λ s. OfFile arrivals (λ a. P s a)) → IfSome script (λ s. IfSome arrivals (λ a. Q s a))
+  two-told script arrivals P Q f h =
+      of-told script (λ s. IfSome arrivals (λ a. Q s a)) (h.0, h.1, of-told arrivals (λ a. Q h.0 a) (of-each arrivals (λ a. P h.0 a) (λ a. Q h.0 a) (f h.0) h.2))
+
+  three-told : (script arrivals trace : Option (List ℕ)) (P Q : List ℕ → List ℕ → List ℕ → Type 0) → ((s a t : List ℕ) → P s a t → Q s a t) → OfFile script (λ s. OfFile arrivals (λ a. OfFile trace (λ t. P s a t)))
+      → IfSome script (λ s. IfSome arrivals (λ a. IfSome trace (λ t. Q s a t)))
+  three-told script arrivals trace P Q f h =
+      two-told script arrivals (λ s a. OfFile trace (λ t. P s a t)) (λ s a. IfSome trace (λ t. Q s a t)) (λ s a p. of-told trace (λ t. Q s a t) (of-each trace (λ t. P s a t) (λ t. Q s a t) (f s a) p)) h
+
   run-told : (answer : Answer) (script arrivals : Option (List ℕ)) → AnswersTold answer script arrivals hosts left old new → ((file : WhichFile) → answer ≡ ReadFault file → ⊥) → (answer ≡ WriteFault → ⊥) →
       IfSome script (λ s. IfSome arrivals (λ a. CanRun s a → EndsOrWants answer))
-  run-told answer None arrivals h r w = tt
-  run-told answer (Some s) None h r w = tt
-  run-told answer (Some s) (Some a) h r w = run-completes answer s a h r w
+  run-told answer script arrivals h r w =
+      two-told script arrivals (λ s a. AnswersFiles answer s a hosts left old new) (λ s a. CanRun s a → EndsOrWants answer) (λ s a p. run-completes answer s a p r w) h
 
   check-told : (answer : Answer) (script arrivals trace : Option (List ℕ)) → AnswersThree answer script arrivals trace hosts old new → ((file : WhichFile) → answer ≡ ReadFault file → ⊥) → (answer ≡ WriteFault → ⊥) →
       IfSome script (λ s. IfSome arrivals (λ a. IfSome trace (λ t. CanRun s a → TraceFits t → IsSomeTrace t → JudgesOrWants answer)))
-  check-told answer None arrivals trace h r w = tt
-  check-told answer (Some s) None trace h r w = tt
-  check-told answer (Some s) (Some a) None h r w = tt
-  check-told answer (Some s) (Some a) (Some t) h r w = check-completes answer s a t h r w
+  check-told answer script arrivals trace h r w =
+      three-told script arrivals trace (λ s a t. AnswersCheck answer s a t hosts old new) (λ s a t. CanRun s a → TraceFits t → IsSomeTrace t → JudgesOrWants answer) (λ s a t p. check-completes answer s a t p r w) h
 
   migrate-told : (answer : Answer) (script arrivals trace : Option (List ℕ)) → AnswersMigration answer script arrivals trace hosts old new → ((file : WhichFile) → answer ≡ ReadFault file → ⊥) → (answer ≡ WriteFault → ⊥) →
       IfSome script (λ s. IfSome arrivals (λ a. IfSome trace (λ t. CanRun s a → TraceFits t → IsSomeTrace t → JudgesOrWants answer)))
-  migrate-told answer None arrivals trace h r w = tt
-  migrate-told answer (Some s) None trace h r w = tt
-  migrate-told answer (Some s) (Some a) None h r w = tt
-  migrate-told answer (Some s) (Some a) (Some t) h r w = migrate-completes answer s a t h r w
+  migrate-told answer script arrivals trace h r w =
+      three-told script arrivals trace (λ s a t. AnswersMigrate answer s a t hosts old new) (λ s a t. CanRun s a → TraceFits t → IsSomeTrace t → JudgesOrWants answer) (λ s a t p. migrate-completes answer s a t p r w) h
 
-  picture-told : (answer : Answer) (what : Picture) (trace : Option (List ℕ)) → IfSome trace (λ bytes. AnswersTrace answer what bytes old new) → ((file : WhichFile) → answer ≡ ReadFault file → ⊥) → (answer ≡ WriteFault → ⊥) →
+  picture-told : (answer : Answer) (what : Picture) (trace : Option (List ℕ)) → OfFile trace (λ bytes. AnswersTrace answer what bytes old new) → ((file : WhichFile) → answer ≡ ReadFault file → ⊥) → (answer ≡ WriteFault → ⊥) →
       IfSome trace (λ bytes. length bytes ≤ most_of what → IsSomeTrace bytes → WritesOrWants answer)
-  picture-told answer what None h r w = tt
-  picture-told answer what (Some bytes) h r w = picture-completes answer what bytes h r w
+  picture-told answer what trace h r w =
+      of-told trace (λ bytes. length bytes ≤ most_of what → IsSomeTrace bytes → WritesOrWants answer)
+      (of-each trace (λ bytes. AnswersTrace answer what bytes old new) (λ bytes. length bytes ≤ most_of what → IsSomeTrace bytes → WritesOrWants answer) (λ bytes p. picture-completes answer what bytes p r w) h)
 
   form-completes : (answer : Answer) (form : Form) (file : List ℕ → Option (List ℕ)) → AnswersForm answer form file hosts left old new → ((which : WhichFile) → answer ≡ ReadFault which → ⊥) → (answer ≡ WriteFault → ⊥) →
       Completes answer form file

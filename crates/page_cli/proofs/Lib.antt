@@ -1,4 +1,5 @@
 pub mod Putting
+mod ToldLemmas
 pub mod ArrivedValues
 pub mod Closures
 pub mod AnswerLemmas
@@ -10,3 +11,4 @@ mod Completing
 mod OwnChoices
 mod MigrateLemmas
 mod StormLemmas
+mod HandingOn

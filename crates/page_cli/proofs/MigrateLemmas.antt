@@ -1,6 +1,5 @@
 -- From a legal trace to its second form, and to what the top call answers.
 use Rattle.std.proofs.Common.{◌≡◌, ◌≤◌, ℕ, List, length, map, Option, Some, None, Result, Ok, Err, [], append-nil, refl, sym, ap, ◌∙◌, subst, inl, inr, arith}
-use Rattle.std.specs.Prelude.{IfSome}
 use Rattle.page_types.specs.Tree.{Program}
 use Rattle.page_types.specs.Counts.{Rose}
 use Rattle.page_types.specs.Told.{AppendsStartOf}
@@ -36,6 +35,7 @@ use Rattle.page_cli.specs.Running.{CanStop}
 use Rattle.page_cli.specs.Answering.{IsRun, IsRefusal}
 use Rattle.page_cli.specs.Checked.{AllFit, IsNotRead, IsUnread, RefusesTrace}
 use Rattle.page_cli.specs.Migrated.{IsMigration, AnswersMigrate, AnswersMigration, AnswersRetold, HasLegalChoices, RetellsText, retold_to}
+use Rattle.page_cli.specs.ToldFiles.{CanHold}
 use Rattle.page_cli.proofs.RunLemmas.{whole-start}
 
 -- ---- the second form of a legal trace
@@ -128,8 +128,8 @@ module _ (program : Program) (setup : Setup) (hosts : List HostClosure) (trace :
 
 -- ---- what is not said
 
--- a text is written, or nothing is
-pub retold-refusal : (answer : Answer) (text : List ℕ) (old new : Option (List ℕ)) → AnswersRetold answer text old new → IsRefusal answer → new ≡ old
+-- no such answer is a refusal
+pub retold-refusal : (answer : Answer) (text : List ℕ) (old new : Option (List ℕ)) → AnswersRetold answer text old new → IsRefusal answer → ⊥
 retold-refusal Written text old new h is = absurd is
 retold-refusal WriteFault text old new h is = absurd is
 retold-refusal OutOfMemory text old new h is = absurd is
@@ -155,6 +155,9 @@ module _ {C : Type 0} (form : ℕ) (run : Turned C) {before after : Seen (List �
   lines-retold (Err stop.NoReading) h = whole-start before.told after.told (text_of form (events_of_run run)) (Gives-sink_trace form (events_of_run run) h.lines)
   lines-retold (Err stop.NoChoice) h = whole-start before.told after.told (text_of form (events_of_run run)) (Gives-sink_trace form (events_of_run run) h.lines)
   lines-retold (Err stop.NoHost) h = whole-start before.told after.told (text_of form (events_of_run run)) (Gives-sink_trace form (events_of_run run) h.lines)
+
+  pub lines-later : (outcome : Result End RunStop) → Replays sink_keeping before form run outcome after → before.faults ≤ after.faults
+  lines-later outcome h = h.lines.later
 
   -- a put has failed
   pub lines-failed : (outcome : Result End RunStop) → Replays sink_keeping before form run outcome after → retold_to outcome ≡ WriteFault → Rose before.faults after.faults
@@ -199,17 +202,10 @@ module _ (hosts : List HostClosure) where
 
   -- a file was not read
   pub unread-migration : (answer : Answer) (script arrivals trace out : Option (List ℕ)) → IsUnread answer script arrivals trace → AnswersMigration answer script arrivals trace hosts out out
-  unread-migration answer None arrivals trace out h = tt
-  unread-migration answer (Some s) None trace out h = tt
-  unread-migration answer (Some s) (Some a) None out h = tt
-  unread-migration answer (Some s) (Some a) (Some t) out h = not_read-migrate answer s a t out h
+  unread-migration answer script arrivals trace out h =
+      (h.0, h.1, (h.2.0, h.2.1, (h.2.2.0, h.2.2.1, not_read-migrate answer h.0 h.2.0 h.2.2.0 out h.2.2.2)))
 
   -- all were read
-  pub migration-answers : (answer : Answer) (script arrivals trace : Option (List ℕ)) (s a t : List ℕ) (old new : Option (List ℕ)) → IfSome script (λ content. s ≡ content) → IfSome arrivals (λ content. a ≡ content) →
-      IfSome trace (λ content. t ≡ content) → AnswersMigrate answer s a t hosts old new → AnswersMigration answer script arrivals trace hosts old new
-  migration-answers answer None arrivals trace s a t old new p q r h = tt
-  migration-answers answer (Some script) None trace s a t old new p q r h = tt
-  migration-answers answer (Some script) (Some arrivals) None s a t old new p q r h = tt
-  migration-answers answer (Some script) (Some arrivals) (Some trace) s a t old new p q r h =
-      let P : List ℕ → List ℕ → List ℕ → Type 0 = λ x y z. AnswersMigrate answer x y z hosts old new in
-      subst (λ z. P script arrivals z) r (subst (λ y. P script y t) q (subst (λ x. P x a t) p h))
+  pub migration-answers : (answer : Answer) (script arrivals trace : Option (List ℕ)) (s a t : List ℕ) (old new : Option (List ℕ)) → CanHold script s → CanHold arrivals a → CanHold trace t →
+      AnswersMigrate answer s a t hosts old new → AnswersMigration answer script arrivals trace hosts old new
+  migration-answers answer script arrivals trace s a t old new p q r h = (s, p, (a, q, (t, r, h)))

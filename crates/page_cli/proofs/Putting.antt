@@ -1,5 +1,5 @@
 -- Pieces that are put one after another.
-use Rattle.std.proofs.Common.{◌≡◌, ℕ, List, [], ◌++◌, Option, Some, None, Result, Ok, Err, Bool, true, false, refl, sym, ◌∙◌, ap, subst, inl, inr, arith, append_assoc, append-nil}
+use Rattle.std.proofs.Common.{◌≡◌, ◌≤◌, ℕ, List, [], ◌++◌, Option, Some, None, Result, Ok, Err, Bool, true, false, refl, sym, ◌∙◌, ap, subst, inl, inr, arith, append_assoc, append-nil}
 use Rattle.std.specs.Prelude.{IsErr}
 use Rattle.page_types.specs.Told.{appended, AppendsStartOf}
 use Rattle.page_cli.specs.Complaints.{Puts, PutsOrFails}
@@ -49,3 +49,8 @@ Puts-nothing old a p u e = record { later = omega arith; whole = appended-none o
 pub Puts-or-fails : {E : Type 0} {old new : Option (List ℕ)} {a b : ℕ} {p : List ℕ} (r : Result (Unit {0}) E) → Puts old a p r new b → PutsOrFails old a p new b
 Puts-or-fails (Ok v) h = inl h.whole
 Puts-or-fails (Err e) h = inr h.start
+
+-- the bytes stay, and faults may be more
+pub PutsOrFails-more : (old mid new : Option (List ℕ)) (a b c : ℕ) (p : List ℕ) → PutsOrFails old a p mid b → new ≡ mid → b ≤ c → PutsOrFails old a p new c
+PutsOrFails-more old mid new a b c p (inl e) same later = inl (same ∙ e)
+PutsOrFails-more old mid new a b c p (inr h) same later = inr (omega (arith, h.0, later), let P : Option (List ℕ) → Type 0 = λ o. AppendsStartOf old o p in subst P (sym same) h.1)

@@ -1,5 +1,5 @@
 -- What each answer says of the files, of the closures and of what was written.
-use Rattle.std.specs.Prelude.{◌≡◌, ◌<◌, ◌≤◌, ◌⊎◌, ⊤, ℕ, length, List, Option, Some, None, IfSome}
+use Rattle.std.specs.Prelude.{◌≡◌, ◌<◌, ◌≤◌, ◌⊎◌, ⊤, ℕ, length, List, Option, Some, None}
 use Rattle.page_types.specs.Tree.{Program}
 use Rattle.page_types.specs.declared.End.{End}
 use Rattle.page_parts.specs.HostClosures.{HostClosure}
@@ -14,6 +14,7 @@ use Rattle.page_cli.specs.declared.answer.Answer.{Answer}
 use Rattle.page_cli.specs.declared.answer.Answer.TheVariants.{Ended, Written, Usage, NoParse, NotAsync, BadName, BadArrivals}
 use Rattle.page_cli.specs.declared.answer.Answer.TheVariants.{BadTrace, Differs, Illegal, TooLong, ReadFault, WriteFault, OutOfMemory}
 use Rattle.page_cli.specs.Forms.{Form, RunForm, CheckForm, MigrateForm, StormForm, PictureForm, ExpandForm}
+use Rattle.page_cli.specs.ToldFiles.{OfFile}
 use Rattle.page_cli.specs.Scripts.{HasProgram, HasSomeProgram, IsSyntaxError, HasBadName}
 use Rattle.page_cli.specs.Running.{WroteRun, WroteRunStart, written_run}
 
@@ -66,7 +67,8 @@ RefusesFiles OutOfMemory script arrivals = ⊤
 RefusesFiles answer script arrivals = ⊥
 
 -- what an answer says of the two files and of the closures
-abbrev pub AnswersFiles : Answer → (script arrivals : List ℕ) → (hosts left : List HostClosure) → (old new : Option (List ℕ)) → Type 0
+abbrev pub AnswersFiles : Answer → (script arrivals : List ℕ) → (hosts left : List HostClosure)
+    → (old new : Option (List ℕ)) → Type 0
 AnswersFiles (Ended end) script arrivals hosts left old new = WroteTrace end script arrivals hosts left old new
 AnswersFiles (TooLong file) script arrivals hosts left old new = IsTooLong file script arrivals × (new ≡ old)
 AnswersFiles (ReadFault file) script arrivals hosts left old new = CanFail file script × (new ≡ old)
@@ -75,11 +77,11 @@ AnswersFiles OutOfMemory script arrivals hosts left old new = (new ≡ old) ⊎ 
 AnswersFiles answer script arrivals hosts left old new =
     Fits script × Fits arrivals × RefusesFiles answer script arrivals × (new ≡ old)
 
--- the same, where the folder tells both files
-abbrev pub AnswersTold : Answer → (script arrivals : Option (List ℕ)) → (hosts left : List HostClosure) → (old new : Option (List ℕ))
-    → Type 0
+-- the same of the files as the folder tells them, each where it tells that one
+abbrev pub AnswersTold : Answer → (script arrivals : Option (List ℕ)) → (hosts left : List HostClosure)
+    → (old new : Option (List ℕ)) → Type 0
 AnswersTold answer script arrivals hosts left old new =
-    IfSome script (λ s. IfSome arrivals (λ a. AnswersFiles answer s a hosts left old new))
+    OfFile script (λ s. OfFile arrivals (λ a. AnswersFiles answer s a hosts left old new))
 
 -- with a refusal nothing is written, and no closure is fired or dropped
 abbrev pub IsRefusal : Answer → Type 0

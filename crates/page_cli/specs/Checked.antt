@@ -1,5 +1,5 @@
 -- What an answer says of a trace that is checked.
-use Rattle.std.specs.Prelude.{◌≡◌, ◌<◌, ◌≤◌, ⊤, ℕ, length, List, Option, IfSome, codes}
+use Rattle.std.specs.Prelude.{◌≡◌, ◌<◌, ◌≤◌, ⊤, ℕ, length, List, Option, codes}
 use Rattle.page_types.specs.Tree.{Program}
 use Rattle.page_types.specs.Told.{appended, AppendsStartOf}
 use Rattle.page_parts.specs.HostClosures.{HostClosure}
@@ -17,6 +17,7 @@ use Rattle.page_cli.specs.declared.answer.Answer.TheVariants.{Written, BadTrace,
 use Rattle.page_cli.specs.declared.answer.Answer.TheVariants.{OutOfMemory}
 use Rattle.page_cli.specs.Scripts.{HasSomeProgram}
 use Rattle.page_cli.specs.Texts.{WritesText}
+use Rattle.page_cli.specs.ToldFiles.{OfFile}
 use Rattle.page_cli.specs.Answering.{Fits, IsRun, IsTooLong, CanFail, RefusesFiles}
 
 -- ---- Ours: the three files
@@ -52,9 +53,10 @@ IsNotRead (ReadFault file) script arrivals trace = CanFailAmong file script arri
 IsNotRead OutOfMemory script arrivals trace = ⊤
 IsNotRead answer script arrivals trace = ⊥
 
--- the same, where the folder tells the three files
+-- the same of the files as the folder tells them, each where it tells that one
 abbrev pub IsUnread : Answer → (script arrivals trace : Option (List ℕ)) → Type 0
-IsUnread answer script arrivals trace = IfSome script (λ s. IfSome arrivals (λ a. IfSome trace (λ t. IsNotRead answer s a t)))
+IsUnread answer script arrivals trace =
+    OfFile script (λ s. OfFile arrivals (λ a. OfFile trace (λ t. IsNotRead answer s a t)))
 
 -- what a refusal says of the bytes of a trace
 abbrev pub RefusesText : Answer → (trace : List ℕ) → Type 0
@@ -115,8 +117,8 @@ AnswersCheck OutOfMemory script arrivals trace hosts old new = new ≡ old
 AnswersCheck answer script arrivals trace hosts old new =
     AllFit script arrivals trace × RefusesTrace answer script arrivals trace × (new ≡ old)
 
--- the same, where the folder tells the three files
-abbrev pub AnswersThree : Answer → (script arrivals trace : Option (List ℕ)) → List HostClosure → (old new : Option (List ℕ))
-    → Type 0
+-- the same of the files as the folder tells them, each where it tells that one
+abbrev pub AnswersThree : Answer → (script arrivals trace : Option (List ℕ)) → List HostClosure
+    → (old new : Option (List ℕ)) → Type 0
 AnswersThree answer script arrivals trace hosts old new =
-    IfSome script (λ s. IfSome arrivals (λ a. IfSome trace (λ t. AnswersCheck answer s a t hosts old new)))
+    OfFile script (λ s. OfFile arrivals (λ a. OfFile trace (λ t. AnswersCheck answer s a t hosts old new)))

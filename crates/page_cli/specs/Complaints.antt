@@ -38,8 +38,8 @@ complaint form WriteFault = codes "pageloop: write fault\n"
 complaint form OutOfMemory = codes "pageloop: out of memory\n"
 
 -- A piece was put: the whole of it; or a start, where the count of faults rose.
-pub record Puts {E : Type 0} (old : Option (List ℕ)) (before : ℕ) (piece : List ℕ) (result : Result (Unit {0}) E) (new : Option (List ℕ))
-    (now : ℕ) : Type 0 where
+pub record Puts {E : Type 0} (old : Option (List ℕ)) (before : ℕ) (piece : List ℕ) (result : Result (Unit {0}) E)
+    (new : Option (List ℕ)) (now : ℕ) : Type 0 where
   pub later : before ≤ now
   pub whole : OnOk result (new ≡ appended old piece)
   pub start : OnErr result (Rose before now × AppendsStartOf old new piece)

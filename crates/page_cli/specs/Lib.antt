@@ -1,9 +1,11 @@
 pub mod Statuses
 pub mod Forms
 pub mod Names
+pub mod ToldFiles
 pub mod Scripts
 pub mod Running
 pub mod Answering
+pub mod HandedOn
 pub mod Complaints
 pub mod Refusals
 pub mod Texts

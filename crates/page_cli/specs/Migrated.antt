@@ -1,5 +1,5 @@
 -- What an answer says of a trace that is migrated.
-use Rattle.std.specs.Prelude.{◌≡◌, ◌⊎◌, ℕ, List, Option, IfSome, Result, Ok, Err}
+use Rattle.std.specs.Prelude.{◌≡◌, ◌⊎◌, ℕ, List, Option, Result, Ok, Err}
 use Rattle.page_types.specs.Tree.{Program}
 use Rattle.page_types.specs.Events.{Stamped}
 use Rattle.page_types.specs.Told.{appended, AppendsStartOf}
@@ -20,6 +20,7 @@ use Rattle.page_cli.specs.declared.answer.Answer.{Answer}
 use Rattle.page_cli.specs.declared.answer.Answer.TheVariants.{Written, WriteFault, OutOfMemory}
 use Rattle.page_cli.specs.Answering.{IsRun}
 use Rattle.page_cli.specs.Checked.{TraceFits, AnswersCheck}
+use Rattle.page_cli.specs.ToldFiles.{OfFile}
 
 -- ---- Ours: a legal trace, told in its second form
 
@@ -59,11 +60,11 @@ AnswersMigrate OutOfMemory script arrivals trace hosts old new =
     (new ≡ old) ⊎ WroteMigratedStart script arrivals trace hosts old new
 AnswersMigrate answer script arrivals trace hosts old new = AnswersCheck answer script arrivals trace hosts old new
 
--- the same, where the folder tells the three files
+-- the same of the files as the folder tells them, each where it tells that one
 abbrev pub AnswersMigration : Answer → (script arrivals trace : Option (List ℕ)) → List HostClosure → (old new : Option (List ℕ))
     → Type 0
 AnswersMigration answer script arrivals trace hosts old new =
-    IfSome script (λ s. IfSome arrivals (λ a. IfSome trace (λ t. AnswersMigrate answer s a t hosts old new)))
+    OfFile script (λ s. OfFile arrivals (λ a. OfFile trace (λ t. AnswersMigrate answer s a t hosts old new)))
 
 -- what an answer says of a text whose lines are written one by one
 abbrev pub AnswersRetold : Answer → (text : List ℕ) → (old new : Option (List ℕ)) → Type 0

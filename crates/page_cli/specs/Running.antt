@@ -47,7 +47,8 @@ pub record WroteRunStart (program : Program) (setup : Setup) (hosts : List HostC
   pub start : AppendsStartOf old new (page_trace program setup hosts answers)
 
 -- what a run wrote, by how it stopped
-abbrev pub Wrote : Program → Setup → List HostClosure → Option (List ℕ) → Result End RunStop → List HostClosure → Option (List ℕ) → Type 0
+abbrev pub Wrote : Program → Setup → List HostClosure → Option (List ℕ) → Result End RunStop → List HostClosure
+    → Option (List ℕ) → Type 0
 Wrote program setup hosts old (Ok end) left new = WroteRun program setup hosts old end left new
 Wrote program setup hosts old (Err why) left new = WroteRunStart program setup hosts old new
 

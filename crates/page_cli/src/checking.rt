@@ -44,7 +44,8 @@ pub(crate) fn check_named<F: Folder, O: Sink>(
     ensures answers { AnswersThree result.answer (F.file folder.old names.entry.script.now)
         (F.file folder.old names.entry.arrivals.now) (F.file folder.old names.entry.trace.now) (closures_of hosts.now) (O.bytes out)
         (O.bytes result.out) }
-    ensures refused { IsRefusal result.answer → O.bytes result.out ≡ O.bytes out }
+    ensures refused { IsRefusal result.answer → result.out ≡ out }
+    ensures later { O.faults out ≤ O.faults result.out }
     ensures read { (file : WhichFile) → result.answer ≡ Answer.ReadFault file →
         Rose (F.faults folder.old (name_of file (form_seen (Asked.Check names.entry))))
         (F.faults folder.new (name_of file (form_seen (Asked.Check names.entry)))) }
@@ -68,7 +69,8 @@ fn check_files<O: Sink>(
     requires { AllFit files.now.script.items files.now.arrivals.items files.now.trace.items }
     ensures answers { AnswersCheck result.answer files.now.script.items files.now.arrivals.items files.now.trace.items
         (closures_of hosts.now) (O.bytes out) (O.bytes result.out) }
-    ensures refused { IsRefusal result.answer → O.bytes result.out ≡ O.bytes out }
+    ensures refused { IsRefusal result.answer → result.out ≡ out }
+    ensures later { O.faults out ≤ O.faults result.out }
     ensures other { (file : WhichFile) → result.answer ≡ Answer.ReadFault file → ⊥ }
     ensures write { result.answer ≡ Answer.WriteFault → Rose (O.faults out) (O.faults result.out) }
     ensures usage { result.answer ≡ Answer.Usage → ⊥ }
@@ -144,7 +146,9 @@ fn judge_in<M: Ledger>(
 /// Writes `legal` where the trace is legal; else the answer tells why it is not.
 fn tell_verdict<O: Sink>(verdict: Verdict, out: &mut O) -> Answer
     ensures tells { TellsVerdict verdict result (O.bytes out.old) (O.bytes out.new) }
+    ensures refused { IsRefusal result → out.new ≡ out.old }
     ensures fault { result ≡ Answer.WriteFault → Rose (O.faults out.old) (O.faults out.new) }
+    ensures later { O.faults out.old ≤ O.faults out.new }
 {
     match verdict {
         Verdict::Yes => write_text(out, b"legal\n"),

@@ -115,10 +115,11 @@ fn name_of<'a>(file: WhichFile, asked: Option<Asked<'a>>) -> &'a str
     }
 }
 
-/// Gives the line of an answer to the error output. A fault of that changes no answer.
+/// Gives the line of an answer to the error output, and has it handed on. A fault of that changes no answer.
 pub(crate) fn complain<E: Sink>(err: &mut E, answer: Answer, asked: Option<Asked>)
     ensures { PutsOrFails (E.bytes err.old) (E.faults err.old) (complaint (names_seen asked.entry) answer) (E.bytes err.new)
         (E.faults err.new) }
 {
     let _ = put_complaint(err, answer, asked);
+    let _ = err.finish();
 }

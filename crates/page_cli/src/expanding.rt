@@ -1,12 +1,13 @@
 //! Writing the plain script for one with async functions.
 
-ghost use Rattle.std.specs.Prelude.{◌≡◌, ◌≤◌, length, IfSome};
+ghost use Rattle.std.specs.Prelude.{◌≡◌, ◌≤◌, length};
 ghost use Rattle.page_types.specs.declared.End.{End};
 ghost use Rattle.page_types.specs.Counts.{Rose};
 ghost use Rattle.page_cli.specs.declared.answer.WhichFile.{WhichFile};
 ghost use Rattle.page_cli.specs.declared.answer.WhichFile.TheVariants.{Script};
 ghost use Rattle.page_cli.specs.Answering.{IsRefusal};
 ghost use Rattle.page_cli.specs.Expanding.{AnswersExpand};
+ghost use Rattle.page_cli.specs.ToldFiles.{OfFile};
 
 use crate::answer::{Answer, WhichFile};
 use crate::pieces::write_text;
@@ -23,9 +24,10 @@ pub(crate) fn expand_named<F: Folder, O: Sink>(
     script: &str,
     out: O,
 ) -> Answered<O>
-    ensures answers { IfSome (F.file folder.old script.now) (λ bytes.
+    ensures answers { OfFile (F.file folder.old script.now) (λ bytes.
         AnswersExpand result.answer bytes (O.bytes out) (O.bytes result.out)) }
-    ensures refused { IsRefusal result.answer → O.bytes result.out ≡ O.bytes out }
+    ensures refused { IsRefusal result.answer → result.out ≡ out }
+    ensures later { O.faults out ≤ O.faults result.out }
     ensures read { (file : WhichFile) → result.answer ≡ Answer.ReadFault file →
         (file ≡ Script) × Rose (F.faults folder.old script.now) (F.faults folder.new script.now) }
     ensures write { result.answer ≡ Answer.WriteFault → Rose (O.faults out) (O.faults result.out) }
@@ -42,7 +44,8 @@ pub(crate) fn expand_named<F: Folder, O: Sink>(
 fn write_expansion<O: Sink>(alloc: Global, script: &[u8], mut out: O) -> Answered<O>
     requires { length script.now ≤ 1048576 }
     ensures answers { AnswersExpand result.answer script.now (O.bytes out) (O.bytes result.out) }
-    ensures refused { IsRefusal result.answer → O.bytes result.out ≡ O.bytes out }
+    ensures refused { IsRefusal result.answer → result.out ≡ out }
+    ensures later { O.faults out ≤ O.faults result.out }
     ensures other { (file : WhichFile) → result.answer ≡ Answer.ReadFault file → ⊥ }
     ensures write { result.answer ≡ Answer.WriteFault → Rose (O.faults out) (O.faults result.out) }
     ensures ended { (end : End) → result.answer ≡ Answer.Ended end → ⊥ }

@@ -6,6 +6,7 @@ mod checking;
 mod complaint;
 mod counting;
 mod expanding;
+mod handing_on;
 mod main_call;
 mod migrating;
 pub mod names;

@@ -1,6 +1,6 @@
 //! The top call.
 
-ghost use Rattle.std.specs.Prelude.{◌≡◌, ◌↔◌, ◌⊎◌, map, None, string_bytes, IfSome};
+ghost use Rattle.std.specs.Prelude.{◌≡◌, ◌≤◌, ◌↔◌, ◌⊎◌, map, None, string_bytes, IfSome};
 ghost use Rattle.page_types.specs.declared.End.{End};
 ghost use Rattle.page_types.specs.Counts.{Rose};
 ghost use Rattle.host_jobs.specs.ToldTable.{closures_of};
@@ -17,6 +17,7 @@ use crate::answer::{Answer, WhichFile};
 use crate::checking::check_named;
 use crate::complaint::complain;
 use crate::expanding::expand_named;
+use crate::handing_on::hand_on;
 use crate::migrating::migrate_named;
 use crate::names::{Asked, Names, asked_in};
 use crate::picturing::picture_named;
@@ -50,7 +51,8 @@ fn run_named<F: Folder, O: Sink>(
     ensures answers { AnswersTold result.answer (F.file folder.old names.entry.script.now) (F.file folder.old names.entry.arrivals.now)
         (closures_of hosts) (closures_of result.hosts) (O.bytes out) (O.bytes result.out) }
     ensures hosts { IsRefusal result.answer → closures_of result.hosts ≡ closures_of hosts }
-    ensures refused { IsRefusal result.answer → O.bytes result.out ≡ O.bytes out }
+    ensures refused { IsRefusal result.answer → result.out ≡ out }
+    ensures later { O.faults out ≤ O.faults result.out }
     ensures read { (file : WhichFile) → result.answer ≡ Answer.ReadFault file →
         Rose (F.faults folder.old (name_of file (form_seen (Asked.Run names.entry))))
         (F.faults folder.new (name_of file (form_seen (Asked.Run names.entry)))) }
@@ -81,7 +83,8 @@ fn answer_to_words<F: Folder, O: Sink>(
         (closures_of hosts) (closures_of result.hosts) (O.bytes out) (O.bytes result.out)) }
     ensures hosts { RunsNothing result.answer (names_seen asked.entry) → closures_of result.hosts ≡ closures_of hosts }
     ensures usage { (result.answer ≡ Answer.Usage) ↔ (names_seen asked.entry ≡ None) }
-    ensures refused { IsRefusal result.answer → O.bytes result.out ≡ O.bytes out }
+    ensures refused { IsRefusal result.answer → result.out ≡ out }
+    ensures later { O.faults out ≤ O.faults result.out }
     ensures read { (file : WhichFile) → result.answer ≡ Answer.ReadFault file → IfSome (names_seen asked.entry) (λ form.
         Rose (F.faults folder.old (name_of file form)) (F.faults folder.new (name_of file form))) }
     ensures write { result.answer ≡ Answer.WriteFault → Rose (O.faults out) (O.faults result.out) }
@@ -107,6 +110,31 @@ fn answer_to_words<F: Folder, O: Sink>(
     }
 }
 
+/// Answers the words, and has the sink hand on what was put.
+fn carry_out<F: Folder, O: Sink>(
+    alloc: Global,
+    folder: &mut F,
+    hosts: HostTable,
+    asked: Option<Asked>,
+    out: O,
+) -> Ran<O>
+    ensures answers { IfSome (names_seen asked.entry) (λ form. AnswersForm result.answer form (F.file folder.old)
+        (closures_of hosts) (closures_of result.hosts) (O.bytes out) (O.bytes result.out)) }
+    ensures hosts { RunsNothing result.answer (names_seen asked.entry) → closures_of result.hosts ≡ closures_of hosts }
+    ensures usage { (result.answer ≡ Answer.Usage) ↔ (names_seen asked.entry ≡ None) }
+    ensures refused { IsRefusal result.answer → O.bytes result.out ≡ O.bytes out }
+    ensures no_put { IsRefusal result.answer → O.puts result.out ≡ O.puts out }
+    ensures read { (file : WhichFile) → result.answer ≡ Answer.ReadFault file → IfSome (names_seen asked.entry) (λ form.
+        Rose (F.faults folder.old (name_of file form)) (F.faults folder.new (name_of file form))) }
+    ensures write { result.answer ≡ Answer.WriteFault → Rose (O.faults out) (O.faults result.out) }
+    ensures ended { (end : End) → result.answer ≡ Answer.Ended end → IsRunForm (names_seen asked.entry) }
+    ensures written { result.answer ≡ Answer.Written → IsTextForm (names_seen asked.entry) }
+{
+    let mut ran = answer_to_words(alloc, folder, hosts, asked, out);
+    ran.answer = hand_on(&mut ran.out, ran.answer);
+    ran
+}
+
 /// All that the program does. The words are those behind the program's name.
 ///
 /// - `run S A` fetches the script S and the arrivals A, runs the script, and writes the trace to `out`.
@@ -120,9 +148,10 @@ fn answer_to_words<F: Folder, O: Sink>(
 ///
 /// A script and arrivals have at most 1,048,576 bytes each, a trace at most 67,108,864 to be checked, counted or migrated, and at most
 /// 4,194,304 else. The order of refusals is: words; the fetch of each file in the order of the words, first its fault, then its length;
-/// script, names, arrivals, trace, and whether it is legal; the run, and the writes. A refusal writes nothing to `out`. The line of the
-/// answer goes to `err`, whose faults change no answer. Want of memory may come at any point; a table with more closures than a script
-/// has numbers for is one.
+/// script, names, arrivals, trace, and whether it is legal; the run, and the writes. A refusal puts nothing into `out`. Whatever the
+/// answer is, `out` hands on at the end what it gathered; where it does not hand on all, an end of a run, or a text that was written, is
+/// a write fault. The line of the answer goes to `err` then, which hands it on; its faults change no answer. Want of memory may come at
+/// any point; a table with more closures than a script has numbers for is one.
 ///
 /// The closures of `hosts` answer what a script that `run` runs asks them, each at most once; no other command calls one. A run owns the
 /// table and the sink, so both are taken by value, and handed back with every answer.
@@ -143,12 +172,15 @@ pub fn page_main<F: Folder, O: Sink, E: Sink>(
     ensures written { (end : End) → result.status ≡ status_of_end end → IfSome (form_of (map string_bytes words.now.items)) (λ form.
         WroteAll end form (F.file folder.old) (closures_of hosts) (closures_of result.hosts) (O.bytes out) (O.bytes result.out)) }
 
-    // Each other answer comes only where its cause stands, with what it leaves.
+    // Each other answer comes only where its cause stands, with what it leaves. All this holds of each file that the folder tells, whatever
+    // it tells of the others: of a file that it does not tell, it holds of some content.
     ensures answers { IfSome (form_of (map string_bytes words.now.items)) (λ form. AnswersForm result.answer form (F.file folder.old)
         (closures_of hosts) (closures_of result.hosts) (O.bytes out) (O.bytes result.out)) }
     ensures usage { (result.answer ≡ Answer.Usage) ↔ (form_of (map string_bytes words.now.items) ≡ None) }
     ensures refused { IsRefusal result.answer → O.bytes result.out ≡ O.bytes out }
-    ensures read { (file : WhichFile) → result.answer ≡ Answer.ReadFault file → IfSome (form_of (map string_bytes words.now.items)) (λ form.
+    ensures no_put { IsRefusal result.answer → O.puts result.out ≡ O.puts out }
+    ensures read { (file : WhichFile) → result.answer ≡ Answer.ReadFault file →
+        IfSome (form_of (map string_bytes words.now.items)) (λ form.
         Rose (F.faults folder.old (name_of file form)) (F.faults folder.new (name_of file form))) }
     ensures write { result.answer ≡ Answer.WriteFault → Rose (O.faults out) (O.faults result.out) }
 
@@ -170,7 +202,7 @@ pub fn page_main<F: Folder, O: Sink, E: Sink>(
         (E.bytes err.new) (E.faults err.new) }
 {
     let asked = asked_in(words);
-    let ran = answer_to_words(alloc, folder, hosts, asked, out);
+    let ran = carry_out(alloc, folder, hosts, asked, out);
     complain(err, ran.answer, asked);
     // So no trace is refused as none.
     a_trace_is_read();

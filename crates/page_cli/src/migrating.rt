@@ -53,7 +53,8 @@ pub(crate) fn migrate_named<F: Folder, O: Sink>(
     ensures answers { AnswersMigration result.answer (F.file folder.old names.entry.script.now)
         (F.file folder.old names.entry.arrivals.now) (F.file folder.old names.entry.trace.now) (closures_of hosts.now) (O.bytes out)
         (O.bytes result.out) }
-    ensures refused { IsRefusal result.answer → O.bytes result.out ≡ O.bytes out }
+    ensures refused { IsRefusal result.answer → result.out ≡ out }
+    ensures later { O.faults out ≤ O.faults result.out }
     ensures read { (file : WhichFile) → result.answer ≡ Answer.ReadFault file →
         Rose (F.faults folder.old (name_of file (form_seen (Asked.Migrate names.entry))))
         (F.faults folder.new (name_of file (form_seen (Asked.Migrate names.entry)))) }
@@ -79,7 +80,8 @@ fn migrate_files<O: Sink>(
     requires { AllFit files.now.script.items files.now.arrivals.items files.now.trace.items }
     ensures answers { AnswersMigrate result.answer files.now.script.items files.now.arrivals.items files.now.trace.items
         (closures_of hosts.now) (O.bytes out) (O.bytes result.out) }
-    ensures refused { IsRefusal result.answer → O.bytes result.out ≡ O.bytes out }
+    ensures refused { IsRefusal result.answer → result.out ≡ out }
+    ensures later { O.faults out ≤ O.faults result.out }
     ensures other { (file : WhichFile) → result.answer ≡ Answer.ReadFault file → ⊥ }
     ensures write { result.answer ≡ Answer.WriteFault → Rose (O.faults out) (O.faults result.out) }
     ensures usage { result.answer ≡ Answer.Usage → ⊥ }
@@ -144,6 +146,7 @@ fn retell<O: Sink>(
         → AnswersRetold result.answer (text_of 2 (migrated (seen_program page.program) (settings_of page.setup).setup
         (closures_of hosts.now) es)) (O.bytes out) (O.bytes result.out) }
     ensures write { result.answer ≡ Answer.WriteFault → Rose (O.faults out) (O.faults result.out) }
+    ensures later { O.faults out ≤ O.faults result.out }
 {
     page.setup.trace = 2;
     let replayed = replay_in::<O, Brand>(alloc, hosts, &page, choices, out, Blank::new(1));

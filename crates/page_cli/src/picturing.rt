@@ -1,12 +1,13 @@
 //! What is told of a trace.
 
-ghost use Rattle.std.specs.Prelude.{◌≡◌, ◌≤◌, length, map, IfOk, IfSome};
+ghost use Rattle.std.specs.Prelude.{◌≡◌, ◌≤◌, length, map, IfOk};
 ghost use Rattle.page_types.specs.declared.End.{End};
 ghost use Rattle.page_types.specs.Counts.{Rose};
 ghost use Rattle.trace_text.specs.EventSeen.{stamped_seen};
 ghost use Rattle.page_cli.specs.declared.answer.WhichFile.{WhichFile};
 ghost use Rattle.page_cli.specs.declared.answer.WhichFile.TheVariants.{Trace};
 ghost use Rattle.page_cli.specs.Answering.{IsRefusal};
+ghost use Rattle.page_cli.specs.ToldFiles.{OfFile};
 ghost use Rattle.page_cli.specs.Pictures.{AnswersTrace, AnswersEvents, IsPicture, most_of};
 
 use crate::answer::{Answer, WhichFile};
@@ -29,9 +30,10 @@ pub(crate) fn picture_named<F: Folder, O: Sink>(
     trace: &str,
     out: O,
 ) -> Answered<O>
-    ensures answers { IfSome (F.file folder.old trace.now) (λ bytes.
+    ensures answers { OfFile (F.file folder.old trace.now) (λ bytes.
         AnswersTrace result.answer what bytes (O.bytes out) (O.bytes result.out)) }
-    ensures refused { IsRefusal result.answer → O.bytes result.out ≡ O.bytes out }
+    ensures refused { IsRefusal result.answer → result.out ≡ out }
+    ensures later { O.faults out ≤ O.faults result.out }
     ensures read { (file : WhichFile) → result.answer ≡ Answer.ReadFault file →
         (file ≡ Trace) × Rose (F.faults folder.old trace.now) (F.faults folder.new trace.now) }
     ensures write { result.answer ≡ Answer.WriteFault → Rose (O.faults out) (O.faults result.out) }
@@ -58,7 +60,8 @@ fn most_of(what: Picture) -> usize
 fn picture_of<O: Sink>(alloc: Global, what: Picture, bytes: &[u8], mut out: O) -> Answered<O>
     requires { length bytes.now ≤ most_of what }
     ensures answers { AnswersTrace result.answer what bytes.now (O.bytes out) (O.bytes result.out) }
-    ensures refused { IsRefusal result.answer → O.bytes result.out ≡ O.bytes out }
+    ensures refused { IsRefusal result.answer → result.out ≡ out }
+    ensures later { O.faults out ≤ O.faults result.out }
     ensures other { (file : WhichFile) → result.answer ≡ Answer.ReadFault file → ⊥ }
     ensures write { result.answer ≡ Answer.WriteFault → Rose (O.faults out) (O.faults result.out) }
     ensures ended { (end : End) → result.answer ≡ Answer.Ended end → ⊥ }
@@ -75,6 +78,7 @@ fn picture_of<O: Sink>(alloc: Global, what: Picture, bytes: &[u8], mut out: O) -
 fn write_picture<O: Sink>(alloc: Global, what: Picture, trace: &Events, out: &mut O) -> Answer
     ensures answers { AnswersEvents result what (map stamped_seen trace.now.events) (O.bytes out.old) (O.bytes out.new) }
     ensures write { result ≡ Answer.WriteFault → Rose (O.faults out.old) (O.faults out.new) }
+    ensures later { O.faults out.old ≤ O.faults out.new }
 {
     let Ok(text) = picture_text(alloc, what, trace) else {
         return Answer::OutOfMemory;

@@ -1,6 +1,6 @@
 //! Putting pieces of text.
 
-ghost use Rattle.std.specs.Prelude.{◌≡◌};
+ghost use Rattle.std.specs.Prelude.{◌≡◌, ◌≤◌};
 ghost use Rattle.page_types.specs.Counts.{Rose};
 ghost use Rattle.page_cli.specs.Complaints.{Puts};
 ghost use Rattle.page_cli.specs.Texts.{WritesText};
@@ -22,6 +22,7 @@ pub(crate) fn put<S: Sink>(sink: &mut S, piece: &[u8]) -> Result<(), Failed>
 pub(crate) fn write_text<O: Sink>(out: &mut O, text: &[u8]) -> Answer
     ensures wrote { WritesText result text.now (O.bytes out.old) (O.bytes out.new) }
     ensures fault { result ≡ Answer.WriteFault → Rose (O.faults out.old) (O.faults out.new) }
+    ensures later { O.faults out.old ≤ O.faults out.new }
 {
     match put(out, text) {
         Ok(()) => Answer::Written,

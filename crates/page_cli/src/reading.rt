@@ -1,9 +1,10 @@
 //! Reading files.
 
-ghost use Rattle.std.specs.Prelude.{◌≡◌, ◌≤◌, ◌<◌, ℕ, List, IfOk, IfErr, IfSome, length};
+ghost use Rattle.std.specs.Prelude.{◌≡◌, ◌≤◌, ◌<◌, ℕ, List, IfOk, IfErr, length};
 ghost use Rattle.page_types.specs.Counts.{Rose};
 ghost use Rattle.lang_ast.specs.SeenProgram.{seen_program};
 ghost use Rattle.arrivals_text.specs.Seen.{settings_of};
+ghost use Rattle.page_cli.specs.ToldFiles.{OfFile};
 ghost use Rattle.page_cli.specs.Scripts.{HasProgram};
 ghost use Rattle.page_cli.specs.Answering.{IsRun, RefusesFiles};
 ghost use Rattle.page_cli.specs.Refusals.{Refuses, GivesFile, answer_to_file, refusal};
@@ -52,7 +53,7 @@ pub(crate) fn fetched<F: Folder>(
     name: &str,
     most: usize,
 ) -> Result<Vec<u8>, FileFault>
-    ensures content { IfSome (F.file folder.old name.now) (λ content. GivesFile most content result) }
+    ensures content { OfFile (F.file folder.old name.now) (λ content. GivesFile most content result) }
     ensures size { IfOk result (λ bytes. length bytes.items ≤ most) }
     ensures same { (other : List ℕ) → F.file folder.new other ≡ F.file folder.old other }
     ensures later { (other : List ℕ) → F.faults folder.old other ≤ F.faults folder.new other }

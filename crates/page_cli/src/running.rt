@@ -102,6 +102,7 @@ fn run_in<O: Sink, M: Ledger>(
         (closures_of result.port) (O.bytes result.lines) }
     ensures stops { CanStop result.outcome }
     ensures fault { result.outcome ≡ Err RunStop.WriteFault → Rose (O.faults out) (O.faults result.lines) }
+    ensures later { O.faults out ≤ O.faults result.lines }
 {
     let mut clock = ScriptClock::new(late);
     let mut chooser = PolicyChooser::new(setup.policy);
@@ -131,6 +132,7 @@ fn run_program<O: Sink>(
     ensures answers { AnswersRun result.answer (seen_program program.now) (settings_of setup.now).setup (closures_of hosts)
         (closures_of result.hosts) (O.bytes out) (O.bytes result.out) }
     ensures fault { result.answer ≡ Answer.WriteFault → Rose (O.faults out) (O.faults result.out) }
+    ensures later { O.faults out ≤ O.faults result.out }
     ensures other { (file : WhichFile) → result.answer ≡ Answer.ReadFault file → ⊥ }
     ensures written { result.answer ≡ Answer.Written → ⊥ }
 {
@@ -173,7 +175,8 @@ pub(crate) fn run_files<O: Sink>(
     requires arrivals { length arrivals.now ≤ 1048576 }
     ensures answers { AnswersFiles result.answer script.now arrivals.now (closures_of hosts) (closures_of result.hosts) (O.bytes out)
         (O.bytes result.out) }
-    ensures refused { IsRefusal result.answer → O.bytes result.out ≡ O.bytes out }
+    ensures refused { IsRefusal result.answer → result.out ≡ out }
+    ensures later { O.faults out ≤ O.faults result.out }
     ensures hosts { IsRefusal result.answer → closures_of result.hosts ≡ closures_of hosts }
     ensures fault { result.answer ≡ Answer.WriteFault → Rose (O.faults out) (O.faults result.out) }
     ensures other { (file : WhichFile) → result.answer ≡ Answer.ReadFault file → ⊥ }

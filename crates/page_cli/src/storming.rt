@@ -39,7 +39,8 @@ pub(crate) fn write_storm<O: Sink>(
     mut out: O,
 ) -> Answered<O>
     ensures answers { AnswersStorm result.answer size.turns (closures_of hosts.now) (O.bytes out) (O.bytes result.out) }
-    ensures refused { IsRefusal result.answer → O.bytes result.out ≡ O.bytes out }
+    ensures refused { IsRefusal result.answer → result.out ≡ out }
+    ensures later { O.faults out ≤ O.faults result.out }
     ensures other { (file : WhichFile) → result.answer ≡ Answer.ReadFault file → ⊥ }
     ensures write { result.answer ≡ Answer.WriteFault → Rose (O.faults out) (O.faults result.out) }
     ensures usage { result.answer ≡ Answer.Usage → ⊥ }
@@ -127,6 +128,7 @@ fn run_counted<M: Ledger>(
 fn write_summary<O: Sink>(alloc: Global, summary: Summary, out: &mut O) -> Answer
     ensures answers { AnswersCounts result summary.end (summarised summary) (O.bytes out.old) (O.bytes out.new) }
     ensures write { result ≡ Answer.WriteFault → Rose (O.faults out.old) (O.faults out.new) }
+    ensures later { O.faults out.old ≤ O.faults out.new }
 {
     let Ok(text) = counts_text(alloc, summary) else {
         return Answer::OutOfMemory;

@@ -1,10 +1,11 @@
 //! The script, the arrivals and the trace that some commands take.
 
-ghost use Rattle.std.specs.Prelude.{◌≡◌, IfOk, IfErr, IfSome};
+ghost use Rattle.std.specs.Prelude.{◌≡◌, IfOk, IfErr};
 ghost use Rattle.page_types.specs.Counts.{Rose};
 ghost use Rattle.page_cli.specs.declared.reading.FileFault.TheVariants.{Failed};
 ghost use Rattle.page_cli.specs.Forms.{name_of, CheckForm};
 ghost use Rattle.page_cli.specs.Names.{check_names_seen};
+ghost use Rattle.page_cli.specs.ToldFiles.{CanHold};
 ghost use Rattle.page_cli.specs.Refusals.{answer_to_file};
 ghost use Rattle.page_cli.specs.Checked.{AllFit, IsUnread};
 
@@ -35,11 +36,9 @@ pub(crate) fn fetch_three<F: Folder>(
     folder: &mut F,
     names: CheckNames,
 ) -> Result<ThreeFiles, Unread>
-    ensures script { IfOk result (λ files. IfSome (F.file folder.old names.entry.script.now) (λ content.
-        files.script.items ≡ content)) }
-    ensures arrivals { IfOk result (λ files. IfSome (F.file folder.old names.entry.arrivals.now) (λ content.
-        files.arrivals.items ≡ content)) }
-    ensures trace { IfOk result (λ files. IfSome (F.file folder.old names.entry.trace.now) (λ content. files.trace.items ≡ content)) }
+    ensures script { IfOk result (λ files. CanHold (F.file folder.old names.entry.script.now) files.script.items) }
+    ensures arrivals { IfOk result (λ files. CanHold (F.file folder.old names.entry.arrivals.now) files.arrivals.items) }
+    ensures trace { IfOk result (λ files. CanHold (F.file folder.old names.entry.trace.now) files.trace.items) }
     ensures fit { IfOk result (λ files. AllFit files.script.items files.arrivals.items files.trace.items) }
     ensures unread { IfErr result (λ e. IsUnread (answer_to_file e.fault e.file) (F.file folder.old names.entry.script.now)
         (F.file folder.old names.entry.arrivals.now) (F.file folder.old names.entry.trace.now)) }
