@@ -31,6 +31,10 @@ pub(crate) struct Example<'a> {
     pub(crate) failing_out: &'a [(u64, usize)],
     /// The same of `err`.
     pub(crate) failing_err: &'a [(u64, usize)],
+    /// Whether `out` does not hand on at its end what was put.
+    pub(crate) is_out_lost: bool,
+    /// The same of `err`.
+    pub(crate) is_err_lost: bool,
 }
 
 /// What the program gave.
@@ -53,6 +57,8 @@ impl<'a> Example<'a> {
             failing_fetches: &[],
             failing_out: &[],
             failing_err: &[],
+            is_out_lost: false,
+            is_err_lost: false,
         }
     }
 
@@ -83,8 +89,8 @@ impl<'a> Example<'a> {
     pub(crate) fn run_with(&self, alloc: Global, hosts: HostTable) -> Result<Ended, Fail> {
         let words = owned_words(alloc, self.words)?;
         let mut folder = self.folder(alloc)?;
-        let out = sink(alloc, self.failing_out)?;
-        let mut err = sink(alloc, self.failing_err)?;
+        let out = sink(alloc, self.failing_out, self.is_out_lost)?;
+        let mut err = sink(alloc, self.failing_err, self.is_err_lost)?;
         let end = page_main(alloc, &words, &mut folder, hosts, out, &mut err);
         if end.status == OUT_OF_MEMORY {
             return Err(Fail::new("out of memory"));
@@ -125,8 +131,9 @@ fn owned_words(alloc: Global, words: &[&str]) -> Result<Vec<String>, AllocError>
     Ok(owned)
 }
 
-fn sink(alloc: Global, fails: &[(u64, usize)]) -> Result<MemSink, AllocError> {
-    MemSink::new(alloc, ROOM, fails.to_vec(alloc)?)
+fn sink(alloc: Global, fails: &[(u64, usize)], is_lost: bool) -> Result<MemSink, AllocError> {
+    let sink = MemSink::new(alloc, ROOM, fails.to_vec(alloc)?)?;
+    Ok(if is_lost { sink.failing_at_end() } else { sink })
 }
 
 fn text(alloc: Global, sink: &MemSink) -> Result<String, Fail> {
