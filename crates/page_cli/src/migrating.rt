@@ -118,6 +118,7 @@ fn retell_text<O: Sink>(
     ensures answers { RetellsText (seen_program page.program) (settings_of page.setup).setup (closures_of hosts.now) trace.now
         result.answer (O.bytes out) (O.bytes result.out) }
     ensures write { result.answer ≡ Answer.WriteFault → Rose (O.faults out) (O.faults result.out) }
+    ensures later { O.faults out ≤ O.faults result.out }
 {
     match text_choices(alloc, trace) {
         Ok(choices) => retell(alloc, hosts, page, choices, out),
