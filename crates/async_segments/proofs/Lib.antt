@@ -31,3 +31,14 @@ pub mod KnownFolds
 pub mod KnownRuns
 pub mod KnownEnds
 pub mod MeaningExamples
+pub mod DecimalLemmas
+pub mod TokenPieces
+pub mod LaidTokens
+pub mod MarkedParts
+pub mod Standing
+pub mod PlacedRows
+pub mod PlacedExprs
+pub mod PlacedTrees
+pub mod UnmarkedTrees
+pub mod SignedTrees
+pub mod ExpansionLemmas

@@ -245,7 +245,7 @@ module _ {H : Type 0} (rules : HostRules H) (made : H → ℕ → Type 0) (takes
 
 pub means-its-segments : {H : Type 0} (rules : HostRules H) (made : H → ℕ → Type 0) (takes : H → List Value → Type 0) → KeepsPromises rules made takes → MeansItsSegments rules made takes
 means-its-segments rules made takes keeps bytes written e names resolved i k f part found here depth number g promise vs awaited m named is sized state owned taken =
-    let owns = subst (Each IsOwnName) e.marked e.script.own_names in
+    let owns = subst (Each IsOwnName) e.source.script.marked.spelled e.source.script.names in
     let program : Program = record { items = expanded e.items; names = names } in
     let own = script-own e.items owns i f found in
     let part-of = parts-own f own k part here in

@@ -183,7 +183,7 @@ module _ {H : Type 0} (rules : HostRules H) (program : Program) (n : ℕ) (f : A
 
 pub means-its-starts : {H : Type 0} (rules : HostRules H) → MeansItsStarts rules
 means-its-starts rules bytes written e names resolved i f found depth number g args m named is state =
-    let owns = subst (Each IsOwnName) e.marked e.script.own_names in
+    let owns = subst (Each IsOwnName) e.source.script.marked.spelled e.source.script.names in
     let program : Program = record { items = expanded e.items; names = names } in
     let own = script-own e.items owns i f found in
     let has = starts-has e.items i f found in

@@ -66,7 +66,7 @@ reads_async at rest = refl
 
 -- ---- the script
 
-own_free : (x : List ℕ) (b : Bool) → same_bytes x mark_name ≡ b → holds_lines x ≡ false → b ≡ false
+pub own_free : (x : List ℕ) (b : Bool) → same_bytes x mark_name ≡ b → holds_lines x ≡ false → b ≡ false
 own_free x false e own = refl
 own_free x true e own = let clash : true ≡ false = subst (λ z. holds_lines z ≡ false) (same_is x mark_name e) own in absurd (cc)
 

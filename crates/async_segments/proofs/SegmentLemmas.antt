@@ -13,7 +13,7 @@ use Rattle.async_segments.specs.Marked.{Segment, followed_by}
 use Rattle.async_segments.specs.Names.{new_name, spellings, segment_name, rejecting_name}
 use Rattle.async_segments.specs.Expanded.{one, variables, resolves, waits, store, all_in_segment, in_segment, end_of, segment_fn, later_fns, segment_fns, starting_fn, rejecting_fn}
 use Rattle.async_segments.specs.Encoded.{Await, Cut, with_found, cut, await_in}
-use Rattle.async_segments.specs.Segments.{head_symbols, promise_symbols, promise_returned_symbols, first_call_symbols, step_symbols, next_count, segment_head, value_symbols, begin_symbols, end_symbols, bind_symbols, bind_end_symbols, rejection_symbols, resolved_symbols, rest_symbols, await_symbols, segments_symbols, async_fns}
+use Rattle.async_segments.specs.Segments.{head_symbols, promise_symbols, promise_returned_symbols, first_call_symbols, step_symbols, next_count, segment_head, value_symbols, begin_symbols, end_symbols, last_end_symbols, bind_symbols, bind_end_symbols, rejection_symbols, resolved_symbols, rest_symbols, await_symbols, segments_symbols, async_fns}
 use Rattle.async_segments.specs.Written.{resolve_symbols, call_end_symbols}
 use Rattle.async_segments.proofs.Flags.{followed_spelling, one_spelling}
 
@@ -221,5 +221,5 @@ first_call_spelling f parameters locals =
     (ap (λ z. z ++ call_end_symbols) (sym (exprs-append (variables parameters) (units parameters locals))) ∙ sym (append_assoc both round semicolon)))
 
 -- the end of the last segment
-pub last_end : (f : List ℕ) (locals : List (List ℕ)) (k : ℕ) → resolve_symbols ++ ((WordOf (codes "unit") ∷ []) ++ (call_end_symbols ++ end_symbols)) ≡ left_of f locals k no_stmts
+pub last_end : (f : List ℕ) (locals : List (List ℕ)) (k : ℕ) → last_end_symbols ≡ left_of f locals k no_stmts
 last_end f locals k = refl

@@ -245,7 +245,7 @@ kept_by x at false false e f h =
     ap (λ c. cond c (NameAt mark_name at ∷ SignOf (codes ";") ∷ []) (cond (same_bytes x (codes "await")) (NameAt mark_name at ∷ SignOf (codes "||") ∷ []) (NameAt x at ∷ []))) e ∙
     ap (λ c. cond c (NameAt mark_name at ∷ SignOf (codes "||") ∷ []) (NameAt x at ∷ [])) f
 
-kept : (k : Symbol) → is_mark k ≡ false → signed_symbol k ≡ k ∷ []
+pub kept : (k : Symbol) → is_mark k ≡ false → signed_symbol k ≡ k ∷ []
 kept (NameAt x at) e = kept_by x at (same_bytes x (codes "async")) (same_bytes x (codes "await")) refl refl e
 kept (WordOf bs) e = refl
 kept (NumberOf n) e = refl

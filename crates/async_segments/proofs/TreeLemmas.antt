@@ -154,7 +154,7 @@ own_later : (f : List ℕ) (locals : List (List ℕ)) (k : ℕ) (ss : List Segme
 own_later f locals k [] more = refl
 own_later f locals k (s ∷ ss) more = own_later f locals (k + 1) ss more
 
-own_async : (at : ℕ) (g : Named) (xs : List Named) (first : Block) (others : List Segment) (more : List Item) → own_body (expanded_item (AsyncFn at g xs first others) ++ more) ≡ own_body more
+pub own_async : (at : ℕ) (g : Named) (xs : List Named) (first : Block) (others : List Segment) (more : List Item) → own_body (expanded_item (AsyncFn at g xs first others) ++ more) ≡ own_body more
 own_async at g xs first others more =
     ap own_body (append_assoc (later_fns g.name (locals_in xs first others) 1 others) (rejecting_fn g.name ∷ []) more) ∙ own_later g.name (locals_in xs first others) 1 others (rejecting_fn g.name ∷ more)
 
@@ -169,7 +169,7 @@ mark_names (StmtItem (ReturnStmt x)) at e = absurd (cc)
 mark_names (StmtItem (ThrowStmt x)) at e = absurd (cc)
 mark_names (StmtItem (TryStmt x y z)) at e = absurd (cc)
 
-own_names : (item : Item) (rest : List Item) → names_in (own_body (item ∷ rest)) ≡ names_in (own_body (item ∷ [])) ++ names_in (own_body rest)
+pub own_names : (item : Item) (rest : List Item) → names_in (own_body (item ∷ rest)) ≡ names_in (own_body (item ∷ [])) ++ names_in (own_body rest)
 own_names (FnItem g xs body) rest = refl
 own_names (StmtItem s) rest = ap (λ z. z ++ names_in (own_body rest)) (sym (append-nil (names_in_stmt s)))
 

@@ -34,7 +34,8 @@ pub record WritesOne (item : MarkedItem) (old new : List Written) (count : ℕ) 
   pub functions : count ≡ length (functions_of (expanded_item item))
 
 abbrev pub WritesBehind : Item → List Written → List Written → ℕ → Type 0
-WritesBehind item old new count = (at : ℕ) → (marked : MarkedItem) × (behind_mark at item ≡ Some marked) × WritesOne marked old new count
+WritesBehind item old new count =
+    (at : ℕ) → (marked : MarkedItem) × (behind_mark at item ≡ Some marked) × WritesOne marked old new count
 
 -- no small item stands behind the mark
 abbrev pub RefusesBehind : Item → Type 0

@@ -1,5 +1,6 @@
 pub mod Marked
 pub mod Names
+pub mod Unplaced
 pub mod Expanded
 pub mod Layout
 pub mod Script

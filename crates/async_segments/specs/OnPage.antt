@@ -15,7 +15,7 @@ use Rattle.page_model.specs.Operations.{all_known}
 use Rattle.page_model.specs.PageHost.{Hosting, page_rules, step_op, resume_innermost}
 use Rattle.async_segments.specs.Names.{segment_name}
 use Rattle.async_segments.specs.Expanded.{expanded}
-use Rattle.async_segments.specs.Encoded.{IsExpandedTo}
+use Rattle.async_segments.specs.Script.{IsExpansion}
 use Rattle.async_segments.specs.Meaning.{AsyncFunction, async_functions, names_of_locals, Part, parts, segment}
 use Rattle.async_segments.specs.Promising.{IsStateOf, called_with, begun, around_body}
 
@@ -76,6 +76,7 @@ MeansItsSegmentOnPage program f k part =
 -- so do all functions that the segments of a script became
 abbrev pub MeansItsSegmentsOnPage : Type 0
 MeansItsSegmentsOnPage =
-    (bytes written : List ℕ) (e : IsExpandedTo bytes written) (names : List (List ℕ)) → IsResolved (expanded e.items) →
-    (i k : ℕ) (f : AsyncFunction) (part : Part) → slice_get (async_functions e.items) i ≡ Some f → slice_get (parts f) k ≡ Some part →
+    (bytes written : List ℕ) (e : IsExpansion bytes written) (names : List (List ℕ)) → IsResolved (expanded e.items) →
+    (i k : ℕ) (f : AsyncFunction) (part : Part) → slice_get (async_functions e.items) i ≡ Some f →
+    slice_get (parts f) k ≡ Some part →
     MeansItsSegmentOnPage (record { items = expanded e.items; names = names }) f k part

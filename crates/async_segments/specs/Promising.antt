@@ -14,7 +14,7 @@ use Rattle.lang_ast.specs.NameFaults.{IsResolved}
 use Rattle.async_segments.specs.Marked.{AwaitForm}
 use Rattle.async_segments.specs.Names.{segment_name}
 use Rattle.async_segments.specs.Expanded.{expanded}
-use Rattle.async_segments.specs.Encoded.{IsExpandedTo}
+use Rattle.async_segments.specs.Script.{IsExpansion}
 use Rattle.async_segments.specs.Meaning.{AsyncFunction, async_functions, names_of_locals, Part, parts, reached, kept_values, segment_run, segment, starts}
 
 -- ---- a host of promises
@@ -31,7 +31,8 @@ Binds rules f vs h =
 
 -- Some promises are those that `promise` made, and stay so, and some values are those that the host takes. Such a promise is
 -- settled at once by `resolve` and `reject`, and `bind` binds where the values are not too heavy and do not nest too deep.
-pub record KeepsPromises {H : Type 0} (rules : HostRules H) (made : H → ℕ → Type 0) (takes : H → List Value → Type 0) : Type 0 where
+pub record KeepsPromises {H : Type 0} (rules : HostRules H) (made : H → ℕ → Type 0) (takes : H → List Value → Type 0)
+    : Type 0 where
   pub stays : (ask : Ask) (h : H) (p : ℕ) → made h p → made (on_ask rules ask h).host p
   pub resolves : (h : H) (p : ℕ) (v : Value) → made h p → takes h (PromiseValue p ∷ v ∷ []) →
       AnswersAtOnce rules ResolveOp (PromiseValue p ∷ v ∷ []) h
@@ -58,8 +59,8 @@ KeptIsTaken takes f promise (Returns v m) = Unit {0}
 KeptIsTaken takes f promise (OutOfFuel m) = Unit {0}
 
 -- both
-pub record IsTaken {H : Type 0} (takes : H → List Value → Type 0) (w : Around H) (f : AsyncFunction) (k : ℕ) (part : Part) (promise : ℕ)
-    (awaited : Value) (m : Machine H) : Type 0 where
+pub record IsTaken {H : Type 0} (takes : H → List Value → Type 0) (w : Around H) (f : AsyncFunction) (k : ℕ) (part : Part)
+    (promise : ℕ) (awaited : Value) (m : Machine H) : Type 0 where
   pub end : EndIsTaken takes promise (segment_run w f k part promise awaited m)
   pub kept : KeptIsTaken takes f promise (reached w part awaited m)
 
@@ -84,8 +85,8 @@ around_body rules program depth = around program (host_operations rules) (calls 
 
 -- The function that a segment became does what the segment does, from any state of the program in which a call of it has begun
 -- for a promise that `promise` made: both give the same value and the same state, with the same host and fuel left.
-abbrev pub MeansItsSegment : {H : Type 0} → HostRules H → (H → ℕ → Type 0) → (H → List Value → Type 0) → Program → AsyncFunction →
-    ℕ → Part → Type 0
+abbrev pub MeansItsSegment : {H : Type 0} → HostRules H → (H → ℕ → Type 0) → (H → List Value → Type 0) → Program →
+    AsyncFunction → ℕ → Part → Type 0
 MeansItsSegment {H} rules made takes program f k part =
     (depth number : ℕ) (g : Function) (promise : ℕ) (vs : List Value) (awaited : Value) (m : Machine H) →
     number_of (functions_of program.items) (segment_name f.name k) ≡ Some number →
@@ -99,14 +100,16 @@ MeansItsSegment {H} rules made takes program f k part =
 -- so do all functions that the segments of a script became, where the names of the expansion are resolved
 abbrev pub MeansItsSegments : {H : Type 0} → HostRules H → (H → ℕ → Type 0) → (H → List Value → Type 0) → Type 0
 MeansItsSegments rules made takes =
-    (bytes written : List ℕ) (e : IsExpandedTo bytes written) (names : List (List ℕ)) → IsResolved (expanded e.items) →
-    (i k : ℕ) (f : AsyncFunction) (part : Part) → slice_get (async_functions e.items) i ≡ Some f → slice_get (parts f) k ≡ Some part →
+    (bytes written : List ℕ) (e : IsExpansion bytes written) (names : List (List ℕ)) → IsResolved (expanded e.items) →
+    (i k : ℕ) (f : AsyncFunction) (part : Part) → slice_get (async_functions e.items) i ≡ Some f →
+    slice_get (parts f) k ≡ Some part →
     MeansItsSegment rules made takes (record { items = expanded e.items; names = names }) f k part
 
 -- what an async function became does what it does, from any state of the program in which a call of it has begun
 abbrev pub MeansItsStart : {H : Type 0} → HostRules H → Program → AsyncFunction → Type 0
 MeansItsStart {H} rules program f =
-    (depth number : ℕ) (g : Function) (args : List Value) (m : Machine H) → number_of (functions_of program.items) f.name ≡ Some number →
+    (depth number : ℕ) (g : Function) (args : List Value) (m : Machine H) →
+    number_of (functions_of program.items) f.name ≡ Some number →
     slice_get (functions_of program.items) number ≡ Some g → IsStateOf program m →
     (let w = around_body rules program depth in body_of_call w (Some g) args m ≡ end_of_call (starts w f (begun g args m)))
 
@@ -114,6 +117,6 @@ MeansItsStart {H} rules program f =
 -- an open call, and that of the segment one more of each.
 abbrev pub MeansItsStarts : {H : Type 0} → HostRules H → Type 0
 MeansItsStarts {H} rules =
-    (bytes written : List ℕ) (e : IsExpandedTo bytes written) (names : List (List ℕ)) → IsResolved (expanded e.items) →
+    (bytes written : List ℕ) (e : IsExpansion bytes written) (names : List (List ℕ)) → IsResolved (expanded e.items) →
     (i : ℕ) (f : AsyncFunction) → slice_get (async_functions e.items) i ≡ Some f →
     MeansItsStart rules (record { items = expanded e.items; names = names }) f

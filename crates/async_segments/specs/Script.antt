@@ -1,5 +1,6 @@
 -- Async scripts, and what they become.
-use Rattle.std.specs.Prelude.{◌≡◌, ◌≤◌, ⊤, ℕ, false, List, [], ◌∷◌, length, map, Ok}
+use Rattle.std.specs.Prelude.{◌≡◌, ◌≤◌, ⊤, ℕ, false, List, [], ◌∷◌, length, Ok}
+use Rattle.page_types.specs.Tree.{Item}
 use Rattle.lang_tokens.specs.Seen.{TokenSeen}
 use Rattle.lang_tokens.specs.Tokens.{tokens_of}
 use Rattle.lang_parse.specs.Symbols.{Symbol, NameAt, WordOf, NumberOf, TextOf, SignOf, symbols_of}
@@ -7,7 +8,8 @@ use Rattle.lang_parse.specs.Grammar.{HasTree, script_spelling}
 use Rattle.async_segments.specs.Marked.{MarkedItem, AsyncFn, Plain, IsMarked}
 use Rattle.async_segments.specs.Names.{holds_lines}
 use Rattle.async_segments.specs.Expanded.{locals_in, expanded}
-use Rattle.async_segments.specs.Layout.{placeless, laid_out}
+use Rattle.async_segments.specs.Layout.{laid_out}
+use Rattle.async_segments.specs.Unplaced.{tree_unplaced}
 use Rattle.async_segments.specs.declared.fault.ExpandFault.{ExpandFault}
 use Rattle.async_segments.specs.declared.fault.ExpandFault.TheVariants.{Is, OutOfMemory}
 
@@ -49,19 +51,21 @@ pub record IsAsyncScript (bytes : List ℕ) (tokens : List TokenSeen) (items : L
 abbrev pub IsNoAsync : List ℕ → Type 0
 IsNoAsync bytes = (tokens : List TokenSeen) (items : List MarkedItem) → IsAsyncScript bytes tokens items → ⊥
 
--- The bytes have tokens that are those of the tree, the places of names left aside.
-pub record HasTokensOf (bytes : List ℕ) (tokens : List TokenSeen) (ks : List Symbol) : Type 0 where
-  pub lexed : tokens_of bytes ≡ Ok tokens
-  pub same : map placeless (symbols_of tokens) ≡ map placeless ks
-
--- what is written is the expansion of the script
-pub record IsExpansion (bytes written : List ℕ) : Type 0 where
-  pub source_tokens : List TokenSeen
-  pub items : List MarkedItem
-  pub source : IsAsyncScript bytes source_tokens items
-  pub layout : written ≡ laid_out (script_spelling (expanded items))
+-- the text has tokens with a tree, and this is the tree but for the places of names
+pub record ReadsAs (text : List ℕ) (items : List Item) : Type 0 where
   pub tokens : List TokenSeen
-  pub symbols : HasTokensOf written tokens (script_spelling (expanded items))
+  pub tree : List Item
+  pub lexed : tokens_of text ≡ Ok tokens
+  pub has_tree : HasTree (symbols_of tokens) tree
+  pub same : tree_unplaced tree ≡ tree_unplaced items
+
+-- what is written is the expansion of the script: its tokens with a space between each two, which are read as it
+pub record IsExpansion (bytes written : List ℕ) : Type 0 where
+  pub tokens : List TokenSeen
+  pub items : List MarkedItem
+  pub source : IsAsyncScript bytes tokens items
+  pub layout : written ≡ laid_out (script_spelling (expanded items))
+  pub read : ReadsAs written (expanded items)
 
 abbrev pub IsNotAsync : ExpandFault → Type 0
 IsNotAsync (Is fault) = ⊤

@@ -1,6 +1,7 @@
 -- The functions of the segments, as they are written one after another.
-use Rattle.std.specs.Prelude.{ℕ, ◌+◌, List, [], ◌∷◌, ◌++◌, map, codes, Option, Some, None}
+use Rattle.std.specs.Prelude.{ℕ, ◌+◌, cond, List, [], ◌∷◌, ◌++◌, map, codes, Option, Some, None}
 use Rattle.page_types.specs.Tree.{Named, Expr, UnitLiteral, Stmt, ExprStmt, Item}
+use Rattle.lang_place.specs.NameSets.{has_name}
 use Rattle.lang_parse.specs.Symbols.{Symbol, NameAt, WordOf, SignOf}
 use Rattle.lang_parse.specs.Grammar.{name_symbol, in_brackets, names_spelling, names_behind, spelling, stmt_spelling, stmts_spelling}
 use Rattle.async_segments.specs.Marked.{Segment}
@@ -15,7 +16,8 @@ head_symbols f xs = WordOf (codes "fn") ∷ name_symbol f ∷ in_brackets (names
 -- fn f__k(p__, L
 abbrev pub segment_head : List ℕ → ℕ → List (List ℕ) → List Symbol
 segment_head f k locals =
-    WordOf (codes "fn") ∷ NameAt (segment_name f k) 0 ∷ SignOf (codes "(") ∷ NameAt (codes "p__") 0 ∷ names_behind (map new_name locals)
+    WordOf (codes "fn") ∷ NameAt (segment_name f k) 0 ∷ SignOf (codes "(") ∷ NameAt (codes "p__") 0 ∷
+    names_behind (map new_name locals)
 
 -- , v__
 abbrev pub value_symbols : List Symbol
@@ -28,8 +30,8 @@ begin_symbols = SignOf (codes ")") ∷ SignOf (codes "{") ∷ WordOf (codes "try
 -- { reject(p__, x); }
 abbrev pub rejection_symbols : List ℕ → List Symbol
 rejection_symbols x =
-    SignOf (codes "{") ∷ NameAt (codes "reject") 0 ∷ SignOf (codes "(") ∷ NameAt (codes "p__") 0 ∷ SignOf (codes ",") ∷ NameAt x 0 ∷
-    SignOf (codes ")") ∷ SignOf (codes ";") ∷ SignOf (codes "}") ∷ []
+    SignOf (codes "{") ∷ NameAt (codes "reject") 0 ∷ SignOf (codes "(") ∷ NameAt (codes "p__") 0 ∷ SignOf (codes ",") ∷
+    NameAt x 0 ∷ SignOf (codes ")") ∷ SignOf (codes ";") ∷ SignOf (codes "}") ∷ []
 
 -- } catch (e__) { reject(p__, e__); } }
 abbrev pub end_symbols : List Symbol
@@ -37,10 +39,15 @@ end_symbols =
     SignOf (codes "}") ∷ WordOf (codes "catch") ∷ SignOf (codes "(") ∷ NameAt (codes "e__") 0 ∷ SignOf (codes ")") ∷
     rejection_symbols (codes "e__") ++ SignOf (codes "}") ∷ []
 
+-- resolve(p__, unit); } catch (e__) { reject(p__, e__); } }
+abbrev pub last_end_symbols : List Symbol
+last_end_symbols = stmt_spelling (resolves UnitLiteral) ++ end_symbols
+
 -- bind(f, [p__
 abbrev pub bind_symbols : List ℕ → List Symbol
 bind_symbols f =
-    NameAt (codes "bind") 0 ∷ SignOf (codes "(") ∷ NameAt f 0 ∷ SignOf (codes ",") ∷ SignOf (codes "[") ∷ NameAt (codes "p__") 0 ∷ []
+    NameAt (codes "bind") 0 ∷ SignOf (codes "(") ∷ NameAt f 0 ∷ SignOf (codes ",") ∷ SignOf (codes "[") ∷
+    NameAt (codes "p__") 0 ∷ []
 
 -- ])
 abbrev pub bind_end_symbols : List Symbol
@@ -58,7 +65,7 @@ promise_returned_symbols = WordOf (codes "return") ∷ NameAt (codes "p__") 0 �
 
 -- what stands behind the statements of a segment, where these segments come: its end, and they themselves
 abbrev pub rest_symbols : List ℕ → List (List ℕ) → ℕ → List Segment → List Symbol
-rest_symbols f locals k [] = stmt_spelling (resolves UnitLiteral) ++ end_symbols
+rest_symbols f locals k [] = last_end_symbols
 rest_symbols f locals k (s ∷ ss) =
     stmt_spelling (waits f locals k s.operand) ++ (end_symbols ++ (segment_head f k locals ++ (value_symbols ++ (begin_symbols ++
     (stmts_spelling (store s.form) ++ (stmts_spelling (all_in_segment s.statements) ++ rest_symbols f locals (k + 1) ss))))))
@@ -68,6 +75,10 @@ abbrev pub resolved_symbols : Expr → List Symbol
 resolved_symbols e =
     NameAt (codes "then") 0 ∷ SignOf (codes "(") ∷ NameAt (codes "resolved") 0 ∷ SignOf (codes "(") ∷ spelling e ++
     SignOf (codes ")") ∷ SignOf (codes ",") ∷ []
+
+-- , unit, for a local name that is no parameter
+abbrev pub unit_behind : List (List ℕ) → List ℕ → List Symbol
+unit_behind parameters x = cond (has_name parameters x) [] (SignOf (codes ",") ∷ WordOf (codes "unit") ∷ [])
 
 -- f__0(p__, A);
 abbrev pub first_call_symbols : List ℕ → List (List ℕ) → List (List ℕ) → List Symbol

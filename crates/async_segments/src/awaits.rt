@@ -38,7 +38,6 @@ fn mark_in_name(name: &Named) -> Option<usize>
 }
 
 /// The byte at which a mark stands, if the expression is one.
-
 fn mark_in_expr(expr: &Expr) -> Option<usize>
     ensures { result ≡ mark_in_expr (seen_expr expr.now) }
 {
@@ -87,7 +86,6 @@ fn operands_by<'a>(first: &Expr, others: &'a Vec<Expr>) -> Option<(usize, &'a Ve
 }
 
 /// The same, where an expression begins with a mark.
-
 fn operands_behind(expr: &Expr) -> Option<(usize, &Vec<Expr>)>
     ensures found { option_map (λ p. (p.0, operand_from (seen_exprs p.1.now.items))) result ≡ operand_behind (seen_expr expr.now) }
     ensures some { IfSome result (λ p. 0 < length p.1.now.items) }
@@ -132,7 +130,6 @@ fn await_returned(value: &Option<Expr>) -> Option<Await<'_>>
 }
 
 /// The await that a statement is.
-
 pub(crate) fn await_in(stmt: &Stmt) -> Option<Await<'_>>
     ensures found { option_map seen_await result ≡ await_in (seen_stmt stmt.now) }
     ensures some { IfSome result (λ a. 0 < length a.operands.now.items) }

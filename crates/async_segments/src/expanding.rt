@@ -10,7 +10,7 @@ ghost use Rattle.lang_tokens.specs.Tokens.{tokens_of};
 ghost use Rattle.lang_ast.specs.Seen.{seen_tree};
 ghost use Rattle.lang_parse.specs.Symbols.{symbols_of};
 ghost use Rattle.lang_parse.specs.Grammar.{HasTree, IsShallow};
-ghost use Rattle.async_segments.specs.Script.{Each, IsOwnName, IsNotAsync};
+ghost use Rattle.async_segments.specs.Script.{Each, IsOwnName, IsNotAsync, IsExpansion, IsNoAsync};
 ghost use Rattle.async_segments.specs.Encoded.{has_mark, IsExpandedTo, IsNotExpandable};
 ghost use Rattle.async_segments.specs.Signed.{HasSignedTree, HasNoSignedTree, WritesTree, RefusesTree, LaysOutTree};
 ghost use Rattle.async_segments.specs.Written.{shown_all};
@@ -146,10 +146,12 @@ fn expanded_source(alloc: Global, bytes: &[u8], source: &Tokens) -> Result<Vec<u
 
 /// The plain script for a script with async functions: its tokens with a space between each two, and LF at the end.
 ///
-/// `NotAsync` comes exactly where the bytes are no async script.
+/// What is written is read as the tree that the rules make of the marked tree of the script, the places of names left
+/// aside. `NotAsync` comes exactly where the bytes are no async script, so each other one is expanded where memory is found.
+/// It takes time and memory in proportion to the script and to what is written, which may be some hundred times as long.
 pub fn expand(alloc: Global, bytes: &[u8]) -> Result<Vec<u8>, ExpandFault>
-    ensures expanded { IfOk result (λ out. IsExpandedTo bytes.now out.items) }
-    ensures refused { IfErr result (λ e. IsNotAsync e → IsNotExpandable bytes.now) }
+    ensures expanded { IfOk result (λ out. IsExpansion bytes.now out.items) }
+    ensures refused { IfErr result (λ e. IsNotAsync e → IsNoAsync bytes.now) }
 {
     match tokens_of(alloc, bytes) {
         Ok(source) => expanded_source(alloc, bytes, &source),

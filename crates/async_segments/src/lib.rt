@@ -23,5 +23,5 @@ mod written;
 
 pub use expanding::expand;
 pub use fault::{ExpandFault, NotAsync};
-pub use laws::signs_stand_for_names;
+pub use laws::{a_script_is_marked_once, signs_stand_for_names};
 pub use meaning::{PromiseHost, a_page_keeps_promises, functions_mean_their_segments};

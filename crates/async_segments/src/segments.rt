@@ -1,19 +1,18 @@
 //! Writes the functions that an async function becomes.
 
-ghost use Rattle.std.specs.Prelude.{◌≡◌, ◌<◌, ◌+◌, ◌^◌, ◌∷◌, [], IfOk, cond, codes, length, map};
+ghost use Rattle.std.specs.Prelude.{◌≡◌, ◌<◌, ◌+◌, ◌^◌, ◌∷◌, [], IfOk, codes, length, map};
 ghost use Rattle.page_types.specs.Tree.{AssignStmt};
 ghost use Rattle.lang_meaning.specs.Evaluation.{functions_of};
 ghost use Rattle.lang_ast.specs.Seen.{seen_name, seen_exprs, seen_stmt, seen_block, exprs_of};
-ghost use Rattle.lang_place.specs.NameSets.{has_name};
-ghost use Rattle.lang_parse.specs.Symbols.{WordOf, SignOf};
+ghost use Rattle.lang_parse.specs.Symbols.{SignOf};
 ghost use Rattle.lang_parse.specs.Grammar.{each_behind, names_behind, stmt_spelling, stmts_spelling, item_spelling, script_spelling};
 ghost use Rattle.async_segments.specs.Names.{new_name, spellings, segment_name, rejecting_name};
 ghost use Rattle.async_segments.specs.Expanded.{variables, awaited_value, waits, store, starting_fn, rejecting_fn};
 ghost use Rattle.async_segments.specs.Encoded.{operand_from, await_in, cut};
 ghost use Rattle.async_segments.specs.Awaits.{seen_form, seen_await};
-ghost use Rattle.async_segments.specs.Segments.{segment_head, begin_symbols, end_symbols, bind_symbols, bind_end_symbols};
+ghost use Rattle.async_segments.specs.Segments.{segment_head, begin_symbols, end_symbols, last_end_symbols, bind_symbols, bind_end_symbols};
 ghost use Rattle.async_segments.specs.Segments.{rejection_symbols, promise_symbols, promise_returned_symbols, resolved_symbols};
-ghost use Rattle.async_segments.specs.Segments.{first_call_symbols, await_symbols, step_symbols, next_count, segments_symbols, async_fns};
+ghost use Rattle.async_segments.specs.Segments.{unit_behind, first_call_symbols, await_symbols, step_symbols, next_count, segments_symbols, async_fns};
 ghost use Rattle.async_segments.specs.Written.{Adds, names_of};
 
 use crate::awaits::{Await, Form, await_in};
@@ -107,7 +106,7 @@ fn write_unit(
     into: &mut Vec<Written>,
 ) -> Result<(), AllocError>
     ensures { IfOk result (λ _. Adds into.old.items into.new.items
-        (cond (has_name (spellings (map seen_name parameters.now.items)) local.now) [] (SignOf (codes ",") ∷ WordOf (codes "unit") ∷ []))) }
+        (unit_behind (spellings (map seen_name parameters.now.items)) local.now)) }
 {
     if has_parameter(parameters, local) {
         return Ok(());
@@ -226,6 +225,16 @@ fn write_end(alloc: Global, into: &mut Vec<Written>) -> Result<(), AllocError>
     sign(alloc, b")", into)?;
     write_rejection(alloc, b"e__", into)?;
     sign(alloc, b"}", into)
+}
+
+/// resolve(p__, unit); } catch (e__) { reject(p__, e__); } }
+fn write_last_end(alloc: Global, into: &mut Vec<Written>) -> Result<(), AllocError>
+    ensures { IfOk result (λ _. Adds into.old.items into.new.items (last_end_symbols)) }
+{
+    write_resolve(alloc, into)?;
+    word(alloc, b"unit", into)?;
+    write_call_end(alloc, into)?;
+    write_end(alloc, into)
 }
 
 /// bind(f__k, [p__
@@ -385,10 +394,7 @@ fn write_segments(
     for stmt in body {
         awaits = write_step(alloc, function, awaits, locals, stmt, into)?;
     }
-    write_resolve(alloc, into)?;
-    word(alloc, b"unit", into)?;
-    write_call_end(alloc, into)?;
-    write_end(alloc, into)?;
+    write_last_end(alloc, into)?;
     Ok(awaits)
 }
 

@@ -2,7 +2,7 @@
 use Rattle.std.proofs.Common.{◌≤◌, ℕ, List, length, Option}
 use Rattle.page_types.specs.Events.{Stamped}
 use Rattle.trace_text.specs.Trace.{IsTrace}
-use Rattle.async_segments.specs.Encoded.{IsExpandedTo}
+use Rattle.async_segments.specs.Script.{IsExpansion}
 use Rattle.page_cli.specs.declared.names.Picture.{Picture}
 use Rattle.page_cli.specs.declared.answer.Answer.{Answer}
 use Rattle.page_cli.specs.declared.answer.Answer.TheVariants.{Written, WriteFault, OutOfMemory}
@@ -28,7 +28,7 @@ trace-answers OutOfMemory what form bytes es old new fits is h = h
 trace-answers answer what form bytes es old new fits is h = absurd h
 
 -- the expansion of a script is written
-pub expansion-told : (answer : Answer) (script text : List ℕ) (old new : Option (List ℕ)) → length script ≤ 1048576 → IsExpandedTo script text → WritesText answer text old new → AnswersExpand answer script old new
+pub expansion-told : (answer : Answer) (script text : List ℕ) (old new : Option (List ℕ)) → length script ≤ 1048576 → IsExpansion script text → WritesText answer text old new → AnswersExpand answer script old new
 expansion-told Written script text old new fits is h = record { text = text; fits = fits; is_expanded = is; wrote = h }
 expansion-told WriteFault script text old new fits is h = record { text = text; fits = fits; is_expanded = is; start = h }
 expansion-told answer script text old new fits is h = absurd h

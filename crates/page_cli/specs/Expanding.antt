@@ -1,7 +1,7 @@
 -- What an answer says of a script that is expanded.
 use Rattle.std.specs.Prelude.{◌≡◌, ◌<◌, ℕ, length, List, Option}
 use Rattle.page_types.specs.Told.{appended, AppendsStartOf}
-use Rattle.async_segments.specs.Encoded.{IsExpandedTo, IsNotExpandable}
+use Rattle.async_segments.specs.Script.{IsExpansion, IsNoAsync}
 use Rattle.page_cli.specs.declared.answer.WhichFile.TheVariants.{Script}
 use Rattle.page_cli.specs.declared.answer.Answer.{Answer}
 use Rattle.page_cli.specs.declared.answer.Answer.TheVariants.{Written, NotAsync, TooLong, ReadFault, WriteFault, OutOfMemory}
@@ -11,20 +11,20 @@ use Rattle.page_cli.specs.Answering.{Fits}
 pub record WroteExpansion (script : List ℕ) (old new : Option (List ℕ)) : Type 0 where
   pub text : List ℕ
   pub fits : Fits script
-  pub is_expanded : IsExpandedTo script text
+  pub is_expanded : IsExpansion script text
   pub wrote : new ≡ appended old text
 
 -- a start of it was written
 pub record WroteExpansionStart (script : List ℕ) (old new : Option (List ℕ)) : Type 0 where
   pub text : List ℕ
   pub fits : Fits script
-  pub is_expanded : IsExpandedTo script text
+  pub is_expanded : IsExpansion script text
   pub start : AppendsStartOf old new text
 
 -- what an answer says of a script that is expanded
 abbrev pub AnswersExpand : Answer → (script : List ℕ) → (old new : Option (List ℕ)) → Type 0
 AnswersExpand Written script old new = WroteExpansion script old new
-AnswersExpand NotAsync script old new = Fits script × IsNotExpandable script × (new ≡ old)
+AnswersExpand NotAsync script old new = Fits script × IsNoAsync script × (new ≡ old)
 AnswersExpand (TooLong Script) script old new = (1048576 < length script) × (new ≡ old)
 AnswersExpand (ReadFault Script) script old new = new ≡ old
 AnswersExpand WriteFault script old new = WroteExpansionStart script old new

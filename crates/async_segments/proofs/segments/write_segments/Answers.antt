@@ -27,8 +27,7 @@ returns-clause-written c =
     let f = c.args.function.now in let locals = names_of c.args.locals.now.items in
     rw (sym c.deref-stmt-items.ensures.value)
     (adds_then c.in_ok-write_segment_head.ensures (adds_then c.in_ok-write_begin.ensures
-    (goes_end _ (ap (λ ss. left_of f locals (c.loop-stmt.awaits + 1) (seen_block ss)) (drop_all _ _ c.loop-stmt-test.false) ∙ sym (last_end f locals (c.loop-stmt.awaits + 1))) c.loop-stmt.invariant.written
-    (adds_then c.in_ok-write_resolve.ensures (adds_then c.in_ok-word.ensures (adds_then c.in_ok-write_call_end.ensures c.in_ok-write_end.ensures))))))
+    (goes_end _ (ap (λ ss. left_of f locals (c.loop-stmt.awaits + 1) (seen_block ss)) (drop_all _ _ c.loop-stmt-test.false) ∙ sym (last_end f locals (c.loop-stmt.awaits + 1))) c.loop-stmt.invariant.written c.in_ok-write_last_end.ensures)))
 
 pub returns-clause-count : goal.returns-clause-count
 returns-clause-count c = rw (sym c.deref-stmt-items.ensures.value)
