@@ -20,7 +20,7 @@ use Rattle.page_cli.specs.declared.answer.WhichFile.{WhichFile}
 use Rattle.page_cli.specs.declared.answer.WhichFile.TheVariants.{Script, Arrivals, Trace}
 use Rattle.page_cli.specs.declared.answer.Answer.{Answer}
 use Rattle.page_cli.specs.declared.answer.Answer.TheVariants.{Ended, Written, NoParse, BadName, BadArrivals, BadTrace, Differs, Illegal}
-use Rattle.page_cli.specs.declared.answer.Answer.TheVariants.{TooLong, ReadFault, WriteFault, OutOfMemory}
+use Rattle.page_cli.specs.declared.answer.Answer.TheVariants.{NotAsync, TooLong, ReadFault, WriteFault, OutOfMemory}
 use Rattle.page_cli.specs.Forms.{Form, RunForm, CheckForm, MigrateForm, StormForm, PictureForm, ExpandForm, name_of}
 use Rattle.page_cli.specs.Scripts.{IsScript, HasSomeProgram, IsSyntaxError, HasBadName}
 use Rattle.page_cli.specs.ToldFiles.{OfFile}
@@ -30,8 +30,9 @@ use Rattle.page_cli.specs.Checked.{TraceFits, HasSomeSetup, AnswersCheck, Answer
 use Rattle.page_cli.specs.Pictures.{most_of, AnswersTrace}
 use Rattle.page_cli.specs.Migrated.{AnswersMigrate, AnswersMigration}
 use Rattle.page_cli.specs.Stormed.{AnswersStorm}
+use Rattle.page_cli.specs.Expanding.{AnswersExpand}
 use Rattle.page_cli.specs.FormAnswers.{AnswersForm}
-use Rattle.page_cli.specs.Completeness.{NothingRose, CanRun, IsSomeTrace, EndsOrWants, JudgesOrWants, WritesOrWants, Completes}
+use Rattle.page_cli.specs.Completeness.{NothingRose, CanRun, CanExpand, IsSomeTrace, EndsOrWants, JudgesOrWants, WritesOrWants, Completes}
 
 -- ---- no cause stands
 
@@ -122,6 +123,15 @@ module _ (law : NoBadLine) (hosts left : List HostClosure) (old new : Option (Li
   picture-completes OutOfMemory what bytes h r w fits is = tt
   picture-completes answer what bytes h r w fits is = absurd h
 
+  expand-completes : (answer : Answer) (script : List ℕ) → AnswersExpand answer script old new → ((file : WhichFile) → answer ≡ ReadFault file → ⊥) → (answer ≡ WriteFault → ⊥) → CanExpand script → WritesOrWants answer
+  expand-completes Written script h r w can = tt
+  expand-completes NotAsync script h r w can = h.1 can.tokens can.items can.is_async
+  expand-completes (TooLong Script) script h r w can = let size = can.fits in omega (arith, h.0, size)
+  expand-completes (ReadFault Script) script h r w can = r Script refl
+  expand-completes WriteFault script h r w can = w refl
+  expand-completes OutOfMemory script h r w can = tt
+  expand-completes answer script h r w can = absurd h
+
   -- ---- the files as they are told
 
   two-told : (script arrivals : Option (List ℕ)) (P Q : List ℕ → List ℕ → Type 0) → ((s a : List ℕ) → P s a → Q s a) → OfFile script (λ s. OfFile arrivals (λ a. P s a)) → IfSome script (λ s. IfSome arrivals (λ a. Q s a))
@@ -154,6 +164,12 @@ module _ (law : NoBadLine) (hosts left : List HostClosure) (old new : Option (Li
       of-told trace (λ bytes. length bytes ≤ most_of what → IsSomeTrace bytes → WritesOrWants answer)
       (of-each trace (λ bytes. AnswersTrace answer what bytes old new) (λ bytes. length bytes ≤ most_of what → IsSomeTrace bytes → WritesOrWants answer) (λ bytes p. picture-completes answer what bytes p r w) h)
 
+  expand-told : (answer : Answer) (script : Option (List ℕ)) → OfFile script (λ bytes. AnswersExpand answer bytes old new) → ((file : WhichFile) → answer ≡ ReadFault file → ⊥) → (answer ≡ WriteFault → ⊥) →
+      IfSome script (λ bytes. CanExpand bytes → WritesOrWants answer)
+  expand-told answer script h r w =
+      of-told script (λ bytes. CanExpand bytes → WritesOrWants answer)
+      (of-each script (λ bytes. AnswersExpand answer bytes old new) (λ bytes. CanExpand bytes → WritesOrWants answer) (λ bytes p. expand-completes answer bytes p r w) h)
+
   form-completes : (answer : Answer) (form : Form) (file : List ℕ → Option (List ℕ)) → AnswersForm answer form file hosts left old new → ((which : WhichFile) → answer ≡ ReadFault which → ⊥) → (answer ≡ WriteFault → ⊥) →
       Completes answer form file
   form-completes answer (RunForm names) file h r w = run-told answer (file names.script) (file names.arrivals) h r w
@@ -161,7 +177,7 @@ module _ (law : NoBadLine) (hosts left : List HostClosure) (old new : Option (Li
   form-completes answer (MigrateForm names) file h r w = migrate-told answer (file names.script) (file names.arrivals) (file names.trace) h r w
   form-completes answer (StormForm n) file h r w = storm-completes answer n h w
   form-completes answer (PictureForm what trace) file h r w = picture-told answer what (file trace) h r w
-  form-completes answer (ExpandForm script) file h r w = tt
+  form-completes answer (ExpandForm script) file h r w = expand-told answer (file script) h r w
 
   -- ---- the words
 

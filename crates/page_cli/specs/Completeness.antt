@@ -2,7 +2,10 @@
 use Rattle.std.specs.Prelude.{◌≤◌, ⊤, ℕ, length, List, Option, IfSome}
 use Rattle.page_types.specs.Events.{Stamped}
 use Rattle.page_types.specs.Counts.{Rose}
+use Rattle.lang_tokens.specs.Seen.{TokenSeen}
 use Rattle.trace_text.specs.Trace.{IsTrace}
+use Rattle.async_segments.specs.Marked.{MarkedItem}
+use Rattle.async_segments.specs.Script.{IsAsyncScript}
 use Rattle.page_cli.specs.declared.answer.WhichFile.{WhichFile}
 use Rattle.page_cli.specs.declared.answer.Answer.{Answer}
 use Rattle.page_cli.specs.declared.answer.Answer.TheVariants.{Ended, Written, Differs, Illegal, OutOfMemory}
@@ -31,6 +34,13 @@ pub record IsSomeTrace (bytes : List ℕ) : Type 0 where
   pub events : List Stamped
   pub is_trace : IsTrace form bytes events
 
+-- the script, within its limit, is an async script
+pub record CanExpand (script : List ℕ) : Type 0 where
+  pub fits : Fits script
+  pub tokens : List TokenSeen
+  pub items : List MarkedItem
+  pub is_async : IsAsyncScript script tokens items
+
 -- ---- Ours: what is left to be answered
 
 -- a run has ended, or memory is wanting
@@ -47,14 +57,14 @@ JudgesOrWants (Illegal line) = ⊤
 JudgesOrWants OutOfMemory = ⊤
 JudgesOrWants answer = ⊥
 
--- what was asked of a trace was written, or memory is wanting
+-- what was asked of a trace or a script was written, or memory is wanting
 abbrev pub WritesOrWants : Answer → Type 0
 WritesOrWants Written = ⊤
 WritesOrWants OutOfMemory = ⊤
 WritesOrWants answer = ⊥
 
 -- Nothing else is answered, by the form of the words: of a script with a program and arrivals with a setup; of a trace besides; of a storm;
--- of a trace alone. Of a script that is expanded this says nothing.
+-- of a trace alone; of an async script.
 abbrev pub Completes : Answer → Form → (file : List ℕ → Option (List ℕ)) → Type 0
 Completes answer (RunForm names) file =
     IfSome (file names.script) (λ script. IfSome (file names.arrivals) (λ arrivals. CanRun script arrivals → EndsOrWants answer))
@@ -67,4 +77,4 @@ Completes answer (MigrateForm names) file =
 Completes answer (StormForm n) file = EndsOrWants answer
 Completes answer (PictureForm what trace) file =
     IfSome (file trace) (λ bytes. length bytes ≤ most_of what → IsSomeTrace bytes → WritesOrWants answer)
-Completes answer (ExpandForm script) file = ⊤
+Completes answer (ExpandForm script) file = IfSome (file script) (λ bytes. CanExpand bytes → WritesOrWants answer)
