@@ -77,7 +77,9 @@ fn expanded_scripts_are_run(rt: HostRuntime) -> Result<(), Fail> {
         ),
         // two async functions that call each other
         (
-            b"async fn even(n) { if (n == 0) { return \"even\"; } log(n); return await odd(n - 1); } async fn odd(n) { if (n == 0) { return \"odd\"; } log(n); return await even(n - 1); } fn g(v) { log(v); } then(even(3), g, unit); log(\"asked\");",
+            b"async fn even(n) { if (n == 0) { return \"even\"; } log(n); return await odd(n - 1); } \
+              async fn odd(n) { if (n == 0) { return \"odd\"; } log(n); return await even(n - 1); } \
+              fn g(v) { log(v); } then(even(3), g, unit); log(\"asked\");",
             b"3\n2\n1\n\"asked\"\n\"odd\"\n",
         ),
         // two calls that take turns
@@ -92,12 +94,14 @@ fn expanded_scripts_are_run(rt: HostRuntime) -> Result<(), Fail> {
         ),
         // a promise that is returned costs two jobs more
         (
-            b"async fn f() { return resolved(\"slow\"); } fn show(v) { log(v); } fn same(v) { return v; } then(f(), show, unit); then(then(resolved(\"quick\"), same, unit), show, unit);",
+            b"async fn f() { return resolved(\"slow\"); } fn show(v) { log(v); } fn same(v) { return v; } \
+              then(f(), show, unit); then(then(resolved(\"quick\"), same, unit), show, unit);",
             b"\"quick\"\n\"slow\"\n",
         ),
         // an await of a promise that a timer resolves
         (
-            b"fn later() { resolve(q, \"timer\"); } async fn f() { var v = await q; log(v); return v + \"!\"; } var q = promise(); fn g(v) { log(v); } then(f(), g, unit); setTimeout(later, 5);",
+            b"fn later() { resolve(q, \"timer\"); } async fn f() { var v = await q; log(v); return v + \"!\"; } \
+              var q = promise(); fn g(v) { log(v); } then(f(), g, unit); setTimeout(later, 5);",
             b"\"timer\"\n\"timer!\"\n",
         ),
         // a throw that the source catches
