@@ -15,8 +15,8 @@ use Rattle.page_gen.proofs.Cutting.{and_more, more_enough, fronts, fronts_ok, sh
 -- ---- the script in parts, which end with whole tokens
 
 -- up to the number of turns
-unfoldable pub before : List ℕ
-before = text_of_lines (
+abbrev pub first_part : List ℕ
+first_part = text_of_lines (
     codes "var i = 0;" ∷
     codes "var s = 1;" ∷
     codes "var k = 0;" ∷
@@ -25,9 +25,12 @@ before = text_of_lines (
     codes "fn g(v) { }" ∷ [])
     ++ codes "while (i < "
 
+unfoldable pub before : List ℕ
+before = first_part
+
 -- from there up to the end of the text in it
-unfoldable pub upto_text : List ℕ
-upto_text = text_of_lines (
+abbrev pub second_part : List ℕ
+second_part = text_of_lines (
     codes ") {" ∷
     codes "s = (s * 1103515245 + 12345) % 2147483648;" ∷
     codes "k = (s / 65536) % 4;" ∷
@@ -35,20 +38,27 @@ upto_text = text_of_lines (
     codes "if (k == 1) { queueMicrotask(f); }" ∷ [])
     ++ codes "if (k == 2) { postTask(f, \"background\""
 
+unfoldable pub upto_text : List ℕ
+upto_text = second_part
+
 -- what follows that
-unfoldable pub after_text : List ℕ
-after_text = text_of_lines (
+abbrev pub third_part : List ℕ
+third_part = text_of_lines (
     codes ", unit, 0); }" ∷
     codes "if (k == 3) { c = controller(); then(postTask(f, unit, signal(c), 0), unit, g); abort(c, unit); }" ∷
     codes "i = i + 1;" ∷
     codes "}" ∷ [])
+
+unfoldable pub after_text : List ℕ
+after_text = third_part
 
 pub script_parts : (n : ℕ) → storm_script n ≡ before ++ (decimal_of n ++ (upto_text ++ after_text))
 unfolding storm_script before upto_text after_text
 script_parts n = ap (λ z. before ++ z) (append_assoc (decimal_of n) (codes ") {") (drop 3 (upto_text ++ after_text)))
 
 -- the parts, one put behind another
-pub script_written : (n : ℕ) (first second third whole : List ℕ) → first ≡ [] → second ≡ first ++ before → third ≡ second ++ decimal_of n → whole ≡ third ++ (upto_text ++ after_text) → whole ≡ storm_script n
+pub script_written : (n : ℕ) (first second third whole : List ℕ) → first ≡ [] → second ≡ first ++ first_part → third ≡ second ++ decimal_of n → whole ≡ third ++ (second_part ++ third_part) → whole ≡ storm_script n
+unfolding before upto_text after_text
 script_written n first second third whole none e f g =
     g ∙ ap (λ z. z ++ (upto_text ++ after_text)) (f ∙ ap (λ z. z ++ decimal_of n) (e ∙ ap (λ z. z ++ before) none))
     ∙ append_assoc before (decimal_of n) (upto_text ++ after_text) ∙ sym (script_parts n)

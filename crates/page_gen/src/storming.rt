@@ -32,6 +32,7 @@ page 1\n\
 fuel 10000000\n\
 until 1000000000000\n";
 
+#[tactic(auto, using(crate::proofs::Tokens::script_written))]
 fn script(alloc: Global, n: u32) -> Result<Vec<u8>, AllocError>
     ensures { IfOk result (λ text. text.items ≡ storm_script n) }
 {

@@ -1,11 +1,8 @@
 -- How a run goes on where the host is asked.
-use Rattle.std.proofs.Common.{◌≡◌, ℕ, ◌+◌, ◌-◌, ◌*◌, ◌^◌, ◌<◌, ◌≤◌, List, [], ◌∷◌, ◌++◌, Option, Some, Result, Ok, Err, IfErr, refl, sym, ap, ◌∙◌, arith}
+use Rattle.std.proofs.Common.{◌≡◌, ℕ, ◌+◌, ◌≤◌, List, [], Option, Some, Result, Ok, Err, IfErr, refl, sym, ap, ◌∙◌, arith}
 use Rattle.page_types.specs.Counts.{Rose}
-use Rattle.page_types.specs.Values as Model
 use Rattle.page_types.specs.Tree.{Program}
-use Rattle.page_values.specs.declared.Value.TheVariants as value
 use Rattle.lang_ast.specs.Hosts.{HostNow}
-use Rattle.lang_meaning.specs.Machine as M
 use Rattle.lang_meaning.specs.Machine.{Machine, Done, OutOfFuel}
 use Rattle.lang_meaning.specs.Evaluation.{Around}
 use Rattle.lang_meaning.specs.HostSteps.{HostStep, HostRules, Ask, on_ask}
@@ -15,9 +12,7 @@ use Rattle.page_interp.specs.declared.exit.Exit.TheVariants as exit
 use Rattle.page_interp.specs.declared.exit.Store.{Store}
 use Rattle.page_interp.specs.declared.stack.Current.{Current}
 use Rattle.page_interp.specs.declared.stack.Focus.{Focus}
-use Rattle.page_interp.specs.declared.stack.Focus.TheVariants as focus
 use Rattle.page_interp.specs.declared.stack.Frame.{Frame}
-use Rattle.page_interp.specs.declared.stack.Frame.TheVariants as frame
 use Rattle.page_interp.specs.Runs.{Left, ends, refused, no_memory, gives, throws, returns, no_fuel, Is, Comes, Stands, WhereSettled, Refuses, IsUnsettled, exit_left, call_left, more, Scope, outside, IsReady, Moment, moment_of, Runs, Asks, around_of}
 use Rattle.page_interp.specs.Frames.{does, depth_of, tickets_in, after_all, begun, meaning_at, state_at, moment_at, focus_weight, steps_left, Place, Goes, Halts, IsOwn, Stood, Advances, Finishes, Leaves}
 use Rattle.page_interp.proofs.Steps.{still, more_more, passed_within, comes_after, stands_within, refuses_trans, settled_same}

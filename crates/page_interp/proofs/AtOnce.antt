@@ -1,5 +1,5 @@
 -- Several steps as one, where an expression calls nothing.
-use Rattle.std.proofs.Common.{◌≡◌, ℕ, ◌<◌, ◌≤◌, List, [], ◌∷◌, ◌++◌, Result, Ok, Err, IfOk, IfErr, Some, Vec, Global, refl, ◌∙◌, arith}
+use Rattle.std.proofs.Common.{◌≡◌, ℕ, ◌<◌, List, [], ◌∷◌, ◌++◌, Result, Ok, Err, IfOk, IfErr, Some, Vec, Global, refl, ◌∙◌, arith}
 use Rattle.std.specs.Borrow.{Bor}
 use Rattle.page_types.specs.Tree.{Program}
 use Rattle.page_values.specs.declared.Value.{Value}
@@ -25,7 +25,7 @@ use Rattle.page_interp.specs.declared.stack.Waiting.TheVariants as waiting
 use Rattle.page_interp.specs.declared.stack.Purpose.{Purpose}
 use Rattle.page_interp.specs.AtOnce.{Assigns, Gives, Leads, turned}
 use Rattle.page_interp.specs.Direct.{direct_there}
-use Rattle.page_interp.specs.Frames.{does, place, Place, Holds, Goes, Moves, Steps, IsSet, IsWant, steps_left}
+use Rattle.page_interp.specs.Frames.{does, place, Place, Holds, Goes, Moves, Steps, IsSet, IsWant}
 use Rattle.page_interp.proofs.Steps.{still}
 use Rattle.page_interp.proofs.SmallSteps.{pushes_moves, pops_moves, within}
 use Rattle.page_interp.proofs.StmtSteps.{block_pushes, var_moves, assign_moves}

@@ -1,9 +1,8 @@
 -- The function that is called, and the names of its variables.
-use Rattle.std.proofs.Common.{◌≡◌, ℕ, ◌++◌, Option, Some, None, sym, ◌∙◌}
+use Rattle.std.proofs.Common.{◌≡◌, ℕ, Option, Some, None, sym}
 use Rattle.page_types.specs.Values as Model
 use Rattle.page_types.specs.Values.{FunValue, items_of}
 use Rattle.page_parts.specs.Kinds.{Func}
-use Rattle.lang_meaning.specs.Evaluation as E
 use Rattle.lang_ast.specs.Steps.{AllNumbered}
 use Rattle.page_interp.specs.Runs.{SomeIsNumbered, func_of}
 use Rattle.page_interp.proofs.Numbered.{items_numbered}

@@ -1,9 +1,8 @@
 -- Calls, and operations with their callbacks.
-use Rattle.std.proofs.Common.{◌≡◌, ℕ, zero, suc, ◌+◌, ◌-◌, ◌*◌, ◌^◌, ◌<◌, ◌≤◌, List, [], ◌∷◌, ◌++◌, Option, Some, None, refl, ◌∙◌, arith, slice_get}
+use Rattle.std.proofs.Common.{◌≡◌, ℕ, zero, suc, ◌+◌, ◌-◌, ◌<◌, ◌≤◌, List, [], ◌++◌, Option, Some, None, refl, ◌∙◌, arith, slice_get}
 use Rattle.page_types.specs.declared.FaultName.TheVariants.{TypeError, RangeError}
 use Rattle.page_types.specs.Values as Model
 use Rattle.page_types.specs.Values.{FaultValue, items_of}
-use Rattle.page_types.specs.Tree as Tree
 use Rattle.page_types.specs.Tree.{Program}
 use Rattle.page_parts.specs.Kinds.{Func}
 use Rattle.lang_meaning.specs.Machine as M

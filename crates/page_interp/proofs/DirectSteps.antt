@@ -1,5 +1,5 @@
 -- An expression that calls nothing has the value that is found with no frame for its parts.
-use Rattle.std.proofs.Common.{◌≡◌, ℕ, ◌<◌, List, [], ◌∷◌, Option, Some, None, Ok, Err, IfSome, Vec, Global, refl, ap, ◌∙◌, arith}
+use Rattle.std.proofs.Common.{◌≡◌, ℕ, ◌<◌, List, ◌∷◌, Option, Some, None, Ok, Err, IfSome, Vec, Global, refl, ap, ◌∙◌, arith}
 use Rattle.std.specs.Prelude.{Box, Bool, true, false, cond, ℤ, ◌*ℤ◌, int_div, int_rem}
 use Rattle.std.specs.Borrow.{Bor}
 use Rattle.page_types.specs.declared.FaultName.TheVariants.{TypeError, RangeError}
@@ -23,18 +23,17 @@ use Rattle.lang_ast.specs.declared.tree.Named.{Named}
 use Rattle.lang_ast.specs.Seen.{seen_expr, seen_exprs, seen_terms, seen_factors}
 use Rattle.lang_ast.proofs.Trees.{seen-Compare, seen-Sum, seen-Product, seen-Post, seen-Number, seen-Name, seen-Paren}
 use Rattle.lang_ast.specs.Sizes.{expr_size}
-use Rattle.lang_meaning.specs.Machine.{Machine, Done, Gives, given, and_then, or_else}
+use Rattle.lang_meaning.specs.Machine.{Machine, Done, Gives, given, and_then}
 use Rattle.lang_meaning.specs.Evaluation.{Answer, Around, answered, eval, eval_places, eval_sum, eval_product, named_value, sum_answer, product_answer, compare_answer, item_answer, place_in, fits, divides}
 use Rattle.lang_meaning.specs.HostSteps.{HostRules}
-use Rattle.lang_meaning.specs.Asks.{Limited}
 use Rattle.page_interp.specs.declared.exit.Store.{Store}
 use Rattle.page_interp.specs.declared.stack.Current.{Current}
 use Rattle.page_interp.specs.declared.stack.Focus.TheVariants as focus
 use Rattle.page_interp.specs.declared.stack.Frame.{Frame}
 use Rattle.page_interp.specs.Answers.{int_product}
 use Rattle.page_interp.specs.Direct.{value_of, and_so, direct, direct_item, direct_sum, direct_product, names_there, direct_there}
-use Rattle.page_interp.specs.Runs.{AnswerIsNumbered, SomeIsNumbered, around_of, count_of_functions}
-use Rattle.page_interp.specs.Frames.{does, depth_of, state_at, place, Holds, Goes}
+use Rattle.page_interp.specs.Runs.{AnswerIsNumbered, SomeIsNumbered, around_of}
+use Rattle.page_interp.specs.Frames.{depth_of, state_at, place, Holds, Goes}
 use Rattle.page_interp.proofs.Numbered.{sum_numbered, product_numbered, compare_numbered, item_numbered}
 use Rattle.page_interp.proofs.NameSteps.{name_numbered}
 use Rattle.page_interp.proofs.SmallSteps.{answer_at}

@@ -1,5 +1,5 @@
 -- Steps from expressions.
-use Rattle.std.proofs.Common.{◌≡◌, ℕ, ◌+◌, ◌*◌, ◌<◌, ◌≤◌, List, [], ◌∷◌, ◌++◌, map, Option, Ok, true, false, Vec, Global, refl, ◌∙◌, arith}
+use Rattle.std.proofs.Common.{◌≡◌, ℕ, List, [], ◌∷◌, map, Option, Ok, true, false, Vec, Global, refl, arith}
 use Rattle.std.specs.Prelude.{Box, ℤ}
 use Rattle.std.specs.Borrow.{Bor}
 use Rattle.page_types.specs.declared.SumSign.{SumSign}
@@ -7,14 +7,12 @@ use Rattle.page_types.specs.declared.ProductSign.{ProductSign}
 use Rattle.page_types.specs.declared.CompareSign.{CompareSign}
 use Rattle.page_types.specs.declared.UnarySign.{UnarySign}
 use Rattle.page_types.specs.declared.Op.{Op}
-use Rattle.page_types.specs.Values as Model
 use Rattle.page_types.specs.Values.{TextValue, ListValue, values_of}
 use Rattle.page_values.specs.declared.Value.{Value}
 use Rattle.page_values.specs.declared.Value.TheVariants as value
 use Rattle.page_values.specs.Seen.{seen}
 use Rattle.lang_ast.specs.declared.tree.Expr.{Expr}
 use Rattle.lang_ast.specs.declared.tree.Expr as E
-use Rattle.lang_ast.specs.declared.tree.Stmt as S
 use Rattle.lang_ast.specs.Names.{in_expr}
 use Rattle.lang_ast.specs.Seen.{seen_expr}
 use Rattle.lang_ast.proofs.Fits.{fits_front, fits_back}
@@ -22,7 +20,6 @@ use Rattle.lang_ast.proofs.Trees.{seen-Or, seen-And, seen-Compare, seen-Sum, see
 use Rattle.lang_meaning.specs.Evaluation.{limited_value}
 use Rattle.page_interp.specs.declared.stack.Focus.{Focus}
 use Rattle.page_interp.specs.declared.stack.Focus.TheVariants as focus
-use Rattle.page_interp.specs.declared.stack.Frame.TheVariants as frame
 use Rattle.page_interp.specs.declared.stack.Waiting.TheVariants as waiting
 use Rattle.page_interp.specs.declared.stack.Purpose.{Purpose}
 use Rattle.page_interp.specs.declared.stack.Purpose.TheVariants as purpose

@@ -1,5 +1,5 @@
 -- In a part of a resolved script each operation has as many arguments as it takes, and a part is smaller than the whole.
-use Rattle.std.proofs.Common.{◌≡◌, ℕ, ◌<◌, List, [], ◌∷◌, ◌++◌, Option, Some, Vec, Global, ◌∙◌}
+use Rattle.std.proofs.Common.{◌≡◌, List, ◌++◌, Option, Some, Vec, Global}
 use Rattle.std.specs.Prelude.{Box}
 use Rattle.page_types.specs.declared.SumSign.{SumSign}
 use Rattle.page_types.specs.declared.ProductSign.{ProductSign}
@@ -11,7 +11,6 @@ use Rattle.lang_ast.specs.declared.tree.Expr.{Expr}
 use Rattle.lang_ast.specs.declared.tree.Expr as E
 use Rattle.lang_ast.specs.declared.tree.Stmt.{Stmt}
 use Rattle.lang_ast.specs.declared.tree.Stmt as S
-use Rattle.lang_ast.specs.declared.tree.Item.TheVariants as item
 use Rattle.lang_ast.specs.Seen.{seen_expr, seen_exprs, seen_terms, seen_factors, seen_stmt, seen_block, seen_others, seen_else}
 use Rattle.lang_ast.specs.Names.{Mention, in_expr, in_exprs, in_terms, in_factors, in_stmt, in_block, in_others, in_else, count_exprs}
 use Rattle.lang_ast.specs.Calls.{HasCount, CallsFit}

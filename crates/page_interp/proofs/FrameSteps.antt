@@ -1,6 +1,5 @@
 -- Steps of a value, a throw or a return that comes back to a frame.
-use Rattle.std.proofs.Common.{◌≡◌, ℕ, suc, ◌+◌, ◌*◌, ◌<◌, ◌≤◌, List, [], ◌∷◌, ◌++◌, Some, None, true, false, Vec, Global, refl, sym, ap, ◌∙◌, arith}
-use Rattle.std.specs.Prelude.{ℤ}
+use Rattle.std.proofs.Common.{◌≡◌, ℕ, suc, ◌+◌, ◌*◌, ◌<◌, ◌≤◌, List, [], ◌∷◌, Some, None, true, false, Vec, Global, refl, sym, ap, ◌∙◌, arith}
 use Rattle.std.specs.Borrow.{Bor}
 use Rattle.page_types.specs.declared.FaultName.TheVariants.{TypeError}
 use Rattle.page_types.specs.Values as Model
@@ -10,9 +9,7 @@ use Rattle.page_values.specs.declared.Value.TheVariants as value
 use Rattle.page_values.specs.Seen.{seen}
 use Rattle.lang_ast.specs.declared.tree.Named.{Named}
 use Rattle.lang_ast.specs.declared.tree.Expr.{Expr}
-use Rattle.lang_ast.specs.declared.tree.Expr as E
 use Rattle.lang_ast.specs.declared.tree.Stmt.{Stmt}
-use Rattle.lang_ast.specs.declared.tree.Stmt as S
 use Rattle.lang_ast.specs.Seen.{seen_expr, seen_exprs, seen_terms, seen_factors, seen_block}
 use Rattle.lang_meaning.specs.Machine.{Machine}
 use Rattle.lang_meaning.specs.Evaluation.{Around}
@@ -24,10 +21,9 @@ use Rattle.page_interp.specs.declared.stack.Frame.{Frame}
 use Rattle.page_interp.specs.declared.stack.Frame.TheVariants as frame
 use Rattle.page_interp.specs.declared.stack.Waiting.{Waiting}
 use Rattle.page_interp.specs.declared.stack.Waiting.TheVariants as waiting
-use Rattle.page_interp.specs.declared.stack.Purpose.TheVariants as purpose
 use Rattle.page_interp.specs.Frames.{does, focus_size, focus_weight, waiting_weight, FocusIsSound, after_all, meaning_at, steps_left}
 use Rattle.page_interp.proofs.Steps.{still}
-use Rattle.page_types.specs.Tree.{Program, Block, Exprs, no_exprs, with_expr, SumParts, no_terms, with_term, ProductParts, no_factors, with_factor}
+use Rattle.page_types.specs.Tree.{Program, Exprs, no_exprs, with_expr, SumParts, no_terms, with_term, ProductParts, no_factors, with_factor}
 use Rattle.page_interp.specs.Frames.{HaveTurns}
 use Rattle.page_interp.specs.Sizes.{program_size}
 use Rattle.std.proofs.Common.{◌^◌}
@@ -41,8 +37,7 @@ use Rattle.page_parts.specs.Words.{is_there}
 use Rattle.lang_meaning.specs.Machine as M
 use Rattle.lang_meaning.specs.Machine.{OutOfFuel, value_in, with_value_in, finish, assigned}
 use Rattle.lang_meaning.specs.Evaluation.{exec_block, eval, loop_turns, without_first}
-use Rattle.page_interp.specs.declared.exit.Exit.TheVariants as exit
-use Rattle.page_interp.specs.Runs.{variables_of, global_names, count_of_functions, machine_of, around_of, ends}
+use Rattle.page_interp.specs.Runs.{variables_of, global_names, count_of_functions, machine_of, around_of}
 use Rattle.page_interp.specs.Frames.{depth_of, saved, first, tickets_in, then_frame, frame_weight, frames_weight, state_at}
 use Rattle.page_interp.proofs.Steps.{assigned_machine}
 use Rattle.page_interp.proofs.Numbered.{write_numbered, cond_numbered}

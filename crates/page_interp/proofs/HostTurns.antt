@@ -12,7 +12,6 @@ use Rattle.page_values.specs.declared.Value.TheVariants as value
 use Rattle.page_values.specs.Seen.{seen}
 use Rattle.lang_ast.specs.Hosts.{HostNow}
 use Rattle.lang_ast.specs.Steps.{AreFew, Falls, StepIsNumbered, tickets_after, AllNumbered}
-use Rattle.lang_meaning.specs.Machine as M
 use Rattle.lang_meaning.specs.Machine.{Machine, Throws}
 use Rattle.lang_meaning.specs.HostSteps.{HostStep, StepValue, StepThrow, StepInvoke, CallbackEnd, CallbackThrow, HostRules, Ask, AskOp, AskResume, on_ask, asked_by, steps_by, after_callback, is_busy}
 use Rattle.lang_meaning.specs.Asks.{Limited, limited, limited_host, ask_limited, unasked}
@@ -24,7 +23,7 @@ use Rattle.page_interp.specs.declared.stack.Focus.{Focus}
 use Rattle.page_interp.specs.declared.stack.Focus.TheVariants as focus
 use Rattle.page_interp.specs.declared.stack.Frame.{Frame}
 use Rattle.page_interp.specs.declared.stack.Frame.TheVariants as frame
-use Rattle.page_interp.specs.Runs.{throws, done, IsUnsettled, more, outside, IsReady, moment_of, Asks, count_of_functions, caller_of, around_of, call_given, func_of}
+use Rattle.page_interp.specs.Runs.{IsUnsettled, outside, IsReady, moment_of, Asks, count_of_functions, caller_of, around_of, call_given, func_of}
 use Rattle.page_interp.specs.Sizes.{program_size}
 use Rattle.page_interp.specs.Frames.{does, depth_of, tickets_in, first, after_all, begun, meaning_at, state_at, moment_at, focus_weight, frames_weight, steps_left, place, waiting_at, Place, Holds, IsWant, Opens, IsUncalled, Stood, Advances, Finishes, Leaves, calls_left, Answering, MayCome, steps_on, resumes}
 use Rattle.page_interp.proofs.Steps.{still}

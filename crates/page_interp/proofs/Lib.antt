@@ -1,4 +1,5 @@
 pub mod NameIndex
+pub mod OpIndex
 pub mod Frames
 pub mod Steps
 pub mod SmallSteps
@@ -21,3 +22,4 @@ pub mod Gathered
 pub mod NumberTests
 pub mod FromOutside
 pub mod AtOnce
+pub mod BlockSteps

@@ -1,5 +1,5 @@
 -- Steps from a name, and from a call by name.
-use Rattle.std.proofs.Common.{◌≡◌, ℕ, ◌+◌, ◌<◌, ◌≤◌, List, [], ◌∷◌, Option, Some, None, Result, Ok, Err, IfOk, Vec, Global, refl, sym, ap, ◌∙◌, arith}
+use Rattle.std.proofs.Common.{◌≡◌, ℕ, ◌+◌, List, [], Option, Some, None, Result, Ok, Err, IfOk, Vec, Global, refl, sym, ap, ◌∙◌, arith}
 use Rattle.std.specs.Borrow.{Bor}
 use Rattle.page_types.specs.declared.FaultName.{FaultName}
 use Rattle.page_types.specs.declared.FaultName.TheVariants.{TypeError}
@@ -19,7 +19,6 @@ use Rattle.lang_meaning.specs.OpNames.{op_named}
 use Rattle.lang_meaning.specs.Machine.{Machine, Done, Gives, given}
 use Rattle.lang_meaning.specs.Evaluation.{Answer, Around, need, answered, called, eval_all, functions_of}
 use Rattle.lang_meaning.specs.HostSteps.{HostRules}
-use Rattle.lang_meaning.specs.Machine as M
 use Rattle.lang_meaning.specs.Machine.{value_in, or_else}
 use Rattle.page_interp.specs.declared.exit.Exit.{Exit}
 use Rattle.page_interp.specs.declared.exit.Store.{Store}

@@ -1,5 +1,5 @@
 -- How a call opens.
-use Rattle.std.proofs.Common.{◌≡◌, ℕ, suc, ◌+◌, ◌-◌, ◌*◌, ◌<◌, ◌≤◌, List, [], ◌∷◌, ◌++◌, Option, Some, None, Vec, Global, refl, sym, ap, ◌∙◌, arith, slice_get}
+use Rattle.std.proofs.Common.{◌≡◌, ℕ, suc, ◌+◌, ◌*◌, ◌<◌, ◌≤◌, List, ◌∷◌, Option, Some, None, Vec, Global, refl, sym, ap, ◌∙◌, arith, slice_get}
 use Rattle.page_types.specs.Values as Model
 use Rattle.page_types.specs.Tree.{Program, Block}
 use Rattle.page_values.specs.declared.Value.{Value}
@@ -7,7 +7,6 @@ use Rattle.lang_ast.specs.Calls.{CallsFit}
 use Rattle.lang_ast.specs.Names.{in_block}
 use Rattle.lang_ast.specs.Sizes.{block_size}
 use Rattle.lang_ast.specs.Steps.{AllNumbered}
-use Rattle.lang_meaning.specs.Machine as M
 use Rattle.lang_meaning.specs.Machine.{Machine}
 use Rattle.lang_meaning.specs.Evaluation.{Around, Function, functions_of, exec_block, end_of_call, opened, parameters_with, unit_variables, names_in}
 use Rattle.lang_meaning.specs.HostSteps.{HostRules}

@@ -1,5 +1,5 @@
 -- The ranks fall.
-use Rattle.std.proofs.Common.{◌≡◌, ℕ, zero, suc, ◌+◌, ◌-◌, ◌*◌, ◌<◌, ◌≤◌, List, [], ◌∷◌, Some, arith, ap}
+use Rattle.std.proofs.Common.{◌≡◌, ℕ, zero, suc, ◌≤◌, List, [], ◌∷◌, Some, arith, ap}
 use Rattle.std.specs.Prelude.{slice_get}
 use Rattle.page_types.specs.Tree.{Program}
 use Rattle.lang_meaning.specs.Evaluation.{Function, functions_of}

@@ -1,9 +1,8 @@
 -- Small steps keep what is left to do, around any host.
-use Rattle.std.proofs.Common.{◌≡◌, ℕ, ◌+◌, ◌*◌, ◌<◌, ◌≤◌, List, [], ◌∷◌, ◌++◌, length, Option, Some, None, Result, Ok, Err, IfOk, IfSome, IfNone, Vec, Global, refl, ap, ◌∙◌, arith}
+use Rattle.std.proofs.Common.{◌≡◌, ℕ, ◌+◌, ◌<◌, ◌≤◌, List, [], ◌∷◌, ◌++◌, length, Option, Some, None, Result, Ok, Err, IfOk, IfSome, IfNone, Vec, Global, refl, ap, ◌∙◌, arith}
 use Rattle.std.specs.Prelude.{MatchOption, vec_len}
 use Rattle.std.specs.Option.{option_to_list}
 use Rattle.std.proofs.lemmas.List.{reverse-append}
-use Rattle.page_types.specs.Values as Model
 use Rattle.page_values.specs.declared.Value.{Value}
 use Rattle.page_values.specs.Seen.{seen}
 use Rattle.page_values.specs.Written.{IsNumbered}
@@ -16,7 +15,6 @@ use Rattle.page_interp.specs.declared.stack.Focus.TheVariants as focus
 use Rattle.page_interp.specs.declared.stack.Frame.{Frame}
 use Rattle.page_interp.specs.declared.stack.Frame.TheVariants as frame
 use Rattle.page_interp.specs.declared.stack.Waiting.{Waiting}
-use Rattle.page_interp.specs.declared.stack.Waiting.TheVariants as waiting
 use Rattle.page_interp.specs.Frames.{does, continues, focus_size, waiting_size, focus_weight, waiting_weight, FocusIsSound, WaitingIsSound, IsAnswer, after_all, meaning_at, steps_left, Moves, stacked, Holds, Goes, place, state_at, depth_of}
 use Rattle.page_types.specs.Tree.{Program}
 use Rattle.page_interp.specs.declared.exit.Store.{Store}

@@ -1,13 +1,9 @@
 -- Steps from statements.
-use Rattle.std.proofs.Common.{◌≡◌, ℕ, ◌+◌, ◌*◌, ◌<◌, ◌≤◌, List, [], ◌∷◌, ◌++◌, Option, Some, None, Vec, Global, refl, ◌∙◌, arith}
-use Rattle.std.specs.Prelude.{ℤ}
+use Rattle.std.proofs.Common.{◌≡◌, List, [], ◌∷◌, ◌++◌, Option, Some, None, Vec, Global, refl, arith}
 use Rattle.std.specs.Borrow.{Bor}
-use Rattle.page_types.specs.Values as Model
-use Rattle.page_values.specs.declared.Value.{Value}
 use Rattle.page_values.specs.declared.Value.TheVariants as value
 use Rattle.lang_ast.specs.declared.tree.Named.{Named}
 use Rattle.lang_ast.specs.declared.tree.Expr.{Expr}
-use Rattle.lang_ast.specs.declared.tree.Expr as E
 use Rattle.lang_ast.specs.declared.tree.Stmt.{Stmt}
 use Rattle.lang_ast.specs.declared.tree.Stmt as S
 use Rattle.lang_ast.specs.declared.tree.Item.{Item}
@@ -21,12 +17,11 @@ use Rattle.page_interp.specs.declared.stack.Focus.TheVariants as focus
 use Rattle.page_interp.specs.declared.stack.Frame.{Frame}
 use Rattle.page_interp.specs.declared.stack.Frame.TheVariants as frame
 use Rattle.page_interp.specs.declared.stack.Waiting.TheVariants as waiting
-use Rattle.page_interp.specs.declared.stack.Purpose.TheVariants as purpose
 use Rattle.page_interp.specs.Frames.{meaning_at, steps_left, Moves}
 use Rattle.page_interp.proofs.Steps.{still}
 use Rattle.page_interp.proofs.SmallSteps.{Pushes, Stays}
 use Rattle.page_interp.proofs.Fitting.{var_fits, assign_fits, expr_fits, if_fits, while_fits, turn_fits, return_fits, throw_fits, try_fits}
-use Rattle.page_types.specs.Tree.{Block, no_stmts, with_stmt}
+use Rattle.page_types.specs.Tree.{no_stmts, with_stmt}
 use Rattle.page_interp.proofs.SmallSteps.{below}
 
 module _ {T : Type 0} where

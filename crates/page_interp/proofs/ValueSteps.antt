@@ -1,6 +1,5 @@
 -- Steps from a value that comes back to what waits for it.
-use Rattle.std.proofs.Common.{◌≡◌, ℕ, ◌+◌, ◌*◌, ◌<◌, ◌≤◌, List, [], ◌∷◌, ◌++◌, Option, Some, None, Err, true, false, Vec, Global, refl, ◌∙◌, arith}
-use Rattle.std.specs.Prelude.{ℤ}
+use Rattle.std.proofs.Common.{◌≡◌, ◌<◌, List, [], ◌∷◌, ◌++◌, Option, Some, None, Err, true, false, Vec, Global, refl, arith}
 use Rattle.std.specs.Borrow.{Bor}
 use Rattle.std.proofs.Common.{Bool}
 use Rattle.std.proofs.lemmas.List.{map-append, length-append}
@@ -11,15 +10,12 @@ use Rattle.page_types.specs.declared.ProductSign.{ProductSign}
 use Rattle.page_types.specs.declared.CompareSign.{CompareSign}
 use Rattle.page_types.specs.declared.UnarySign.{UnarySign}
 use Rattle.page_types.specs.declared.FaultName.TheVariants.{TypeError}
-use Rattle.page_types.specs.Values as Model
 use Rattle.page_parts.specs.Kinds.{bool_in}
 use Rattle.page_values.specs.declared.Value.{Value}
 use Rattle.page_values.specs.declared.Value.TheVariants as value
 use Rattle.page_values.specs.Seen.{seen}
 use Rattle.lang_ast.specs.declared.tree.Expr.{Expr}
-use Rattle.lang_ast.specs.declared.tree.Expr as E
 use Rattle.lang_ast.specs.declared.tree.Stmt.{Stmt}
-use Rattle.lang_ast.specs.declared.tree.Stmt as S
 use Rattle.lang_ast.specs.declared.tree.Item.{Item}
 use Rattle.lang_ast.specs.Names.{in_expr}
 use Rattle.lang_ast.specs.Seen.{seen_expr, seen_block}
@@ -27,10 +23,8 @@ use Rattle.lang_ast.proofs.Fits.{fits_front, fits_back}
 use Rattle.lang_meaning.specs.Evaluation.{sum_answer, product_answer, compare_answer, unary_answer, item_answer}
 use Rattle.page_interp.specs.declared.stack.Focus.{Focus}
 use Rattle.page_interp.specs.declared.stack.Focus.TheVariants as focus
-use Rattle.page_interp.specs.declared.stack.Frame.TheVariants as frame
 use Rattle.page_interp.specs.declared.stack.Waiting.TheVariants as waiting
 use Rattle.page_interp.specs.declared.stack.Purpose.{Purpose}
-use Rattle.page_interp.specs.declared.stack.Purpose.TheVariants as purpose
 use Rattle.page_interp.specs.Frames.{IsAnswer, IsPicked}
 use Rattle.page_interp.proofs.Numbered.{sum_numbered, product_numbered, compare_numbered, unary_numbered, item_numbered, all_append}
 use Rattle.page_interp.proofs.SmallSteps.{Pops, Swaps, answer_pops, answer_swaps}

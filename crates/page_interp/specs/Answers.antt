@@ -1,5 +1,5 @@
 -- What the operators answer.
-use Rattle.std.specs.Prelude.{◌≡◌, ◌++◌, ℕ, List, [], cond, ℤ, ◌+ℤ◌, ◌-ℤ◌, ◌*ℤ◌, int_div, int_rem, Option, Some, None, Result, Ok, ⊤}
+use Rattle.std.specs.Prelude.{◌≡◌, ◌++◌, ℕ, List, cond, ℤ, ◌+ℤ◌, ◌-ℤ◌, ◌*ℤ◌, int_div, int_rem, Option, Some, None, Result, Ok, ⊤}
 use Rattle.page_types.specs.Values as Model
 use Rattle.page_types.specs.Values.{TextValue}
 use Rattle.page_types.specs.declared.FaultName.TheVariants.{TypeError, RangeError}

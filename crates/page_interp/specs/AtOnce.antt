@@ -1,5 +1,6 @@
 -- What is done in one step where an expression calls nothing.
-use Rattle.std.specs.Prelude.{◌≡◌, List, ◌∷◌, Some}
+use Rattle.std.specs.Prelude.{◌≡◌, List, ◌∷◌, Option, Some, Vec}
+use Rattle.std.specs.declared.alloc.Global.{Global}
 use Rattle.std.specs.Borrow.{Bor}
 use Rattle.page_types.specs.Tree.{Program}
 use Rattle.page_values.specs.declared.Value.{Value}
@@ -15,6 +16,7 @@ use Rattle.page_interp.specs.declared.stack.Current.{Current}
 use Rattle.page_interp.specs.declared.stack.Focus.TheVariants as focus
 use Rattle.page_interp.specs.declared.stack.Frame.{Frame}
 use Rattle.page_interp.specs.declared.stack.Frame.TheVariants as frame
+use Rattle.page_interp.specs.declared.stack.Waiting.TheVariants as waiting
 use Rattle.page_interp.specs.Direct.{direct_there}
 use Rattle.page_interp.specs.Frames.{Place, Holds, Goes, place}
 
@@ -46,3 +48,13 @@ Leads rules p a b = Holds p a → Goes rules p a b
 -- where a loop stands at the end of a turn
 abbrev pub turned : Store → Current → Bor Expr → Bor (List Stmt) → List Frame → Value → Place
 turned store current test block fs v = place store current (frame.Turn test block ∷ fs) (focus.Value v)
+
+-- the frames where these statements wait for the end of the one before them
+abbrev pub before_stmt : Bor (List Stmt) → List Frame → List Frame
+before_stmt rest fs = frame.Wait (waiting.Stmts rest) ∷ fs
+
+-- the frames where a condition's sides wait for its value, and these statements for the end of the side that comes
+abbrev pub branches : Bor (List Stmt) → Bor (List (Expr × Vec Stmt Global))
+    → Bor (Option (Vec Stmt Global)) → Bor (List Stmt) → List Frame → List Frame
+branches block others last rest fs =
+    frame.Wait (waiting.If block others last) ∷ frame.Wait (waiting.Stmts rest) ∷ fs

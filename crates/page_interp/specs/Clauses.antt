@@ -1,5 +1,5 @@
 -- What the functions of the machine promise of a run, in short.
-use Rattle.std.specs.Prelude.{ℕ, List, [], ◌∷◌}
+use Rattle.std.specs.Prelude.{ℕ, List, []}
 use Rattle.page_types.specs.Tree.{Program}
 use Rattle.lang_ast.specs.SeenProgram.{seen_program}
 use Rattle.lang_ast.specs.Hosts.{HostNow}

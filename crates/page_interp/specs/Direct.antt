@@ -2,8 +2,8 @@
 use Rattle.std.specs.Prelude.{ℕ, List, Option, Some, None, Ok, Err}
 use Rattle.std.specs.Option.{option_and_then}
 use Rattle.page_types.specs.Values.{Value, IntValue}
-use Rattle.page_types.specs.Tree.{Expr, Compare, Sum, Product, Unary, Post, Number, Name, Paren, Exprs, no_exprs, with_expr, SumParts, no_terms, with_term, ProductParts, no_factors, with_factor}
-use Rattle.lang_meaning.specs.Evaluation.{Answer, sum_answer, product_answer, compare_answer, unary_answer, item_answer}
+use Rattle.page_types.specs.Tree.{Expr, Compare, Sum, Product, Post, Number, Name, Paren, Exprs, no_exprs, with_expr, SumParts, no_terms, with_term, ProductParts, no_factors, with_factor}
+use Rattle.lang_meaning.specs.Evaluation.{Answer, sum_answer, product_answer, compare_answer, item_answer}
 use Rattle.lang_ast.specs.declared.program.Program as Code
 use Rattle.lang_ast.specs.declared.tree.Expr as Syntax
 use Rattle.lang_ast.specs.Seen.{seen_expr}

@@ -1,4 +1,5 @@
 pub mod Places
+pub mod OpIndex
 pub mod Runs
 pub mod Answers
 pub mod Sizes

@@ -1,5 +1,5 @@
 -- How deep the machine's own recursion goes.
-use Rattle.std.specs.Prelude.{ℕ, ◌+◌, ◌-◌, ◌*◌, List, [], ◌∷◌}
+use Rattle.std.specs.Prelude.{ℕ, ◌+◌, List, [], ◌∷◌}
 use Rattle.page_types.specs.Tree.{Program}
 use Rattle.lang_meaning.specs.Evaluation.{Function, functions_of, own_body}
 use Rattle.lang_ast.specs.Sizes.{block_size}

@@ -1,12 +1,11 @@
-//! Steps that are done at once where an expression calls nothing: the assignments of a block, the arguments of a row, and
-//! the condition of a loop.
+//! Steps that are done at once where an expression calls nothing: the arguments of a row, and the condition of a loop.
 
 ghost use Rattle.std.specs.Prelude.{◌≡◌, ◌∷◌, ◌≤◌, true, Some, IfOk, IfErr, IfSome};
 ghost use Rattle.page_types.specs.Tree.{Program};
 ghost use Rattle.page_parts.specs.Kinds.{bool_in};
 ghost use Rattle.page_values.specs.Seen.{seen};
 ghost use Rattle.page_values.specs.declared.Value.{Value};
-ghost use Rattle.page_interp.specs.AtOnce.{Assigns, Gives, HasFirst, Leads, turned};
+ghost use Rattle.page_interp.specs.AtOnce.{HasFirst, Leads, turned};
 ghost use Rattle.page_interp.specs.Clauses.{script};
 ghost use Rattle.page_interp.specs.Frames.{stacked, place, Holds, Goes, IsWant, IsSet};
 ghost use Rattle.page_interp.specs.declared.exit.Exit.TheVariants as exit;
@@ -19,7 +18,6 @@ use crate::direct::direct_value;
 use crate::exit::{Exit, Store};
 use crate::expressions::from_row;
 use crate::stack::{Current, Focus, Frame, Purpose, within};
-use crate::statements::from_block;
 use crate::values::append;
 use crate::variables::assign;
 use lang_ast::{Expr, Host, Named, Stmt};
@@ -75,64 +73,6 @@ pub fn into_test<'c, H: Host>(
         }
         Some(false) => Ok(Focus::Value(Value::Unit)),
         None => Ok(Focus::Throw(fault(alloc, FaultName::TypeError))),
-    }
-}
-
-/// The variable that a statement gives a value, and the expression of that value.
-fn assignment(stmt: &Stmt) -> Option<(&Named, &Expr)>
-    ensures { IfSome result (λ a. Assigns stmt.now a.0.now a.1.now) }
-{
-    match stmt {
-        Stmt::Var(name, expr) => Some((name, expr)),
-        Stmt::Assign(name, expr) => Some((name, expr)),
-        _ => None,
-    }
-}
-
-/// The variable and its value, where the first statement only gives a variable a value that is found at once, and the
-/// statements after it.
-fn given<'c>(
-    code: &Code,
-    store: &Store,
-    current: &Current,
-    stmts: &'c [Stmt],
-) -> Result<Option<(&'c Named, Value, &'c [Stmt])>, MemoryFault>
-    ensures { IfOk result (λ o. IfSome o (λ g.
-        Gives code.now store.now current.now stmts.now g.0.now g.1 g.2.now)) }
-{
-    let Some((stmt, rest)) = stmts.split_first() else {
-        return Ok(None);
-    };
-    let Some((name, expr)) = assignment(stmt) else {
-        return Ok(None);
-    };
-    match direct_value(code, store, current, expr)? {
-        Some(value) => Ok(Some((name, value, rest))),
-        None => Ok(None),
-    }
-}
-
-/// From the statements of a block.
-pub fn into_block<'c, H: Host>(
-    code: &Code,
-    store: &mut Store,
-    current: &mut Current<'c>,
-    stack: &mut Vec<Frame<'c>>,
-    stmts: &'c [Stmt],
-) -> Result<Focus<'c>, Exit<H::Stop>>
-    ensures ok { IfOk result (λ f. Leads H.rules (script code.now)
-        (place store.old current.old (stacked stack.old.items) (focus.Block stmts.entry))
-        (place store.new current.new (stacked stack.new.items) f)) }
-    ensures err { IfErr result (λ x. x ≡ exit.OutOfMemory) }
-    ensures as_before { IfErr result (λ _. store.new ≡ store.old) }
-{
-    match given(code, store, current, stmts) {
-        Ok(Some((name, value, rest))) => {
-            set(code, store, current, name, value);
-            Ok(Focus::Block(rest))
-        }
-        Ok(None) => from_block::<H>(stack, stmts),
-        Err(_) => Err(Exit::OutOfMemory),
     }
 }
 

@@ -4,17 +4,21 @@ ghost use Rattle.std.specs.Prelude.{◌≡◌, ◌<◌, [], IfOk, IfSome, Some, 
 ghost use Rattle.std.specs.Option.{option_map};
 ghost use Rattle.lang_meaning.specs.Evaluation.{functions_of, number_of, own_body};
 ghost use Rattle.lang_ast.specs.SeenProgram.{seen_program};
+ghost use Rattle.lang_meaning.specs.OpNames.{op_named};
 ghost use Rattle.page_interp.specs.Runs.{global_names, count_of_functions};
 ghost use Rattle.page_interp.specs.CodeNames.{function_at, names_of_frames};
 
+use crate::called::called_names;
 use crate::gathering::{all_frame_names, global_names, same_names};
 use crate::names::Names;
-use lang_ast::{Function, Item, Program};
+use crate::operations::Operations;
+use lang_ast::{Function, Item, Op, Program};
 use page_values::{MemoryFault, Str};
 use std::alloc::Global;
 use std::marker::Model;
 
-/// A script, and the names of its functions, of its global variables, and of the variables of each function.
+/// A script, and the names of its functions, of its global variables, of the variables of each function, and of what it
+/// calls.
 #[derive(Drop)]
 pub struct Code<'p> {
     alloc: Global,
@@ -23,6 +27,7 @@ pub struct Code<'p> {
     globals: Names,
     no_names: Names,
     locals: Vec<Names>,
+    operations: Operations,
 }
 
 impl<'p> Model for Code<'p> {
@@ -48,6 +53,7 @@ impl<'p> Code<'p> {
         let globals = global_names(alloc, program.items())?;
         let no_names = Names::new(alloc, Vec::new(alloc))?;
         let locals = all_frame_names(alloc, program.items())?;
+        let operations = Operations::new(alloc, &called_names(alloc, program.items())?)?;
         let _count = program.function_count();
         Ok(Code {
             alloc,
@@ -56,6 +62,7 @@ impl<'p> Code<'p> {
             globals,
             no_names,
             locals,
+            operations,
         })
     }
 }
@@ -100,6 +107,13 @@ impl Code<'_> {
             Some(place) => Some(place as u32),
             None => None,
         }
+    }
+
+    /// The operation with this name.
+    pub fn operation(&self, name: &Str) -> Option<Op>
+        ensures { result ≡ op_named name.now }
+    {
+        self.operations.named(name)
     }
 
     /// The function with this number.

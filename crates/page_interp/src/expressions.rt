@@ -15,7 +15,7 @@ use crate::exit::{Exit, Store};
 use crate::stack::{Current, Focus, Frame, Purpose, Waiting, wait};
 use crate::values::{list, text};
 use crate::variables::{name_value, named};
-use lang_ast::{Expr, Host, Named, operation_named};
+use lang_ast::{Expr, Host, Named};
 use page_values::Value;
 use std::alloc::Global;
 
@@ -101,7 +101,7 @@ fn from_call<'c, H: Host>(
     ensures err { IfErr result (λ x. x ≡ exit.OutOfMemory) }
 {
     let values = Vec::new(code.alloc());
-    match operation_named(&name.name) {
+    match code.operation(&name.name) {
         Some(op) => Ok(Focus::Row(Purpose::Ask(op), values, args)),
         None => match named(code, store, current.names, &current.locals, &name.name) {
             Ok(callee) => Ok(Focus::Row(Purpose::Call(callee), values, args)),

@@ -3,6 +3,8 @@
 
 mod asking;
 mod at_once;
+mod blocks;
+mod called;
 mod calling;
 mod code;
 mod direct;
@@ -12,6 +14,7 @@ mod gathering;
 mod machine;
 mod names;
 mod opening;
+mod operations;
 mod operators;
 mod receiving;
 mod stack;

@@ -36,20 +36,6 @@ pub fn from_stmt<'c, H: Host>(
     }
 }
 
-/// From the statements of a block.
-pub fn from_block<'c, H: Host>(
-    stack: &mut Vec<Frame<'c>>,
-    stmts: &'c [Stmt],
-) -> Result<Focus<'c>, Exit<H::Stop>>
-    ensures ok { IfOk result (Moves H.rules (stacked stack.old.items) (focus.Block stmts.entry) (stacked stack.new.items)) }
-    ensures err { IfErr result (λ x. x ≡ exit.OutOfMemory) }
-{
-    match stmts.split_first() {
-        Some((stmt, rest)) => within(stack, Frame::Wait(Waiting::Stmts(rest)), Focus::Stmt(stmt)),
-        None => Ok(Focus::Value(Value::Unit)),
-    }
-}
-
 /// From the `else if` parts in a row, and where none is left from the `else` part.
 pub fn from_others<'c, H: Host>(
     stack: &mut Vec<Frame<'c>>,

@@ -10,7 +10,8 @@ ghost use Rattle.page_interp.specs.Runs.{Runs, outside, moment_of, caller_of, va
 ghost use Rattle.page_interp.specs.declared.stack.Focus.TheVariants as focus;
 
 use crate::asking::{ask, resume};
-use crate::at_once::{into_block, into_test, next_in_row, next_turn, set};
+use crate::at_once::{into_test, next_in_row, next_turn, set};
+use crate::blocks::into_block;
 use crate::code::Code;
 use crate::exit::{Exit, Store};
 use crate::expressions::from_expr;

@@ -24,7 +24,7 @@ registration_seen r =
     record {
       role = role_seen r.role;
       callback = option_map function_seen r.callback;
-      second_callback = option_map function_seen r.second_callback;
+      second_callback = option_map (λ f. function_seen f.value) r.second_callback;
       timer_id = r.timer_id;
       promise = r.promise;
       signal = r.signal;

@@ -42,16 +42,19 @@ impl Role {
 
 /// A callback that was handed in: what it is for, the functions to call, and where it has one its timer id, its promise and
 /// the signal that can abort it. Numbers are counted from 1, and 0 names nothing. A handler that is no function is absent.
+///
+/// A page keeps each one to its end, so they are small: the fields lie in this order, and the second callback, which only the
+/// handlers of a promise have, stands in a box.
 #[derive(Drop)]
 pub struct Registration {
     pub role: Role,
-    pub callback: Option<Func>,
-    pub second_callback: Option<Func>,
+    /// A handler of `finally` is called with no argument and passes the outcome on.
+    pub finally: bool,
     pub timer_id: u32,
     pub promise: u32,
     pub signal: Option<u32>,
-    /// A handler of `finally` is called with no argument and passes the outcome on.
-    pub finally: bool,
+    pub callback: Option<Func>,
+    pub second_callback: Option<Box<Func>>,
 }
 
 /// A scheduling state (Prioritized Task Scheduling, "Scheduling Tasks and Continuations"): the signal that aborts what is

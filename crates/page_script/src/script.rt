@@ -191,7 +191,7 @@ impl PageScript {
     {
         let registration = self.registration(r);
         if second {
-            registration.second_callback.as_ref()
+            registration.second_callback.as_deref()
         } else {
             registration.callback.as_ref()
         }

@@ -130,6 +130,9 @@ impl<P: HostPort, M: Ledger> PageState<P, M> {
         if self.tasks.made() == u64::MAX {
             return Err(NoLine::OutOfMemory);
         }
+        let Ok(steps) = Box::new(self.alloc, steps) else {
+            return Err(NoLine::OutOfMemory);
+        };
         match self.tasks.queue(source, steps) {
             Ok(()) => Ok(()),
             Err(_) => Err(NoLine::OutOfMemory),

@@ -1,5 +1,5 @@
 -- The calls on the task sources, on the whole.
-use Rattle.std.proofs.Common.{◌≡◌, ◌≢◌, ℕ, suc, ◌+◌, ◌≤◌, not, List, [], ◌∷◌, ◌++◌, drop, length, Option, None, Some, eqb, filter, refl, sym, ◌∙◌, ap, subst, arith}
+use Rattle.std.proofs.Common.{Box, Global, ◌≡◌, ◌≢◌, ℕ, suc, ◌+◌, ◌≤◌, not, List, [], ◌∷◌, ◌++◌, drop, length, Option, None, Some, eqb, filter, refl, sym, ◌∙◌, ap, subst, arith}
 use Rattle.std.specs.Prelude.{unwrap_or}
 use Rattle.std.specs.List.{AllByRecursion}
 use Rattle.std.specs.Option.{option_to_list, option_map}
@@ -46,14 +46,14 @@ pub record IsSourceCall (old new : Lists PageTask) (queues : Queues PageTask) (s
   pub count : length new.lists ≡ length old.lists
 
 -- a task as it stands in its list
-abbrev pub the_entry : ℕ → Cell → TaskSteps → Entry PageTask
+abbrev pub the_entry : ℕ → Cell → Box TaskSteps Global → Entry PageTask
 the_entry n cell steps = record { cell = cell; number = n; item = OfSource steps }
 
 abbrev list_is : (old new : Lists PageTask) (queues : Queues PageTask) (s : Source) (entries : List (Entry PageTask)) → IsSourceCall old new queues s entries → ListIs s entries (tasks_of queues old) (tasks_of queues new)
 list_is old new queues s entries call = record { own = call.queued.tasks_are; others = call.queued.others }
 
 module _ (old new : Lists PageTask) (queues : Queues PageTask) (sched : SchedLevels) (tickets : ℕ → Option Ticket) (asked : List Asked) (made : ℕ) (st : IsStanding old queues sched tickets asked made) where
-  module _ (s : Source) (n : ℕ) (cell : Cell) (steps : TaskSteps) where
+  module _ (s : Source) (n : ℕ) (cell : Cell) (steps : Box TaskSteps Global) where
     module _ (next : n ≡ suc made) (call : IsSourceCall old new queues s (and_last (tasks_of queues old s) (the_entry n cell steps))) (inserts : new.inserts ≡ old.inserts + 1) where
       still : waiting sched.levels new ≡ waiting sched.levels old
       still = same_waiting queues old new sched st.lists call.others
@@ -68,7 +68,7 @@ module _ (old new : Lists PageTask) (queues : Queues PageTask) (sched : SchedLev
           let apart : P (sourced s (the_entry n cell steps)) = λ e. absurd (omega (arith, (st.scheduled.each w i).below, next, e)) in
           subst (λ (ts : List (SourcedTask PageTask)). AllByRecursion P ts) (sym lists) (all_last P (merged (tasks_of queues old)) (sourced s (the_entry n cell steps)) (st.once w i) apart)
 
-      pub queued_standing : IsStanding new queues sched tickets (asked ++ option_to_list (asked_by n steps)) n
+      pub queued_standing : IsStanding new queues sched tickets (asked ++ option_to_list (asked_by n steps.value)) n
       queued_standing =
           record {
             lists = source_changed queues old new sched st.lists call.others call.stand call.count;
@@ -79,11 +79,11 @@ module _ (old new : Lists PageTask) (queues : Queues PageTask) (sched : SchedLev
             inserts = omega (arith, inserts, next, st.inserts);
           }
 
-      pub queued_as : seen_in new queues sched n ≡ with_spare new.spare (queued s (steps_of steps) (seen_in old queues sched made))
+      pub queued_as : seen_in new queues sched n ≡ with_spare new.spare (queued s (steps_of steps.value) (seen_in old queues sched made))
       queued_as =
           ap (λ (ws : List (Waiting PageTask)). record (seen_in new queues sched n) { sched_tasks = sched_tasks_in ws }) still
           ∙ ap (λ (ts : List Model.Task). record (seen_in old queues sched n) { tasks = ts; spare = new.spare }) (queued_seen (tasks_of queues old) (tasks_of queues new) asked made n s cell steps st.tasks next change)
-          ∙ ap (λ (m : ℕ). record (seen_in old queues sched m) { tasks = and_last (tasks_in (tasks_of queues old)) (record { number = m; source = s; steps = steps_of steps }); spare = new.spare }) next
+          ∙ ap (λ (m : ℕ). record (seen_in old queues sched m) { tasks = and_last (tasks_in (tasks_of queues old)) (record { number = m; source = s; steps = steps_of steps.value }); spare = new.spare }) next
 
   module _ (s : Source) (entry : Entry PageTask) (first : first_entry (tasks_of queues old s) ≡ Some entry) (call : IsSourceCall old new queues s (drop 1 (tasks_of queues old s))) (inserts : new.inserts ≡ old.inserts) where
     still_waits : waiting sched.levels new ≡ waiting sched.levels old
@@ -137,9 +137,9 @@ module _ (lists : BySource PageTask) (asked : List Asked) (made : ℕ) (s : Sour
   pub no_first : option_map numbered (first_entry (lists s)) ≡ None → None ≡ first_task s (tasks_in lists)
   no_first none = sym (first_by_list lists asked made s a ∙ ap (λ o. option_map (Fields.task_of steps_in) (option_map (sourced s) o)) (none_given (lists s) none))
 
-  pub the_first : (number : ℕ) (steps : TaskSteps) → option_map numbered (first_entry (lists s)) ≡ Some (number, OfSource steps) → Some (taken s (number, steps)) ≡ first_task s (tasks_in lists)
+  pub the_first : (number : ℕ) (steps : Box TaskSteps Global) → option_map numbered (first_entry (lists s)) ≡ Some (number, OfSource steps) → Some (taken s (number, steps.value)) ≡ first_task s (tasks_in lists)
   the_first number steps e =
       let g = gives (lists s) number (OfSource steps) e in
-      ap (λ (n : ℕ). Some (taken s (n, steps))) (sym g.number_is)
+      ap (λ (n : ℕ). Some (taken s (n, steps.value))) (sym g.number_is)
       ∙ ap (λ (t : PageTask). Some (record { number = g.entry.number; source = s; steps = steps_in t })) (sym g.item_is)
       ∙ sym (first_by_list lists asked made s a ∙ ap (λ o. option_map (Fields.task_of steps_in) (option_map (sourced s) o)) g.first)

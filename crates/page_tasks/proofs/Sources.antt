@@ -1,5 +1,5 @@
 -- The tasks of the task sources, as calls change them.
-use Rattle.std.proofs.Common.{◌≡◌, ◌≢◌, ◌⊎◌, ℕ, suc, ◌<◌, Bool, true, false, cond, not, List, [], ◌∷◌, ◌++◌, map, drop, Option, None, Some, eqb, eq-eqb, filter, IsTrue, refl, sym, ◌∙◌, ap, subst, inl, inr, arith}
+use Rattle.std.proofs.Common.{Box, Global, ◌≡◌, ◌≢◌, ◌⊎◌, ℕ, suc, ◌<◌, Bool, true, false, cond, not, List, [], ◌∷◌, ◌++◌, map, drop, Option, None, Some, eqb, eq-eqb, filter, IsTrue, refl, sym, ◌∙◌, ap, subst, inl, inr, arith}
 use Rattle.std.specs.Prelude.{option_map, filter_map}
 use Rattle.std.specs.List.{AllByRecursion}
 use Rattle.std.specs.Option.{option_to_list}
@@ -140,7 +140,7 @@ module _ (n : ℕ) where
 abbrev HasSteps : Entry PageTask → Type 0
 HasSteps entry = IsTrue (has_steps entry.item)
 
-module _ (old new : BySource PageTask) (asked : List Asked) (made n : ℕ) (s : Source) (cell : Cell) (steps : TaskSteps) where
+module _ (old new : BySource PageTask) (asked : List Asked) (made n : ℕ) (s : Source) (cell : Cell) (steps : Box TaskSteps Global) where
   abbrev entry : Entry PageTask
   entry = record { cell = cell; number = n; item = OfSource steps }
 
@@ -154,7 +154,7 @@ module _ (old new : BySource PageTask) (asked : List Asked) (made n : ℕ) (s : 
     pub queued_merged : merged new ≡ and_last (merged old) (sourced s entry)
     queued_merged = one_list.merged_is new (and_last (merged old) (sourced s entry)) one
 
-    pub queued_seen : tasks_in new ≡ and_last (tasks_in old) (record { number = n; source = s; steps = steps_of steps })
+    pub queued_seen : tasks_in new ≡ and_last (tasks_in old) (record { number = n; source = s; steps = steps_of steps.value })
     queued_seen = ap (Fields.tasks_of steps_in) queued_merged ∙ map-append (Fields.task_of steps_in) (merged old) (sourced s entry ∷ [])
 
     each_has : (o : Source) → AllByRecursion HasSteps (new o)
@@ -163,17 +163,17 @@ module _ (old new : BySource PageTask) (asked : List Asked) (made n : ℕ) (s : 
       | inr h ↦ subst (λ (es : List (Entry PageTask)). AllByRecursion HasSteps es) (sym (is.others o h)) (a.steps o)
     ]
 
-    pub queued_tasks : AreTasks new (asked ++ option_to_list (asked_by n steps)) n
+    pub queued_tasks : AreTasks new (asked ++ option_to_list (asked_by n steps.value)) n
     queued_tasks =
         record {
           one = subst (λ (ts : List (SourcedTask PageTask)). IsOneList new ts) (sym queued_merged) one;
           below = subst (λ (ts : List (SourcedTask PageTask)). AreBelow (suc n) ts) (sym queued_merged)
               (all_last (λ (t : SourcedTask PageTask). t.number < suc n) (merged old) (sourced s entry) (all_more (λ (t : SourcedTask PageTask). t.number < n) (λ (t : SourcedTask PageTask). t.number < suc n) (merged old) (λ t h. omega (arith, h)) all_below) (omega arith));
           steps = each_has;
-          noted = map-append noted asked (option_to_list (asked_by n steps))
-              ∙ ap (λ (xs : List NotedHost). xs ++ map noted (option_to_list (asked_by n steps))) a.noted
-              ∙ ap (λ (xs : List NotedHost). filter_map noted_of (tasks_in old) ++ xs) (noted_one n s steps)
-              ∙ sym (filter_map-append noted_of (tasks_in old) (record { number = n; source = s; steps = steps_of steps } ∷ []))
+          noted = map-append noted asked (option_to_list (asked_by n steps.value))
+              ∙ ap (λ (xs : List NotedHost). xs ++ map noted (option_to_list (asked_by n steps.value))) a.noted
+              ∙ ap (λ (xs : List NotedHost). filter_map noted_of (tasks_in old) ++ xs) (noted_one n s steps.value)
+              ∙ sym (filter_map-append noted_of (tasks_in old) (record { number = n; source = s; steps = steps_of steps.value } ∷ []))
               ∙ sym (ap (filter_map noted_of) queued_seen);
         }
 

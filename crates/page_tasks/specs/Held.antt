@@ -14,7 +14,7 @@ IsIn x (y ∷ ys) = (y ≡ x) ⊎ IsIn x ys
 
 -- a task of a source that has these steps
 abbrev pub IsTaskOf : Task → ℕ → PageTask → Type 0
-IsTaskOf t number (OfSource steps) = (t.number ≡ number) × (t.steps ≡ steps_of steps)
+IsTaskOf t number (OfSource steps) = (t.number ≡ number) × (t.steps ≡ steps_of steps.value)
 IsTaskOf t number (OfScheduler posted) = ⊥
 
 -- a scheduler task with this content

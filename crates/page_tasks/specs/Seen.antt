@@ -74,7 +74,7 @@ has_steps (OfScheduler t) = false
 
 -- the steps of a task of a task source; a scheduler task, which stands in no list of theirs, has none of its own
 abbrev pub steps_in : PageTask → Model.Steps
-steps_in (OfSource steps) = steps_of steps
+steps_in (OfSource steps) = steps_of steps.value
 steps_in (OfScheduler t) = Model.RunScript
 
 -- the registration of a scheduler task; a task of a task source, which stands in no list of theirs, has none

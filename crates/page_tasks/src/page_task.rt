@@ -44,10 +44,13 @@ pub struct SchedTask {
 }
 
 /// What stands in the pool of all queued tasks.
+///
+/// Each cell of the pool is as large as the largest task, so the steps, which are three times the size of a scheduler task, stand
+/// in a box.
 #[derive(Drop)]
 pub enum PageTask {
     /// A task of a task source other than the scheduler's.
-    OfSource(TaskSteps),
+    OfSource(Box<TaskSteps>),
     /// A scheduler task.
     OfScheduler(PostedTask),
 }

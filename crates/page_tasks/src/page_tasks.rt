@@ -97,13 +97,14 @@ impl<L: Ledger> PageTasks<L> {
 
     /// Queues a task, with the next number (HTML, "Event loops: definitions": queue a task).
     ///
-    /// An error comes only for want of memory, and then all is as it was; the pool has memory where `spare` is above 0.
-    pub fn queue(&mut self, source: Source, steps: TaskSteps) -> Result<(), MemoryFault>
+    /// An error comes only for want of memory, and then all is as it was; the pool has memory where `spare` is above 0. So the box
+    /// of the steps is the caller's.
+    pub fn queue(&mut self, source: Source, steps: Box<TaskSteps>) -> Result<(), MemoryFault>
         requires source { source ≢ Sched }
         requires made { self.old.tasks_made + 1 < 2 ^ 64 }
-        ensures queued { OnOk result (self.new ≡ with_spare self.new.spare (queued source (steps_of steps) self.old)) }
+        ensures queued { OnOk result (self.new ≡ with_spare self.new.spare (queued source (steps_of steps.value) self.old)) }
         ensures spare { self.old.spare ≤ self.new.spare + 1 }
-        ensures succeeds { 0 < self.old.spare → host_task_of (steps_of steps) ≡ None → IsOk result }
+        ensures succeeds { 0 < self.old.spare → host_task_of (steps_of steps.value) ≡ None → IsOk result }
         ensures err { OnErr result (self.new ≡ self.old) }
     {
         let number = self.made + 1;
@@ -131,7 +132,7 @@ impl<L: Ledger> PageTasks<L> {
             .take(&mut self.pool, source, &mut self.accesses)?;
         forget(&mut self.asked, number);
         match task {
-            PageTask::OfSource(steps) => Some((number, steps)),
+            PageTask::OfSource(steps) => Some((number, Box::into_inner(steps))),
             PageTask::OfScheduler(_) => unreachable!(),
         }
     }

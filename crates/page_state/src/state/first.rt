@@ -119,7 +119,8 @@ fn script_task<M: Ledger>(
     let Ok(mut tasks) = PageTasks::new(alloc, cells, accesses) else {
         return Err(MemoryFault::OutOfMemory);
     };
-    match tasks.queue(Source::Dom, TaskSteps::RunScript) {
+    let steps = Box::new(alloc, TaskSteps::RunScript)?;
+    match tasks.queue(Source::Dom, steps) {
         Ok(()) => Ok(tasks),
         Err(_) => Err(MemoryFault::OutOfMemory),
     }

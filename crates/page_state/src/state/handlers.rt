@@ -1,6 +1,6 @@
 //! The handlers that a script gives promises.
 
-ghost use Rattle.std.specs.Prelude.{◌≡◌, Option, None, true, false, IfOk};
+ghost use Rattle.std.specs.Prelude.{◌≡◌, Option, None, true, false, IfErr, IfOk};
 ghost use Rattle.std.specs.Option.{option_map};
 ghost use Rattle.std.specs.Result.{result_err};
 ghost use Rattle.page_types.specs.declared.RegKind.TheVariants.{Then};
@@ -11,6 +11,7 @@ ghost use Rattle.page_model.specs.PagePromises.{last_promise, subscribe};
 ghost use Rattle.page_model.specs.Invoke.{register_as};
 ghost use Rattle.page_model.specs.Operations.{then_made, finally_made};
 ghost use Rattle.page_script.specs.Seen.{function_seen, registration_seen};
+ghost use Rattle.trace_text.specs.declared.lines.NoLine.TheVariants.{OutOfMemory};
 ghost use Rattle.trace_text.specs.Acts.{Does};
 ghost use Rattle.page_state.specs.PageActs.{at, on_page, read_by};
 ghost use Rattle.page_state.specs.Handling.{handlers_made, last_reaction, then_with};
@@ -19,6 +20,7 @@ use super::PageState;
 use page_hosts::HostPort;
 use page_script::{Reaction, Registration, Role};
 use page_values::{Func, Value};
+use std::alloc::Global;
 use std::sync::ledger::Ledger;
 use trace_text::{Lines, NoLine, RegKind};
 
@@ -38,7 +40,8 @@ impl<P: HostPort, M: Ledger> PageState<P, M> {
     {
         let first = function_of(fulfilled);
         let second = function_of(rejected);
-        self.handlers_made(p, handlers(first, second, false), lines)
+        let registration = handlers(self.alloc, first, second, false)?;
+        self.handlers_made(p, registration, lines)
     }
 
     /// Makes the derived promise and the registration of a `finally`, with its line, and gives a promise the reaction
@@ -57,7 +60,8 @@ impl<P: HostPort, M: Ledger> PageState<P, M> {
         let second_handler = self.copied(&handler)?;
         let first = function_of(handler);
         let second = function_of(second_handler);
-        self.handlers_made(p, handlers(first, second, true), lines)
+        let registration = handlers(self.alloc, first, second, true)?;
+        self.handlers_made(p, registration, lines)
     }
 
     // Makes a derived promise and a registration of handlers, with its line, gives a promise the reaction, and answers the number
@@ -102,17 +106,38 @@ impl<P: HostPort, M: Ledger> PageState<P, M> {
 }
 
 // The registration of handlers.
-fn handlers(first: Option<Func>, second: Option<Func>, finally: bool) -> Registration
-    ensures { registration_seen result ≡ then_with (option_map function_seen first) (option_map function_seen second) finally }
+fn handlers(
+    alloc: Global,
+    first: Option<Func>,
+    second: Option<Func>,
+    finally: bool,
+) -> Result<Registration, NoLine>
+    ensures made { IfOk result (λ registration. registration_seen registration
+        ≡ then_with (option_map function_seen first) (option_map function_seen second) finally) }
+    ensures memory { IfErr result (λ why. why ≡ OutOfMemory) }
 {
-    Registration {
+    Ok(Registration {
         role: Role::Of(RegKind::Then),
-        callback: first,
-        second_callback: second,
+        finally,
         timer_id: 0,
         promise: 0,
         signal: None,
-        finally,
+        callback: first,
+        second_callback: boxed(alloc, second)?,
+    })
+}
+
+// The same function in a box, where there is one.
+fn boxed(alloc: Global, function: Option<Func>) -> Result<Option<Box<Func>>, NoLine>
+    ensures same { IfOk result (λ boxed. option_map (λ f. function_seen f.value) boxed ≡ option_map function_seen function) }
+    ensures memory { IfErr result (λ why. why ≡ OutOfMemory) }
+{
+    let Some(function) = function else {
+        return Ok(None);
+    };
+    match Box::new(alloc, function) {
+        Ok(function) => Ok(Some(function)),
+        Err(_) => Err(NoLine::OutOfMemory),
     }
 }
 

@@ -15,9 +15,10 @@ const ASKED: HostTask = HostTask {
 };
 
 // Queues the task of a host closure.
-fn ask<L: Ledger>(rt: &impl Abort, tasks: &mut PageTasks<L>) -> Result<(), Fail> {
+fn ask<L: Ledger>(rt: &impl Abort, alloc: Global, tasks: &mut PageTasks<L>) -> Result<(), Fail> {
     assert!(rt; tasks.made() < 1000);
-    tasks.queue(Source::Net, TaskSteps::AnswerHost(ASKED))?;
+    let steps = Box::new(alloc, TaskSteps::AnswerHost(ASKED))?;
+    tasks.queue(Source::Net, steps)?;
     Ok(())
 }
 
@@ -51,7 +52,7 @@ fn asked<L: Ledger>(rt: &impl Abort, alloc: Global, blank: Blank) -> Result<(), 
     let (book, share) = blank.open::<L>();
     let mut tasks = PageTasks::new(alloc, 5, Steps::new(book, share))?;
     assert!(rt; tasks.is_empty());
-    ask(rt, &mut tasks)?;
+    ask(rt, alloc, &mut tasks)?;
     assert_eq!(rt; tasks.net_task_of(7), Some(ASKED));
     assert_eq!(rt; tasks.first_numbers()[4], Some(1));
     assert!(rt; !tasks.has_render());

@@ -1,9 +1,8 @@
-use Rattle.std.proofs.Common.{refl, arith, ◌∙◌, ◌≡◌, ◌∷◌}
+use Rattle.std.proofs.Common.{refl, arith}
 use Rattle.lang_ast.specs.SeenProgram.{seen_program}
 use Rattle.page_values.specs.Seen.{seen}
 use Rattle.lang_meaning.specs.HostSteps.{CallbackValue}
 use Rattle.page_interp.specs.declared.stack.Focus.TheVariants as focus
-use Rattle.page_interp.specs.declared.stack.Frame.TheVariants as frame
 use Rattle.page_interp.proofs.FrameSteps.{try_value, close_value, assign_goes}
 use Rattle.page_interp.proofs.AtOnce.{turn_at}
 use Rattle.page_interp.proofs.RunSteps.{steps_moves, steps_goes, step_goes, value_ends, steps_test, host_popped, host_steps}

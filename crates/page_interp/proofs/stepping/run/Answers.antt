@@ -1,4 +1,3 @@
-use Rattle.std.proofs.Common.{◌∙◌, [], ◌-◌}
 use Rattle.lang_ast.specs.SeenProgram.{seen_program}
 use Rattle.page_interp.proofs.SmallSteps.{stacked_empty}
 use Rattle.page_interp.proofs.RunSteps.{underway_first, underway_more, underway_ends, fewer_left}

@@ -1,4 +1,4 @@
-use Rattle.std.proofs.Common.{refl, arith, ◌∙◌, [], ◌-◌, map}
+use Rattle.std.proofs.Common.{refl, arith, [], ◌-◌, map}
 use Rattle.lang_ast.specs.SeenProgram.{seen_program}
 use Rattle.page_values.specs.Seen.{seen}
 use Rattle.page_interp.proofs.Steps.{no_memory_at}

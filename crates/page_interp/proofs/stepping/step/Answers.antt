@@ -1,4 +1,4 @@
-use Rattle.std.proofs.Common.{refl, ◌∙◌, [], ◌-◌}
+use Rattle.std.proofs.Common.{refl}
 use Rattle.lang_ast.specs.SeenProgram.{seen_program}
 use Rattle.page_interp.proofs.Steps.{still}
 use Rattle.page_interp.proofs.AtOnce.{steps_leads}

@@ -13,8 +13,12 @@ pub returns-in_err-second_handler-clause-does : goal.returns-in_err-second_handl
 returns-in_err-second_handler-clause-does g c =
     Does-wanted g.L.Lines.keeping (finally_made c.args.p (seen c.args.handler)) c.args.self.now c.args.self.now _ _ c.from_residual.ensures.1 c.in_err-second_handler.ensures.memory
 
+pub returns-in_err-registration-clause-does : goal.returns-in_err-registration-clause-does
+returns-in_err-registration-clause-does g c =
+    Does-wanted g.L.Lines.keeping (finally_made c.args.p (seen c.args.handler)) c.args.self.now c.args.self.now _ _ c.from_residual-in_err-registration.ensures.1 c.in_err-registration.ensures.memory
+
 pub returns-clause-does : goal.returns-clause-does
 returns-clause-does g c =
     let f = func_in (seen c.args.handler) in
     Does-same_handlers c.args.p (option_map function_seen c.function_of-first.result) (option_map function_seen c.function_of-second.result) f f true _ c.args.self.now
-    c.handlers.ensures c.function_of-first.ensures (c.function_of-second.ensures ∙ ap (λ (v : Value). func_in (seen v)) c.in_ok-second_handler.ensures.copy) c.handlers_made.ensures.does
+    c.in_ok-registration.ensures.made c.function_of-first.ensures (c.function_of-second.ensures ∙ ap (λ (v : Value). func_in (seen v)) c.in_ok-second_handler.ensures.copy) c.handlers_made.ensures.does

@@ -7,6 +7,7 @@ use Rattle.task_queues.specs.declared.queues.Queues.{Queues}
 use Rattle.task_queues.specs.BySource.{tasks_of, StandIn, Queued as IsQueued}
 use Rattle.page_parts.specs.Words.{and_last}
 use Rattle.page_tasks.specs.declared.asked.Asked.{Asked}
+use Rattle.page_tasks.specs.declared.page_task.TaskSteps.{TaskSteps}
 use Rattle.page_tasks.specs.declared.page_task.PageTask.{PageTask}
 use Rattle.page_tasks.specs.Seen.{steps_of}
 use Rattle.page_tasks.specs.Asking.{asked_by}
@@ -42,8 +43,9 @@ invariant_of-self-2 g c =
     let tickets : ℕ → Option Ticket = λ r. get nat_eq i.tickets r in
     let stands : IsStanding i.pool i.queues i.sched tickets i.asked.items i.made = c.self.invariant in
     let n = i.made + 1 in
-    let asked : c.note.new.asked.items ≡ i.asked.items ++ option_to_list (asked_by n c.args.steps) =
-    c.note.ensures ∙ ap (λ (xs : List Asked). xs ++ option_to_list c.asked_of-asked.result) c.in_ok-make_room.ensures.items ∙ ap (λ o. i.asked.items ++ option_to_list o) c.asked_of-asked.ensures in
+    let asked : c.note.new.asked.items ≡ i.asked.items ++ option_to_list (asked_by n c.args.steps.value) =
+    c.note.ensures ∙ ap (λ (xs : List Asked). xs ++ option_to_list c.asked_of-asked.result) c.in_ok-make_room.ensures.items ∙ ap (λ o. i.asked.items ++ option_to_list o) c.asked_of-asked.ensures
+    ∙ ap (λ (t : TaskSteps). i.asked.items ++ option_to_list (asked_by n t)) c.deref.ensures in
     let whole = queued_standing i.pool new i.queues i.sched tickets i.asked.items i.made stands c.args.source n c.in_ok-ticket_of.field-0.0 c.args.steps (next i.made) (call g c) (inserts g c) in
     let P : List Asked → Type 0 = λ xs. IsStanding new i.queues i.sched tickets xs n in
     let Q : Queues PageTask → Type 0 = λ q. IsStanding new q i.sched tickets c.note.new.asked.items n in
@@ -56,4 +58,4 @@ returns-clause-queued g c =
     let n = i.made + 1 in
     ap (λ (q : Queues PageTask). seen_in new q i.sched n) c.queue-put.ensures.same
     ∙ queued_as i.pool new i.queues i.sched (λ r. get nat_eq i.tickets r) i.asked.items i.made c.self.invariant c.args.source n c.in_ok-ticket_of.field-0.0 c.args.steps (next i.made) (call g c) (inserts g c)
-    ∙ ap (λ (q : Queued). with_spare new.spare (queued c.args.source (steps_of c.args.steps) q)) c.self.view_is
+    ∙ ap (λ (q : Queued). with_spare new.spare (queued c.args.source (steps_of c.args.steps.value) q)) c.self.view_is

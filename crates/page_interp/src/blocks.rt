@@ -1,0 +1,222 @@
+//! From the statements of a block. What calls nothing is done at once, with no frame of its own.
+
+ghost use Rattle.std.specs.Prelude.{◌≡◌, List, Some, IfOk, IfErr, IfSome};
+ghost use Rattle.std.specs.Borrow.{Bor};
+ghost use Rattle.lang_ast.specs.declared.tree.Stmt.{Stmt};
+ghost use Rattle.lang_ast.specs.declared.tree.Stmt.TheVariants.{Return};
+ghost use Rattle.page_interp.specs.AtOnce.{Assigns, Gives, Leads, before_stmt, branches};
+ghost use Rattle.page_interp.specs.Clauses.{script};
+ghost use Rattle.page_interp.specs.Frames.{stacked, place, Moves};
+ghost use Rattle.page_interp.specs.declared.exit.Exit.TheVariants as exit;
+ghost use Rattle.page_interp.specs.declared.stack.Focus.TheVariants as focus;
+
+use crate::at_once::set;
+use crate::code::Code;
+use crate::direct::direct_value;
+use crate::exit::{Exit, Store};
+use crate::stack::{Current, Focus, Frame, Waiting, push, wait, within};
+use crate::statements::from_stmt;
+use lang_ast::{Expr, Host, Named, Stmt};
+use page_values::{FaultName, MemoryFault, Value, as_bool, fault};
+use std::alloc::Global;
+
+/// The variable that a statement gives a value, and the expression of that value.
+fn assignment(stmt: &Stmt) -> Option<(&Named, &Expr)>
+    ensures { IfSome result (λ a. Assigns stmt.now a.0.now a.1.now) }
+{
+    match stmt {
+        Stmt::Var(name, expr) => Some((name, expr)),
+        Stmt::Assign(name, expr) => Some((name, expr)),
+        _ => None,
+    }
+}
+
+/// The variable and its value, where the first statement only gives a variable a value that is found at once, and the
+/// statements after it.
+fn given<'c>(
+    code: &Code,
+    store: &Store,
+    current: &Current,
+    stmts: &'c [Stmt],
+) -> Result<Option<(&'c Named, Value, &'c [Stmt])>, MemoryFault>
+    ensures { IfOk result (λ o. IfSome o (λ g.
+        Gives code.now store.now current.now stmts.now g.0.now g.1 g.2.now)) }
+{
+    let Some((stmt, rest)) = stmts.split_first() else {
+        return Ok(None);
+    };
+    let Some((name, expr)) = assignment(stmt) else {
+        return Ok(None);
+    };
+    match direct_value(code, store, current, expr)? {
+        Some(value) => Ok(Some((name, value, rest))),
+        None => Ok(None),
+    }
+}
+
+/// A statement of which no part is done at once: the statements after it wait for its end.
+fn later<'c, H: Host>(
+    stack: &mut Vec<Frame<'c>>,
+    stmt: &'c Stmt,
+    rest: &'c [Stmt],
+) -> Result<Focus<'c>, Exit<H::Stop>>
+    ensures ok { IfOk result (Moves H.rules (before_stmt rest.entry (stacked stack.old.items))
+        (focus.Stmt stmt.entry) (stacked stack.new.items)) }
+    ensures err { IfErr result (λ x. x ≡ exit.OutOfMemory) }
+{
+    push(stack, Frame::Wait(Waiting::Stmts(rest)))?;
+    from_stmt::<H>(stack, stmt)
+}
+
+/// The `else` side of a condition, and then the statements after it.
+fn into_else<'c, H: Host>(
+    stack: &mut Vec<Frame<'c>>,
+    others: &'c [(Expr, Vec<Stmt>)],
+    last: &'c Option<Vec<Stmt>>,
+    rest: &'c [Stmt],
+) -> Result<Focus<'c>, Exit<H::Stop>>
+    ensures ok { IfOk result (Moves H.rules (before_stmt rest.entry (stacked stack.old.items))
+        (focus.Others others.entry last.entry) (stacked stack.new.items)) }
+    ensures err { IfErr result (λ x. x ≡ exit.OutOfMemory) }
+{
+    match others.split_first() {
+        Some((other, more)) => {
+            push(stack, Frame::Wait(Waiting::Stmts(rest)))?;
+            wait(stack, Waiting::If(&other.1, more, last), &other.0)
+        }
+        None => match last {
+            Some(block) => within(
+                stack,
+                Frame::Wait(Waiting::Stmts(rest)),
+                Focus::Block(block),
+            ),
+            None => Ok(Focus::Block(rest)),
+        },
+    }
+}
+
+/// One side of a condition or the other, by its value, and then the statements after it.
+fn into_branch<'c, H: Host>(
+    alloc: Global,
+    stack: &mut Vec<Frame<'c>>,
+    value: Value,
+    block: &'c [Stmt],
+    others: &'c [(Expr, Vec<Stmt>)],
+    last: &'c Option<Vec<Stmt>>,
+    rest: &'c [Stmt],
+) -> Result<Focus<'c>, Exit<H::Stop>>
+    ensures ok { IfOk result (Moves H.rules
+        (branches block.entry others.entry last.entry rest.entry (stacked stack.old.items))
+        (focus.Value value) (stacked stack.new.items)) }
+    ensures err { IfErr result (λ x. x ≡ exit.OutOfMemory) }
+{
+    match as_bool(&value) {
+        Some(true) => within(
+            stack,
+            Frame::Wait(Waiting::Stmts(rest)),
+            Focus::Block(block),
+        ),
+        Some(false) => into_else::<H>(stack, others, last, rest),
+        None => {
+            let thrown = Focus::Throw(fault(alloc, FaultName::TypeError));
+            within(stack, Frame::Wait(Waiting::Stmts(rest)), thrown)
+        }
+    }
+}
+
+/// The value of a `return`. No statement after it waits.
+fn into_return<'c, H: Host>(
+    code: &Code,
+    store: &Store,
+    current: &Current,
+    stack: &mut Vec<Frame<'c>>,
+    expr: &'c Expr,
+) -> Result<Focus<'c>, Exit<H::Stop>>
+    ensures ok { IfOk result (λ f. (stmt : Bor Stmt) (rest : Bor (List Stmt)) →
+        stmt.now ≡ Return (Some expr.now) →
+        Leads H.rules (script code.now)
+        (place store.now current.now (before_stmt rest (stacked stack.old.items)) (focus.Stmt stmt))
+        (place store.now current.now (stacked stack.new.items) f)) }
+    ensures err { IfErr result (λ x. x ≡ exit.OutOfMemory) }
+{
+    match direct_value(code, store, current, expr) {
+        Ok(Some(value)) => Ok(Focus::Return(value)),
+        Ok(None) => wait(stack, Waiting::Return, expr),
+        Err(_) => Err(Exit::OutOfMemory),
+    }
+}
+
+/// From the first statement of some, where these come after it.
+fn from_first<'c, H: Host>(
+    code: &Code,
+    store: &Store,
+    current: &Current,
+    stack: &mut Vec<Frame<'c>>,
+    stmt: &'c Stmt,
+    rest: &'c [Stmt],
+) -> Result<Focus<'c>, Exit<H::Stop>>
+    ensures ok { IfOk result (λ f. Leads H.rules (script code.now)
+        (place store.now current.now (before_stmt rest.entry (stacked stack.old.items))
+        (focus.Stmt stmt.entry))
+        (place store.now current.now (stacked stack.new.items) f)) }
+    ensures err { IfErr result (λ x. x ≡ exit.OutOfMemory) }
+{
+    match stmt {
+        Stmt::Expr(expr) => wait(stack, Waiting::Stmts(rest), expr),
+        Stmt::If(test, block, others, last) => match direct_value(code, store, current, test) {
+            Ok(Some(value)) => {
+                into_branch::<H>(code.alloc(), stack, value, block, others, last, rest)
+            }
+            Ok(None) => later::<H>(stack, stmt, rest),
+            Err(_) => Err(Exit::OutOfMemory),
+        },
+        Stmt::Return(value) => match value {
+            Some(expr) => into_return::<H>(code, store, current, stack, expr),
+            None => later::<H>(stack, stmt, rest),
+        },
+        _ => later::<H>(stack, stmt, rest),
+    }
+}
+
+/// From the statements of a block of which the first one gives no variable a value at once.
+fn from_block<'c, H: Host>(
+    code: &Code,
+    store: &Store,
+    current: &Current,
+    stack: &mut Vec<Frame<'c>>,
+    stmts: &'c [Stmt],
+) -> Result<Focus<'c>, Exit<H::Stop>>
+    ensures ok { IfOk result (λ f. Leads H.rules (script code.now)
+        (place store.now current.now (stacked stack.old.items) (focus.Block stmts.entry))
+        (place store.now current.now (stacked stack.new.items) f)) }
+    ensures err { IfErr result (λ x. x ≡ exit.OutOfMemory) }
+{
+    match stmts.split_first() {
+        Some((stmt, rest)) => from_first::<H>(code, store, current, stack, stmt, rest),
+        None => Ok(Focus::Value(Value::Unit)),
+    }
+}
+
+/// From the statements of a block.
+pub fn into_block<'c, H: Host>(
+    code: &Code,
+    store: &mut Store,
+    current: &mut Current<'c>,
+    stack: &mut Vec<Frame<'c>>,
+    stmts: &'c [Stmt],
+) -> Result<Focus<'c>, Exit<H::Stop>>
+    ensures ok { IfOk result (λ f. Leads H.rules (script code.now)
+        (place store.old current.old (stacked stack.old.items) (focus.Block stmts.entry))
+        (place store.new current.new (stacked stack.new.items) f)) }
+    ensures err { IfErr result (λ x. x ≡ exit.OutOfMemory) }
+    ensures as_before { IfErr result (λ _. store.new ≡ store.old) }
+{
+    match given(code, store, current, stmts) {
+        Ok(Some((name, value, rest))) => {
+            set(code, store, current, name, value);
+            Ok(Focus::Block(rest))
+        }
+        Ok(None) => from_block::<H>(code, store, current, stack, stmts),
+        Err(_) => Err(Exit::OutOfMemory),
+    }
+}
