@@ -1,5 +1,5 @@
 -- The setup that an arrivals file sets.
-use Rattle.std.specs.Prelude.{◌≡◌, ℕ, ◌+◌, ◌≤◌, ◌<◌, Bool, true, false, cond, not, ◌&&◌, ◌==◌, nat_lt, nat_le, List, [], ◌∷◌, ◌++◌, map, filter, take, length, Option, Some, None, option_map, filter_map, codes}
+use Rattle.std.specs.Prelude.{◌≡◌, ℕ, ◌+◌, ◌≤◌, ◌<◌, Bool, true, false, if◌then◌else◌, not, ◌&&◌, ◌==◌, nat_lt, nat_le, List, [], ◌∷◌, ◌++◌, map, filter, take, length, Option, Some, None, option_map, filter_map, codes}
 use Rattle.std.specs.List.{slice_split}
 use Rattle.page_parts.specs.Words.{is_empty}
 use Rattle.page_parts.specs.Setup.{Policy, Rank, Latency, Arrival, Setup}
@@ -46,20 +46,20 @@ pub data Line : Type 0 where
 unfoldable pub line_at : List ℕ → Option Line
 line_at bytes =
     read_or (behind (codes "page ") bytes) (λ rest. option_map PageLine (number_in 1 2 rest))
-    (cond (is_word (codes "trace 2") bytes) (Some TraceLine)
-    (read_or (behind (codes "policy ") bytes) (λ rest. option_map PolicyLine (policy_at rest))
+    (if is_word (codes "trace 2") bytes then Some TraceLine
+    else read_or (behind (codes "policy ") bytes) (λ rest. option_map PolicyLine (policy_at rest))
     (read_or (behind (codes "fuel ") bytes) (λ rest. option_map FuelLine (number_in 1 10000000 rest))
     (read_or (behind (codes "until ") bytes) (λ rest. option_map UntilLine (number_in 1 1000000000000 rest))
     (read_or (behind (codes "refresh ") bytes) (λ rest. option_map RefreshLine (number_in 1 240 rest))
     (read_or (behind (codes "late ") bytes) (λ rest. option_map LateLine (late_at rest))
     (read_or (behind (codes "room ") bytes) (λ rest. option_map RoomLine (number_in 0 1000000 rest))
     (read_or (behind (codes "host ") bytes) (λ rest. option_map HostLine (latency_at rest))
-    (read_or (behind (codes "at ") bytes) (λ rest. option_map ArrivalLine (arrival_at rest)) None)))))))))
+    (read_or (behind (codes "at ") bytes) (λ rest. option_map ArrivalLine (arrival_at rest)) None))))))))
 
 -- The bytes between line feeds. What stands behind the last one is a line only where it is not empty.
 abbrev pub but_empty_last : List (List ℕ) → List (List ℕ)
 but_empty_last [] = []
-but_empty_last (line ∷ []) = cond (is_empty line) [] (line ∷ [])
+but_empty_last (line ∷ []) = if is_empty line then [] else line ∷ []
 but_empty_last (line ∷ next ∷ lines) = line ∷ but_empty_last (next ∷ lines)
 
 unfoldable pub lines_of : List ℕ → List (List ℕ)

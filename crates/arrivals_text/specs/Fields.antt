@@ -1,5 +1,5 @@
 -- The fields of a line of an arrivals file.
-use Rattle.std.specs.Prelude.{ℕ, zero, suc, Bool, true, false, cond, not, ◌&&◌, ◌||◌, ◌==◌, nat_le, List, [], ◌∷◌, length, Option, Some, None, option_map, ℤ, pos, negsuc, codes, find, map}
+use Rattle.std.specs.Prelude.{ℕ, zero, suc, Bool, true, false, if◌then◌else◌, not, ◌&&◌, ◌||◌, ◌==◌, nat_le, List, [], ◌∷◌, length, Option, Some, None, option_map, ℤ, pos, negsuc, codes, find, map}
 use Rattle.std.specs.List.{slice_split}
 use Rattle.page_types.specs.declared.Source.{Source}
 use Rattle.page_types.specs.declared.Source.TheVariants.{User, Net, Dom}
@@ -45,9 +45,9 @@ fair_at bytes = option_map Fair (number_in 1 1000 bytes)
 
 unfoldable pub policy_at : List ℕ → Option Policy
 policy_at bytes =
-    cond (is_word (codes "fifo") bytes) (Some Fifo)
-    (read_or (behind (codes "fair ") bytes) fair_at
-    (read_or (behind (codes "rank ") bytes) rank_at None))
+    if is_word (codes "fifo") bytes then Some Fifo
+    else read_or (behind (codes "fair ") bytes) fair_at
+    (read_or (behind (codes "rank ") bytes) rank_at None)
 
 -- one or more latenesses, each at most a second
 unfoldable pub late_at : List ℕ → Option (List ℕ)
@@ -72,16 +72,16 @@ abbrev mutual
   pub parts_at : List ℕ → Option (List ℕ)
   parts_at [] = None
   parts_at (b ∷ bytes) =
-      cond (b == 34) (where_true (is_empty bytes) [])
-      (cond (b == 92) (escape_at bytes)
-      (cond (is_plain b) (option_map (λ text. b ∷ text) (parts_at bytes)) None))
+      if b == 34 then where_true (is_empty bytes) []
+      else if b == 92 then escape_at bytes
+      else if is_plain b then option_map (λ text. b ∷ text) (parts_at bytes) else None
 
   -- the same after a `\`: `\"` and `\\` stand for their second byte, `\n` stands for LF
   pub escape_at : List ℕ → Option (List ℕ)
   escape_at [] = None
   escape_at (b ∷ bytes) =
-      cond (b == 34 || b == 92) (option_map (λ text. b ∷ text) (parts_at bytes))
-      (cond (b == 110) (option_map (λ text. 10 ∷ text) (parts_at bytes)) None)
+      if b == 34 || b == 92 then option_map (λ text. b ∷ text) (parts_at bytes)
+      else if b == 110 then option_map (λ text. 10 ∷ text) (parts_at bytes) else None
 
 -- the text of at most 65,535 bytes whose parts these are
 unfoldable pub text_at : List ℕ → Option (List ℕ)
@@ -99,10 +99,10 @@ int_at bytes =
 
 unfoldable pub value_at : List ℕ → Option Value
 value_at bytes =
-    cond (is_word (codes "unit") bytes) (Some UnitValue)
-    (cond (is_word (codes "true") bytes) (Some (BoolValue true))
-    (cond (is_word (codes "false") bytes) (Some (BoolValue false))
-    (read_or (behind (codes "\"") bytes) (λ parts. option_map TextValue (text_at parts)) (option_map IntValue (int_at bytes)))))
+    if is_word (codes "unit") bytes then Some UnitValue
+    else if is_word (codes "true") bytes then Some (BoolValue true)
+    else if is_word (codes "false") bytes then Some (BoolValue false)
+    else read_or (behind (codes "\"") bytes) (λ parts. option_map TextValue (text_at parts)) (option_map IntValue (int_at bytes))
 
 -- the time, the source, the name and the value of an arrival
 unfoldable pub arrival_at : List ℕ → Option Arrival

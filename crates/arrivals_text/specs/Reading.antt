@@ -1,5 +1,5 @@
 -- How far the reading of a file has come.
-use Rattle.std.specs.Prelude.{◌≡◌, ℕ, ◌+◌, ◌≤◌, Bool, true, false, cond, ⊤, List, [], ◌∷◌, ◌++◌, map, Option, Some, None, Result, Ok, Err, IsTrue}
+use Rattle.std.specs.Prelude.{◌≡◌, ℕ, ◌+◌, ◌≤◌, Bool, true, false, if◌then◌else◌, ⊤, List, [], ◌∷◌, ◌++◌, map, Option, Some, None, Result, Ok, Err, IsTrue}
 use Rattle.page_parts.specs.Setup.{are_in_order}
 use Rattle.page_base.specs.Readings.{AreShort}
 use Rattle.loop_policy.specs.Policies.{policy_of, is_policy}
@@ -15,7 +15,9 @@ use Rattle.arrivals_text.specs.declared.fault.PageFault.TheVariants.{Is, OutOfMe
 
 -- what one line of the file adds: nothing, or what it spells; none where it is refused
 unfoldable pub step : Place → List ℕ → Option (List Line)
-step last bytes = cond (says_something bytes) (line_at bytes >>= λ line. where_true (may_follow last (place_of line)) (line ∷ [])) (Some [])
+step last bytes =
+    if says_something bytes then (line_at bytes >>= λ line. where_true (may_follow last (place_of line)) (line ∷ []))
+    else Some []
 
 abbrev pub last_place : Place → List Line → Place
 last_place last [] = last
@@ -31,7 +33,7 @@ further front (Err good) = Err (good + 1)
 
 -- the lines that the file spells from here on, or how many lines are read before the first one that is refused
 abbrev pub goes : Place → List (List ℕ) → Result (List Line) ℕ
-goes last [] = cond (is_start last) (Err 0) (Ok [])
+goes last [] = if is_start last then Err 0 else Ok []
 goes last (bytes ∷ file) = elim (step last bytes) [ None ↦ Err 0 | Some lines ↦ further lines (goes (last_place last lines) file) ]
 
 -- the settings, or the number of the refused line, after so many lines that gave these settings

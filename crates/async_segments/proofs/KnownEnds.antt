@@ -11,8 +11,8 @@ use Rattle.page_model.specs.Operations.{was_given, is_known, are_known, all_know
 use Rattle.page_model.specs.PageHost.{Hosting, page_rules}
 use Rattle.page_model.specs.Numbers.{Each, Made, IsGiven, IsKnown, VariablesAreKnown}
 use Rattle.page_model.specs.Numbers as Numbers
-use Rattle.page_model.proofs.NumbersGrow.{Each-append, IsKnown-grows, held, InScriptPromises}
-use Rattle.page_model.proofs.Holding.{Holds}
+use Rattle.page_model.proofs.GivenNumbers.Growing.{Each-append, IsKnown-grows, held, InScriptPromises}
+use Rattle.page_model.proofs.Holding.Evaluation.{Holds}
 use Rattle.async_segments.specs.Marked.{AwaitForm}
 use Rattle.async_segments.specs.Expanded.{expanded}
 use Rattle.async_segments.specs.Meaning.{AsyncFunction, names_of_locals, reached, kept_values, segment_run}

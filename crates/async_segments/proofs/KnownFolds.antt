@@ -27,13 +27,13 @@ use Rattle.page_model.specs.Folds.{ChangePiece, ChangeOf, EndChange, Rest, Abort
 use Rattle.page_model.specs.PageHost.{Hosting, reached_step, resume_innermost, step_fault, step_given, step_abort, step_change_by, step_change, bare, no_calls, done_step, step_op, step_known, page_rules}
 use Rattle.page_model.specs.Numbers.{Each, IfThere, Made, made_by, Grows, IsGiven, IsKnown, AreKnown, IsFor}
 use Rattle.async_segments.specs.OnPage.{PieceIsGiven, RestIsGiven, FoldIsGiven}
-use Rattle.page_model.proofs.NumbersGrow.{Each-more, Each-get, unwrapped, Grows-same, Grows-then, signal-grows, values-grow, signals-grow, IsFor-grows, InSignals, InPrios, InListeners, Held, Onward, stays, onward-then}
-use Rattle.page_model.proofs.NumbersParts.{marked-given, followers-known, snapshot-given, controller_in-given}
-use Rattle.page_model.proofs.NumbersPages.{call_begun-held, call_ended-held, the_registration-given, run_algorithms-held, reason_set-held, change_begun-held, change_ended-held}
-use Rattle.page_model.proofs.NumbersEvaluation.{keeping}
-use Rattle.page_model.proofs.NumbersRuns.{priority_value-known, CallsGo, finish-goes, in_script-goes}
-use Rattle.page_model.proofs.NumbersOperations.{operation-goes}
-use Rattle.page_model.proofs.Holding.{Holds}
+use Rattle.page_model.proofs.GivenNumbers.Growing.{Each-more, Each-get, unwrapped, Grows-same, Grows-then, signal-grows, values-grow, signals-grow, IsFor-grows, InSignals, InPrios, InListeners, Held, Onward, stays, onward-then}
+use Rattle.page_model.proofs.GivenNumbers.Parts.{marked-given, followers-known, snapshot-given, controller_in-given}
+use Rattle.page_model.proofs.GivenNumbers.Pages.{call_begun-held, call_ended-held, the_registration-given, run_algorithms-held, reason_set-held, change_begun-held, change_ended-held}
+use Rattle.page_model.proofs.GivenNumbers.Evaluation.{keeping}
+use Rattle.page_model.proofs.GivenNumbers.Runs.{priority_value-known, CallsGo, finish-goes, in_script-goes}
+use Rattle.page_model.proofs.GivenNumbers.Operations.{operation-goes}
+use Rattle.page_model.proofs.Holding.Evaluation.{Holds}
 
 -- ---- open folds
 

@@ -13,10 +13,10 @@ use Rattle.lang_meaning.specs.Evaluation.{functions_of, number_of, called, calls
 use Rattle.lang_meaning.specs.HostSteps.{HostStep, StepValue, StepThrow, StepInvoke, CallbackEnd, CallbackValue, CallbackThrow, Stepped, AskOp, AskResume, on_ask, with_host, after_callback, steps_by, ask_host, asked_by, most_callbacks, is_busy, host_operations}
 use Rattle.page_model.specs.PageHost.{Hosting, page_rules}
 use Rattle.page_model.specs.Numbers.{Each, Made, made_by, Grows, IsKnown, VariablesAreKnown}
-use Rattle.page_model.proofs.NumbersGrow.{Each-more, Grows-same, Grows-then, IsKnown-grows, Variables-grow}
-use Rattle.page_model.proofs.NumbersParts.{values-known}
-use Rattle.page_model.proofs.NumbersEvaluation.{every, each, limited-known, sum-known, product-known, compare-known, unary-known, item-known, value_in-known, locals-known, without_first-known, function-known, bound-known}
-use Rattle.page_model.proofs.Holding.{Keeping, or_else-there, Holds, CallsHold, OperateHolds, wider, and_then-holds, given_any-holds, branch-holds, take_unit-holds, called-holds, eval-holds, block-holds, calls-hold}
+use Rattle.page_model.proofs.GivenNumbers.Growing.{Each-more, Grows-same, Grows-then, IsKnown-grows, Variables-grow}
+use Rattle.page_model.proofs.GivenNumbers.Parts.{values-known}
+use Rattle.page_model.proofs.GivenNumbers.Evaluation.{every, each, limited-known, sum-known, product-known, compare-known, unary-known, item-known, value_in-known, locals-known, without_first-known, function-known, bound-known}
+use Rattle.page_model.proofs.Holding.Evaluation.{Keeping, or_else-there, Holds, CallsHold, OperateHolds, wider, and_then-holds, given_any-holds, branch-holds, take_unit-holds, called-holds, eval-holds, block-holds, calls-hold}
 use Rattle.async_segments.specs.Marked.{AwaitForm, Alone, Declared, Stored, Returned}
 use Rattle.async_segments.specs.Meaning.{AsyncFunction, names_of_locals, Part, stored_first, until_wait, reached, value_now, kept_values, function_with, waits_for, segment_run}
 use Rattle.async_segments.specs.Names.{segment_name, rejecting_name}
@@ -150,7 +150,7 @@ module _ (program : Program) where
         (block-holds (knowing program) (calls program (host_operations page_rules) n) (host_operations page_rules (calls program (host_operations page_rules) n)) (calls-known n) operate-known part.statements r h)
         (λ u a le h hu. until-known part.awaits a h))
 
-    now-by : (m : Machine Hosting) (o : Option Value) → Rattle.page_model.proofs.Holding.IfThere (λ v. IsKnown (made_in m) v) o → IsKnown (made_in m) (unwrap_or o UnitValue)
+    now-by : (m : Machine Hosting) (o : Option Value) → Rattle.page_model.proofs.Holding.Evaluation.IfThere (λ v. IsKnown (made_in m) v) o → IsKnown (made_in m) (unwrap_or o UnitValue)
     now-by m None h = tt
     now-by m (Some v) h = h
 

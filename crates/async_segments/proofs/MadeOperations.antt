@@ -27,7 +27,7 @@ use Rattle.page_model.specs.Operations.{with_signals, does, answers, where_left,
 use Rattle.async_segments.proofs.MadePages.{Has, has-more, DoneHas, Keeps, KeepsAll, cond-keeps, cond_of-keeps, branch-keeps, given-keeps, answered-keeps, finish-keeps, resolve-keeps, reject-keeps, subscribe-keeps, clear_timer-keeps, cancel_frame-keeps, cancel_idle-keeps, relates-keeps}
 use Rattle.page_parts.specs.Combinators.{CombinatorKind, All, AnyOf, AllSettled as AllSettledKind}
 use Rattle.page_model.specs.PageCombinators.{all_made, race_made, are_promises_left}
-use Rattle.page_model.proofs.Combining.{all_made-related, race_made-related}
+use Rattle.page_model.proofs.Adding.Combining.{all_made-related, race_made-related}
 
 module _ (promise : ℕ) where
   -- ---- ways to put operations together

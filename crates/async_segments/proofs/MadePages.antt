@@ -18,7 +18,7 @@ use Rattle.page_model.specs.PagePromises as promises
 use Rattle.page_model.specs.PageTime.{clear_timer, cancel_frame, cancel_idle, idle_callback}
 use Rattle.page_model.specs.PageSignals.{has_not_begun, drop_registration, abort_registration, abort_registrations, run_algorithms, reason_value, reason_set}
 use Rattle.page_model.specs.Invoke.{WhenReported, BeforeCheckpoint, AfterCheckpoint, Never, report_before, report_after}
-use Rattle.page_model.proofs.Combining.{Relates}
+use Rattle.page_model.proofs.Adding.Combining.{Relates}
 
 module _ (promise : ℕ) where
   abbrev pub Has : Page → Type 0

@@ -16,7 +16,7 @@ use Rattle.async_segments.specs.Meaning.{AsyncFunction, async_functions, names_o
 use Rattle.async_segments.specs.Promising.{KeepsPromises, EndIsTaken, KeptIsTaken, IsTaken, called_with, begun, around_body, MeansItsSegments}
 use Rattle.async_segments.proofs.MeaningServed.{TakesEnd, BindsAtWait, IsServed}
 use Rattle.async_segments.proofs.MeaningOwns.{owning, run-owned}
-use Rattle.page_model.proofs.Holding.{Holds}
+use Rattle.page_model.proofs.Holding.Evaluation.{Holds}
 use Rattle.async_segments.proofs.MeaningCalls.{BlockAssigns}
 use Rattle.async_segments.proofs.MeaningReturns.{IsOwn}
 use Rattle.async_segments.proofs.MeaningVariables.{own_apart}

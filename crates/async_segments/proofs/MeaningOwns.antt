@@ -10,7 +10,7 @@ use Rattle.page_parts.specs.Kinds.{within_limits}
 use Rattle.lang_meaning.specs.Machine.{Machine, Done, Gives, Throws, Returns, OutOfFuel, take_unit, value_in, locals, assigned, with_local, with_value_in, Caller}
 use Rattle.lang_meaning.specs.Evaluation.{called, calls, eval, exec_block}
 use Rattle.lang_meaning.specs.HostSteps.{HostRules, HostStep, StepValue, StepThrow, StepInvoke, CallbackEnd, CallbackValue, CallbackThrow, Ask, AskOp, AskResume, on_ask, with_host, after_callback, steps_by, ask_host, asked_by, most_callbacks, is_busy, host_operations}
-use Rattle.page_model.proofs.Holding.{Keeping, KeepingStates, keeping_states, every_any, Holds, CallsHold, OperateHolds, wider, and_then-holds, given_any-holds, branch-holds, take_unit-holds, called-holds, eval-holds, block-holds, calls-hold}
+use Rattle.page_model.proofs.Holding.Evaluation.{Keeping, KeepingStates, keeping_states, every_any, Holds, CallsHold, OperateHolds, wider, and_then-holds, given_any-holds, branch-holds, take_unit-holds, called-holds, eval-holds, block-holds, calls-hold}
 use Rattle.async_segments.specs.Marked.{AwaitForm, Alone, Declared, Stored, Returned}
 use Rattle.async_segments.specs.Meaning.{AsyncFunction, Part, stored_first, until_wait, reached, kept_values, waits_for, segment_run}
 use Rattle.async_segments.proofs.MeaningCalls.{around_at}

@@ -1,7 +1,7 @@
 -- The script in which signs stand in place of `async` and `await`, and its marked tree. In place of `await` the name `a__`
 -- stands with `||` behind it: an await and its operand are then an expression exactly where the operand is one. In place
 -- of `async` it stands with a `;`, as a statement before the function.
-use Rattle.std.specs.Prelude.{◌≡◌, ◌≤◌, ◌-◌, ℕ, Bool, false, cond, ◌||◌, List, [], ◌∷◌, ◌++◌, length, take, drop, Option, Some, None, codes}
+use Rattle.std.specs.Prelude.{◌≡◌, ◌≤◌, ◌-◌, ℕ, Bool, false, if◌then◌else◌, ◌||◌, List, [], ◌∷◌, ◌++◌, length, take, drop, Option, Some, None, codes}
 use Rattle.std.specs.Prelude.{Ok}
 use Rattle.page_types.specs.Tree.{Named, Expr, Or, Name, UnitLiteral, Exprs, no_exprs, with_expr, Stmt, VarStmt, AssignStmt, ExprStmt}
 use Rattle.page_types.specs.Tree.{ReturnStmt, Block, no_stmts, with_stmt, Item, FnItem, StmtItem}
@@ -25,22 +25,22 @@ mark_name = codes "a__"
 
 -- what stands in place of a name with this spelling, in as many bytes
 abbrev pub signs_for : List ℕ → List ℕ
-signs_for x = cond (same_bytes x (codes "async")) (codes "a__; ") (codes "a__||")
+signs_for x = if same_bytes x (codes "async") then codes "a__; " else codes "a__||"
 
 -- the bytes from an offset on, with signs in place of the two names
 abbrev pub marked_bytes : ℕ → List TokenSeen → List ℕ → List ℕ
 marked_bytes from [] bs = bs
 marked_bytes from (t ∷ ts) bs =
-    cond (is_mark (symbol_of t))
-    (take (t.at - from) bs ++ signs_for t.content ++ marked_bytes t.end ts (drop (t.end - from) bs))
-    (marked_bytes from ts bs)
+    if is_mark (symbol_of t)
+    then take (t.at - from) bs ++ signs_for t.content ++ marked_bytes t.end ts (drop (t.end - from) bs)
+    else marked_bytes from ts bs
 
 -- what a token adds to the bytes with signs, where they are done up to an offset, and up to where they are done then
 abbrev pub marked_piece : ℕ → TokenSeen → List ℕ → List ℕ
-marked_piece done t bs = cond (is_mark (symbol_of t)) (take (t.at - done) (drop done bs) ++ signs_for t.content) []
+marked_piece done t bs = if is_mark (symbol_of t) then take (t.at - done) (drop done bs) ++ signs_for t.content else []
 
 abbrev pub done_behind : ℕ → TokenSeen → ℕ
-done_behind done t = cond (is_mark (symbol_of t)) t.end done
+done_behind done t = if is_mark (symbol_of t) then t.end else done
 
 -- ---- the marks in its tree
 
@@ -51,7 +51,7 @@ operand_of e (with_expr x es) = Or e (with_expr x es)
 
 -- the place of a mark, where the name is one
 abbrev pub mark_in_name : Named → Option ℕ
-mark_in_name x = cond (same_bytes x.name mark_name) (Some x.at) None
+mark_in_name x = if same_bytes x.name mark_name then Some x.at else None
 
 -- the place of a mark, where the expression is one
 abbrev pub mark_in_expr : Expr → Option ℕ
@@ -144,8 +144,8 @@ found (item ∷ items) pending = next_item pending item (mark_at item) (found it
 -- a name that is one of the two becomes two symbols
 abbrev pub signed_name : List ℕ → ℕ → List Symbol
 signed_name x at =
-    cond (same_bytes x (codes "async")) (NameAt mark_name at ∷ SignOf (codes ";") ∷ [])
-    (cond (same_bytes x (codes "await")) (NameAt mark_name at ∷ SignOf (codes "||") ∷ []) (NameAt x at ∷ []))
+    if same_bytes x (codes "async") then NameAt mark_name at ∷ SignOf (codes ";") ∷ []
+    else if same_bytes x (codes "await") then NameAt mark_name at ∷ SignOf (codes "||") ∷ [] else NameAt x at ∷ []
 
 abbrev pub signed_symbol : Symbol → List Symbol
 signed_symbol (NameAt x at) = signed_name x at

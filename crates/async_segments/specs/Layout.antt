@@ -1,5 +1,5 @@
 -- How the symbols of a script are written: with a space between each two, and LF at the end.
-use Rattle.std.specs.Prelude.{ℕ, Bool, cond, List, [], ◌∷◌, ◌++◌}
+use Rattle.std.specs.Prelude.{ℕ, Bool, if◌then◌else◌, List, [], ◌∷◌, ◌++◌}
 use Rattle.page_parts.specs.Words.{int_decimal}
 use Rattle.page_parts.specs.Spelling.{quoted}
 use Rattle.lang_parse.specs.Symbols.{Symbol, NameAt, WordOf, NumberOf, TextOf, SignOf}
@@ -18,7 +18,7 @@ further [] = 10 ∷ []
 further (k ∷ ks) = 32 ∷ bytes_of k ++ further ks
 
 abbrev pub space_before : Bool → List ℕ
-space_before is_first = cond is_first [] (32 ∷ [])
+space_before is_first = if is_first then [] else 32 ∷ []
 
 abbrev pub laid_out : List Symbol → List ℕ
 laid_out [] = 10 ∷ []

@@ -1,5 +1,5 @@
 -- The tree of a script with its async functions and its awaits marked, and how it is spelled.
-use Rattle.std.specs.Prelude.{◌≡◌, ◌||◌, ℕ, Bool, false, cond, List, [], ◌∷◌, ◌++◌, map, Some, codes}
+use Rattle.std.specs.Prelude.{◌≡◌, ◌||◌, ℕ, Bool, false, if◌then◌else◌, List, [], ◌∷◌, ◌++◌, map, Some, codes}
 use Rattle.page_types.specs.Tree.{Named, Expr, Stmt, VarStmt, AssignStmt, ExprStmt, ReturnStmt, Block, no_stmts, with_stmt, Item, FnItem}
 use Rattle.page_parts.specs.Words.{same_bytes}
 use Rattle.lang_parse.specs.Symbols.{Symbol, NameAt, WordOf, NumberOf, TextOf, SignOf}
@@ -94,7 +94,7 @@ is_mark (SignOf bs) = false
 -- the symbols without the two names
 abbrev pub without_marks : List Symbol → List Symbol
 without_marks [] = []
-without_marks (k ∷ ks) = cond (is_mark k) (without_marks ks) (k ∷ without_marks ks)
+without_marks (k ∷ ks) = if is_mark k then without_marks ks else k ∷ without_marks ks
 
 -- The symbols are those of the marked tree, and without the two names those of the tree without the marks. So no other
 -- name of the script is `async` or `await`.

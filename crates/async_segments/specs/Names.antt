@@ -1,5 +1,5 @@
 -- The names of an async function and of the functions that it becomes.
-use Rattle.std.specs.Prelude.{ℕ, Bool, false, cond, ◌==◌, ◌&&◌, ◌||◌, List, [], ◌∷◌, ◌++◌, map, codes}
+use Rattle.std.specs.Prelude.{ℕ, Bool, false, if◌then◌else◌, ◌==◌, ◌&&◌, ◌||◌, List, [], ◌∷◌, ◌++◌, map, codes}
 use Rattle.page_types.specs.Tree.{Named, Block}
 use Rattle.page_parts.specs.Words.{and_last, decimal_of}
 use Rattle.lang_meaning.specs.Evaluation.{names_in}
@@ -12,7 +12,7 @@ new_name x = record { name = x; at = 0 }
 -- these names, and then those of others that are not among them, in their order
 abbrev pub with_new : List (List ℕ) → List (List ℕ) → List (List ℕ)
 with_new names [] = names
-with_new names (x ∷ xs) = with_new (cond (has_name names x) names (and_last names x)) xs
+with_new names (x ∷ xs) = with_new (if has_name names x then names else and_last names x) xs
 
 -- the names alone, without their places
 abbrev pub spellings : List Named → List (List ℕ)

@@ -1,5 +1,5 @@
 -- The functions of the segments, as they are written one after another.
-use Rattle.std.specs.Prelude.{ℕ, ◌+◌, cond, List, [], ◌∷◌, ◌++◌, map, codes, Option, Some, None}
+use Rattle.std.specs.Prelude.{ℕ, ◌+◌, if◌then◌else◌, List, [], ◌∷◌, ◌++◌, map, codes, Option, Some, None}
 use Rattle.page_types.specs.Tree.{Named, Expr, UnitLiteral, Stmt, ExprStmt, Item}
 use Rattle.lang_place.specs.NameSets.{has_name}
 use Rattle.lang_parse.specs.Symbols.{Symbol, NameAt, WordOf, SignOf}
@@ -78,7 +78,7 @@ resolved_symbols e =
 
 -- , unit, for a local name that is no parameter
 abbrev pub unit_behind : List (List ℕ) → List ℕ → List Symbol
-unit_behind parameters x = cond (has_name parameters x) [] (SignOf (codes ",") ∷ WordOf (codes "unit") ∷ [])
+unit_behind parameters x = if has_name parameters x then [] else SignOf (codes ",") ∷ WordOf (codes "unit") ∷ []
 
 -- f__0(p__, A);
 abbrev pub first_call_symbols : List ℕ → List (List ℕ) → List (List ℕ) → List Symbol

@@ -1,5 +1,5 @@
 -- What the tokens that are to be written are seen as.
-use Rattle.std.specs.Prelude.{◌≡◌, Bool, true, false, cond, List, [], ◌∷◌, ◌++◌, map, ℕ, Vec, codes}
+use Rattle.std.specs.Prelude.{◌≡◌, Bool, true, false, if◌then◌else◌, List, [], ◌∷◌, ◌++◌, map, ℕ, Vec, codes}
 use Rattle.std.specs.declared.alloc.Global.{Global}
 use Rattle.page_types.specs.Tree.{Exprs, no_exprs, with_expr, Stmt, Block, ElseIfs, ElsePart}
 use Rattle.lang_parse.specs.Symbols.{Symbol, NameAt, WordOf, SignOf, symbol_by}
@@ -30,7 +30,7 @@ joined sign (with_expr e es) = spelling e ++ each_behind sign es
 
 -- a symbol before what is not the first in a row
 abbrev pub between : Bool → Symbol → List Symbol
-between is_first sign = cond is_first [] (sign ∷ [])
+between is_first sign = if is_first then [] else sign ∷ []
 
 -- a statement as it is, or as a segment has it
 abbrev pub as_in : Bool → Stmt → Block

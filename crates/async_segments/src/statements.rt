@@ -1,6 +1,6 @@
 //! Writes statements, as they are or as a segment has them.
 
-ghost use Rattle.std.specs.Prelude.{◌∷◌, ◌++◌, [], IfOk, cond, codes};
+ghost use Rattle.std.specs.Prelude.{◌∷◌, ◌++◌, [], IfOk, if◌then◌else◌, codes};
 ghost use Rattle.std.specs.Option.{option_map};
 ghost use Rattle.page_types.specs.Tree.{AssignStmt, ExprStmt, ReturnStmt, VarStmt};
 ghost use Rattle.lang_ast.specs.Seen.{seen_name, seen_expr, seen_stmt, seen_block, seen_others, seen_else};
@@ -41,7 +41,7 @@ fn write_assigned(
 
 /// "var", where it is not left out.
 fn write_var(alloc: Global, in_segment: bool, into: &mut Vec<Written>) -> Result<(), AllocError>
-    ensures { IfOk result (λ _. Adds into.old.items into.new.items (cond in_segment [] (WordOf (codes "var") ∷ []))) }
+    ensures { IfOk result (λ _. Adds into.old.items into.new.items (if in_segment then [] else WordOf (codes "var") ∷ [])) }
 {
     if in_segment {
         return Ok(());

@@ -1,5 +1,5 @@
 -- A room of cells as a map from live cells to items. Ours: the standards do not say how queues are stored.
-use Rattle.std.specs.Prelude.{◌≡◌, ◌≢◌, ℕ, ◌==◌, cond, List, Option, Some, None, slice_index_or}
+use Rattle.std.specs.Prelude.{◌≡◌, ◌≢◌, ℕ, ◌==◌, if◌then◌else◌, List, Option, Some, None, slice_index_or}
 use Rattle.cell_room.specs.declared.room.Cell.{Cell}
 use Rattle.cell_room.specs.declared.room.Stored.{Stored}
 
@@ -13,7 +13,7 @@ module _ {T : Type 0} where
   -- the item that stands under a key, if it has this generation
   abbrev pub item_of : Option (Stored T) → ℕ → Option T
   item_of None generation = None
-  item_of (Some stored) generation = cond (stored.generation == generation) (Some stored.item) None
+  item_of (Some stored) generation = if stored.generation == generation then Some stored.item else None
 
   -- the item of a cell, where the cell is live
   abbrev pub item_at : Cells T → Cell → Option T

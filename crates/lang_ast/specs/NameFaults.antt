@@ -1,5 +1,5 @@
 -- Which names of a script are faults, and which of the faults is the first.
-use Rattle.std.specs.Prelude.{◌≡◌, ℕ, ◌<◌, Bool, true, false, cond, not, ◌&&◌, ◌||◌, List, [], ◌∷◌, Option, Some, None, ◌==◌, take, slice_get}
+use Rattle.std.specs.Prelude.{◌≡◌, ℕ, ◌<◌, Bool, true, false, if◌then◌else◌, not, ◌&&◌, ◌||◌, List, [], ◌∷◌, Option, Some, None, ◌==◌, take, slice_get}
 use Rattle.page_types.specs.Tree.{Item}
 use Rattle.page_types.specs.declared.Op.{Op}
 use Rattle.page_parts.specs.Words.{same_bytes, is_there}
@@ -93,9 +93,9 @@ is_arity r x = false
 -- is unknown, or an operation that is called.
 abbrev pub fault_of : List Occurrence → List Occurrence → Occurrence → Option Fault
 fault_of all before o =
-    cond (is_twice all before o.mention.role o.scope o.mention.name) (Some (TwiceAt o.mention.at))
-    (cond (is_unknown all o.mention.role o.scope o.mention.name) (Some (UnknownAt o.mention.at))
-    (cond (is_arity o.mention.role o.mention.name) (Some (ArityAt o.mention.at)) None))
+    if is_twice all before o.mention.role o.scope o.mention.name then Some (TwiceAt o.mention.at)
+    else if is_unknown all o.mention.role o.scope o.mention.name then Some (UnknownAt o.mention.at)
+    else if is_arity o.mention.role o.mention.name then Some (ArityAt o.mention.at) else None
 
 abbrev pub fault_in : List Occurrence → List Occurrence → Option Occurrence → Option Fault
 fault_in all before None = None

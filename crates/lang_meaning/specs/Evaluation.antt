@@ -1,5 +1,5 @@
 -- What a script's expressions, statements and calls do.
-use Rattle.std.specs.Prelude.{ℕ, zero, suc, ◌^◌, Bool, true, false, cond, not, ◌&&◌, List, [], ◌∷◌, ◌++◌, map, Option, Some, None, ℤ, pos, negsuc, ◌+ℤ◌, ◌-ℤ◌, ◌*ℤ◌, neg_ℤ, int_lt, int_le, int_div, int_rem, slice_get, nat_lt, Result, Ok, Err}
+use Rattle.std.specs.Prelude.{ℕ, zero, suc, ◌^◌, Bool, true, false, if◌then◌else◌, not, ◌&&◌, List, [], ◌∷◌, ◌++◌, map, Option, Some, None, ℤ, pos, negsuc, ◌+ℤ◌, ◌-ℤ◌, ◌*ℤ◌, neg_ℤ, int_lt, int_le, int_div, int_rem, slice_get, nat_lt, Result, Ok, Err}
 use Rattle.page_types.specs.Values.{Value, UnitValue, BoolValue, IntValue, TextValue, ListValue, FunValue, Values, no_values, items_of, values_of}
 use Rattle.page_types.specs.declared.FaultName.{FaultName}
 use Rattle.page_types.specs.declared.FaultName.TheVariants.{TypeError, RangeError}
@@ -47,7 +47,7 @@ need (Some x) fault next = next x
 
 -- an integer within 64 bits, or RangeError
 abbrev pub int_answer : ℤ → Answer
-int_answer n = cond (fits n) (Ok (IntValue n)) (Err RangeError)
+int_answer n = if fits n then Ok (IntValue n) else Err RangeError
 
 -- two integers, or TypeError
 abbrev pub both_ints : Value → Value → (ℤ → ℤ → Answer) → Answer
@@ -81,7 +81,7 @@ divides x y = not (is_zero y) && not (same_int y (negsuc 0) && same_int x (neg_�
 
 -- a quotient or a remainder, or RangeError
 abbrev pub divided : (ℤ → ℤ → ℤ) → ℤ → ℤ → Answer
-divided by x y = cond (divides x y) (Ok (IntValue (by x y))) (Err RangeError)
+divided by x y = if divides x y then Ok (IntValue (by x y)) else Err RangeError
 
 -- division truncates towards zero, and a remainder has the sign of the dividend
 abbrev pub product_answer : ProductSign → Value → Value → Answer
@@ -134,7 +134,7 @@ item_at v i m = answered (item_answer v i) m
 
 -- a value is tested: with a Bool comes one way or the other, with any other value TypeError
 abbrev pub tested : {H : Type 0} → Value → Machine H → (Machine H → Done H) → (Machine H → Done H) → Done H
-tested v m then else = given (bool_in v) TypeError m (λ b m. branch b m then else)
+tested v m held failed = given (bool_in v) TypeError m (λ b m. branch b m held failed)
 
 -- a function of the script: its name, the names of its parameters, its body
 pub record Function : Type 0 where
@@ -157,7 +157,7 @@ own_body (StmtItem s ∷ items) = with_stmt s (own_body items)
 -- the number of the function with this name
 abbrev pub number_of : List Function → List ℕ → Option ℕ
 number_of [] x = None
-number_of (f ∷ fs) x = cond (same_bytes f.name x) (Some 0) (elim (number_of fs x) [ None ↦ None | Some n ↦ Some (suc n) ])
+number_of (f ∷ fs) x = if same_bytes f.name x then Some 0 else elim (number_of fs x) [ None ↦ None | Some n ↦ Some (suc n) ]
 
 -- a function as a value, with no bound argument
 abbrev pub function_value : Option ℕ → Option Value

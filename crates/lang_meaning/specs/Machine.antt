@@ -1,5 +1,5 @@
 -- The state of the script machine, around whatever host it has, and how a step of it ends.
-use Rattle.std.specs.Prelude.{ℕ, zero, suc, Bool, true, false, cond, List, [], ◌∷◌, Option, Some, None}
+use Rattle.std.specs.Prelude.{ℕ, zero, suc, Bool, true, false, if◌then◌else◌, List, [], ◌∷◌, Option, Some, None}
 use Rattle.page_types.specs.declared.FaultName.{FaultName}
 use Rattle.page_types.specs.Values.{Value, UnitValue, FaultValue}
 use Rattle.page_types.specs.declared.Op.{Op}
@@ -73,8 +73,8 @@ given (Some x) fault m next = next x m
 
 -- one way or the other
 abbrev pub branch : {H : Type 0} → Bool → Machine H → (Machine H → Done H) → (Machine H → Done H) → Done H
-branch true m then else = then m
-branch false m then else = else m
+branch true m held failed = held m
+branch false m held failed = failed m
 
 -- a unit is taken of so much fuel, and then comes the rest; with no unit left the step ends so
 abbrev pub with_fuel : {H : Type 0} → ℕ → Machine H → (Machine H → Done H) → Done H
@@ -88,7 +88,7 @@ take_unit m next = with_fuel m.fuel m next
 -- the value of a variable in a list
 abbrev pub value_in : List Variable → List ℕ → Option Value
 value_in [] x = None
-value_in (a ∷ more) x = cond (same_bytes a.name x) (Some a.value) (value_in more x)
+value_in (a ∷ more) x = if same_bytes a.name x then Some a.value else value_in more x
 
 -- the first of two that is there
 abbrev pub or_else : {X : Type 0} → Option X → Option X → Option X
@@ -107,7 +107,7 @@ variable m x = or_else (value_in (locals m.open_calls) x) (value_in m.globals x)
 -- the variables with v for x
 abbrev pub with_value_in : List Variable → List ℕ → Value → List Variable
 with_value_in [] x v = []
-with_value_in (a ∷ more) x v = cond (same_bytes a.name x) (record a { value = v } ∷ more) (a ∷ with_value_in more x v)
+with_value_in (a ∷ more) x v = if same_bytes a.name x then record a { value = v } ∷ more else a ∷ with_value_in more x v
 
 -- the local variables of the innermost open call with v for x
 abbrev pub with_local : List (List Variable) → List ℕ → Value → List (List Variable)
@@ -117,9 +117,9 @@ with_local (innermost ∷ others) x v = with_value_in innermost x v ∷ others
 -- x is assigned v: a local variable where there is one of this name, else a global one
 abbrev pub assigned : {H : Type 0} → Machine H → List ℕ → Value → Machine H
 assigned m x v =
-    cond (is_there (value_in (locals m.open_calls) x))
-    (record m { open_calls = with_local m.open_calls x v })
-    (record m { globals = with_value_in m.globals x v })
+    if is_there (value_in (locals m.open_calls) x)
+    then record m { open_calls = with_local m.open_calls x v }
+    else record m { globals = with_value_in m.globals x v }
 
 -- how a function is called with values: its number and all its arguments
 abbrev pub Caller : Type 0 → Type 0

@@ -1,5 +1,5 @@
 -- The names of the operations.
-use Rattle.std.specs.Prelude.{ℕ, cond, List, [], ◌∷◌, Option, Some, None, codes}
+use Rattle.std.specs.Prelude.{ℕ, if◌then◌else◌, List, [], ◌∷◌, Option, Some, None, codes}
 use Rattle.page_types.specs.declared.Op.{Op}
 use Rattle.page_types.specs.declared.Op.TheVariants.{Log, TextOf, KindOf, Len, Push, Bind, MakeFault, FaultNameOf, FaultTextOf, NowOp, Busy, QueueMicrotask, MakePromise, ResolveOp, RejectOp, Resolved, Rejected, Then, SetTimeout, SetInterval, ClearTimeout, ClearInterval, RequestFrame, CancelFrame, RequestIdle, CancelIdle, DidTimeout, TimeRemaining, PostTask, YieldTask, MakeController, MakeTaskController, SignalOf, AbortOp, SetPriority, AbortedSignal, AnySignal, TaskAny, TimeoutSignal, Aborted, ReasonOf, PriorityOf, Listen, Unlisten, HostOp, PostMessage, AllOp, RaceOp, AnyOp, AllSettled, FinallyOp}
 use Rattle.page_parts.specs.Words.{same_bytes}
@@ -14,7 +14,7 @@ pub record OpName : Type 0 where
 -- the operation of a name in a list
 abbrev pub op_in : List OpName → List ℕ → Option Op
 op_in [] x = None
-op_in (a ∷ more) x = cond (same_bytes a.name x) (Some a.op) (op_in more x)
+op_in (a ∷ more) x = if same_bytes a.name x then Some a.op else op_in more x
 
 -- all names
 abbrev pub op_names : List OpName

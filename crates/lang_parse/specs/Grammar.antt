@@ -1,6 +1,6 @@
 -- The grammar. A tree determines its symbols, so each line of `spelling` is a branch of the grammar, read from the
 -- tree; what each part must be at least (a level without its optional parts is its one operand) stands apart.
-use Rattle.std.specs.Prelude.{◌≡◌, ◌≤◌, ◌+◌, ◌-◌, ◌||◌, ℕ, ⊤, Bool, cond, List, [], ◌∷◌, ◌++◌, length, Option, Some, None, codes}
+use Rattle.std.specs.Prelude.{◌≡◌, ◌≤◌, ◌+◌, ◌-◌, ◌||◌, ℕ, ⊤, Bool, if◌then◌else◌, List, [], ◌∷◌, ◌++◌, length, Option, Some, None, codes}
 use Rattle.page_types.specs.Tree.{Named, Expr, Or, And, Compare, Sum, Product, Unary, Post, Number, TextLiteral, TrueLiteral, FalseLiteral, UnitLiteral, Name, Call, Paren, ListLiteral, Exprs, no_exprs, with_expr, SumParts, no_terms, with_term, ProductParts, no_factors, with_factor, Stmt, VarStmt, AssignStmt, ExprStmt, IfStmt, WhileStmt, ReturnStmt, ThrowStmt, TryStmt, Block, no_stmts, with_stmt, ElseIfs, no_else_ifs, with_else_if, ElsePart, no_else, else_block, Item, FnItem, StmtItem}
 use Rattle.page_types.specs.declared.SumSign.{SumSign}
 use Rattle.page_types.specs.declared.SumSign.TheVariants.{Plus, Minus}
@@ -251,7 +251,7 @@ is_closing bs = same_bytes bs (codes ")") || same_bytes bs (codes "]") || same_b
 
 -- how many brackets are open behind a symbol
 abbrev pub brackets_after : ℕ → Symbol → ℕ
-brackets_after n (SignOf bs) = cond (is_opening bs) (n + 1) (cond (is_closing bs) (n - 1) n)
+brackets_after n (SignOf bs) = if is_opening bs then n + 1 else if is_closing bs then n - 1 else n
 brackets_after n (NameAt x at) = n
 brackets_after n (WordOf bs) = n
 brackets_after n (NumberOf m) = n

@@ -1,5 +1,5 @@
 -- Parts of the grammar as the parser reads them: x is read at the front of the symbols, and a rest follows it.
-use Rattle.std.specs.Prelude.{◌≡◌, ◌≤◌, ◌||◌, ◌⊎◌, ℕ, ⊤, Bool, cond, List, [], ◌∷◌, ◌++◌, Option, Some, None, codes}
+use Rattle.std.specs.Prelude.{◌≡◌, ◌≤◌, ◌||◌, ◌⊎◌, ℕ, ⊤, Bool, if◌then◌else◌, List, [], ◌∷◌, ◌++◌, Option, Some, None, codes}
 use Rattle.page_types.specs.Tree.{Named, Expr, Or, And, Compare, Sum, Product, Post, Stmt, Item}
 use Rattle.page_types.specs.declared.SumSign.{SumSign}
 use Rattle.page_types.specs.declared.ProductSign.{ProductSign}
@@ -30,13 +30,13 @@ binding (WordOf bs) = 0
 binding (NumberOf n) = 0
 binding (TextOf bs) = 0
 binding (SignOf bs) =
-    cond (same_bytes bs (codes "||")) 1
-    (cond (same_bytes bs (codes "&&")) 2
-    (cond (is_compare_sign bs) 3
-    (cond (is_sum_sign bs) 4
-    (cond (is_product_sign bs) 5
-    (cond (same_bytes bs (codes "[")) 7
-    (cond (same_bytes bs (codes "(")) 8 0))))))
+    if same_bytes bs (codes "||") then 1
+    else if same_bytes bs (codes "&&") then 2
+    else if is_compare_sign bs then 3
+    else if is_sum_sign bs then 4
+    else if is_product_sign bs then 5
+    else if same_bytes bs (codes "[") then 7
+    else if same_bytes bs (codes "(") then 8 else 0
 
 -- the rest does not go on with an expression of this level
 abbrev pub Stops : ℕ → List Symbol → Type 0

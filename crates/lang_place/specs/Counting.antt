@@ -1,5 +1,5 @@
 -- Three conditions, counted over the tokens of a script.
-use Rattle.std.specs.Prelude.{ℕ, ◌+◌, ◌-◌, ◌≤◌, ◌==◌, ⊤, cond, List, [], ◌∷◌, ◌++◌, length}
+use Rattle.std.specs.Prelude.{ℕ, ◌+◌, ◌-◌, ◌≤◌, ◌==◌, ⊤, if◌then◌else◌, List, [], ◌∷◌, ◌++◌, length}
 use Rattle.lang_tokens.specs.Seen.{TokenSeen}
 use Rattle.lang_place.specs.declared.terminal.Terminal.{Terminal}
 use Rattle.lang_place.specs.declared.terminal.Terminal.TheVariants.{Name, Value, Fn, Var, If, Else, While, Return, Throw, Try, Catch, OpenRound, CloseRound, OpenSquare, CloseSquare, OpenBrace, CloseBrace, Comma, Semicolon, Assign, Compare, Plus, Minus, Times, Not, And, Or, Other}
@@ -36,7 +36,7 @@ standing_behind n Catching t = Naming
 standing_behind n (Head names) Name = Head (names + 1)
 standing_behind n (Head names) OpenBrace = Inside
 standing_behind n (Head names) t = Head names
-standing_behind n Inside t = cond (n == 0) Outside Inside
+standing_behind n Inside t = if n == 0 then Outside else Inside
 
 -- the global name that a token with this content gives
 abbrev pub global_names : Standing → List ℕ → List (List ℕ)

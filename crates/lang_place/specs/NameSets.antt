@@ -1,5 +1,5 @@
 -- Names in a set: it has those of a list, each once.
-use Rattle.std.specs.Prelude.{◌≡◌, ◌++◌, ◌||◌, ℕ, Bool, false, cond, List, [], ◌∷◌, length, Vec, nat_eq}
+use Rattle.std.specs.Prelude.{◌≡◌, ◌++◌, ◌||◌, ℕ, Bool, false, if◌then◌else◌, List, [], ◌∷◌, length, Vec, nat_eq}
 use Rattle.std.specs.declared.alloc.Global.{Global}
 use Rattle.std.specs.Cmp.Lexicographic.{pointwise}
 use Rattle.std.specs.List.{list_any}
@@ -13,7 +13,7 @@ has_name (y ∷ ys) x = same_bytes y x || has_name ys x
 -- the names, each once
 abbrev pub distinct : List (List ℕ) → List (List ℕ)
 distinct [] = []
-distinct (x ∷ xs) = cond (has_name xs x) (distinct xs) (x ∷ distinct xs)
+distinct (x ∷ xs) = if has_name xs x then distinct xs else x ∷ distinct xs
 
 pub record HoldsNames (keys : List (Vec ℕ Global)) (xs : List (List ℕ)) : Type 0 where
   pub members : (q : Vec ℕ Global) → list_any (λ k. pointwise nat_eq q.items k.items) keys ≡ has_name xs q.items

@@ -1,5 +1,5 @@
 -- The rules of the two choosers: which source is served, and what is held then.
-use Rattle.std.specs.Prelude.{ℕ, cond, List, [], ◌∷◌, replicate, Option, Some, None}
+use Rattle.std.specs.Prelude.{ℕ, if◌then◌else◌, List, [], ◌∷◌, replicate, Option, Some, None}
 use Rattle.page_types.specs.declared.Source.{Source}
 use Rattle.page_parts.specs.Setup.{Policy, Fifo, Rank, Fair}
 use Rattle.page_parts.specs.WrittenChoices.{Runnable, is_runnable, policy_source, counts_now, counts_after}
@@ -26,4 +26,4 @@ policy_choice held rs =
 -- the next source of the list, where it has a runnable task
 abbrev pub kept_choice : List Source → List Runnable → Option (Source × List Source)
 kept_choice [] rs = None
-kept_choice (pick ∷ picks) rs = cond (is_runnable rs pick) (Some (pick, picks)) None
+kept_choice (pick ∷ picks) rs = if is_runnable rs pick then Some (pick, picks) else None

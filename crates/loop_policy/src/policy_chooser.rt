@@ -1,6 +1,6 @@
 //! The source that a policy gives.
 
-ghost use Rattle.std.specs.Prelude.{◌≡◌, ◌+◌, ◌^◌, ◌<◌, suc, cond, ℕ, List, ◌∷◌, Some, None, IsTrue};
+ghost use Rattle.std.specs.Prelude.{◌≡◌, ◌+◌, ◌^◌, ◌<◌, suc, if◌then◌else◌, ℕ, List, ◌∷◌, Some, None, IsTrue};
 ghost use Rattle.page_types.specs.declared.Source.{Source};
 ghost use Rattle.page_parts.specs.Sources.{same_source};
 ghost use Rattle.page_parts.specs.WrittenChoices.{Runnable, is_runnable, by_fifo, by_rank, by_fair, count_of, counts_now as zeroed, counts_after as counted, greatest};
@@ -171,7 +171,7 @@ fn counts_now(view: &View, counts: &[u32; 7]) -> [u32; 7]
 }
 
 fn count_now(view: &View, counts: &[u32; 7], source: Source) -> u32
-    ensures { result ≡ cond (is_runnable (runnables view.now) source) (count_of counts.now source) 0 }
+    ensures { result ≡ (if is_runnable (runnables view.now) source then count_of counts.now source else 0) }
 {
     if is_ready(view, source) {
         counts[place_of(source)]
@@ -198,8 +198,8 @@ fn counts_after(view: &View, chosen: Source, counts: &[u32; 7]) -> [u32; 7]
 
 fn count_after(view: &View, chosen: Source, counts: &[u32; 7], source: Source) -> u32
     requires { count_of counts.now source + 1 < 2 ^ 32 }
-    ensures { result ≡ cond (same_source source chosen) 0
-        (cond (is_runnable (runnables view.now) source) (suc (count_of counts.now source)) 0) }
+    ensures { result ≡ (if same_source source chosen then 0
+        else if is_runnable (runnables view.now) source then suc (count_of counts.now source) else 0) }
 {
     if place_of(source) == place_of(chosen) {
         return 0;

@@ -15,7 +15,7 @@ use Rattle.page_model.specs.Choosing.{Rules, Chosen, chosen_source, chosen_readi
 use Rattle.page_model.specs.View.{view}
 use Rattle.page_model.specs.Bounds.{from_step_one_or}
 use Rattle.page_model.specs.Turns.{Turned, GoesOn, Ended, Stuck, AtBound, NoReading, NoSource, next_turn, ends, choose_turned, at_time, waited, after_step_one, perform, perform_picked, counted_turn, step_four, with_turn_fuel, step_five, from_step_three}
-use Rattle.page_model.proofs.AddingTurns.{step_five-adds}
+use Rattle.page_model.proofs.Adding.Turns.{step_five-adds}
 use Rattle.trace_text.specs.declared.lines.NoLine.{NoLine}
 use Rattle.trace_text.specs.Given.{Keeping, Seen}
 use Rattle.trace_text.specs.Acts.{Does}

@@ -9,8 +9,8 @@ use Rattle.page_types.specs.Events.{Stamped}
 use Rattle.page_types.specs.declared.End.{End}
 use Rattle.lang_meaning.specs.Following.{CallsFollow}
 use Rattle.page_model.specs.Additions.{after}
-use Rattle.page_model.proofs.AddingOperations.{outside-adds}
-use Rattle.page_model.proofs.Leaving.{Part, parallel-leaves}
+use Rattle.page_model.proofs.Adding.Operations.{outside-adds}
+use Rattle.page_model.proofs.Bounding.Leaving.{Part, parallel-leaves}
 use Rattle.page_interp.specs.MachineNow.{MachineNow, program_in}
 use Rattle.page_host.specs.Moments.{calling}
 use Rattle.page_parts.specs.Words.{is_empty}

@@ -16,7 +16,7 @@ use Rattle.page_interp.specs.MachineNow.{MachineNow}
 use Rattle.page_model.specs.State.{Page, State}
 use Rattle.page_model.specs.View.{first_number, view}
 use Rattle.page_model.specs.Turns.{Turned, Ended, goes_on, perform}
-use Rattle.page_model.proofs.Ending.{runnable-there}
+use Rattle.page_model.proofs.Bounding.Ending.{runnable-there}
 use Rattle.trace_text.specs.declared.lines.NoLine.{NoLine}
 use Rattle.trace_text.specs.declared.lines.NoLine.TheVariants.{Failed, Differs, OutOfMemory}
 use Rattle.trace_text.specs.Given.{Keeping, Seen}

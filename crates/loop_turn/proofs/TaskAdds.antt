@@ -14,8 +14,8 @@ use Rattle.page_model.specs.PageSignals.{host_task_of}
 use Rattle.page_model.specs.Additions.{after, TurnAdds}
 use Rattle.page_model.specs.Choosing.{Rules, chosen_answer}
 use Rattle.page_model.specs.Turns.{without_task, not_dropped, perform_host, perform_task, perform_first, perform_first_sched, perform}
-use Rattle.page_model.proofs.AddingRuns.{in_task-adds}
-use Rattle.page_model.proofs.AddingTurns.{perform_steps-adds, perform_sched-adds, task_done-adds, host_answered-adds}
+use Rattle.page_model.proofs.Adding.Runs.{in_task-adds}
+use Rattle.page_model.proofs.Adding.Turns.{perform_steps-adds, perform_sched-adds, task_done-adds, host_answered-adds}
 
 module _ (es : List Stamped) {C : Type 0} (rules : Rules C) (call : Caller Page) (calls_add : CallsFollow (after es) call call) where
   perform_host-adds : (t : HostTask) (k : Option HostClosure) (c : C) → TurnAdds es (λ m. perform_host rules call t k m c)

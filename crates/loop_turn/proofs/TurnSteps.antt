@@ -6,7 +6,7 @@ use Rattle.lang_meaning.specs.Machine.{hosted, done_hosted, Done, Gives, Throws,
 use Rattle.page_model.specs.State.{Page, State}
 use Rattle.page_model.specs.Additions.{after, turned_after, TurnAdds}
 use Rattle.page_model.specs.Turns.{Refusal, NoSource, NoReading, NoAnswer, NoAct, AtBound, Turned, GoesOn, Ended, Stuck, next_turn, goes_on, state_of}
-use Rattle.page_model.proofs.AddingTurns.{next_turn-adds}
+use Rattle.page_model.proofs.Adding.Turns.{next_turn-adds}
 use Rattle.trace_text.specs.declared.lines.NoLine.{NoLine}
 use Rattle.trace_text.specs.Line.{Line}
 use Rattle.trace_text.specs.Given.{Keeping, Seen, Gives as TakesLines}

@@ -14,8 +14,8 @@ use Rattle.page_model.specs.Parallel.{parallel}
 use Rattle.page_model.specs.PageTime.{idle_step}
 use Rattle.page_model.specs.Bounds.{from_step_one_or, turn_or, row_of}
 use Rattle.page_model.specs.Turns.{Turned, GoesOn, Ended, Stuck, AtBound, next_turn, ends, choose_turned, step_three, step_five, from_step_three, is_pending, target, at_time, waited, step_two_by, step_two, step_one, after_step_one}
-use Rattle.page_model.proofs.Pending.{target-pending}
-use Rattle.page_model.proofs.AddingTurns.{choose_turned-adds, next_turn-adds, step_three-adds, step_five-adds, step_one-adds, waited-adds}
+use Rattle.page_model.proofs.Bounding.Pending.{target-pending}
+use Rattle.page_model.proofs.Adding.Turns.{choose_turned-adds, next_turn-adds, step_three-adds, step_five-adds, step_one-adds, waited-adds}
 use Rattle.page_host.specs.Turning.{run_ended}
 use Rattle.loop_turn.specs.Waiting.{items_taken, idled, Next, Serve, EndRun, WaitFor, next_at, next_in}
 

@@ -12,7 +12,7 @@ use Rattle.page_model.specs.Operations.{page_operations}
 use Rattle.page_model.specs.Choosing.{Rules}
 use Rattle.page_model.specs.Bounds.{turn_or, row_of}
 use Rattle.page_model.specs.Turns.{Turned, Stuck, AtBound, first_page, first_state, run_by}
-use Rattle.page_model.proofs.CountedTurns.{row-agree}
+use Rattle.page_model.proofs.Bounding.CountedTurns.{row-agree}
 use Rattle.trace_text.specs.declared.lines.NoLine.{NoLine}
 use Rattle.trace_text.specs.declared.lines.NoLine.TheVariants.{Failed, Differs, OutOfMemory}
 use Rattle.trace_text.specs.Line.{Head}

@@ -1,5 +1,5 @@
 -- The rules of the two clocks: which reading follows a wait, and what is held then.
-use Rattle.std.specs.Prelude.{ℕ, ◌+◌, ◌≤◌, ◌^◌, ◌&&◌, cond, List, [], ◌∷◌, Option, Some, None, All, nat_le, nat_lt, Result, Ok, Err}
+use Rattle.std.specs.Prelude.{ℕ, ◌+◌, ◌≤◌, ◌^◌, ◌&&◌, if◌then◌else◌, List, [], ◌∷◌, Option, Some, None, All, nat_le, nat_lt, Result, Ok, Err}
 use Rattle.page_base.specs.declared.moment.Micros.{Micros}
 
 -- ---- Ours: how late a wait ends
@@ -16,7 +16,7 @@ late_reading (lateness ∷ late) target = Some (target + lateness, late)
 -- the next reading of the list, where it is at least the target and below 2 ^ 63
 abbrev pub kept_reading : List ℕ → ℕ → Option (ℕ × List ℕ)
 kept_reading [] target = None
-kept_reading (reading ∷ readings) target = cond (nat_le target reading && nat_lt reading (2 ^ 63)) (Some (reading, readings)) None
+kept_reading (reading ∷ readings) target = if nat_le target reading && nat_lt reading (2 ^ 63) then Some (reading, readings) else None
 
 -- the number of a moment that was answered
 abbrev pub reading_of : {E : Type 0} → Result Micros E → Result ℕ E

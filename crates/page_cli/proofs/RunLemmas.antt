@@ -13,7 +13,7 @@ use Rattle.page_model.specs.Turns.{Turned, GoesOn, Ended, Stuck, NoSource, NoRea
 use Rattle.page_model.specs.Choosing.{choice_rules}
 use Rattle.page_model.specs.PageTrace.{page_trace}
 use Rattle.page_model.specs.Likeness.{EndAlike}
-use Rattle.page_model.proofs.RunsAlike.{alike-events}
+use Rattle.page_model.proofs.ChosenAlone.RunsAlike.{alike-events}
 use Rattle.page_hosts.specs.Hosts.{unasked}
 use Rattle.trace_text.specs.Given.{Seen}
 use Rattle.trace_text.specs.Sinks.{sink_keeping}

@@ -17,8 +17,8 @@ use Rattle.lang_names.specs.Told.{seen_fault}
 use Rattle.page_model.specs.Choosing.{choice_rules}
 use Rattle.page_model.specs.Turns.{Turned, GoesOn, Ended, Stuck, run, run_by, events_of_run, state_of}
 use Rattle.page_model.specs.ChoicesAreData.{Continues}
-use Rattle.page_model.proofs.FurtherChoices.{run-further}
-use Rattle.page_model.proofs.RunsAlike.{alike-events}
+use Rattle.page_model.proofs.ChosenAlone.FurtherChoices.{run-further}
+use Rattle.page_model.proofs.ChosenAlone.RunsAlike.{alike-events}
 use Rattle.trace_text.specs.Summaries.{Counts, counts_of, count_keeping, seen_counts, last_end, end_after, summarised}
 use Rattle.trace_text.specs.declared.summary.Summary.{Summary}
 use Rattle.trace_text.proofs.Counting.{lines-counted}

@@ -12,7 +12,7 @@ use Rattle.loop_policy.specs.Rules.{first_state, policy_choice}
 use Rattle.page_model.specs.Choosing.{Rules, legal, is_reading, chosen_source, chosen_reading, chosen_answer, as_answer, choice_rules}
 use Rattle.page_model.specs.Likeness.{SameChoice, ChooseAlike, EndAlike}
 use Rattle.page_model.specs.Turns.{run_by, run}
-use Rattle.page_model.proofs.RunsAlike.{runs-alike}
+use Rattle.page_model.proofs.ChosenAlone.RunsAlike.{runs-alike}
 use Rattle.loop_turn.specs.RunRules.{Held, by_port, run_rules}
 
 abbrev pub WrittenHeld : Type 0

@@ -1,5 +1,5 @@
 -- Dispatch, abort and priority change by single steps, on what they read and change of a page.
-use Rattle.std.specs.Prelude.{◌≡◌, ℕ, ◌+◌, ◌-◌, cond, ◌||◌, ◌==◌, List, [], ◌∷◌, length, Option, Some, None, codes}
+use Rattle.std.specs.Prelude.{◌≡◌, ℕ, ◌+◌, ◌-◌, if◌then◌else◌, ◌||◌, ◌==◌, List, [], ◌∷◌, length, Option, Some, None, codes}
 use Rattle.page_types.specs.declared.Priority.{Priority}
 use Rattle.page_parts.specs.AbortGraph.{Signals, the_signal, marked, with_reason, with_algorithms}
 use Rattle.page_parts.specs.TaskSignals.{Prios, priority_of, is_changing, followers, begun, ended}
@@ -90,7 +90,7 @@ change_ended s ps = record ps { prios = ended s ps.prios }
 -- change of it is in progress, where this is its priority already, and where it has none.
 abbrev pub before_change : ℕ → Prios → ℕ → Priority → Option Priority
 before_change chain prios s priority =
-    cond (chain == 0 || is_changing prios s || has_priority prios s priority) None (priority_of prios s)
+    if chain == 0 || is_changing prios s || has_priority prios s priority then None else priority_of prios s
 
 -- Prioritized Task Scheduling, "The TaskSignal Interface": a change of one signal, before other pieces: it is passed over, or its
 -- priority is set, and then come `prioritychange`, the changes of its followers and the change's end

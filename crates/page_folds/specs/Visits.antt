@@ -1,6 +1,6 @@
 -- How many algorithms, listeners and changes a fold has still to visit: the listeners of a dispatch that has begun are those left of its
 -- snapshot, and those of one that has not begun are counted as they are now.
-use Rattle.std.specs.Prelude.{ℕ, zero, suc, ◌+◌, ◌<◌, cond, List, [], ◌∷◌, length, sum_by, ⊤, codes}
+use Rattle.std.specs.Prelude.{ℕ, zero, suc, ◌+◌, ◌<◌, if◌then◌else◌, List, [], ◌∷◌, length, sum_by, ⊤, codes}
 use Rattle.page_types.specs.declared.Priority.{Priority}
 use Rattle.page_parts.specs.AbortGraph.{the_signal}
 use Rattle.page_parts.specs.TaskSignals.{followers}
@@ -34,9 +34,9 @@ abort_visits ps (s ∷ ss) =
 abbrev pub change_visits : {R : Type 0} → Priority → Parts R → ℕ → ℕ → ℕ
 change_visits priority ps zero s = 0
 change_visits priority ps (suc n) s =
-    cond (has_priority ps.prios s priority)
-    0
-    (1 + heard ps.listeners (codes "prioritychange") s + sum_by (change_visits priority ps n) (followers ps.prios s))
+    if has_priority ps.prios s priority
+    then 0
+    else 1 + heard ps.listeners (codes "prioritychange") s + sum_by (change_visits priority ps n) (followers ps.prios s)
 
 -- the pieces of a change
 abbrev pub piece_visits : {R : Type 0} → Priority → Parts R → List ChangePiece → ℕ

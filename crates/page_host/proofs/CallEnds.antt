@@ -20,7 +20,7 @@ use Rattle.page_model.specs.State.{Page, State}
 use Rattle.page_model.specs.Folds.{Fold}
 use Rattle.page_model.specs.FoldBounds.{IsBounded}
 use Rattle.page_model.specs.PageHost.{Hosting, with_folds, page_rules}
-use Rattle.page_model.proofs.Hosting.{calls-follow-by-steps}
+use Rattle.page_model.proofs.Stepping.Hosting.{calls-follow-by-steps}
 use Rattle.page_signals.specs.Signalling.{Open}
 use Rattle.page_signals.specs.Laws.{as_fold}
 use Rattle.trace_text.specs.declared.lines.NoLine.{NoLine}

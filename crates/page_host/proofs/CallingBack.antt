@@ -9,9 +9,9 @@ use Rattle.page_interp.specs.declared.machine.Ran.{Ran}
 use Rattle.page_model.specs.State.{Page, State, on_page as on_state, the_registration}
 use Rattle.page_model.specs.Invoke.{WhenReported, when_reported, call_begun, call_ended, call_back, callback_of, end_of_callback, invoke, in_checkpoint, in_task, checkpoint, report_after}
 use Rattle.page_model.specs.Additions.{AddsAll}
-use Rattle.page_model.proofs.Adding.{report_after-adds}
-use Rattle.page_model.proofs.AddingRuns.{call_back-adds, checkpoint-adds, end_of_callback-adds}
-use Rattle.page_model.proofs.AddingOperations.{outside-adds}
+use Rattle.page_model.proofs.Adding.Lines.{report_after-adds}
+use Rattle.page_model.proofs.Adding.Runs.{call_back-adds, checkpoint-adds, end_of_callback-adds}
+use Rattle.page_model.proofs.Adding.Operations.{outside-adds}
 use Rattle.trace_text.specs.declared.lines.NoLine.{NoLine}
 use Rattle.trace_text.specs.Given.{Keeping, Seen}
 use Rattle.page_state.specs.Standing.{page_of}

@@ -7,7 +7,7 @@ use Rattle.page_model.specs.State.{Page, the_registration}
 use Rattle.page_model.specs.PagePromises as promises
 use Rattle.page_model.specs.PageSignals.{run_algorithms, reason_set, unwatch}
 use Rattle.page_model.specs.FoldBounds.{Counted, counted, FoldsAreBounded, HostIsBounded}
-use Rattle.page_model.proofs.Counting.{Near, near-equal, near-then, near-signals, bounded-near, alike-with, with_numbered-length, settle-leaves, run_algorithms-near, reason_set-near}
+use Rattle.page_model.proofs.Bounding.Counting.{Near, near-equal, near-then, near-signals, bounded-near, alike-with, with_numbered-length, settle-leaves, run_algorithms-near, reason_set-near}
 use Rattle.page_model.specs.Folds.{Fold}
 use Rattle.page_rules.proofs.KeepingPages.{lasting, run_algorithms-keeps, reason_set-keeps}
 use Rattle.page_rules.proofs.KeepingTurns.{settle-steady}

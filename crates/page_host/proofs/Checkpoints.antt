@@ -16,10 +16,10 @@ use Rattle.page_model.specs.PagePromises as promises
 use Rattle.page_model.specs.PagePromises.{promise_at}
 use Rattle.page_model.specs.Invoke.{invoke, in_checkpoint, callback_of, settle_by, resolve_derived, handler_arguments, react_then, run_job, run_oldest, run_jobs, begin_job, under, checkpoint_begun, checkpoint_ended, perform_checkpoint, checkpoint}
 use Rattle.page_model.specs.Additions.{Adds, AddsAll}
-use Rattle.page_model.proofs.Adding.{finish-adds, reject-adds, resolve-adds, checkpoint_ended-adds}
-use Rattle.page_model.proofs.AddingCombinators.{pass_on-adds}
-use Rattle.page_model.proofs.AddingRuns.{invoke-adds, run_jobs-adds, run_job-adds}
-use Rattle.page_model.proofs.AddingOperations.{outside-adds}
+use Rattle.page_model.proofs.Adding.Lines.{finish-adds, reject-adds, resolve-adds, checkpoint_ended-adds}
+use Rattle.page_model.proofs.Adding.Combinators.{pass_on-adds}
+use Rattle.page_model.proofs.Adding.Runs.{invoke-adds, run_jobs-adds, run_job-adds}
+use Rattle.page_model.proofs.Adding.Operations.{outside-adds}
 use Rattle.trace_text.specs.declared.lines.NoLine.{NoLine}
 use Rattle.trace_text.specs.Given.{Keeping, Seen}
 use Rattle.page_script.specs.Jobs.{begun_of, oldest_begun}

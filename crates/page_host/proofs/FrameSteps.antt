@@ -17,7 +17,7 @@ use Rattle.page_model.specs.PageSignals.{each_in_turn}
 use Rattle.page_model.specs.Invoke.{Ways, in_task, invoke}
 use Rattle.page_model.specs.Tasks.{frame_callback, run_frame}
 use Rattle.page_model.specs.Additions.{after, AddsAll}
-use Rattle.page_model.proofs.AddingRuns.{WaysAdd, invoke-adds, each_in_turn-adds}
+use Rattle.page_model.proofs.Adding.Runs.{WaysAdd, invoke-adds, each_in_turn-adds}
 use Rattle.lang_meaning.specs.Machine.{Caller}
 use Rattle.trace_text.specs.declared.lines.NoLine.{NoLine}
 use Rattle.trace_text.specs.Given.{Keeping, Seen}

@@ -21,7 +21,7 @@ use Rattle.page_model.specs.Tasks.{fire_closure, settle_answer, answer_host}
 use Rattle.page_model.specs.Turns.{not_dropped}
 use Rattle.page_model.specs.FoldBounds.{HostIsBounded}
 use Rattle.page_model.specs.Additions.{Adds}
-use Rattle.page_model.proofs.Adding.{finish-adds, settle-adds, unwatch-adds}
+use Rattle.page_model.proofs.Adding.Lines.{finish-adds, settle-adds, unwatch-adds}
 use Rattle.trace_text.specs.declared.lines.NoLine.{NoLine}
 use Rattle.trace_text.specs.declared.lines.NoLine.TheVariants.{Failed, Differs, OutOfMemory}
 use Rattle.trace_text.specs.Given.{Keeping, Seen}

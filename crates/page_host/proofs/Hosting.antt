@@ -6,7 +6,7 @@ use Rattle.page_types.specs.Tree.{Program}
 use Rattle.page_parts.specs.Setup.{Setup}
 use Rattle.page_parts.specs.HostClosures.{HostClosure}
 use Rattle.page_model.specs.Turns.{first_page}
-use Rattle.page_model.proofs.FirstBounds.{first-bounded}
+use Rattle.page_model.proofs.Bounding.FirstBounds.{first-bounded}
 use Rattle.page_signals.specs.Laws.{as_fold}
 use Rattle.lang_meaning.specs.HostSteps.{HostStep, StepValue, StepThrow, StepInvoke, Stepped, Ask, AskOp, AskResume, CallbackEnd, on_ask}
 use Rattle.lang_ast.specs.declared.host.HostStep as code
@@ -14,8 +14,8 @@ use Rattle.lang_ast.specs.Steps.{seen_step, tickets_after, Falls, AreFew, room_t
 use Rattle.page_model.specs.Folds.{Fold}
 use Rattle.page_model.specs.PageHost.{Hosting, open_tickets, tickets_then}
 use Rattle.page_model.specs.FoldBounds.{IsBounded, FoldsAreBounded, HostIsBounded, FewerLeft, to_visit}
-use Rattle.page_model.proofs.HostBounds.{known-within, resume-within}
-use Rattle.page_model.proofs.Tickets.{known-accounts, resume-accounts}
+use Rattle.page_model.proofs.Bounding.HostBounds.{known-within, resume-within}
+use Rattle.page_model.proofs.Stepping.Tickets.{known-accounts, resume-accounts}
 use Rattle.trace_text.specs.declared.lines.NoLine.{NoLine}
 use Rattle.trace_text.specs.Given.{Keeping, Seen, after_all}
 use Rattle.page_rules.specs.Lined.{bare_hosting, lines_in, handed_on, lined_rules}

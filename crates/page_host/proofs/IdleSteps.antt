@@ -19,8 +19,8 @@ use Rattle.page_model.specs.SchedulerTasks.{with_state}
 use Rattle.page_model.specs.Invoke.{Ways, in_task, invoke}
 use Rattle.page_model.specs.Tasks.{background, invoke_idle_again, idle_called, invoke_idle}
 use Rattle.page_model.specs.Additions.{after, AddsAll}
-use Rattle.page_model.proofs.Adding.{cond-adds, finish-adds}
-use Rattle.page_model.proofs.AddingRuns.{WaysAdd, invoke-adds}
+use Rattle.page_model.proofs.Adding.Lines.{cond-adds, finish-adds}
+use Rattle.page_model.proofs.Adding.Runs.{WaysAdd, invoke-adds}
 use Rattle.lang_meaning.specs.Machine.{Caller}
 use Rattle.trace_text.specs.declared.lines.NoLine.{NoLine}
 use Rattle.trace_text.specs.Given.{Keeping, Seen}

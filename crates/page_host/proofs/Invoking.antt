@@ -7,7 +7,7 @@ use Rattle.page_model.specs.State.{Page, State, on_page, the_registration}
 use Rattle.page_model.specs.Invoke.{Ways, WhenReported, when_reported, callback_of, call_back, end_of_callback, invoke, settle_derived, call_begun}
 use Rattle.lang_meaning.proofs.Following.{and_then-follows, afterwards-follows}
 use Rattle.page_model.specs.Additions.{after, AddsAll}
-use Rattle.page_model.proofs.AddingRuns.{WaysAdd, call_back-adds, end_of_callback-adds, settle_derived-adds}
+use Rattle.page_model.proofs.Adding.Runs.{WaysAdd, call_back-adds, end_of_callback-adds, settle_derived-adds}
 use Rattle.trace_text.specs.declared.lines.NoLine.{NoLine}
 use Rattle.trace_text.specs.Given.{Keeping}
 use Rattle.trace_text.specs.Acts.{At, Does}

@@ -18,8 +18,8 @@ use Rattle.page_model.specs.PageSignals.{each_in_turn, call_listener, dispatch, 
 use Rattle.page_model.specs.Invoke.{Ways, in_task, invoke}
 use Rattle.page_model.specs.Tasks.{outstanding_if_unhandled, notify_one, promise_reason}
 use Rattle.page_model.specs.Additions.{after, AddsAll}
-use Rattle.page_model.proofs.Adding.{then-adds, run_algorithms-adds}
-use Rattle.page_model.proofs.AddingRuns.{WaysAdd, invoke-adds, each_in_turn-adds, dispatch-adds}
+use Rattle.page_model.proofs.Adding.Lines.{then-adds, run_algorithms-adds}
+use Rattle.page_model.proofs.Adding.Runs.{WaysAdd, invoke-adds, each_in_turn-adds, dispatch-adds}
 use Rattle.page_state.specs.AbortActs.{reason_marked}
 use Rattle.lang_meaning.specs.Machine.{Caller}
 use Rattle.trace_text.specs.declared.lines.NoLine.{NoLine}

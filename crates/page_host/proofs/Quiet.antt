@@ -11,9 +11,9 @@ use Rattle.page_model.specs.PagePromises as promises
 use Rattle.page_model.specs.PageCombinators.{lead_into}
 use Rattle.page_model.specs.Invoke.{WhenReported, BeforeCheckpoint, AfterCheckpoint, Never, call_begun, call_ended, report_after, checkpoint_begun, checkpoint_ended}
 use Rattle.page_model.specs.FoldBounds.{counted}
-use Rattle.page_model.proofs.Combining.{lead_into-related, resolve_derived-related}
-use Rattle.page_model.proofs.Counting.{settle-leaves}
-use Rattle.page_model.proofs.Bounded.{subscribe-leaves, relates-leaves}
+use Rattle.page_model.proofs.Adding.Combining.{lead_into-related, resolve_derived-related}
+use Rattle.page_model.proofs.Bounding.Counting.{settle-leaves}
+use Rattle.page_model.proofs.Bounding.Bounded.{subscribe-leaves, relates-leaves}
 use Rattle.page_rules.proofs.KeepingTurns.{settle-steady, subscribe-steady, lead_into-steady, resolve_derived-steady}
 use Rattle.page_rules.specs.Steady.{SteadyInScript}
 use Rattle.page_script.specs.Jobs.{begun_of, oldest_begun}

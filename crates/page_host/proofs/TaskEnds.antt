@@ -13,8 +13,8 @@ use Rattle.page_model.specs.PageSignals.{unwatch}
 use Rattle.page_model.specs.Invoke.{Ways, in_task, invoke, call_begun, call_ended, settle_derived, checkpoint}
 use Rattle.page_model.specs.Tasks.{continued, post_state, run_post, perform_sched, after_task}
 use Rattle.page_model.specs.Additions.{after, AddsAll}
-use Rattle.page_model.proofs.Adding.{finish-adds, settle-adds, unwatch-adds}
-use Rattle.page_model.proofs.AddingRuns.{invoke-adds, settle_derived-adds, checkpoint-adds}
+use Rattle.page_model.proofs.Adding.Lines.{finish-adds, settle-adds, unwatch-adds}
+use Rattle.page_model.proofs.Adding.Runs.{invoke-adds, settle_derived-adds, checkpoint-adds}
 use Rattle.lang_meaning.specs.Machine.{Caller}
 use Rattle.trace_text.specs.declared.lines.NoLine.{NoLine}
 use Rattle.trace_text.specs.Given.{Keeping, Seen}

@@ -17,9 +17,9 @@ use Rattle.page_model.specs.Invoke.{in_task, checkpoint}
 use Rattle.page_model.specs.Tasks.{perform_steps, perform_sched, answer_host, after_task}
 use Rattle.page_model.specs.Turns.{without_task}
 use Rattle.page_model.specs.Additions.{after, AddsAll}
-use Rattle.page_model.proofs.Adding.{finish-adds}
-use Rattle.page_model.proofs.AddingRuns.{checkpoint-adds}
-use Rattle.page_model.proofs.AddingTurns.{perform_steps-adds, perform_sched-adds, answer_host-adds}
+use Rattle.page_model.proofs.Adding.Lines.{finish-adds}
+use Rattle.page_model.proofs.Adding.Runs.{checkpoint-adds}
+use Rattle.page_model.proofs.Adding.Turns.{perform_steps-adds, perform_sched-adds, answer_host-adds}
 use Rattle.lang_meaning.proofs.Following.{afterwards-follows}
 use Rattle.trace_text.specs.declared.lines.NoLine.{NoLine}
 use Rattle.trace_text.specs.declared.lines.NoLine.TheVariants.{Failed, Differs, OutOfMemory}

@@ -10,8 +10,8 @@ use Rattle.page_model.specs.State.{Page, State, on_page}
 use Rattle.page_model.specs.Invoke.{in_task, invoke}
 use Rattle.page_model.specs.PageSignals.{each_in_turn}
 use Rattle.page_model.specs.Additions.{after, AddsAll}
-use Rattle.page_model.proofs.AddingOperations.{outside-adds}
-use Rattle.page_model.proofs.AddingRuns.{WaysAdd, in_task-adds, each_in_turn-adds}
+use Rattle.page_model.proofs.Adding.Operations.{outside-adds}
+use Rattle.page_model.proofs.Adding.Runs.{WaysAdd, in_task-adds, each_in_turn-adds}
 use Rattle.trace_text.specs.declared.lines.NoLine.{NoLine}
 use Rattle.trace_text.specs.Given.{Keeping, Seen}
 use Rattle.page_state.specs.Standing.{Standing, page_of}

@@ -11,7 +11,7 @@ use Rattle.page_model.specs.PageTime.{init_timer, clear_id}
 use Rattle.page_model.specs.Invoke.{Ways, in_task, invoke}
 use Rattle.page_model.specs.Tasks.{initialised_again, timer_goes_on, where_live, run_timer}
 use Rattle.page_model.specs.Additions.{after, AddsAll}
-use Rattle.page_model.proofs.AddingRuns.{WaysAdd, invoke-adds}
+use Rattle.page_model.proofs.Adding.Runs.{WaysAdd, invoke-adds}
 use Rattle.lang_meaning.specs.Machine.{Caller}
 use Rattle.trace_text.specs.declared.lines.NoLine.{NoLine}
 use Rattle.trace_text.specs.Given.{Keeping, Seen}

@@ -1,5 +1,5 @@
 -- What a call does of the model's page, and of a step of the script machine around it.
-use Rattle.std.specs.Prelude.{◌≡◌, ◌≤◌, ℕ, Bool, cond, List, [], ◌∷◌, ⊤, Option, None, Result, Ok, Err}
+use Rattle.std.specs.Prelude.{◌≡◌, ◌≤◌, ℕ, Bool, if◌then◌else◌, List, [], ◌∷◌, ⊤, Option, None, Result, Ok, Err}
 use Rattle.page_types.specs.Values.{Value, UnitValue}
 use Rattle.page_types.specs.Events.{Ret}
 use Rattle.page_parts.specs.Promises.{Settled, Reaction, has_failed, settled_value}
@@ -94,7 +94,7 @@ threw_in_task when v call m = and_then (checkpoint_after (threw when v) call m) 
 
 -- what a handler gets: the value or the reason; that of `finally` gets none
 abbrev pub arguments_of : (finally : Bool) → Settled → List Value
-arguments_of finally how = cond finally [] (settled_value how ∷ [])
+arguments_of finally how = if finally then [] else settled_value how ∷ []
 
 -- ECMA-262, "NewPromiseReactionJob": the handler of a reaction is called in the scheduling state of the reaction, and settles the derived
 -- promise

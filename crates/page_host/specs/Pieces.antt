@@ -1,5 +1,5 @@
 -- What a page does with its lines alone.
-use Rattle.std.specs.Prelude.{◌≡◌, ℕ, Bool, cond, Option, Some, None}
+use Rattle.std.specs.Prelude.{◌≡◌, ℕ, Bool, if◌then◌else◌, Option, Some, None}
 use Rattle.page_types.specs.Values.{Value}
 use Rattle.page_types.specs.Counts.{raised}
 use Rattle.page_parts.specs.Promises.{Settled}
@@ -17,7 +17,7 @@ threw when v p = report_before when v (thrown v p)
 
 -- ECMA-262, "NewPromiseReactionJob": the value of a handler, or of a handler of `finally`, settles the derived promise
 abbrev pub derived : (finally : Bool) → (into : ℕ) → Settled → Value → Page → Page
-derived finally into how = cond finally (pass_on into how) (resolve into)
+derived finally into how = if finally then pass_on into how else resolve into
 
 -- why a page stopped, after a call that stops for this reason, and how often
 abbrev pub stop_kept : Option NoLine → Option NoLine → Option NoLine

@@ -1,5 +1,5 @@
 -- What the operators answer.
-use Rattle.std.specs.Prelude.{◌≡◌, ◌++◌, ℕ, List, cond, ℤ, ◌+ℤ◌, ◌-ℤ◌, ◌*ℤ◌, int_div, int_rem, Option, Some, None, Result, Ok, ⊤}
+use Rattle.std.specs.Prelude.{◌≡◌, ◌++◌, ℕ, List, if◌then◌else◌, ℤ, ◌+ℤ◌, ◌-ℤ◌, ◌*ℤ◌, int_div, int_rem, Option, Some, None, Result, Ok, ⊤}
 use Rattle.page_types.specs.Values as Model
 use Rattle.page_types.specs.Values.{TextValue}
 use Rattle.page_types.specs.declared.FaultName.TheVariants.{TypeError, RangeError}
@@ -27,9 +27,9 @@ int_sum Minus x y = x -ℤ y
 
 -- a product, a quotient or a remainder, where it is an integer of 64 bits
 abbrev pub int_product : ProductSign → ℤ → ℤ → Option ℤ
-int_product Times x y = cond (fits (x *ℤ y)) (Some (x *ℤ y)) None
-int_product Divide x y = cond (divides x y) (Some (int_div x y)) None
-int_product Remainder x y = cond (divides x y) (Some (int_rem x y)) None
+int_product Times x y = if fits (x *ℤ y) then Some (x *ℤ y) else None
+int_product Divide x y = if divides x y then Some (int_div x y) else None
+int_product Remainder x y = if divides x y then Some (int_rem x y) else None
 
 -- a value that was made is left, or RangeError where it is too heavy
 abbrev pub MadeGives : {S : Type 0} → Result Value ValueFault → Left S → Type 0

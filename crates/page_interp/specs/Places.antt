@@ -1,5 +1,5 @@
 -- Where a name stands in a list of names, and an index that tells it.
-use Rattle.std.specs.Prelude.{◌≡◌, ℕ, suc, cond, List, [], ◌∷◌, Option, Some, None, Vec}
+use Rattle.std.specs.Prelude.{◌≡◌, ℕ, suc, if◌then◌else◌, List, [], ◌∷◌, Option, Some, None, Vec}
 use Rattle.std.specs.declared.alloc.Global.{Global}
 use Rattle.std.specs.Option.{option_map}
 use Rattle.std.specs.Ordering.{nat_cmp}
@@ -12,7 +12,7 @@ use Rattle.page_parts.specs.Words.{same_bytes}
 -- the first place at which a name stands, counted from 0
 abbrev pub place_of : List (List ℕ) → List ℕ → Option ℕ
 place_of [] x = None
-place_of (name ∷ names) x = cond (same_bytes name x) (Some 0) (option_map suc (place_of names x))
+place_of (name ∷ names) x = if same_bytes name x then Some 0 else option_map suc (place_of names x)
 
 -- what an index has at some bytes
 abbrev pub at_bytes : BTreeMap (Vec ℕ Global) ℕ → List ℕ → Option ℕ

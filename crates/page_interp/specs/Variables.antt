@@ -1,5 +1,5 @@
 -- What variables hold, and what an assignment changes.
-use Rattle.std.specs.Prelude.{◌≡◌, ◌++◌, ℕ, Bool, cond, List, map, Option, Ok, Vec, length}
+use Rattle.std.specs.Prelude.{◌≡◌, ◌++◌, ℕ, Bool, if◌then◌else◌, List, map, Option, Ok, Vec, length}
 use Rattle.std.specs.declared.alloc.Global.{Global}
 use Rattle.std.specs.Option.{option_map}
 use Rattle.page_types.specs.Values as Model
@@ -36,7 +36,7 @@ IsWritten names old name value new =
 abbrev pub SetsLocal : (names : List (List ℕ)) (old : Vec Value Global) (name : List ℕ) (value : Value) (new : Vec Value Global) → Type 0
 SetsLocal names old name value new =
     variables_of names new.items ≡
-    cond (has_variable names old name) (with_value_in (variables_of names old.items) name (seen value)) (variables_of names old.items)
+    (if has_variable names old name then with_value_in (variables_of names old.items) name (seen value) else variables_of names old.items)
 
 -- a global variable takes the value, where no local one has this name
 abbrev pub SetsGlobal :
@@ -44,7 +44,7 @@ abbrev pub SetsGlobal :
     → Type 0
 SetsGlobal script names locals old name value new =
     globals_of script new ≡
-    cond (has_variable names locals name) (globals_of script old) (with_value_in (globals_of script old) name (seen value))
+    (if has_variable names locals name then globals_of script old else with_value_in (globals_of script old) name (seen value))
 
 -- what a name stands for: a local variable, a global one or a function
 abbrev pub named_in : (script : Program) (store : Store) (names : List (List ℕ)) (locals : Vec Value Global) (name : List ℕ)

@@ -12,8 +12,8 @@ use Rattle.page_types.specs.declared.RegKind.TheVariants as kind
 use Rattle.page_model.specs.Invoke.{register_as}
 use Rattle.page_model.specs.Numbers.{Each, IsGiven}
 use Rattle.page_model.specs.State.{Page, emit, emit_each, on_notices, context}
-use Rattle.page_model.proofs.NumbersParts.{length-with}
-use Rattle.page_model.proofs.NumbersSignals.{with_reason-by_number}
+use Rattle.page_model.proofs.GivenNumbers.Parts.{length-with}
+use Rattle.page_model.proofs.GivenNumbers.Signals.{with_reason-by_number}
 use Rattle.page_laws.specs.Moves.{StaysAborted, PageChange, elsewhere, told, arm_told, rested, answered, dropped, task_dropped, frame_dropped, registered, enqueued_anew, fell_due, post_fell_due, frame_asked, promised, settled, followed, adopted, subscribed, then_asked, micro_asked, rejected_taken, noted, Changes, nothing, with_change, with_arm, Beginning, TheScript, ATimer, AFrame, AnIdle, ALateIdle, AListener, APost, AContinuation, AMicro, AReaction, taken, Moves, here, changing, arming, calling, ending, flagging, running, framing, idling, prio_told}
 
 emit_each-aborted : (es : List Event) (p : Page) → StaysAborted p (emit_each es p)

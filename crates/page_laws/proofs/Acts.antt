@@ -9,8 +9,8 @@ use Rattle.page_laws.proofs.Operations.{outside-goes}
 use Rattle.page_laws.proofs.Runs.{CallsGo}
 use Rattle.page_laws.proofs.Turns.{Lands, Rests, Stops, first-rests, at_time-comes, choose-lands, clock-lands, ends-lands, idle_step-comes, lands-then, next_turn-stops, step_one-comes, step_three-lands}
 use Rattle.page_laws.specs.Moves.{ComesTo, moved, here}
-use Rattle.page_model.proofs.NumbersEvaluation.{Good}
-use Rattle.page_model.proofs.NumbersTurns.{first_state-good}
+use Rattle.page_model.proofs.GivenNumbers.Evaluation.{Good}
+use Rattle.page_model.proofs.GivenNumbers.Turns.{first_state-good}
 use Rattle.page_model.specs.Choosing.{Rules}
 use Rattle.page_model.specs.Gaps.{Act, Pass, Rest, Serve, Stop, act, acts, at_moment, pass, rest, run_gaps_by, serve, stop, stop_by_clock}
 use Rattle.page_model.specs.Numbers.{HoldsNoNumbers}

@@ -20,7 +20,7 @@ use Rattle.page_model.specs.Invoke.{register_as, call_begun}
 use Rattle.page_model.specs.PageTime.{completion_of, deadline}
 use Rattle.page_model.specs.Turns.{first_page}
 use Rattle.page_model.specs.Numbers.{Each}
-use Rattle.page_model.proofs.NumbersGrow.{length-last}
+use Rattle.page_model.proofs.GivenNumbers.Growing.{length-last}
 use Rattle.page_laws.specs.History.{History, armed_for, armed_in, is_rest}
 use Rattle.page_laws.specs.Moves.{is_aside, is_end, role_at, is_delayed_role, IsIn, completes_for, completions_but, ArmedAt, by_timer, by_idle, by_host, Places, places, PlaceChange, places_stay, task_queued, task_left, armed_again, signal_armed, id_cleared, idle_armed, completed, idle_started, idle_queued, DueChange, timer_due, delay_due, signal_due, idle_due, answer_due, Dropping, timer_dropped, idle_dropped, listener_dropped, FirstPlace, nowhere, at_listener, at_timer, at_delay, at_idle, at_host, promise_changes, AsBefore, PageChange, elsewhere, told, arm_told, rested, registered, promised, settled, followed, adopted, subscribed, micro_asked, then_asked, answered, dropped, frame_dropped, frame_asked, rejected_taken, noted, Beginning, TheScript, ATimer, AFrame, AnIdle, ALateIdle, AListener, APost, AContinuation, AMicro, AReaction, called_by, taken, task_dropped, enqueued_anew, fell_due, post_fell_due, prio_told, Moves, here, changing, arming, calling, ending, flagging, running, framing, idling}
 use Rattle.page_laws.proofs.Framed.{false_true}

@@ -24,7 +24,7 @@ use Rattle.page_model.specs.PageTime.{deadline}
 use Rattle.page_model.specs.PageSignals.{is_aborted, is_aborted_source}
 use Rattle.page_model.specs.Numbers.{Each, IsFor, made_by, timer_role, is_timer_role, is_abortable}
 use Rattle.page_model.specs.Turns.{first_page}
-use Rattle.page_model.proofs.NumbersGrow.{length-last}
+use Rattle.page_model.proofs.GivenNumbers.Growing.{length-last}
 use Rattle.page_laws.specs.History.{History, has_kind, is_host, is_some_and, kind_of, was_dropped, is_drop_of, is_rest}
 use Rattle.page_laws.specs.CallLaws.{keeps_cancel}
 use Rattle.page_laws.specs.Moves.{is_aside, is_end, role_at, id_at, signal_at, promise_changes, Places, places, with_queued, without_start, without_aborted, PlaceChange, places_stay, task_queued, task_left, armed_again, signal_armed, completed, idle_started, idle_queued, id_cleared, idle_armed, DueChange, timer_due, delay_due, signal_due, idle_due, answer_due, Dropping, timer_dropped, idle_dropped, listener_dropped, FirstPlace, nowhere, at_listener, at_timer, at_delay, at_idle, at_host, AsBefore, PageChange, elsewhere, told, arm_told, rested, answered, dropped, task_dropped, frame_dropped, registered, enqueued_anew, fell_due, post_fell_due, frame_asked, promised, settled, followed, adopted, subscribed, then_asked, micro_asked, rejected_taken, noted, Beginning, TheScript, ATimer, AFrame, AnIdle, ALateIdle, AListener, APost, AContinuation, AMicro, AReaction, called_by, role_of, taken, Waited, Moves, here, changing, arming, calling, ending, flagging, running, framing, idling, prio_told}

@@ -11,9 +11,9 @@ use Rattle.page_model.specs.PagePromises as promises
 use Rattle.page_model.specs.PagePromises.{new_promise, last_promise, inner_subscription}
 use Rattle.page_model.specs.PageCombinators.{element_at, no_combining, combining_at, settle_result, with_combining, report_to, report, lead_into, last_combinator, with_combinator, combinator_made, item_made, item_number, with_element, element_made, subscribe_into, each_item, all_made, race_made, promises_for, are_promises_left, passed_on, pass_on}
 use Rattle.page_model.specs.Numbers.{Each, IfThere, Made, made_by, Grows, IsGiven, IsKnown, KindIsGiven, CombiningIsGiven, ElementIsGiven}
-use Rattle.page_model.proofs.NumbersGrow.{Each-find, length-last, last-given, IsGiven-more, promise-grows, IsKnown-grows, values-grow, InCombinators, InElements, Held, Onward, stays, onward-then}
-use Rattle.page_model.proofs.NumbersPages.{new_promise-held, subscribe-held}
-use Rattle.page_model.proofs.NumbersCombinators.{Each-at, HasResult, lead_into-held, combinator_made-held, item_made-held, element_made-held, all_made-held, race_made-held}
+use Rattle.page_model.proofs.GivenNumbers.Growing.{Each-find, length-last, last-given, IsGiven-more, promise-grows, IsKnown-grows, values-grow, InCombinators, InElements, Held, Onward, stays, onward-then}
+use Rattle.page_model.proofs.GivenNumbers.Pages.{new_promise-held, subscribe-held}
+use Rattle.page_model.proofs.GivenNumbers.Combinators.{Each-at, HasResult, lead_into-held, combinator_made-held, item_made-held, element_made-held, all_made-held, race_made-held}
 use Rattle.page_laws.specs.Moves.{Changes, nothing}
 use Rattle.page_laws.proofs.Evaluating.{Onto}
 use Rattle.page_laws.proofs.Moved.{quietly, settle-changes, follow-changes, subscribe-changes, new_promise-changes}

@@ -2,7 +2,7 @@
 use Rattle.page_laws.proofs.Deadlines.{all-filter}
 use Rattle.page_laws.proofs.AtEnd.{done_test, moves-kept}
 use Rattle.page_laws.proofs.Drawing.{found-in}
-use Rattle.page_model.proofs.NumbersGrow.{length-last, numbered-last}
+use Rattle.page_model.proofs.GivenNumbers.Growing.{length-last, numbered-last}
 use Rattle.page_laws.specs.TimerLaws.{was_done}
 use Rattle.page_parts.specs.IdleCallbacks.{Idle}
 use Rattle.page_parts.specs.Frames.{Callback}

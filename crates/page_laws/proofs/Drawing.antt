@@ -10,10 +10,10 @@ use Rattle.page_laws.proofs.Moved.{report_after-changes}
 use Rattle.page_laws.proofs.Moving.{moves-then}
 use Rattle.page_laws.proofs.Runs.{Goes, WaysGo, entered-goes, finish-goes, invoke-goes, report_before-onto}
 use Rattle.page_laws.specs.Moves.{AFrame, Beginning, IsDrawnNext, IsIn, Moves, Waited, called_by, framing, here, marked, role_of, taken}
-use Rattle.page_model.proofs.NumbersEvaluation as numbers
-use Rattle.page_model.proofs.NumbersEvaluation.{Good}
-use Rattle.page_model.proofs.NumbersGrow.{Each-find, InFrames, Onward, stays}
-use Rattle.page_model.proofs.NumbersPages.{call_ended-held, without_frame-held}
+use Rattle.page_model.proofs.GivenNumbers.Evaluation as numbers
+use Rattle.page_model.proofs.GivenNumbers.Evaluation.{Good}
+use Rattle.page_model.proofs.GivenNumbers.Growing.{Each-find, InFrames, Onward, stays}
+use Rattle.page_model.proofs.GivenNumbers.Pages.{call_ended-held, without_frame-held}
 use Rattle.page_model.specs.Invoke.{Ways, WhenReported, call_ended, end_of_callback, report_after, report_before, thrown, when_reported}
 use Rattle.page_model.specs.Numbers.{CallbackIsGiven, Each, Grows, IfThere, IsFor, Made, made_by}
 use Rattle.page_model.specs.PageSignals.{each_in_turn}

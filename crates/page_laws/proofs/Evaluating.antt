@@ -8,9 +8,9 @@ use Rattle.page_parts.specs.Words.{is_there}
 use Rattle.lang_meaning.specs.Machine.{assigned, value_in, with_value_in, locals, with_local}
 use Rattle.page_model.specs.State.{Page, State, on_page, emit}
 use Rattle.page_model.specs.Numbers.{IsFor, made_by, Grows, IsKnown}
-use Rattle.page_model.proofs.NumbersGrow.{Grows-same, Grows-then, IsKnown-grows, Held, Onward, stays}
-use Rattle.page_model.proofs.NumbersEvaluation as numbers
-use Rattle.page_model.proofs.NumbersEvaluation.{Good, on_page-good, assign-good}
+use Rattle.page_model.proofs.GivenNumbers.Growing.{Grows-same, Grows-then, IsKnown-grows, Held, Onward, stays}
+use Rattle.page_model.proofs.GivenNumbers.Evaluation as numbers
+use Rattle.page_model.proofs.GivenNumbers.Evaluation.{Good, on_page-good, assign-good}
 use Rattle.page_laws.specs.History.{open_registrations, open_after, without_first}
 use Rattle.page_laws.specs.Moves.{is_aside, is_end, Changes, nothing, with_change, told, Beginning, called_by, role_of, taken, Waited, Moves, here, calling, ending}
 use Rattle.page_laws.proofs.Going.{Keeping}

@@ -21,7 +21,7 @@ use Rattle.page_model.specs.Invoke.{register_as, call_begun}
 use Rattle.page_model.specs.PageTime.{deadline, first_task}
 use Rattle.page_model.specs.Numbers.{Each, IsFor, made_by, timer_role, is_timer_role}
 use Rattle.page_model.specs.Turns.{first_page}
-use Rattle.page_model.proofs.NumbersGrow.{length-last}
+use Rattle.page_model.proofs.GivenNumbers.Growing.{length-last}
 use Rattle.page_laws.specs.History.{History, count_lines, has_kind, is_call_of, is_due_of, is_rest, is_some_and, is_timer, kind_of}
 use Rattle.page_laws.specs.TimerLaws.{keeps_firing}
 use Rattle.page_laws.specs.Moves.{is_aside, is_end, is_free, role_at, Places, places, PlaceChange, places_stay, task_queued, task_left, armed_again, signal_armed, id_cleared, idle_armed, completed, idle_started, idle_queued, Dropping, timer_dropped, idle_dropped, listener_dropped, FirstPlace, nowhere, at_listener, at_timer, at_delay, at_idle, at_host, DueChange, timer_due, delay_due, signal_due, idle_due, answer_due, promise_changes, AsBefore, PageChange, elsewhere, told, arm_told, rested, registered as made_one, promised, settled, followed, adopted, subscribed, micro_asked, then_asked, answered, dropped, frame_dropped, frame_asked, rejected_taken, noted, Beginning, TheScript, ATimer, AFrame, AnIdle, ALateIdle, AListener, APost, AContinuation, AMicro, AReaction, called_by, role_of, taken, Waited, task_dropped, enqueued_anew, fell_due, post_fell_due, prio_told, Moves, here, changing, arming, calling, ending, flagging, running, framing, idling}

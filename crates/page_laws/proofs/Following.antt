@@ -16,7 +16,7 @@ use Rattle.page_model.specs.State.{Page, OfKind, Registration, emit, emit_each, 
 use Rattle.page_model.specs.Invoke.{register_as}
 use Rattle.page_model.specs.Numbers.{Each, is_timer_role}
 use Rattle.page_model.specs.Turns.{first_page}
-use Rattle.page_model.proofs.NumbersGrow.{length-last}
+use Rattle.page_model.proofs.GivenNumbers.Growing.{length-last}
 use Rattle.page_laws.specs.History.{History, has_kind, is_call_of, is_rest, is_timer, is_turn, level_in, level_of, open_after, open_registrations, called_in, calls_in, since_last, this_turn, was_called, without_first}
 use Rattle.page_laws.specs.TimerLaws.{keeps_levels, level_above, outermost}
 use Rattle.page_laws.specs.Moves.{is_aside, role_at, IsIn, promise_changes, AsBefore, PageChange, elsewhere, told, arm_told, rested, registered as made_one, promised, settled, followed, adopted, subscribed, micro_asked, then_asked, answered, dropped, frame_dropped, frame_asked, rejected_taken, noted, task_dropped, enqueued_anew, fell_due, post_fell_due, prio_told, Moves}

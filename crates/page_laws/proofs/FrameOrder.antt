@@ -22,7 +22,7 @@ use Rattle.page_model.specs.Invoke.{register_as, call_begun}
 use Rattle.page_model.specs.Numbers.{Each, IsFor, made_by, timer_role}
 use Rattle.page_model.specs.PageTime.{deadline}
 use Rattle.page_model.specs.Turns.{first_page}
-use Rattle.page_model.proofs.NumbersGrow.{length-last, numbered-last}
+use Rattle.page_model.proofs.GivenNumbers.Growing.{length-last, numbered-last}
 use Rattle.page_laws.specs.History.{History, is_call_of, is_scheduled, is_drop_of, is_frame, is_reg_of, is_rest, is_turn, has_kind, is_some_and, kind_in, kind_of, registered, before_last, this_turn, calls_in, called_in, some_line, was_called, was_dropped, registered_for}
 use Rattle.page_laws.specs.TimerLaws.{all_framed, framed_at, is_frame_line, is_reg_before, keeps_frames, may_be_drawn, was_done}
 use Rattle.page_laws.specs.Moves.{is_aside, is_end, marked, marked_by, role_at, IsIn, IsDrawnNext, FrameIsOver, promise_changes, AsBefore, PageChange, elsewhere, told, arm_told, rested, registered as made_one, promised, settled, followed, adopted, subscribed, micro_asked, then_asked, answered, dropped, frame_dropped, frame_asked, rejected_taken, noted, Beginning, TheScript, ATimer, AFrame, AnIdle, ALateIdle, AListener, APost, AContinuation, AMicro, AReaction, called_by, role_of, taken, Waited, task_dropped, enqueued_anew, fell_due, post_fell_due, prio_told, Moves, here, changing, arming, calling, ending, flagging, running, framing, idling}

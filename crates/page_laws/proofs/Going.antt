@@ -13,7 +13,7 @@ use Rattle.page_parts.specs.Kinds.{func_in, bool_in}
 use Rattle.lang_meaning.specs.Machine.{Variable, Machine, Done, Gives, Throws, Returns, OutOfFuel, and_then, or_catch, afterwards, given, branch, with_fuel, take_unit, throw_fault, finish, variable, assigned, Caller, Operations}
 use Rattle.lang_meaning.specs.OpNames.{op_named}
 use Rattle.lang_meaning.specs.Evaluation.{Around, Answer, answered, sum_answer, product_answer, compare_answer, unary_answer, item_answer, limited_value, tested, Function, own_body, functions_of, function_value, number_of, named_value, called, call_of, eval, eval_or, eval_and, eval_all, eval_places, eval_sum, eval_product, loop_turns, opt_eval, exec, exec_block, exec_others, exec_else, opened, closed, unit_variables, names_in, parameters_with, end_of_call, body_of_call, calls, call_from_outside}
-use Rattle.page_model.proofs.Holding.{Every, IfThere, IfGiven, Every-append, Every-map, or_else-there}
+use Rattle.page_model.proofs.Holding.Evaluation.{Every, IfThere, IfGiven, Every-append, Every-map, or_else-there}
 
 -- A preorder `Le` on the states of the script machine around a host, a property `Good` of states and a property `Val` of values in a state, with what is asked of them.
 pub record Keeping (H : Type 0) (program : Program) : Type 1 where

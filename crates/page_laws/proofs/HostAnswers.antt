@@ -14,7 +14,7 @@ use Rattle.page_model.specs.State.{Role, ScriptRole, OfKind, Registration, Task,
 use Rattle.page_model.specs.PageSignals.{is_for, host_task_of, drop_closure, drop_at, closure_dropped, task_in_answer, task_in_net}
 use Rattle.page_model.specs.Numbers.{Each, IfThere}
 use Rattle.page_model.specs.Turns.{not_dropped}
-use Rattle.page_model.proofs.NumbersGrow.{length-last, Each-more, Each-last, Each-without, Each-find}
+use Rattle.page_model.proofs.GivenNumbers.Growing.{length-last, Each-more, Each-last, Each-without, Each-find}
 use Rattle.page_laws.specs.History.{History, has_kind, is_host, is_some_and, kind_of, was_dropped, is_rest, was_due}
 use Rattle.page_laws.specs.CallLaws.{answers_fit, is_answer}
 use Rattle.page_laws.specs.Moves.{is_aside, is_end, is_free, role_at, fired_at}

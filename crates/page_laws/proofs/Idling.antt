@@ -15,7 +15,7 @@ use Rattle.page_parts.specs.Promises.{the_promise}
 use Rattle.page_model.specs.State.{Page, Registration, emit, emit_each, on_notices, context}
 use Rattle.page_model.specs.Invoke.{register_as, call_begun, call_ended, job_begun}
 use Rattle.page_model.specs.Numbers.{Each}
-use Rattle.page_model.proofs.NumbersGrow.{length-last}
+use Rattle.page_model.proofs.GivenNumbers.Growing.{length-last}
 use Rattle.page_laws.specs.History.{History, is_period, is_reg_of, is_rest, since_last, some_line}
 use Rattle.page_laws.specs.TimerLaws.{period_in, period_start}
 use Rattle.page_laws.specs.Moves.{is_aside, is_end, IsIn, PeriodGoesOn, IsMade, Places, places, PlaceChange, places_stay, task_queued, task_left, armed_again, signal_armed, id_cleared, idle_armed, completed, idle_started, idle_queued, DueChange, timer_due, delay_due, signal_due, idle_due, answer_due, Dropping, timer_dropped, idle_dropped, listener_dropped, FirstPlace, nowhere, at_listener, at_timer, at_delay, at_idle, at_host, promise_changes, AsBefore, PageChange, elsewhere, told, arm_told, rested, registered, promised, settled, followed, adopted, subscribed, micro_asked, then_asked, answered, dropped, frame_dropped, frame_asked, rejected_taken, noted, Changes, nothing, with_change, with_arm, Beginning, TheScript, ATimer, AFrame, AnIdle, ALateIdle, AListener, APost, AContinuation, AMicro, AReaction, called_by, taken, task_dropped, enqueued_anew, fell_due, post_fell_due, prio_told}

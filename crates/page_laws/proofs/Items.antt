@@ -1,5 +1,5 @@
 -- Taking the parallel items that are due is a row of changes.
-use Rattle.page_model.proofs.NumbersTasks.{ItemIsGiven, IfItemIsGiven, items-given, first_of-given, due_item-given, take_item-held, completion_of-given}
+use Rattle.page_model.proofs.GivenNumbers.Tasks.{ItemIsGiven, IfItemIsGiven, items-given, first_of-given, due_item-given, take_item-held, completion_of-given}
 use Rattle.std.proofs.Common.{◌≡◌, ℕ, zero, suc, ◌⊎◌, inl, inr, ◌≤◌, ◌<◌, Bool, true, false, List, [], ◌∷◌, Option, Some, None, refl, ap, sym, subst, ◌∙◌, ◌++◌, cond, nat_lt, nat_le, map, arith}
 use Rattle.page_types.specs.declared.Source.TheVariants.{Net, Timer, Render, Idle as IdleSource}
 use Rattle.page_types.specs.Events.{Due}
@@ -8,7 +8,7 @@ use Rattle.page_parts.specs.Timers.{ActiveTimer}
 use Rattle.page_parts.specs.Setup.{Arrival}
 use Rattle.page_model.specs.State.{SchedTask, HostAnswer, IdleTimer, TimeOutSignal, FireAtWindow, RunFrame, Completion, QueueTimer, EnqueuePost, QueueSignal, PrioSource, Page, emit, the_registration}
 use Rattle.page_model.specs.PageTime.{next_frame, completion_of, without_timer}
-use Rattle.page_model.proofs.NumbersGrow.{Held, InCompletions}
+use Rattle.page_model.proofs.GivenNumbers.Growing.{Held, InCompletions}
 use Rattle.page_model.specs.SchedulerTasks.{enqueue, queue_name}
 use Rattle.page_model.specs.PageSignals.{is_aborted_source}
 use Rattle.page_model.specs.Parallel.{ItemKind, ArrivalItem, HostItem, TimerItem, IdleItem, FrameItem, Item, arrival_items, frame_items, items_in_order, first_item_from, first_item_of, complete, complete_at, take_item, due_item, first_item, take_due, item_count, parallel}

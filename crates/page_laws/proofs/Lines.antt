@@ -5,7 +5,7 @@ use Rattle.page_model.specs.Invoke.{register_as}
 use Rattle.std.specs.Prelude.{◌==◌}
 use Rattle.page_parts.specs.Words.{without}
 use Rattle.page_types.specs.Events.{Event, Call, Ret, Throw, Settle, Job, Queued}
-use Rattle.page_model.proofs.NumbersGrow.{Each-append}
+use Rattle.page_model.proofs.GivenNumbers.Growing.{Each-append}
 use Rattle.page_parts.specs.Promises.{Settled, Fulfilled, Failed, PromiseJob}
 use Rattle.page_parts.specs.Promises as Promises
 use Rattle.page_parts.specs.Notices.{Notices, Noticed, changed, queue_jobs, settle_line, subscribe_promise, queue_micro, Context}

@@ -13,7 +13,7 @@ use Rattle.page_model.specs.Choosing.{Rules, choice_rules}
 use Rattle.page_model.specs.Turns.{Turned, GoesOn, Ended, Stuck, first_state, run, run_by, events_of_run}
 use Rattle.page_model.specs.ChoicesAreData.{HasEnded, with_left, no_choices}
 use Rattle.page_model.specs.PageTrace.{EndsWith, IsLegal, told_more, migrated, Migrates}
-use Rattle.page_model.proofs.Replaying.{run-again}
+use Rattle.page_model.proofs.ChosenAlone.Replaying.{run-again}
 use Rattle.page_laws.proofs.FirstForm.{turned_less}
 use Rattle.page_laws.proofs.FirstFormOperations.{outside-less}
 use Rattle.page_laws.proofs.FirstFormTurns.{turns-less}

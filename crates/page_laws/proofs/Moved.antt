@@ -1,10 +1,10 @@
 -- What a page does is rows of changes, function by function.
-use Rattle.page_model.proofs.NumbersParts.{any-count}
+use Rattle.page_model.proofs.GivenNumbers.Parts.{any-count}
 use Rattle.page_laws.proofs.Prioritised.{give-set, begun-set, ended-same, depend-same, fresh-prio}
 use Rattle.page_parts.specs.TaskSignals.{Prios, priority_of}
 use Rattle.page_laws.proofs.Finding.{found-passes}
-use Rattle.page_model.proofs.NumbersSignals.{with-by_number, last-by_number, with_reason-by_number, any-by_number}
-use Rattle.page_model.proofs.NumbersPages.{the_registration-given}
+use Rattle.page_model.proofs.GivenNumbers.Signals.{with-by_number, last-by_number, with_reason-by_number, any-by_number}
+use Rattle.page_model.proofs.GivenNumbers.Pages.{the_registration-given}
 use Rattle.std.proofs.lemmas.Bool.{eqb-true, eq-eqb}
 use Rattle.std.proofs.Common.{◌≡◌, ℕ, suc, ◌+◌, ◌*◌, ◌⊎◌, inl, inr, Bool, true, false, List, [], ◌∷◌, Option, Some, None, refl, ap, sym, subst, ◌∙◌, ◌++◌, cond, ℤ, length, slice_get, ◌&&◌, nat_lt, nat_le, map, ◌≤◌, unwrap_or, arith, ◌||◌, not}
 use Rattle.std.specs.Prelude.{◌==◌, slice_set, find, option_map}
@@ -40,7 +40,7 @@ use Rattle.page_model.specs.State.{Completing, context, Role, ScriptRole, OfKind
 use Rattle.page_model.specs.PagePromises as promises
 use Rattle.page_model.specs.PagePromises.{new_promise, last_promise}
 use Rattle.page_model.specs.PageTime.{start_period, init_timer, clear_id, clear_timer, registration_with_id, without_frame, cancel_frame, deadline, period_begun, idle_timeout, idle_callback, without_idle, cancel_idle, completion_of}
-use Rattle.page_model.proofs.NumbersGrow.{length-last, numbered-last, Each-more, Each-append, Held, Each-find, InFrames, InIdle, InTimers, InIdleTimers, InListeners, InCompletions, InSchedTasks, InPrios}
+use Rattle.page_model.proofs.GivenNumbers.Growing.{length-last, numbered-last, Each-more, Each-append, Held, Each-find, InFrames, InIdle, InTimers, InIdleTimers, InListeners, InCompletions, InSchedTasks, InPrios}
 use Rattle.page_model.specs.SchedulerTasks.{enqueue, queue_name}
 use Rattle.page_model.specs.Invoke.{WhenReported, BeforeCheckpoint, AfterCheckpoint, Never, report_before, report_after, notify_rejected, register, register_as}
 use Rattle.page_model.specs.PageSignals.{waiting_answer, waiting_net_task, has_not_begun, drop_registration, abort_registration, watch, unwatch, give_priority, change_begun, change_ended, is_aborted_source, is_delay_of, is_for, host_task_of, is_aborted}

@@ -17,11 +17,11 @@ use Rattle.page_parts.specs.Notices.{Noticed, settle_promise}
 use Rattle.page_parts.specs.Words.{is_there}
 use Rattle.page_laws.specs.Moves.{DelayWaits, IsCleared, IsIn, IsReleased, Changes, nothing, Places, algorithms_at, signal_at}
 use Rattle.page_laws.specs.Scheduling.{HasPriority, Sourced}
-use Rattle.page_model.proofs.NumbersGrow.{Each-more, HasPromise-grows, Held, InSignals, IsKnown-grows, Onward, last-given, promise-grows, IsAbortedBy-grows, InAlgorithms}
-use Rattle.page_model.proofs.NumbersMaking.{any-held, any_made-held, continuation_queued-held, frame_requested-held, host_queued-held, idle_requested-held, listener_added-held, listener_removed-held, make-held, make_aborted-held, micro_registered-held, new_settled-held, post_queued-held, script_promise-held, task_signal_made-held, then_made-held, timeout_signal_made-held, timer_set-held, finally_made-held, posted-held}
-use Rattle.page_model.proofs.NumbersPages.{abort_registration-held, cancel_frame-held, cancel_idle-held, change_begun-held, change_ended-held, clear_id-held, clear_timer-held, follow-held, new_promise-held, reason_value-known, reject-held, resolve-held, run_algorithms-held, settle-held, subscribe-held, unwatch-held}
-use Rattle.page_model.proofs.NumbersParts.{the_signal-given}
-use Rattle.page_model.proofs.NumbersTasks.{parallel-held}
+use Rattle.page_model.proofs.GivenNumbers.Growing.{Each-more, HasPromise-grows, Held, InSignals, IsKnown-grows, Onward, last-given, promise-grows, IsAbortedBy-grows, InAlgorithms}
+use Rattle.page_model.proofs.GivenNumbers.Making.{any-held, any_made-held, continuation_queued-held, frame_requested-held, host_queued-held, idle_requested-held, listener_added-held, listener_removed-held, make-held, make_aborted-held, micro_registered-held, new_settled-held, post_queued-held, script_promise-held, task_signal_made-held, then_made-held, timeout_signal_made-held, timer_set-held, finally_made-held, posted-held}
+use Rattle.page_model.proofs.GivenNumbers.Pages.{abort_registration-held, cancel_frame-held, cancel_idle-held, change_begun-held, change_ended-held, clear_id-held, clear_timer-held, follow-held, new_promise-held, reason_value-known, reject-held, resolve-held, run_algorithms-held, settle-held, subscribe-held, unwatch-held}
+use Rattle.page_model.proofs.GivenNumbers.Parts.{the_signal-given}
+use Rattle.page_model.proofs.GivenNumbers.Tasks.{parallel-held}
 use Rattle.page_model.specs.Numbers.{timer_role, AreKnown, Each, HasPromise, IfThere, IsGiven, IsKnown, PrioSourceIsGiven, ReactionIsGiven, StateIsGiven, TargetIsGiven, made_by, IsAbortedBy}
 use Rattle.page_model.specs.Operations.{any_made, continuation_queued, frame_requested, host_queued, idle_requested, listener_added, listener_removed, micro_registered, post_queued, script_promise, task_signal_made, then_made, timeout_signal_made, timer_set, with_signals, finally_made, posted}
 use Rattle.page_model.specs.PagePromises.{last_promise, new_promise, new_settled}

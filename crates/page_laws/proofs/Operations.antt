@@ -12,11 +12,11 @@ use Rattle.page_laws.proofs.Going.{CallsHold, Holds, Keeping, answered-holds, ca
 use Rattle.page_laws.proofs.Moved.{quietly}
 use Rattle.page_laws.proofs.Onto.{Anew, SettleGoes, any-onto, any_made-onto, cancel_frame-onto, cancel_idle-onto, clear_timer-onto, continuation_queued-onto, frame_requested-onto, host_queued-onto, idle_requested-onto, listener_added-onto, listener_removed-onto, make-onto, make_aborted-onto, micro_registered-onto, new_settled-onto, post_queued-onto, reject-onto, resolve-onto, script_promise-onto, task_signal_made-onto, then_made-onto, timeout_signal_made-onto, timer_set-onto, finally_made-onto, posted-onto}
 use Rattle.page_laws.proofs.Runs.{CallsGo, IsOpen, Goes, WaysGo, abort-goes, branch-goes, branch_when-goes, change-goes, finish-goes, finish_page, in_script-goes, priority_value-known}
-use Rattle.page_model.proofs.NumbersEvaluation.{Good, Known, each, every, limited-known, need-known, need_any-known}
-use Rattle.page_model.proofs.NumbersGrow.{Each-append, Each-get, Each-last, Each-numbered, Held, IfThere-more, InPrios, InStates, last-given, stays, unwrapped, IfThere-cond}
-use Rattle.page_model.proofs.NumbersMaking.{after_new, signal_given}
-use Rattle.page_model.proofs.NumbersPages.{reason_value-known}
-use Rattle.page_model.proofs.NumbersParts.{any-count, controller_in-given, followed-known, func_in-given, items-known, list_in-given, promise_in-given, signal_in-given, values-known}
+use Rattle.page_model.proofs.GivenNumbers.Evaluation.{Good, Known, each, every, limited-known, need-known, need_any-known}
+use Rattle.page_model.proofs.GivenNumbers.Growing.{Each-append, Each-get, Each-last, Each-numbered, Held, IfThere-more, InPrios, InStates, last-given, stays, unwrapped, IfThere-cond}
+use Rattle.page_model.proofs.GivenNumbers.Making.{after_new, signal_given}
+use Rattle.page_model.proofs.GivenNumbers.Pages.{reason_value-known}
+use Rattle.page_model.proofs.GivenNumbers.Parts.{any-count, controller_in-given, followed-known, func_in-given, items-known, list_in-given, promise_in-given, signal_in-given, values-known}
 use Rattle.page_model.specs.Invoke.{Ways, in_script}
 use Rattle.page_model.specs.Numbers.{AreKnown, Each, IfThere, IsGiven, IsKnown, Made, PrioSourceIsGiven, StateIsGiven, TargetIsGiven, made_by, timer_role, KindIsGiven}
 use Rattle.page_model.specs.Operations.{abort_by, aborted_signal, all_signals, answers, any_following, any_made, any_with_priority, busy, busy_for, change_by, closure_at, continuation_queued, controller_value, delay_in, does, fitting, followed_through, frame_requested, given_or_rejected, host, host_accepted, host_asked, host_queued, idle_requested, int_within, is_fresh, is_left, last_promise_value, listen, listener_added, listener_removed, make_any, make_controller, make_task_any, make_task_controller, make_timeout_signal, may_operate, micro_registered, of_signal, operation, page_operations, post_accepted, post_queued, post_task, prio_source_of, priority_in, priority_or_unit, promise_left, queue_microtask, reason_given, registration_left, rejected_with, remaining, request_animation_frame, request_idle_callback, resolved_value, script_promise, set_priority_by, set_timer, settle_own, settled_promise, signal_left, signal_or_unit, signal_source, signal_value, signals_in, source_reason, target_in, task_signal_made, then_made, then_value, timeout_signal_made, timer_set, where_left, with_handle, with_signals, yield_in, combined, raced, promises_for_all, finally_value, finally_made, answers_first, port_in, sendable_in, posted, post_message}

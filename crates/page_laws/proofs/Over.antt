@@ -14,7 +14,7 @@ use Rattle.page_parts.specs.Notices.{Notices, Noticed, WaitingJob, Context, OfPr
 use Rattle.page_model.specs.State.{Page, OfKind, ScriptRole, Role, Registration, SchedTask, Task, HostTask, AnswerHost, PrioSource, EnqueuePost, emit, emit_each, on_notices, context, caller, no_registration}
 use Rattle.page_model.specs.Invoke.{register_as, call_begun}
 use Rattle.page_model.specs.PageTime.{completion_of, deadline, first_task}
-use Rattle.page_model.proofs.NumbersGrow.{length-last, numbered-last}
+use Rattle.page_model.proofs.GivenNumbers.Growing.{length-last, numbered-last}
 use Rattle.page_parts.specs.TaskSignals.{Prios}
 use Rattle.page_laws.specs.History.{History, is_drop_of, was_dropped, is_call_of, was_called, is_scheduled}
 use Rattle.page_laws.specs.TimerLaws.{was_done}

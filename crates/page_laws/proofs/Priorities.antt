@@ -23,7 +23,7 @@ use Rattle.page_model.specs.PageTime.{deadline, completion_of}
 use Rattle.page_model.specs.SchedulerTasks.{no_state, queue_name, first_of}
 use Rattle.page_model.specs.Numbers.{Each, IfThere, IsFor, made_by, timer_role, is_timer_role}
 use Rattle.page_model.specs.Turns.{first_page}
-use Rattle.page_model.proofs.NumbersGrow.{length-last, Each-more, Each-last, Each-without, Each-find, Each-numbered, numbered-last}
+use Rattle.page_model.proofs.GivenNumbers.Growing.{length-last, Each-more, Each-last, Each-without, Each-find, Each-numbered, numbered-last}
 use Rattle.page_laws.specs.History.{History, has_kind, is_scheduled, is_some_and, was_called, was_dropped, is_rest, is_sched_turn, last_line}
 use Rattle.page_laws.specs.SchedulerLaws.{Enqueued, enqueued, waiting, priority_now, precedes, first_tasks, has_task, is_later, keeps_priorities}
 use Rattle.page_laws.specs.Moves.{is_aside, is_end, role_at, signal_at, id_at, promise_changes, Places, places, completions_but, PlaceChange, places_stay, task_queued, task_left, armed_again, signal_armed, completed, idle_started, idle_queued, id_cleared, idle_armed, DueChange, timer_due, delay_due, signal_due, idle_due, answer_due, Dropping, timer_dropped, idle_dropped, listener_dropped, FirstPlace, nowhere, at_listener, at_timer, at_delay, at_idle, at_host, AsBefore, PageChange, elsewhere, told, arm_told, rested, answered, dropped, task_dropped, frame_dropped, prio_told, registered, enqueued_anew, fell_due, post_fell_due, frame_asked, promised, settled, followed, adopted, subscribed, then_asked, micro_asked, rejected_taken, noted, Beginning, TheScript, ATimer, AFrame, AnIdle, ALateIdle, AListener, APost, AContinuation, AMicro, AReaction, called_by, role_of, taken, Waited, Moves, here, changing, arming, calling, ending, flagging, running, framing, idling}

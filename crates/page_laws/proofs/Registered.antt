@@ -16,7 +16,7 @@ use Rattle.page_parts.specs.Promises.{the_promise}
 use Rattle.page_model.specs.State.{Role, ScriptRole, OfKind, Registration, Page, emit, emit_each, on_notices, no_registration, context, caller}
 use Rattle.page_model.specs.PageTime.{deadline}
 use Rattle.page_model.specs.Numbers.{Each, IsFor, made_by, timer_role}
-use Rattle.page_model.proofs.NumbersGrow.{numbered-last, length-last}
+use Rattle.page_model.proofs.GivenNumbers.Growing.{numbered-last, length-last}
 use Rattle.page_laws.specs.History.{History, some_line, is_reg_of, kind_of, kind_in, has_kind, is_some_and, is_rest}
 use Rattle.page_laws.specs.CallLaws.{has_no_callback}
 use Rattle.page_laws.specs.Moves.{frame_asked, is_aside, is_end, promise_changes, PageChange, elsewhere, told, arm_told, rested, registered, promised, settled, followed, adopted, subscribed, micro_asked, then_asked, answered, dropped, frame_dropped, AsBefore, rejected_taken, noted, Beginning, TheScript, ATimer, AFrame, AnIdle, ALateIdle, AListener, APost, AContinuation, AMicro, AReaction, called_by, role_of, taken, Moves, here, changing, arming, calling, ending, flagging, running, framing, idling, task_dropped, enqueued_anew, fell_due, post_fell_due, prio_told}

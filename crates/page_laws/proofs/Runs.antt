@@ -1,7 +1,7 @@
 -- Callbacks, jobs, the checkpoint, dispatch, abort and priority changes are rows of moves.
 use Rattle.page_laws.proofs.Aborted.{moves-aborted, reason-aborted}
 use Rattle.page_laws.proofs.Combined.{pass_on-changes, lead_into-onto}
-use Rattle.page_model.proofs.NumbersRuns.{job_begun-held, resolve_derived-held, handler_arguments-known}
+use Rattle.page_model.proofs.GivenNumbers.Runs.{job_begun-held, resolve_derived-held, handler_arguments-known}
 use Rattle.page_model.specs.PageCombinators.{lead_into, pass_on}
 use Rattle.page_types.specs.declared.RegKind.TheVariants.{Then as ThenKind, Listener as ListenerKind}
 use Rattle.lang_meaning.specs.Machine.{Caller, Done, Gives, OutOfFuel, Returns, Throws, afterwards, and_then, branch, finish, take_unit, with_fuel}
@@ -20,11 +20,11 @@ use Rattle.page_laws.proofs.Moved.{emit_aborts, reason_set-change, notify_reject
 use Rattle.page_laws.proofs.Moving.{moves-then, moves_of}
 use Rattle.page_laws.proofs.Onto.{change_begun-onto, change_ended-onto, reject-onto, resolve-onto, run_algorithms-runs, settle-onto, subscribe-onto}
 use Rattle.page_laws.specs.Moves.{changing, is_micro, Changes, AListener, AMicro, AReaction, Beginning, Moves, Waited, called_by, calling, ending, flagging, here, role_of, running, taken}
-use Rattle.page_model.proofs.NumbersEvaluation as numbers
-use Rattle.page_model.proofs.NumbersEvaluation.{Good, each, every, on_page-good}
-use Rattle.page_model.proofs.NumbersGrow.{Each-append, Each-more, Grows-then, Held, InListeners, InNotices, InPrios, InScheduling, InSignals, IsFor-grows, IsKnown-grows, Onward, if_state-grows, promise-grows, signal-grows, signals-grow, stays, values-grow}
-use Rattle.page_model.proofs.NumbersPages.{reason_set-held, cond-onward, put_notices, put_scheduling, queue_task-held, the_registration-given, call_begun-held, call_ended-held}
-use Rattle.page_model.proofs.NumbersParts.{followers-known, items-known, marked-given, snapshot-given, the_promise-given}
+use Rattle.page_model.proofs.GivenNumbers.Evaluation as numbers
+use Rattle.page_model.proofs.GivenNumbers.Evaluation.{Good, each, every, on_page-good}
+use Rattle.page_model.proofs.GivenNumbers.Growing.{Each-append, Each-more, Grows-then, Held, InListeners, InNotices, InPrios, InScheduling, InSignals, IsFor-grows, IsKnown-grows, Onward, if_state-grows, promise-grows, signal-grows, signals-grow, stays, values-grow}
+use Rattle.page_model.proofs.GivenNumbers.Pages.{reason_set-held, cond-onward, put_notices, put_scheduling, queue_task-held, the_registration-given, call_begun-held, call_ended-held}
+use Rattle.page_model.proofs.GivenNumbers.Parts.{followers-known, items-known, marked-given, snapshot-given, the_promise-given}
 use Rattle.page_model.specs.Invoke.{AfterCheckpoint, BeforeCheckpoint, Never, Ways, WhenReported, begin_job, call_back, callback_of, checkpoint, checkpoint_begun, checkpoint_ended, end_of_callback, in_checkpoint, in_script, in_task, invoke, notify_rejected, perform_checkpoint, react, react_by, react_then, report_after, report_before, run_job, run_jobs, run_oldest, settle_derived, thrown, when_reported, with_scheduling, call_ended, job_begun, settle_by, resolve_derived, handler_arguments, call_begun}
 use Rattle.page_model.specs.Numbers.{AreKnown, Each, Grows, IfThere, IsFor, IsGiven, IsKnown, JobIsGiven, Made, NoticesAreGiven, ReactionIsGiven, RegistrationIsGiven, TodoIsGiven, made_by}
 use Rattle.page_model.specs.PagePromises.{promise_at, inner_subscription}

@@ -20,7 +20,7 @@ use Rattle.page_model.specs.PageTime.{clear_timer, cancel_frame, start_period, i
 use Rattle.page_parts.specs.AbortGraph.{the_signal, with_reason, with_algorithms}
 use Rattle.page_model.specs.PageSignals.{has_not_begun, drop_registration, abort_registration, abort_registrations, run_algorithms, reason_value, reason_set, watch, unwatch}
 use Rattle.page_model.specs.Invoke.{WhenReported, BeforeCheckpoint, AfterCheckpoint, Never, report_before, report_after, notify_rejected, checkpoint_ended}
-use Rattle.page_model.proofs.Combining.{Relates}
+use Rattle.page_model.proofs.Adding.Combining.{Relates}
 
 -- ---- lines that say nothing of the limits
 

@@ -29,10 +29,10 @@ use Rattle.page_model.specs.Operations.{with_signals, does, answers, where_left,
 use Rattle.page_laws.proofs.Spending.{Fit, less-fits, Has, DoneHas, Keeps, KeepsAll, CallsKeep, cond-keeps, cond_of-keeps, branch-keeps, given-keeps, take_unit-keeps, answered-keeps, finish-keeps, resolve-keeps, reject-keeps, subscribe-keeps, clear_timer-keeps, cancel_frame-keeps, cancel_idle-keeps, relates-keeps}
 use Rattle.page_laws.proofs.Spent.{Limits}
 use Rattle.page_laws.proofs.SpendingRuns.{WaysKeep, in_script-keeps, abort-keeps, change-keeps}
-use Rattle.page_model.proofs.Holding.{Keeping, keeping_states, Holds, CallsHold, every_any, outside-holds}
+use Rattle.page_model.proofs.Holding.Evaluation.{Keeping, keeping_states, Holds, CallsHold, every_any, outside-holds}
 use Rattle.page_parts.specs.Combinators.{CombinatorKind, All, AnyOf, AllSettled as AllSettledKind}
 use Rattle.page_model.specs.PageCombinators.{all_made, race_made, are_promises_left}
-use Rattle.page_model.proofs.Combining.{all_made-related, race_made-related}
+use Rattle.page_model.proofs.Adding.Combining.{all_made-related, race_made-related}
 
 module _ (l : Limits) where
   -- ---- ways to put operations together

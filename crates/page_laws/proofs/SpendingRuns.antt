@@ -19,7 +19,7 @@ use Rattle.page_parts.specs.TaskSignals.{followers, priority_of}
 use Rattle.page_model.specs.PageSignals.{each_in_turn, call_listener, dispatch, abort_steps, abort, reason_set, run_algorithms, change, change_through, change_begun, has_priority, priority_value}
 use Rattle.page_model.specs.Invoke.{Ways, WhenReported, when_reported, end_of_callback, call_back, callback_of, invoke, in_checkpoint, in_script, in_task, settle_derived, react_then, react_by, react, run_job, run_oldest, begin_job, run_jobs, checkpoint_begun, checkpoint_ended, perform_checkpoint, checkpoint, report_before, thrown, with_scheduling, call_begun, call_ended, settle_by, resolve_derived, handler_arguments}
 use Rattle.page_laws.proofs.Spending.{take_unit-spends, DoneHas, KeepsAll, CallsKeep, and_then-keeps, afterwards-keeps, branch-keeps, finish-keeps, settle-keeps, resolve-keeps, reject-keeps, subscribe-keeps, run_algorithms-keeps, reason_set-keeps, report_before-keeps, report_after-keeps, checkpoint_ended-keeps, Has, Keeps, relates-keeps}
-use Rattle.page_model.proofs.Combining.{lead_into-related, resolve_derived-related}
+use Rattle.page_model.proofs.Adding.Combining.{lead_into-related, resolve_derived-related}
 
 module _ (l : Limits) where
   pub record WaysKeep (w : Ways) : Type 0 where

@@ -21,11 +21,11 @@ use Rattle.page_laws.proofs.Lines.{change-same, same-then}
 use Rattle.page_laws.proofs.Moving.{moves-then, changes-then}
 use Rattle.page_laws.proofs.Runs.{AtTop, AtZeroTop, CallsGo, Clears, Goes, entered-goes, goes-on, WaysGo, abort-goes, WentOn, afterwards-goes, afterwards-went, settle_derived-went, branch-goes, branch_when-goes, checkpoint-goes, dispatch-goes, each_in_turn-goes, finish-goes, finish_page, invoke-goes, invoked-goes, scheduling-onto, then_page, wide}
 use Rattle.page_laws.specs.Moves.{Moves, arming, calling, ending, flagging, here, LeavesAlone, IsIn, IsUnarmed, places, PeriodGoesOn, task_left, AContinuation, ALateIdle, APost, ATimer, AnIdle, TheScript, FrameIsOver, Waited, sched_begun, taken, Changes, DelayWaits, Places, answered, calmly, fired_at, noted, nothing, with_change}
-use Rattle.page_model.proofs.NumbersEvaluation as numbers
-use Rattle.page_model.proofs.NumbersEvaluation.{Good, on_page-good}
-use Rattle.page_model.proofs.NumbersGrow.{Each-append, Each-find, Each-last, Each-without, Held, InIdle, InNotices, InTasks, Onward, Grows-same, Grows-then, TimerTask-grows, onward-then, promise-grows, stays, IsFor-grows}
-use Rattle.page_model.proofs.NumbersPages.{init_again-held, cond-onward, put_notices, queue_task-held, the_registration-given, with_state-held, without_idle-held, without_sched-held, call_begun-held, call_ended-held}
-use Rattle.page_model.proofs.NumbersParts.{the_promise-given}
+use Rattle.page_model.proofs.GivenNumbers.Evaluation as numbers
+use Rattle.page_model.proofs.GivenNumbers.Evaluation.{Good, on_page-good}
+use Rattle.page_model.proofs.GivenNumbers.Growing.{Each-append, Each-find, Each-last, Each-without, Held, InIdle, InNotices, InTasks, Onward, Grows-same, Grows-then, TimerTask-grows, onward-then, promise-grows, stays, IsFor-grows}
+use Rattle.page_model.proofs.GivenNumbers.Pages.{init_again-held, cond-onward, put_notices, queue_task-held, the_registration-given, with_state-held, without_idle-held, without_sched-held, call_begun-held, call_ended-held}
+use Rattle.page_model.proofs.GivenNumbers.Parts.{the_promise-given}
 use Rattle.page_model.specs.Invoke.{Ways, WhenReported, BeforeCheckpoint, AfterCheckpoint, Never, call_back, callback_of, checkpoint, checkpoint_begun, checkpoint_ended, end_of_callback, invoke, notify_rejected, perform_checkpoint, report_after, report_before, run_jobs, run_oldest, settle_derived, call_ended, call_begun, thrown, when_reported}
 use Rattle.page_model.specs.Numbers.{CallbackIsGiven, Each, HasPromise, IdleIsGiven, IfThere, IsFor, IsGiven, IsKnown, Made, NoticesAreGiven, SchedTaskIsGiven, StepsAreGiven, TaskIsGiven, TimerTaskIsGiven, made_by, is_timer_role, sched_role, timer_role}
 use Rattle.page_model.specs.PagePromises.{promise_at}

@@ -1,8 +1,8 @@
 -- Turns and runs are rows of moves.
 use Rattle.page_parts.specs.WrittenChoices.{is_runnable}
-use Rattle.page_model.proofs.HoldingTurns.{legal_choice}
-use Rattle.page_model.proofs.Ending.{runnable-there}
-use Rattle.page_model.proofs.Pending.{target-pending}
+use Rattle.page_model.proofs.Holding.Turns.{legal_choice}
+use Rattle.page_model.proofs.Bounding.Ending.{runnable-there}
+use Rattle.page_model.proofs.Bounding.Pending.{target-pending}
 use Rattle.lang_meaning.specs.Evaluation.{call_from_outside}
 use Rattle.lang_meaning.specs.Machine.{Caller, Done, Gives, OutOfFuel, Returns, Throws, finish}
 use Rattle.page_laws.proofs.Framed.{CameAfter, FramesKept, Ordered, Stayed, kept-same}
@@ -15,7 +15,7 @@ use Rattle.page_laws.proofs.Ready.{Ready, first-ready, moves-ready, none-invokes
 use Rattle.page_laws.proofs.Moving.{moves-then}
 use Rattle.page_laws.proofs.Arming.{Tidy, first-tidy, moves-tidy}
 use Rattle.page_laws.proofs.Onto.{parallel-onto}
-use Rattle.page_model.proofs.NumbersTasks.{answer_host-held}
+use Rattle.page_model.proofs.GivenNumbers.Tasks.{answer_host-held}
 use Rattle.page_laws.proofs.Operations.{outside-goes}
 use Rattle.page_laws.proofs.Runs.{AtTop, AtZeroTop, CallsGo, Clears, at_top-later, checkpoint-clears, finish-goes, finish_page, in_task-goes}
 use Rattle.page_laws.proofs.Numbered.{Numbered, first-numbered, moves-numbered}
@@ -26,10 +26,10 @@ use Rattle.page_laws.proofs.TimersStand.{TimersStand, first-stand, timers-stand}
 use Rattle.page_laws.proofs.Tasks.{answer_task-changes, Begins, Halts, IsOver, Rested, Tasked, tasked, left-alone, after_task-rests, sched_task-goes, task-goes, without_task-held, without_task-onto}
 use Rattle.page_types.specs.declared.RegKind.TheVariants as kind
 use Rattle.page_laws.specs.Moves.{calmly, role_at, ComesTo, moved, unanswered, HasSteps, IsAtEnd, idling, FrameIsOver, marked, places_stay, Moves, changing, elsewhere, here, nothing, rested, sched_begun, told, with_change}
-use Rattle.page_model.proofs.NumbersEvaluation.{Good, on_page-good}
-use Rattle.page_model.proofs.NumbersGrow.{Each-find, Grows-same, InSchedTasks, InTasks, onward-then, stays}
-use Rattle.page_model.proofs.NumbersPages.{idle_step-held}
-use Rattle.page_model.proofs.NumbersTurns.{first_state-good}
+use Rattle.page_model.proofs.GivenNumbers.Evaluation.{Good, on_page-good}
+use Rattle.page_model.proofs.GivenNumbers.Growing.{Each-find, Grows-same, InSchedTasks, InTasks, onward-then, stays}
+use Rattle.page_model.proofs.GivenNumbers.Pages.{idle_step-held}
+use Rattle.page_model.proofs.GivenNumbers.Turns.{first_state-good}
 use Rattle.page_model.specs.Choosing.{Chosen, Rules, chosen_answer, chosen_reading, chosen_source}
 use Rattle.page_model.specs.Invoke.{in_task}
 use Rattle.page_model.specs.Numbers.{Each, HasPromise, HostTaskIsGiven, HoldsNoNumbers, IfThere, Made, SchedTaskIsGiven, StepsAreGiven, TaskIsGiven, made_by}

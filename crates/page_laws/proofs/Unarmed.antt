@@ -2,7 +2,7 @@
 use Rattle.std.proofs.Common.{◌≡◌, inl, inr, ℕ, ◌≤◌, ◌<◌, List, [], ◌∷◌, sym, subst, length, arith}
 use Rattle.page_model.specs.State.{Page, Task, Steps, RunTimer, Completion, QueueTimer, EnqueuePost, QueueSignal, Completing, IdleTimer, HostAnswer}
 use Rattle.page_model.specs.Numbers.{Each, Made, made_by, StepsAreGiven, TaskIsGiven, CompletionIsGiven, CompletingIsGiven, IdleTimerIsGiven, HostTaskIsGiven}
-use Rattle.page_model.proofs.NumbersGrow.{Held, InTasks, InCompletions, InIdleTimers, InHostAnswers}
+use Rattle.page_model.proofs.GivenNumbers.Growing.{Held, InTasks, InCompletions, InIdleTimers, InHostAnswers}
 use Rattle.page_laws.specs.Moves.{IsIn, HasSteps, IsUnarmed, Places, places, completes_for}
 
 pub each-in : {X : Type 0} (P : X → Type 0) (xs : List X) → Each P xs → (x : X) → IsIn x xs → P x

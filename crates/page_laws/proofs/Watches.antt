@@ -6,9 +6,9 @@ use Rattle.page_types.specs.Values.{Value}
 use Rattle.page_parts.specs.AbortGraph.{SignalRecord, Signals, fresh_signal, the_signal, with_algorithms}
 use Rattle.page_parts.specs.AbortGraph as AbortGraph
 use Rattle.page_parts.specs.Words.{and_last, is_there, numbered, with_numbered, without}
-use Rattle.page_model.proofs.NumbersSignals.{any-by_number, last-by_number, with-by_number}
+use Rattle.page_model.proofs.GivenNumbers.Signals.{any-by_number, last-by_number, with-by_number}
 use Rattle.page_types.specs.declared.RegKind.TheVariants as kind
-use Rattle.page_model.proofs.NumbersGrow.{Held, InCompletions}
+use Rattle.page_model.proofs.GivenNumbers.Growing.{Held, InCompletions}
 use Rattle.page_model.specs.Numbers.{CompletingIsGiven, CompletionIsGiven, IsGiven, made_by}
 use Rattle.page_model.specs.State.{EnqueuePost, OfKind, Page}
 use Rattle.page_laws.specs.Moves.{DelayWaits, IsIn, IsReleased, algorithms_at, role_at}

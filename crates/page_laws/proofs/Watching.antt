@@ -18,7 +18,7 @@ use Rattle.page_parts.specs.Words.{and_last}
 use Rattle.page_model.specs.Invoke.{register_as, call_begun}
 use Rattle.page_model.specs.State.{Page, OfKind, Registration, Completion, Completing, QueueTimer, EnqueuePost, QueueSignal, TimerTask, PrioSource, emit, emit_each, on_notices, context}
 use Rattle.page_model.specs.Turns.{first_page}
-use Rattle.page_model.proofs.NumbersGrow.{length-last}
+use Rattle.page_model.proofs.GivenNumbers.Growing.{length-last}
 use Rattle.page_laws.specs.History.{History}
 use Rattle.page_laws.specs.TimerLaws.{was_done}
 use Rattle.page_laws.specs.Moves.{AsBefore, Beginning, TheScript, ATimer, AFrame, AnIdle, ALateIdle, AListener, APost, AContinuation, AMicro, AReaction, Changes, nothing, with_change, with_arm, DelayWaits, Dropping, timer_dropped, idle_dropped, listener_dropped, DueChange, timer_due, delay_due, signal_due, idle_due, answer_due, FirstOwns, FirstPlace, nowhere, at_listener, at_timer, at_delay, at_idle, at_host, IsAbortable, IsCalm, IsIn, IsNew, IsQuiet, IsReleased, PageChange, PlaceChange, places_stay, task_queued, task_left, armed_again, signal_armed, id_cleared, idle_armed, completed, idle_started, idle_queued, Places, SignalsChange, calmly, marking, Tells, WhenCalm, algorithms_at, called_by, completions_but, places, signal_at, taken, elsewhere, told, arm_told, rested, registered as made_one, promised, settled, followed, adopted, subscribed, micro_asked, then_asked, answered, dropped, frame_dropped, frame_asked, rejected_taken, noted, task_dropped, enqueued_anew, fell_due, post_fell_due, prio_told}

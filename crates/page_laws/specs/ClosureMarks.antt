@@ -1,5 +1,5 @@
 -- What becomes of the closures of the host in a run, by the lines that stand in its trace.
-use Rattle.std.specs.Prelude.{◌≡◌, ◌⊎◌, ℕ, Bool, true, false, cond, if◌then◌else◌, List, [], ◌∷◌, Option, Some, None, option_map, slice_get, ◌==◌}
+use Rattle.std.specs.Prelude.{◌≡◌, ◌⊎◌, ℕ, Bool, true, false, if◌then◌else◌, List, [], ◌∷◌, Option, Some, None, option_map, slice_get, ◌==◌}
 use Rattle.std.specs.List.{list_any}
 use Rattle.page_types.specs.declared.HostMark.{HostMark}
 use Rattle.page_types.specs.declared.HostMark.TheVariants.{Live, Queued, Fired, Dropped}
@@ -26,7 +26,7 @@ has_asked asks r = list_any (λ a. a.registration == r) asks
 -- the registration that asked closure number k, if there is one
 abbrev pub asker_of : List Ask → (k : ℕ) → Option ℕ
 asker_of [] k = None
-asker_of (a ∷ more) k = cond (a.closure == k) (Some a.registration) (asker_of more k)
+asker_of (a ∷ more) k = if a.closure == k then Some a.registration else asker_of more k
 
 -- ---- Ours: marks
 

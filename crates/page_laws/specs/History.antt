@@ -1,5 +1,5 @@
 -- What the lines before a line tell. A history has the last line first.
-use Rattle.std.specs.Prelude.{ℕ, Bool, true, false, cond, ◌&&◌, List, [], ◌∷◌, filter, length, Option, Some, None, is_some, ◌==◌}
+use Rattle.std.specs.Prelude.{ℕ, Bool, true, false, if◌then◌else◌, ◌&&◌, List, [], ◌∷◌, filter, length, Option, Some, None, is_some, ◌==◌}
 use Rattle.std.specs.List.{list_any}
 use Rattle.page_types.specs.declared.Source.{Source}
 use Rattle.page_types.specs.declared.Source.TheVariants.{Sched}
@@ -89,7 +89,7 @@ is_rest e = false
 -- ---- registrations
 
 abbrev pub kind_in : ℕ → Event → Option RegKind → Option RegKind
-kind_in r (Reg q kind by) earlier = cond (q == r) (Some kind) earlier
+kind_in r (Reg q kind by) earlier = if q == r then Some kind else earlier
 kind_in r e earlier = earlier
 
 -- what a registration is for
@@ -162,8 +162,8 @@ abbrev pub was_dropped : History → ℕ → Bool
 was_dropped past r = some_line (is_drop_of r) past
 
 abbrev pub armed_in : ℕ → Event → Option ℕ → Option ℕ
-armed_in r (Arm q due level) earlier = cond (q == r) (Some due) earlier
-armed_in r (Due q) earlier = cond (q == r) None earlier
+armed_in r (Arm q due level) earlier = if q == r then Some due else earlier
+armed_in r (Due q) earlier = if q == r then None else earlier
 armed_in r e earlier = earlier
 
 -- the time for which a registration is armed, where it is armed and has not been due since
@@ -172,7 +172,7 @@ armed_for [] r = None
 armed_for (e ∷ past) r = armed_in r e.event (armed_for past r)
 
 abbrev pub level_in : ℕ → Event → Option ℕ → Option ℕ
-level_in r (Arm q due level) earlier = cond (q == r) (Some level) earlier
+level_in r (Arm q due level) earlier = if q == r then Some level else earlier
 level_in r e earlier = earlier
 
 -- the level with which a registration was armed last
@@ -206,12 +206,12 @@ open_registrations (e ∷ past) = open_after e.event (open_registrations past)
 -- the lines before the last one that passes the test, if there is one
 abbrev pub before_last : (Event → Bool) → History → Option History
 before_last test [] = None
-before_last test (e ∷ past) = cond (test e.event) (Some past) (before_last test past)
+before_last test (e ∷ past) = if test e.event then Some past else before_last test past
 
 -- the lines since the last one that passes the test, without it, the last one first
 abbrev pub since_last : (Event → Bool) → History → History
 since_last test [] = []
-since_last test (e ∷ past) = cond (test e.event) [] (e ∷ since_last test past)
+since_last test (e ∷ past) = if test e.event then [] else e ∷ since_last test past
 
 -- the calls among these lines, the last one first
 abbrev pub called_in : Event → List ℕ → List ℕ

@@ -1,5 +1,5 @@
 -- Laws of every trace: priorities, and how a run ends.
-use Rattle.std.specs.Prelude.{◌≡◌, ℕ, ◌+◌, ◌*◌, Bool, true, false, cond, not, ◌&&◌, ◌||◌, List, [], ◌∷◌, filter, length, Option, Some, None, nat_lt, nat_le, ◌==◌, option_map, if◌then◌else◌}
+use Rattle.std.specs.Prelude.{◌≡◌, ℕ, ◌+◌, ◌*◌, Bool, true, false, not, ◌&&◌, ◌||◌, List, [], ◌∷◌, filter, length, Option, Some, None, nat_lt, nat_le, ◌==◌, option_map, if◌then◌else◌}
 use Rattle.std.specs.List.{list_all}
 use Rattle.page_types.specs.declared.Priority.{Priority}
 use Rattle.page_types.specs.declared.Priority.TheVariants.{Background, UserVisible, UserBlocking}
@@ -19,7 +19,7 @@ rank_of UserVisible = 1
 rank_of UserBlocking = 2
 
 abbrev pub priority_in : ℕ → Event → Option Priority → Option Priority
-priority_in s (Prio t p) earlier = cond (t == s) (Some p) earlier
+priority_in s (Prio t p) earlier = if t == s then Some p else earlier
 priority_in s e earlier = earlier
 
 -- the priority of a signal now, by its last line
@@ -52,7 +52,7 @@ waiting past = filter (λ t. not (was_called past t.registration || was_dropped 
 
 -- twice the priority now, and one more for a continuation
 abbrev pub effective : History → Enqueued → Option ℕ
-effective past t = option_map (λ p. 2 * rank_of p + cond t.continuation 1 0) (queue_priority past t.queue)
+effective past t = option_map (λ p. 2 * rank_of p + (if t.continuation then 1 else 0)) (queue_priority past t.queue)
 
 abbrev pub goes_first : ℕ → ℕ → ℕ → ℕ → Bool
 goes_first priority order other_priority other_order =
@@ -73,9 +73,9 @@ has_task (t ∷ ts) = true
 -- directly behind a turn of the scheduler its first task is called, and it is called nowhere else
 abbrev pub scheduled_well : History → ℕ → Bool
 scheduled_well past r =
-    cond (last_line is_sched_turn past)
-    (has_kind is_scheduled past r && has_task (first_tasks past r))
-    (not (has_kind is_scheduled past r))
+    if last_line is_sched_turn past
+    then has_kind is_scheduled past r && has_task (first_tasks past r)
+    else not (has_kind is_scheduled past r)
 
 abbrev pub is_later : History → ℕ → Bool
 is_later past n = list_all (λ t. nat_lt t.order n) (enqueued past)

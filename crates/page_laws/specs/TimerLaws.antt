@@ -1,5 +1,5 @@
 -- Laws of every trace: timers, animation frames and idle periods.
-use Rattle.std.specs.Prelude.{◌≡◌, ℕ, suc, ◌+◌, ◌-◌, ◌%◌, Bool, true, false, cond, not, ◌&&◌, ◌||◌, List, [], ◌∷◌, Option, Some, None, nat_lt, nat_le, ◌==◌}
+use Rattle.std.specs.Prelude.{◌≡◌, ℕ, suc, ◌+◌, ◌-◌, ◌%◌, Bool, true, false, if◌then◌else◌, not, ◌&&◌, ◌||◌, List, [], ◌∷◌, Option, Some, None, nat_lt, nat_le, ◌==◌}
 use Rattle.std.specs.List.{list_all}
 use Rattle.page_types.specs.declared.RegKind.{RegKind}
 use Rattle.page_types.specs.declared.RegKind.TheVariants as kind
@@ -28,7 +28,7 @@ level_above (Some level) = Some (suc level)
 
 abbrev pub level_under : History → ℕ → Option ℕ → Option ℕ
 level_under past r None = level_above (level_of past r)
-level_under past r (Some parent) = cond (has_kind is_timer past parent) (level_above (level_of past parent)) (Some 1)
+level_under past r (Some parent) = if has_kind is_timer past parent then level_above (level_of past parent) else Some 1
 
 -- In the first form the parent of a timer that is armed is the outermost call, if that is of a timer; where no call is
 -- open, it is the timer itself, which is armed again.
@@ -45,7 +45,7 @@ level_by_turn past = level_of_turn past (outermost (calls_in (this_turn past)))
 
 -- one more than the level last armed for the parent, and 1 where there is none
 abbrev pub level_due : (form : ℕ) → History → ℕ → Option ℕ
-level_due form past r = cond (form == 2) (level_by_turn past) (level_by_call past r)
+level_due form past r = if form == 2 then level_by_turn past else level_by_call past r
 
 -- a whole number of milliseconds, and 4 at least from level 7 on
 abbrev pub is_delay : ℕ → ℕ → Bool
@@ -53,9 +53,9 @@ is_delay delay level = (delay % 1000 == 0) && (nat_lt level 7 || nat_le 4000 del
 
 abbrev pub arms_well : (form : ℕ) → History → ℕ → ℕ → ℕ → ℕ → Bool
 arms_well form past now r due level =
-    cond (has_kind is_timer past r)
-    (is_some_and (λ n. n == level) (level_due form past r) && nat_le now due && is_delay (due - now) level)
-    (not (has_kind has_no_level past r) || (level == 0))
+    if has_kind is_timer past r
+    then is_some_and (λ n. n == level) (level_due form past r) && nat_le now due && is_delay (due - now) level
+    else not (has_kind has_no_level past r) || (level == 0)
 
 -- each of these that was armed before, for no later time, has been due since
 abbrev pub all_due : History → ℕ → ℕ → History → Bool
@@ -70,7 +70,9 @@ armed_passes r e older newer = true
 -- where it was due before; `newer` holds those that came after them.
 abbrev pub passes_none : ℕ → History → History → Bool
 passes_none r newer [] = true
-passes_none r newer (e ∷ past) = cond (is_due_of r e.event) true (armed_passes r e.event past newer && passes_none r (e ∷ newer) past)
+passes_none r newer (e ∷ past) =
+    if is_due_of r e.event then true
+    else armed_passes r e.event past newer && passes_none r (e ∷ newer) past
 
 abbrev pub is_due_now : History → ℕ → ℕ → Bool
 is_due_now past now r = is_some_and (λ due. nat_le due now) (armed_for past r)
@@ -134,8 +136,8 @@ DueInOrder es = holds_due_in_order es ≡ true
 
 abbrev pub is_clamped : History → (now r due level : ℕ) → Bool
 is_clamped past now r due level =
-    cond (has_kind is_timer past r) (nat_le now due && is_delay (due - now) level)
-    (not (has_kind has_no_level past r) || (level == 0))
+    if has_kind is_timer past r then nat_le now due && is_delay (due - now) level
+    else not (has_kind has_no_level past r) || (level == 0)
 
 abbrev pub keeps_clamps : History → ℕ → Event → Bool
 keeps_clamps past now (Arm r due level) = is_clamped past now r due level
@@ -193,7 +195,7 @@ framed_at e older all = true
 -- the callbacks that were requested before a frame line, among these lines, were called or dropped
 abbrev pub all_framed : History → History → Bool
 all_framed all [] = true
-all_framed all (e ∷ past) = cond (is_rest e.event) true (framed_at e.event past all && all_framed all past)
+all_framed all (e ∷ past) = if is_rest e.event then true else framed_at e.event past all && all_framed all past
 
 abbrev pub keeps_frames : History → Event → Bool
 keeps_frames past (Call r) = not (has_kind is_frame past r) || may_be_drawn past r
@@ -231,7 +233,7 @@ abbrev pub is_deadline : History → ℕ → ℕ → Bool
 is_deadline past now d = is_some_and (λ start. nat_le d (start + 50000)) (period_start past) && nat_lt now d && none_earlier past d
 
 abbrev pub called_idly : Event → History → List ℕ → List ℕ
-called_idly (Call r) past more = cond (last_line is_idle_line past) (r ∷ more) more
+called_idly (Call r) past more = if last_line is_idle_line past then r ∷ more else more
 called_idly e past more = more
 
 -- the calls that stand directly behind an idle line
@@ -246,7 +248,7 @@ may_be_idle past r = is_reg_before r (before_last is_period past) && list_all (�
 -- else its timeout is over
 abbrev pub idle_well : History → ℕ → Bool
 idle_well past r =
-    cond (last_line is_idle_line past) (has_kind is_idle past r && may_be_idle past r) (not (has_kind is_idle past r) || was_due past r)
+    if last_line is_idle_line past then has_kind is_idle past r && may_be_idle past r else not (has_kind is_idle past r) || was_due past r
 
 abbrev pub keeps_idle : History → ℕ → Event → Bool
 keeps_idle past now (Call r) = idle_well past r

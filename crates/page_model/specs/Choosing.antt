@@ -1,5 +1,5 @@
 -- How the free choices of a run are made.
-use Rattle.std.specs.Prelude.{ℕ, ◌^◌, Bool, cond, ◌&&◌, List, Option, Some, None, ℤ, nat_lt, nat_le, option_map, Result}
+use Rattle.std.specs.Prelude.{ℕ, ◌^◌, Bool, if◌then◌else◌, ◌&&◌, List, Option, Some, None, ℤ, nat_lt, nat_le, option_map, Result}
 use Rattle.page_types.specs.declared.Source.{Source}
 use Rattle.page_types.specs.declared.HostKind.{HostKind}
 use Rattle.page_parts.specs.HostClosures.{meets}
@@ -23,7 +23,7 @@ pub record Rules (C : Type 0) : Type 0 where
 -- a choice that is legal; any other one counts as refused
 abbrev pub legal : {X C : Type 0} → (X → Bool) → Option (Chosen X C) → Option (Chosen X C)
 legal is_legal None = None
-legal is_legal (Some x) = cond (is_legal x.choice) (Some x) None
+legal is_legal (Some x) = if is_legal x.choice then Some x else None
 
 -- a reading of the clock: not before the target, and below 2 ^ 63
 abbrev pub is_reading : ℕ → ℕ → Bool

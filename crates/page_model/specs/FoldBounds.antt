@@ -1,5 +1,5 @@
 -- How many callbacks an open fold may still call, and the bounds of a page by which it is a number of 64 bits.
-use Rattle.std.specs.Prelude.{◌≡◌, ℕ, ◌+◌, ◌*◌, ◌^◌, ◌≤◌, ◌<◌, true, cond, List, [], ◌∷◌, length, ⊤, codes, ◌==◌}
+use Rattle.std.specs.Prelude.{◌≡◌, ℕ, ◌+◌, ◌*◌, ◌^◌, ◌≤◌, ◌<◌, true, if◌then◌else◌, List, [], ◌∷◌, length, ⊤, codes, ◌==◌}
 use Rattle.page_types.specs.Values.{Value}
 use Rattle.page_types.specs.declared.Priority.{Priority}
 use Rattle.page_parts.specs.Words.{is_there}
@@ -16,7 +16,7 @@ use Rattle.page_model.specs.PageHost.{Hosting}
 -- how many signals have a priority other than this one
 abbrev pub others : Priority → Prios → ℕ
 others priority [] = 0
-others priority (r ∷ rs) = cond (same_priority r.priority priority) 0 1 + others priority rs
+others priority (r ∷ rs) = (if same_priority r.priority priority then 0 else 1) + others priority rs
 
 -- how many listeners hear the abort of a signal
 abbrev pub heard : List Listener → ℕ → ℕ
@@ -72,7 +72,7 @@ AllHaveRecords ps (s ∷ ss) = HasRecord ps s × AllHaveRecords ps ss
 -- how many times a number is in a list
 abbrev pub times : List ℕ → ℕ → ℕ
 times [] n = 0
-times (m ∷ ms) n = cond (n == m) 1 0 + times ms n
+times (m ∷ ms) n = (if n == m then 1 else 0) + times ms n
 
 -- fewer than 2 ^ 32 registrations, each listener with its own; fewer than 2 ^ 32 signals, each of which depends on another one at most
 -- once; each with a priority at most once;

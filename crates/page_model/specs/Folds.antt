@@ -1,5 +1,5 @@
 -- Dispatch, abort and priority change by steps: what is still to visit of an open one, as plain data.
-use Rattle.std.specs.Prelude.{ℕ, zero, suc, cond, ◌||◌, List, [], ◌∷◌, ◌++◌, map, Option, Some, None, codes}
+use Rattle.std.specs.Prelude.{ℕ, zero, suc, if◌then◌else◌, ◌||◌, List, [], ◌∷◌, ◌++◌, map, Option, Some, None, codes}
 use Rattle.page_types.specs.Values.{Value, SignalValue}
 use Rattle.page_types.specs.declared.Priority.{Priority}
 use Rattle.page_types.specs.Events.{Ret}
@@ -45,10 +45,10 @@ begin_listener (Some f) when args rs rest next p = Calls f (record { when = when
 abbrev pub next_listener : List Value → List ℕ → Rest → (Page → Reached) → Page → Reached
 next_listener args [] rest next p = next p
 next_listener args (r ∷ rs) rest next p =
-    cond (is_listening r p.listeners)
-    (begin_listener (the_registration p r).callback (when_reported (the_registration p r).role) args rs rest
-    (next_listener args rs rest next) (call_begun r p))
-    (next_listener args rs rest next p)
+    if is_listening r p.listeners
+    then begin_listener (the_registration p r).callback (when_reported (the_registration p r).role) args rs rest
+    (next_listener args rs rest next) (call_begun r p)
+    else next_listener args rs rest next p
 
 -- an event is fired at a signal
 abbrev pub fire : ℕ → List ℕ → List Value → Rest → (Page → Reached) → Page → Reached
@@ -75,12 +75,12 @@ abbrev pub change_from : Priority → ℕ → ℕ → List ChangePiece → (Page
 change_from priority zero s more next p = next p
 change_from priority (suc n) s more next p =
     let ss = followers p.prios s in
-    cond (is_changing p.prios s || has_priority p.prios s priority)
-    (next p)
-    (fire s (codes "prioritychange") (SignalValue s ∷ priority_value (priority_of p.prios s) ∷ [])
+    if is_changing p.prios s || has_priority p.prios s priority
+    then next p
+    else fire s (codes "prioritychange") (SignalValue s ∷ priority_value (priority_of p.prios s) ∷ [])
     (ChangesLeft priority (changes_of n ss (EndChange s ∷ more)))
     (each_change (change_from priority n) n ss (EndChange s ∷ more) (λ q. next (change_ended s q)))
-    (change_begun s priority p))
+    (change_begun s priority p)
 
 -- the pieces of a change
 abbrev pub changes_from : Priority → List ChangePiece → Page → Reached

@@ -1,5 +1,5 @@
 -- Callbacks, jobs and the microtask checkpoint.
-use Rattle.std.specs.Prelude.{ℕ, zero, suc, Bool, true, false, cond, List, [], ◌∷◌, ◌++◌, length, Option, Some, None, ◌==◌}
+use Rattle.std.specs.Prelude.{ℕ, zero, suc, Bool, true, false, if◌then◌else◌, List, [], ◌∷◌, ◌++◌, length, Option, Some, None, ◌==◌}
 use Rattle.page_types.specs.Values.{Value, items_of}
 use Rattle.page_types.specs.declared.Source.TheVariants.{Dom}
 use Rattle.page_types.specs.declared.RegKind.{RegKind}
@@ -131,11 +131,11 @@ settle_derived into done = settle_by (promises.resolve into) into done
 
 -- the value of a handler resolves the derived promise; that of a handler of `finally` is waited for, and then the outcome is passed on
 abbrev pub resolve_derived : Registration → ℕ → Settled → Value → Page → Page
-resolve_derived x into how = cond x.finally (pass_on into how) (promises.resolve into)
+resolve_derived x into how = if x.finally then pass_on into how else promises.resolve into
 
 -- a handler gets the value or the reason; that of `finally` gets none
 abbrev pub handler_arguments : Registration → Settled → List Value
-handler_arguments x how = cond x.finally [] (settled_value how ∷ [])
+handler_arguments x how = if x.finally then [] else settled_value how ∷ []
 
 -- a `then` reaction: its handler is called, and an absent handler passes the outcome on
 abbrev pub react_then : Caller Page → ℕ → Option Func → Reaction → Settled → State → Done Page
@@ -164,7 +164,7 @@ run_job call (OfPromise (Adopt into from)) m = finish (on_page (promises.subscri
 -- Ours: the nesting level and the scheduling state of a microtask. In form 1 it has level 0 and no state, in form 2 those that were
 -- current when it was queued
 abbrev pub context_of_job : ℕ → WaitingJob → Context
-context_of_job form job = cond (form == 2) job.context no_context
+context_of_job form job = if form == 2 then job.context else no_context
 
 -- these are the current ones
 abbrev pub under : Context → Page → Page
@@ -193,8 +193,8 @@ run_jobs call (suc n) m = run_oldest call m.host.notices.jobs (run_jobs call n) 
 -- taken by a task
 abbrev pub notify_rejected : Page → Page
 notify_rejected p =
-    cond (is_empty p.notices.rejected) p
-    (queue_task Dom (NotifyRejected p.notices.rejected) (record p { notices = record p.notices { rejected = [] } }))
+    if is_empty p.notices.rejected then p
+    else queue_task Dom (NotifyRejected p.notices.rejected) (record p { notices = record p.notices { rejected = [] } })
 
 -- ---- HTML, "Event loops: processing model": perform a microtask checkpoint
 

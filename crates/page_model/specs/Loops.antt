@@ -1,5 +1,5 @@
 -- Several loops, as dedicated workers have.
-use Rattle.std.specs.Prelude.{◌≡◌, ℕ, zero, suc, max, Bool, false, cond, not, ◌&&◌, ◌||◌, List, [], ◌∷◌, map, Option, Some, None, nat_lt, option_map, ◌==◌}
+use Rattle.std.specs.Prelude.{◌≡◌, ℕ, zero, suc, max, Bool, false, if◌then◌else◌, not, ◌&&◌, ◌||◌, List, [], ◌∷◌, map, Option, Some, None, nat_lt, option_map, ◌==◌}
 use Rattle.page_types.specs.declared.End.TheVariants.{Done as DoneEnd}
 use Rattle.page_parts.specs.Words.{is_empty, is_there}
 use Rattle.page_parts.specs.Channels.{Channel}
@@ -20,14 +20,14 @@ use Rattle.page_model.specs.Windows.{Script}
 abbrev pub key_by : (until : ℕ) → State → Choices → Option ℕ → Option ℕ
 key_by until m c None = Some m.host.now
 key_by until m c (Some t) =
-    cond (nat_lt m.host.now t && nat_lt m.host.now until && nat_lt t until) (option_map (λ r. r.choice) (chosen_reading choice_rules t c))
-    (Some (max m.host.now t))
+    if nat_lt m.host.now t && nat_lt m.host.now until && nat_lt t until then option_map (λ r. r.choice) (chosen_reading choice_rules t c)
+    else Some (max m.host.now t)
 
 -- the moment at which a loop goes on: none where nothing is pending
 abbrev pub key_in : (until : ℕ) → State → Choices → Option ℕ
 key_in until m c =
-    cond ((m.host.turns == 0) || not (is_empty (view m.host))) (Some m.host.now)
-    (cond (is_pending m.host) (key_by until m c (target m.host)) None)
+    if (m.host.turns == 0) || not (is_empty (view m.host)) then Some m.host.now
+    else if is_pending m.host then key_by until m c (target m.host) else None
 
 -- the key of a run: none where it has ended
 abbrev pub key_of : (until : ℕ) → Turned Choices → Option ℕ
@@ -56,7 +56,7 @@ pub record Keyed : Type 0 where
 abbrev pub sooner : Option ℕ → ℕ → Option Keyed → Option Keyed
 sooner None n best = best
 sooner (Some k) n None = Some (record { number = n; key = k })
-sooner (Some k) n (Some best) = cond (nat_lt best.key k) (Some best) (Some (record { number = n; key = k }))
+sooner (Some k) n (Some best) = if nat_lt best.key k then Some best else Some (record { number = n; key = k })
 
 -- the live loop of least key, of those from number n on
 abbrev pub first_keyed : ℕ → List PageRun → Option Keyed

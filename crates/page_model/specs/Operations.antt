@@ -1,5 +1,5 @@
 -- What each operation does.
-use Rattle.std.specs.Prelude.{ℕ, suc, ◌+◌, ◌*◌, Bool, true, false, cond, ◌&&◌, ◌||◌, List, [], ◌∷◌, length, Option, Some, None, ℤ, pos, negsuc, int_le, nat_lt, nat_le, ◌==◌, slice_get, slice_set, unwrap_or}
+use Rattle.std.specs.Prelude.{ℕ, suc, ◌+◌, ◌*◌, Bool, true, false, if◌then◌else◌, ◌&&◌, ◌||◌, List, [], ◌∷◌, length, Option, Some, None, ℤ, pos, negsuc, int_le, nat_lt, nat_le, ◌==◌, slice_get, slice_set, unwrap_or}
 use Rattle.page_types.specs.Values.{Value, UnitValue, BoolValue, IntValue, TextValue, ListValue, FunValue, PromiseValue, SignalValue, ControllerValue, DeadlineValue, FaultValue, Values, no_values, with_value, items_of, values_of}
 use Rattle.page_types.specs.declared.FaultName.TheVariants.{TypeError, RangeError, AbortError, NotAllowedError}
 use Rattle.page_types.specs.declared.Op.{Op}
@@ -70,9 +70,9 @@ where_left left m next = branch left m next (throw_fault RangeError)
 abbrev pub priority_in : Value → Option Priority
 priority_in v = elim (text_in v) [
   | None ↦ None
-  | Some bs ↦ cond (same_bytes bs (priority_text Background)) (Some Background)
-      (cond (same_bytes bs (priority_text UserVisible)) (Some UserVisible)
-      (cond (same_bytes bs (priority_text UserBlocking)) (Some UserBlocking) None))
+  | Some bs ↦ if same_bytes bs (priority_text Background) then Some Background
+      else if same_bytes bs (priority_text UserVisible) then Some UserVisible
+      else if same_bytes bs (priority_text UserBlocking) then Some UserBlocking else None
 ]
 
 -- an integer from low to high
@@ -81,7 +81,7 @@ int_within low high n = int_le low n && int_le n high
 
 -- milliseconds from 0 to 1,000,000,000
 abbrev pub delay_in : Value → Option ℕ
-delay_in v = elim (int_in v) [ None ↦ None | Some n ↦ cond (int_within (pos 0) (pos 1000000000) n) (Some (not_below_zero n)) None ]
+delay_in v = elim (int_in v) [ None ↦ None | Some n ↦ if int_within (pos 0) (pos 1000000000) n then Some (not_below_zero n) else None ]
 
 -- a Signal, or unit for none
 abbrev pub signal_or_unit : Value → Option (Option ℕ)
@@ -245,7 +245,7 @@ make_task_controller v m =
 
 -- the reason of an abort: a new AbortError where none is given
 abbrev pub reason_given : Value → Value
-reason_given v = cond (is_unit v) (a_fault AbortError) v
+reason_given v = if is_unit v then a_fault AbortError else v
 
 -- `abort` of a controller
 abbrev pub abort_by : Ways → Value → Value → State → Done Page
@@ -350,7 +350,7 @@ listen t name f m =
 -- `unlisten`: a listener is removed with a `drop` line, where it is there
 abbrev pub listener_removed : ℕ → Page → Page
 listener_removed r p =
-    cond (is_listening r p.listeners) (emit (Drop r) (record p { listeners = off r p.listeners })) p
+    if is_listening r p.listeners then emit (Drop r) (record p { listeners = off r p.listeners }) else p
 
 -- ---- Prioritized Task Scheduling, "The Scheduler Interface": postTask() and yield(), and "Scheduling Tasks and Continuations"
 
@@ -376,7 +376,7 @@ source_reason p (Some s) = reason_value p s
 -- a signal as priority source, where it has a priority; else fixed user-visible
 abbrev pub signal_source : Page → Option ℕ → PrioSource
 signal_source p None = Fixed UserVisible
-signal_source p (Some s) = cond (is_there (priority_of p.prios s)) (OfSignal s) (Fixed UserVisible)
+signal_source p (Some s) = if is_there (priority_of p.prios s) then OfSignal s else Fixed UserVisible
 
 -- the given priority, fixed; else the signal, if it has a priority; else fixed user-visible
 abbrev pub prio_source_of : Page → Option Priority → Option ℕ → PrioSource
@@ -407,7 +407,7 @@ post_delayed ms r source p = run_after ms (EnqueuePost r source) (emit (Arm r (p
 abbrev pub post_queued : Func → PrioSource → Option ℕ → ℕ → Page → Page
 post_queued f source signal ms p =
     let made = promised PostKind (Some f) signal p in
-    cond (ms == 0) (enqueue (last_registration made) source false) (post_delayed ms (last_registration made) source) made
+    (if ms == 0 then enqueue (last_registration made) source false else post_delayed ms (last_registration made) source) made
 
 -- `postTask` with arguments of the right kinds: an aborted signal rejects the promise
 abbrev pub post_accepted : Func → Option Priority → Option ℕ → ℕ → State → Done Page
@@ -448,7 +448,7 @@ yield_task m = yield_in (current_state m.host) m
 -- the latency of a closure, 0 where no line gives it
 abbrev pub latency_of : List Latency → ℕ → ℕ
 latency_of [] k = 0
-latency_of (a ∷ more) k = cond (a.closure == k) a.latency (latency_of more k)
+latency_of (a ∷ more) k = if a.closure == k then a.latency else latency_of more k
 
 -- the closure of this number
 abbrev pub closure_at : Page → ℤ → Option HostClosure
@@ -465,7 +465,7 @@ is_fresh Dropped = false
 -- the closure, where it is in the table and x is in its range
 abbrev pub fitting : Option HostClosure → ℤ → Option HostClosure
 fitting None x = None
-fitting (Some c) x = cond (int_within c.low c.high x) (Some c) None
+fitting (Some c) x = if int_within c.low c.high x then Some c else None
 
 -- a closure after it was asked
 abbrev pub queued_mark : HostClosure → HostClosure
@@ -555,11 +555,11 @@ finally_value v f m =
 
 -- a port: a number from 1 to 64
 abbrev pub port_in : Value → Option ℕ
-port_in v = elim (int_in v) [ None ↦ None | Some n ↦ cond (int_within (pos 1) (pos 64) n) (Some (not_below_zero n)) None ]
+port_in v = elim (int_in v) [ None ↦ None | Some n ↦ if int_within (pos 1) (pos 64) n then Some (not_below_zero n) else None ]
 
 -- the value, where it may be sent
 abbrev pub sendable_in : Value → Option Value
-sendable_in v = cond (is_sendable v) (Some v) None
+sendable_in v = if is_sendable v then Some v else None
 
 -- a message is posted, with its line
 abbrev pub posted : ℕ → Value → Page → Page

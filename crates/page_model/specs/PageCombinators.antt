@@ -1,5 +1,5 @@
 -- Combinators of a page, and their elements.
-use Rattle.std.specs.Prelude.{ℕ, suc, ◌+◌, Bool, cond, List, [], ◌∷◌, length, Option, Some, None, nat_le, ◌==◌, find}
+use Rattle.std.specs.Prelude.{ℕ, suc, ◌+◌, Bool, if◌then◌else◌, List, [], ◌∷◌, length, Option, Some, None, nat_le, ◌==◌, find}
 use Rattle.page_types.specs.Values.{Value, PromiseValue}
 use Rattle.page_types.specs.declared.FaultName.TheVariants.{RangeError}
 use Rattle.page_parts.specs.Words.{and_last, numbered, with_numbered}
@@ -118,4 +118,6 @@ passed_on into how v p =
 
 -- the same where the promises that it takes are left, and else a rejection with RangeError
 abbrev pub pass_on : ℕ → Settled → Value → Page → Page
-pass_on into how v p = cond (are_promises_left (promises_for v + 2) p) (passed_on into how v) (promises.reject into (a_fault RangeError)) p
+pass_on into how v p =
+    (if are_promises_left (promises_for v + 2) p then passed_on into how v
+    else promises.reject into (a_fault RangeError)) p

@@ -1,5 +1,5 @@
 -- The page as a host that answers by steps, with its open folds.
-use Rattle.std.specs.Prelude.{ℕ, cond, List, [], ◌∷◌, length, Option, Some, None}
+use Rattle.std.specs.Prelude.{ℕ, if◌then◌else◌, List, [], ◌∷◌, length, Option, Some, None}
 use Rattle.page_types.specs.Values.{Value, UnitValue, FunValue, FaultValue}
 use Rattle.page_types.specs.declared.FaultName.{FaultName}
 use Rattle.page_types.specs.declared.FaultName.TheVariants.{TypeError, NotAllowedError}
@@ -55,9 +55,10 @@ step_abort folds c reason p = step_given folds (controller_in c) p (λ s. reache
 -- a signal's priority is changed: TypeError where it has none, NotAllowedError while a change is in progress
 abbrev pub step_change_by : List Fold → ℕ → Priority → Page → Stepped Hosting
 step_change_by folds s priority p =
-    cond (is_there (priority_of p.prios s))
-    (cond (is_changing p.prios s) (step_fault folds NotAllowedError p) (reached_step folds (begin_change priority (length p.prios) s p)))
-    (step_fault folds TypeError p)
+    if is_there (priority_of p.prios s)
+    then (if is_changing p.prios s then step_fault folds NotAllowedError p
+      else reached_step folds (begin_change priority (length p.prios) s p))
+    else step_fault folds TypeError p
 
 -- `setPriority` of a controller
 abbrev pub step_change : List Fold → Value → Value → Page → Stepped Hosting
@@ -87,7 +88,7 @@ step_op folds op args p = done_step folds (operation (in_script no_calls) op arg
 
 -- the same, and TypeError where an argument holds a number that was not given out
 abbrev pub step_known : List Fold → Op → List Value → Page → Stepped Hosting
-step_known folds op args p = cond (may_operate p op args) (step_op folds op args p) (step_fault folds TypeError p)
+step_known folds op args p = if may_operate p op args then step_op folds op args p else step_fault folds TypeError p
 
 -- the page's rules as a host
 abbrev pub page_rules : HostRules Hosting

@@ -1,5 +1,5 @@
 -- Calls on the promises of a page.
-use Rattle.std.specs.Prelude.{ℕ, cond, length, None}
+use Rattle.std.specs.Prelude.{ℕ, if◌then◌else◌, length, None}
 use Rattle.page_types.specs.Values.{Value}
 use Rattle.page_types.specs.declared.Source.TheVariants.{Dom}
 use Rattle.page_parts.specs.Promises.{Settled, Fulfilled, Failed, Reaction, PromiseRecord}
@@ -29,7 +29,7 @@ follow n how p = on_notices (follow_promise (context p) p.names n how) p
 -- queued which fires `rejectionhandled`
 abbrev pub subscribe : ℕ → Reaction → Page → Page
 subscribe n r p =
-    cond (is_outstanding n p.notices) (queue_task Dom (NotifyHandled n)) (λ q. q) (on_notices (subscribe_promise (context p) n r) p)
+    (if is_outstanding n p.notices then queue_task Dom (NotifyHandled n) else (λ q. q)) (on_notices (subscribe_promise (context p) n r) p)
 
 -- a new pending promise; its number is the length of the list afterwards
 abbrev pub new_promise : Page → Page

@@ -1,5 +1,5 @@
 -- Dispatch, abort and priority change of a page: folds in which callbacks nest.
-use Rattle.std.specs.Prelude.{ℕ, zero, suc, Bool, false, cond, ◌||◌, List, [], ◌∷◌, map, Option, Some, None, codes, ◌==◌, find, unwrap_or, slice_get, slice_set, option_map}
+use Rattle.std.specs.Prelude.{ℕ, zero, suc, Bool, false, if◌then◌else◌, ◌||◌, List, [], ◌∷◌, map, Option, Some, None, codes, ◌==◌, find, unwrap_or, slice_get, slice_set, option_map}
 use Rattle.page_types.specs.Values.{Value, UnitValue, TextValue, SignalValue}
 use Rattle.page_types.specs.declared.Priority.{Priority}
 use Rattle.page_types.specs.Events.{Abort, Prio, Drop}
@@ -126,7 +126,7 @@ drop_registration r p =
 -- reason, and it is dropped where it had not begun
 abbrev pub abort_registration : Value → ℕ → Page → Page
 abort_registration reason r p =
-    cond (has_not_begun r p) (drop_registration r) (λ q. q) (promises.reject (the_registration p r).promise reason p)
+    (if has_not_begun r p then drop_registration r else (λ q. q)) (promises.reject (the_registration p r).promise reason p)
 
 -- the abort steps of registrations in a row
 abbrev pub abort_registrations : Value → List ℕ → Page → Page

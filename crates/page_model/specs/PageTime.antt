@@ -1,5 +1,5 @@
 -- Timers, frames and idle periods of a page.
-use Rattle.std.specs.Prelude.{ℕ, suc, ◌+◌, ◌-◌, ◌*◌, max, Bool, cond, ◌&&◌, ◌||◌, List, [], ◌∷◌, Option, Some, None, ℤ, nat_lt, nat_le, ◌==◌, find, option_map}
+use Rattle.std.specs.Prelude.{ℕ, suc, ◌+◌, ◌-◌, ◌*◌, max, Bool, if◌then◌else◌, ◌&&◌, ◌||◌, List, [], ◌∷◌, Option, Some, None, ℤ, nat_lt, nat_le, ◌==◌, find, option_map}
 use Rattle.page_types.specs.declared.Source.{Source}
 use Rattle.page_types.specs.declared.Source.TheVariants.{Render, Idle}
 use Rattle.page_types.specs.Events.{Arm, Drop, Period}
@@ -51,11 +51,11 @@ clear_id id p = record p { timers = Timers.clear id p.timers }
 -- the registration that has this timer id
 abbrev pub registration_with_id : ℕ → ℕ → List Registration → ℕ
 registration_with_id id r [] = 0
-registration_with_id id r (x ∷ more) = cond (x.timer_id == id) r (registration_with_id id (suc r) more)
+registration_with_id id r (x ∷ more) = if x.timer_id == id then r else registration_with_id id (suc r) more
 
 -- `clearTimeout` and `clearInterval`: the id leaves the map, where it is there
 abbrev pub clear_timer : ℕ → Page → Page
-clear_timer id p = cond (Timers.has_id id p.timers) (emit (Drop (registration_with_id id 1 p.registrations)) (clear_id id p)) p
+clear_timer id p = if Timers.has_id id p.timers then emit (Drop (registration_with_id id 1 p.registrations)) (clear_id id p) else p
 
 -- the completion steps of an active timer
 abbrev pub completion_of : List Completing → ℕ → Option Completion
@@ -76,12 +76,15 @@ first_task source tasks = find (λ t. same_source t.source source) tasks
 -- the next rendering opportunity, a multiple of the period: none where no frame callback waits or a render task does
 abbrev pub next_frame : Page → Option ℕ
 next_frame p =
-    cond (is_empty p.frames.callbacks || is_there (first_task Render p.tasks)) None
-    (Some (next_multiple p.refresh_period (max p.frames_since p.last_opportunity)))
+    if is_empty p.frames.callbacks || is_there (first_task Render p.tasks) then None
+    else Some (next_multiple p.refresh_period (max p.frames_since p.last_opportunity))
 
 -- a frame callback is requested; where the map was empty, it is non-empty from now on
 abbrev pub request_frame : ℕ → Page → Page
-request_frame r p = record p { frames_since = cond (is_empty p.frames.callbacks) p.now p.frames_since; frames = Frames.request r p.frames }
+request_frame r p = record p {
+  frames_since = if is_empty p.frames.callbacks then p.now else p.frames_since;
+  frames = Frames.request r p.frames;
+}
 
 -- a frame callback leaves the map
 abbrev pub without_frame : ℕ → Page → Page
@@ -98,7 +101,7 @@ cancel_frame handle p =
 abbrev pub deadline : ℕ → Page → ℕ
 deadline start p =
     IdleCallbacks.deadline start (next_due p.timers)
-    (cond (is_empty p.frames.callbacks) None (Some (p.last_opportunity + p.refresh_period)))
+    (if is_empty p.frames.callbacks then None else Some (p.last_opportunity + p.refresh_period))
 
 -- ---- requestIdleCallback, "Start an idle period algorithm". Ours: when a start is delayed
 
@@ -106,7 +109,7 @@ deadline start p =
 abbrev pub idle_moment : Page → Option ℕ
 idle_moment p =
     let t = max p.now p.idle_period_end in
-    cond (waits p.idle && nat_lt t (deadline t p)) (Some t) None
+    if waits p.idle && nat_lt t (deadline t p) then Some t else None
 
 -- an idle period starts: its line, the pending callbacks become runnable, and a task is queued that invokes them
 abbrev pub period_begun : ℕ → Page → Page
@@ -117,8 +120,8 @@ period_begun end p =
 -- ended
 abbrev pub start_period : Page → Page
 start_period p =
-    cond (waits p.idle && nat_lt p.now (deadline p.last_idle_start p) && nat_le p.idle_period_end p.now)
-    (period_begun (deadline p.last_idle_start p) p) p
+    if waits p.idle && nat_lt p.now (deadline p.last_idle_start p) && nat_le p.idle_period_end p.now
+    then period_begun (deadline p.last_idle_start p) p else p
 
 -- the idle step of a turn: the last idle period start is now, also where the start is then delayed
 abbrev pub idle_step : Page → Page
@@ -134,7 +137,7 @@ idle_timeout ms r p =
 
 -- an idle callback is requested; with a positive timeout an idle timeout is started
 abbrev pub request_idle : ℕ → ℕ → Page → Page
-request_idle ms r p = cond (ms == 0) (λ q. q) (idle_timeout ms r) (record p { idle = IdleCallbacks.request r p.idle })
+request_idle ms r p = (if ms == 0 then (λ q. q) else idle_timeout ms r) (record p { idle = IdleCallbacks.request r p.idle })
 
 -- the callback of a handle, where it waits
 abbrev pub idle_callback : ℕ → Page → Option Callback

@@ -1,5 +1,5 @@
 -- Parallel items.
-use Rattle.std.specs.Prelude.{ℕ, zero, suc, ◌+◌, false, cond, List, [], ◌∷◌, ◌++◌, map, length, Option, Some, None, nat_lt, nat_le, ◌==◌}
+use Rattle.std.specs.Prelude.{ℕ, zero, suc, ◌+◌, false, if◌then◌else◌, List, [], ◌∷◌, ◌++◌, map, length, Option, Some, None, nat_lt, nat_le, ◌==◌}
 use Rattle.page_types.specs.declared.Source.TheVariants.{Net, Timer, Render, Idle}
 use Rattle.page_types.specs.Events.{Due}
 use Rattle.page_parts.specs.Words.{without, without_numbered}
@@ -24,7 +24,7 @@ pub data ItemKind : Type 0 where
 -- the arrivals with one more, which stands behind those of the same or an earlier time
 abbrev pub with_arrival : Arrival → List Arrival → List Arrival
 with_arrival a [] = a ∷ []
-with_arrival a (b ∷ more) = cond (nat_le b.at a.at) (b ∷ with_arrival a more) (a ∷ b ∷ more)
+with_arrival a (b ∷ more) = if nat_le b.at a.at then b ∷ with_arrival a more else a ∷ b ∷ more
 
 -- a further arrival is to come
 abbrev pub arrive : Arrival → Page → Page
@@ -58,7 +58,7 @@ items_in_order p =
 -- the first item of the least due time
 abbrev pub first_item_from : Item → List Item → Item
 first_item_from a [] = a
-first_item_from a (b ∷ more) = first_item_from (cond (nat_lt b.due a.due) b a) more
+first_item_from a (b ∷ more) = first_item_from (if nat_lt b.due a.due then b else a) more
 
 -- the first item of a list
 abbrev pub first_item_of : List Item → Option Item
@@ -73,7 +73,7 @@ first_item p = first_item_of (items_in_order p)
 abbrev pub complete : Completion → Page → Page
 complete (QueueTimer t) p = queue_task Timer (RunTimer t) (emit (Due t.registration) p)
 complete (EnqueuePost r source) p =
-    cond (is_aborted_source p (the_registration p r).signal) (λ q. q) (enqueue r source false) (emit (Due r) p)
+    (if is_aborted_source p (the_registration p r).signal then (λ q. q) else enqueue r source false) (emit (Due r) p)
 complete (QueueSignal r s) p = queue_task Timer (TimeOutSignal s) (emit (Due r) p)
 
 -- the same where completion steps are there
@@ -96,7 +96,7 @@ take_item FrameItem p = queue_task Render (RunFrame p.now) (record p { last_oppo
 -- the item, if it is due
 abbrev pub due_item : ℕ → Option Item → Option Item
 due_item now None = None
-due_item now (Some a) = cond (nat_le a.due now) (Some a) None
+due_item now (Some a) = if nat_le a.due now then Some a else None
 
 -- while an item is due, the first one is taken; there are no more than n
 abbrev pub take_due : ℕ → Page → Page

@@ -1,5 +1,5 @@
 -- The text of several runs.
-use Rattle.std.specs.Prelude.{ℕ, suc, cond, List, [], ◌∷◌, ◌++◌, codes, nat_lt}
+use Rattle.std.specs.Prelude.{ℕ, suc, if◌then◌else◌, List, [], ◌∷◌, ◌++◌, codes, nat_lt}
 use Rattle.page_types.specs.Events.{Stamped}
 use Rattle.page_parts.specs.Words.{decimal_of}
 use Rattle.page_parts.specs.TraceText.{line_text, text_of}
@@ -27,7 +27,7 @@ loop_events n (e ∷ es) = record { loop = n; event = e } ∷ loop_events n es
 -- an event is put behind those of the same or an earlier time
 abbrev pub put_event : LoopEvent → List LoopEvent → List LoopEvent
 put_event x [] = x ∷ []
-put_event x (y ∷ ys) = cond (nat_lt x.event.time y.event.time) (x ∷ y ∷ ys) (y ∷ put_event x ys)
+put_event x (y ∷ ys) = if nat_lt x.event.time y.event.time then x ∷ y ∷ ys else y ∷ put_event x ys
 
 -- events are put one after another
 abbrev pub put_events : List LoopEvent → List LoopEvent → List LoopEvent

@@ -1,5 +1,5 @@
 -- The scheduler's tasks: effective priority, the task that is next, and the scheduling state.
-use Rattle.std.specs.Prelude.{ℕ, suc, ◌+◌, ◌*◌, Bool, cond, ◌&&◌, ◌||◌, List, [], ◌∷◌, length, Option, Some, None, nat_lt, ◌==◌, unwrap_or}
+use Rattle.std.specs.Prelude.{ℕ, suc, ◌+◌, ◌*◌, Bool, if◌then◌else◌, ◌&&◌, ◌||◌, List, [], ◌∷◌, length, Option, Some, None, nat_lt, ◌==◌, unwrap_or}
 use Rattle.page_types.specs.declared.Priority.{Priority}
 use Rattle.page_types.specs.declared.Priority.TheVariants.{UserVisible}
 use Rattle.page_types.specs.Events.{QueueName, FixedQueue, SignalQueue, Enq}
@@ -16,7 +16,7 @@ priority_now p (OfSignal s) = unwrap_or (priority_of p.prios s) UserVisible
 
 -- the effective priority of a scheduler task now: twice the rank of its priority, and one more for a continuation
 abbrev pub effective : Page → SchedTask → ℕ
-effective p t = 2 * rank (priority_now p t.source) + cond t.continuation 1 0
+effective p t = 2 * rank (priority_now p t.source) + (if t.continuation then 1 else 0)
 
 -- whether a goes before b
 abbrev pub goes_before : Page → SchedTask → SchedTask → Bool
@@ -25,7 +25,7 @@ goes_before p a b = nat_lt (effective p b) (effective p a) || ((effective p a ==
 -- the first of these and the best so far
 abbrev pub first_sched_from : Page → SchedTask → List SchedTask → SchedTask
 first_sched_from p a [] = a
-first_sched_from p a (b ∷ more) = first_sched_from p (cond (goes_before p b a) b a) more
+first_sched_from p a (b ∷ more) = first_sched_from p (if goes_before p b a then b else a) more
 
 -- among the tasks of greatest effective priority now, the one of least order
 abbrev pub first_of : Page → List SchedTask → Option SchedTask

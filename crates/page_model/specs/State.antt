@@ -1,5 +1,5 @@
 -- The state of a page: one record of plain lists and numbers.
-use Rattle.std.specs.Prelude.{ℕ, suc, Bool, List, [], ◌∷◌, false, cond, length, Option, Some, None, ℤ, ◌==◌, slice_get, unwrap_or}
+use Rattle.std.specs.Prelude.{ℕ, suc, Bool, List, [], ◌∷◌, false, if◌then◌else◌, length, Option, Some, None, ℤ, ◌==◌, slice_get, unwrap_or}
 use Rattle.page_types.specs.Values.{Value}
 use Rattle.page_types.specs.declared.Source.{Source}
 use Rattle.page_types.specs.declared.RegKind.{RegKind}
@@ -217,7 +217,7 @@ emit_each (e ∷ es) p = emit_each es (emit e p)
 
 -- the registration of the innermost open call, which a trace of form 2 tells
 abbrev pub caller : Page → Option ℕ
-caller p = cond (p.trace == 2) (Some (unwrap_or (slice_get p.calls 0) 0)) None
+caller p = if p.trace == 2 then Some (unwrap_or (slice_get p.calls 0) 0) else None
 
 -- the nesting level and the scheduling state that are current
 abbrev pub context : Page → Context

@@ -1,5 +1,5 @@
 -- What a task does.
-use Rattle.std.specs.Prelude.{ℕ, ℤ, false, cond, List, [], ◌∷◌, Option, Some, None, pos, nat_lt, codes, Result, Ok, Err, slice_get, slice_set}
+use Rattle.std.specs.Prelude.{ℕ, ℤ, false, if◌then◌else◌, List, [], ◌∷◌, Option, Some, None, pos, nat_lt, codes, Result, Ok, Err, slice_get, slice_set}
 use Rattle.page_types.specs.Values.{Value, UnitValue, IntValue, PromiseValue, DeadlineValue}
 use Rattle.page_types.specs.declared.FaultName.TheVariants.{TimeoutError}
 use Rattle.page_types.specs.declared.Source.TheVariants.{Idle}
@@ -67,7 +67,7 @@ call_idle w c t m =
 
 -- where callbacks remain, the same task is queued again
 abbrev pub invoke_idle_again : Page → Page
-invoke_idle_again p = cond (is_empty p.idle.runnable) p (queue_task Idle InvokeIdle p)
+invoke_idle_again p = if is_empty p.idle.runnable then p else queue_task Idle InvokeIdle p
 
 -- the first runnable callback is called, with the `idle` line of the deadline computed now
 abbrev pub idle_called : Ways → List Callback → State → Done Page

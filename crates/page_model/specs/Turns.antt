@@ -1,5 +1,5 @@
 -- Turns and runs.
-use Rattle.std.specs.Prelude.{ℕ, zero, suc, ◌/◌, max, Bool, true, false, cond, not, ◌&&◌, ◌||◌, List, [], ◌∷◌, length, Option, Some, None, nat_lt, nat_le, ◌==◌, slice_get, option_map, reverse, ℤ, Result}
+use Rattle.std.specs.Prelude.{ℕ, zero, suc, ◌/◌, max, Bool, true, false, if◌then◌else◌, not, ◌&&◌, ◌||◌, List, [], ◌∷◌, length, Option, Some, None, nat_lt, nat_le, ◌==◌, slice_get, option_map, reverse, ℤ, Result}
 use Rattle.page_types.specs.Values.{no_values}
 use Rattle.page_types.specs.Tree.{Program}
 use Rattle.page_types.specs.declared.Source.{Source}
@@ -73,8 +73,8 @@ next_turn (Stuck at m c) next = Stuck at m c
 
 -- one way or the other
 abbrev pub choose_turned : {C : Type 0} → Bool → (State → Turned C) → (State → Turned C) → State → Turned C
-choose_turned true then else m = then m
-choose_turned false then else m = else m
+choose_turned true held failed m = held m
+choose_turned false held failed m = failed m
 
 -- a task has been performed: a checkpoint
 abbrev pub task_done : {C : Type 0} → Caller Page → C → Done Page → Turned C
@@ -149,7 +149,7 @@ step_three rules call until c m =
 
 -- step 5: where no task is runnable now, the idle step is done
 abbrev pub step_five : State → State
-step_five m = cond (is_empty (view m.host)) (on_page idle_step) (λ m. m) m
+step_five m = (if is_empty (view m.host) then on_page idle_step else (λ m. m)) m
 
 -- steps 3 to 5
 abbrev pub from_step_three : {C : Type 0} → Rules C → Caller Page → ℕ → C → State → Turned C
@@ -193,7 +193,7 @@ step_two rules until again next c m =
 
 -- step 1: the parallel items are taken, but in the first turn
 abbrev pub step_one : State → State
-step_one m = cond (m.host.turns == 0) m (on_page parallel m)
+step_one m = if m.host.turns == 0 then m else on_page parallel m
 
 -- step 2 where no task is runnable, and else steps 3 to 5
 abbrev pub after_step_one : {C : Type 0} → Rules C → Caller Page → ℕ → (State → C → Turned C) → C → State → Turned C

@@ -1,5 +1,5 @@
 -- Several windows on one loop.
-use Rattle.std.specs.Prelude.{◌≡◌, ℕ, zero, suc, ◌+◌, max, Bool, false, cond, not, ◌&&◌, ◌||◌, List, [], ◌∷◌, map, length, Option, Some, None, nat_lt, nat_le, find}
+use Rattle.std.specs.Prelude.{◌≡◌, ℕ, zero, suc, ◌+◌, max, Bool, false, if◌then◌else◌, not, ◌&&◌, ◌||◌, List, [], ◌∷◌, map, length, Option, Some, None, nat_lt, nat_le, find}
 use Rattle.page_types.specs.Tree.{Program}
 use Rattle.page_parts.specs.Words.{and_last}
 use Rattle.page_parts.specs.Setup.{Setup}
@@ -115,21 +115,21 @@ waits_till t w = record w { now = t + next_late w.late; late = more_late w.late 
 abbrev pub waits_for : Option ℕ → Windows → Windows
 waits_for None w = all_stop w.now w
 waits_for (Some t) w =
-    cond (nat_le w.until w.now || nat_le w.until t) (all_stop (max w.now w.until)) (cond (nat_lt w.now t) (waits_till t) all_rest) w
+    (if nat_le w.until w.now || nat_le w.until t then all_stop (max w.now w.until) else if nat_lt w.now t then waits_till t else all_rest) w
 
 -- the window to serve is served, unless the time is up
 abbrev pub serves : List Channel → Windows → Windows
-serves cs w = cond (nat_le w.until w.now) (all_stop (max w.now w.until)) (served_by cs (next_to_serve w)) w
+serves cs w = (if nat_le w.until w.now then all_stop (max w.now w.until) else served_by cs (next_to_serve w)) w
 
 -- where no window has a runnable task, all end where nothing is pending, or the loop waits
 abbrev pub idles : Windows → Windows
-idles w = cond (some_run has_pending w.windows) (waits_for (least_target w.windows)) (all_stop w.now) w
+idles w = (if some_run has_pending w.windows then waits_for (least_target w.windows) else all_stop w.now) w
 
 -- One round. Each live window takes the loop's time, and its parallel items are taken. Then a window is served, or the loop waits, or ends.
 abbrev pub round : List Channel → Windows → Windows
 round cs w =
     let passed = record w { windows = each_does (Pass w.now) w.windows } in
-    cond (some_run has_runnable passed.windows) (serves cs) idles passed
+    (if some_run has_runnable passed.windows then serves cs else idles) passed
 
 -- at most n rounds, until no window is live
 abbrev pub rounds : List Channel → ℕ → Windows → Windows

@@ -1,6 +1,6 @@
 //! The law that operations whose callbacks nest are those of a host that answers by steps, with open folds.
 
-ghost use Rattle.std.specs.Prelude.{◌≡◌, ℕ, suc, ◌^◌, cond, ◌||◌, List, ◌∷◌};
+ghost use Rattle.std.specs.Prelude.{◌≡◌, ℕ, suc, ◌^◌, if◌then◌else◌, ◌||◌, List, ◌∷◌};
 ghost use Rattle.page_types.specs.Values.{Value};
 ghost use Rattle.page_types.specs.declared.Priority.{Priority};
 ghost use Rattle.page_parts.specs.Listeners.{Target};
@@ -85,8 +85,8 @@ pub fn callbacks_left_fall()
 pub fn priority_changes_go_piece_by_piece()
     ensures { (when : WhenReported) (priority : Priority) (chain s : ℕ) (more : List ChangePiece) (p : Page)
         → changes_from priority (ChangeOf (suc chain) s ∷ more) p
-        ≡ cond (is_changing p.prios s || has_priority p.prios s priority) (changes_from priority more p)
-        (go_on (change_fold when priority chain s more p) (change_begun s priority p)) }
+        ≡ (if is_changing p.prios s || has_priority p.prios s priority then changes_from priority more p
+        else go_on (change_fold when priority chain s more p) (change_begun s priority p)) }
 {}
 
 /// The page before the first turn is within bounds.

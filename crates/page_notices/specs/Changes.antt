@@ -1,5 +1,5 @@
 -- What a change of one promise does to the notices, and what is told of it.
-use Rattle.std.specs.Prelude.{◌≡◌, ℕ, Bool, true, false, cond, List, [], Option, Some, None, ◌==◌}
+use Rattle.std.specs.Prelude.{◌≡◌, ℕ, Bool, true, false, if◌then◌else◌, List, [], Option, Some, None, ◌==◌}
 use Rattle.page_types.specs.Events.{Event}
 use Rattle.page_parts.specs.Words.{without}
 use Rattle.page_parts.specs.Promises as Parts
@@ -25,7 +25,7 @@ pub record Brings (told : Change) (n : ℕ) (change : Parts.Change) (old new : N
 
 -- the line of a promise with this outcome, where it was settled
 abbrev pub settled_line : List (List ℕ) → ℕ → (settled : Bool) → Option Settled → List Event
-settled_line names n settled outcome = cond settled (settle_line names n outcome) []
+settled_line names n settled outcome = if settled then settle_line names n outcome else []
 
 -- what follows a change of promise number n: the line, and the jobs with theirs
 abbrev pub telling : Context → List (List ℕ) → ℕ → (settled : Bool) → List PromiseJob → Notices → Noticed

@@ -1,5 +1,5 @@
 -- Signals: their reasons and how they depend on one another. R is the type of a reason.
-use Rattle.std.specs.Prelude.{ℕ, Bool, cond, not, List, [], ◌∷◌, filter, length, Option, Some, None, ◌==◌}
+use Rattle.std.specs.Prelude.{ℕ, Bool, if◌then◌else◌, not, List, [], ◌∷◌, filter, length, Option, Some, None, ◌==◌}
 use Rattle.page_parts.specs.Words.{and_last, without, has_number, numbered, with_numbered, is_empty, is_there}
 
 -- ---- DOM, "Interface AbortSignal"
@@ -49,12 +49,12 @@ first_reason ss (s ∷ more) = elim (reason_of ss s) [ Some v ↦ Some v | None 
 
 -- the sources through one signal: its own, or itself where it depends on none
 abbrev pub sources_through : {R : Type 0} → Signals R → ℕ → List ℕ
-sources_through ss s = cond (is_empty (the_signal ss s).sources) (s ∷ []) (the_signal ss s).sources
+sources_through ss s = if is_empty (the_signal ss s).sources then s ∷ [] else (the_signal ss s).sources
 
 -- numbers, and more of them, each once
 abbrev pub and_new : List ℕ → List ℕ → List ℕ
 and_new known [] = known
-and_new known (s ∷ more) = and_new (cond (has_number known s) known (and_last known s)) more
+and_new known (s ∷ more) = and_new (if has_number known s then known else and_last known s) more
 
 -- the sources through all signals of a list, after those that are known
 abbrev pub all_sources : {R : Type 0} → Signals R → List ℕ → List ℕ → List ℕ
@@ -82,7 +82,7 @@ any of ss = elim (first_reason ss of) [ Some v ↦ make_aborted v ss | None ↦ 
 
 -- the signals that an abort of s sets the reason on: none where it is aborted, else s and each dependent that is not aborted
 abbrev pub marked : {R : Type 0} → ℕ → Signals R → List ℕ
-marked s ss = cond (is_aborted ss s) [] (s ∷ filter (λ d. not (is_aborted ss d)) (the_signal ss s).dependents)
+marked s ss = if is_aborted ss s then [] else s ∷ filter (λ d. not (is_aborted ss d)) (the_signal ss s).dependents
 
 -- the reason is set on each of these signals
 abbrev pub with_reason : {R : Type 0} → R → List ℕ → Signals R → Signals R

@@ -1,5 +1,5 @@
 -- Combinators: what settles the promise of `all`, `any`, `allSettled` and `finally`, by what the elements have reported.
-use Rattle.std.specs.Prelude.{ℕ, zero, suc, true, false, cond, not, List, [], ◌∷◌, length, map, Option, Some, None, is_some, ◌==◌, find, option_map, slice_get, unwrap_or}
+use Rattle.std.specs.Prelude.{ℕ, zero, suc, true, false, if◌then◌else◌, not, List, [], ◌∷◌, length, map, Option, Some, None, is_some, ◌==◌, find, option_map, slice_get, unwrap_or}
 use Rattle.page_types.specs.Values.{Value, UnitValue, BoolValue, ListValue, values_of}
 use Rattle.page_types.specs.declared.FaultName.TheVariants.{RangeError}
 use Rattle.page_parts.specs.Words.{and_last}
@@ -53,7 +53,7 @@ list_outcome how vs = elim (within_limits (ListValue (values_of vs))) [ None ↦
 
 -- the outcome once all elements have reported
 abbrev pub once_all : Combine → Settled → Option Settled
-once_all c how = cond (length c.reports == c.count) (Some how) None
+once_all c how = if length c.reports == c.count then Some how else None
 
 -- the first that is there of an outcome and another answer
 abbrev pub or_answer : Option Settled → Option Settled → Option Settled
@@ -94,4 +94,4 @@ answer_of c = answer_by c.kind c
 
 -- the answer that a report brings: none where one came before
 abbrev pub report_answer : Report → Combine → Option Settled
-report_answer r c = cond (is_some (answer_of c)) None (answer_of (with_report r c))
+report_answer r c = if is_some (answer_of c) then None else answer_of (with_report r c)

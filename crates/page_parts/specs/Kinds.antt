@@ -1,5 +1,5 @@
 -- Equality, weight and kinds of values.
-use Rattle.std.specs.Prelude.{ℕ, ◌+◌, max, Bool, true, false, cond, not, ◌&&◌, List, [], length, Option, Some, None, ℤ, codes, nat_le, ◌==◌}
+use Rattle.std.specs.Prelude.{ℕ, ◌+◌, max, Bool, true, false, if◌then◌else◌, not, ◌&&◌, List, [], length, Option, Some, None, ℤ, codes, nat_le, ◌==◌}
 use Rattle.page_types.specs.Values.{Value, UnitValue, BoolValue, IntValue, TextValue, ListValue, FunValue, PromiseValue, SignalValue, ControllerValue, DeadlineValue, FaultValue, Values, no_values, with_value}
 use Rattle.page_types.specs.declared.FaultName.{FaultName}
 use Rattle.page_parts.specs.Words.{same_bytes, same_int}
@@ -97,7 +97,7 @@ abbrev mutual
   -- whether two values are equal by structure
   pub same : Value → Value → Bool
   same UnitValue b = is_unit b
-  same (BoolValue x) b = there_and (bool_in b) (λ y. cond x y (not y))
+  same (BoolValue x) b = there_and (bool_in b) (λ y. if x then y else not y)
   same (IntValue x) b = there_and (int_in b) (same_int x)
   same (TextValue x) b = there_and (text_in b) (same_bytes x)
   same (ListValue xs) b = there_and (list_in b) (same_all xs)
@@ -155,7 +155,7 @@ abbrev mutual
 
 -- the value, unless it weighs more than 65,536 or nests deeper than 64
 abbrev pub within_limits : Value → Option Value
-within_limits v = cond (nat_le (weight v) 65536 && nat_le (nesting v) 64) (Some v) None
+within_limits v = if nat_le (weight v) 65536 && nat_le (nesting v) 64 then Some v else None
 
 abbrev mutual
   -- whether a value may be sent to another page: it holds no function, promise, signal, controller or deadline at any depth

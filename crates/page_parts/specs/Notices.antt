@@ -1,5 +1,5 @@
 -- All promises, the queue of jobs and the lists of rejected promises, with the lines that a call writes.
-use Rattle.std.specs.Prelude.{ℕ, suc, Bool, true, false, cond, List, [], ◌∷◌, ◌++◌, Option, Some, None, ◌==◌}
+use Rattle.std.specs.Prelude.{ℕ, suc, Bool, true, false, if◌then◌else◌, List, [], ◌∷◌, ◌++◌, Option, Some, None, ◌==◌}
 use Rattle.page_types.specs.Events.{Queued, MicroJob, ReactJob, AdoptJob, Event, Job, Settle}
 use Rattle.page_parts.specs.Words.{and_last, without, has_number, numbered, with_numbered}
 use Rattle.page_parts.specs.Spelling.{spelled}
@@ -94,10 +94,9 @@ promise_changed names n c s =
     record {
       notices = record s {
         promises = with_numbered s.promises n c.promise;
-        rejected = cond c.newly_rejected
-            (and_last s.rejected n) s.rejected;
+        rejected = if c.newly_rejected then and_last s.rejected n else s.rejected;
       };
-      lines = cond c.settled (settle_line names n c.promise.outcome) [];
+      lines = if c.settled then settle_line names n c.promise.outcome else [];
     }
 
 -- the change of promise number n, and then its jobs in order
@@ -133,4 +132,4 @@ queue_micro now r s = queue_job now (Micro r) s
 
 -- HTML, "Unhandled promise rejections" (notify about rejected promises): a promise that is still unhandled joins the outstanding ones
 abbrev pub note_outstanding : ℕ → Notices → Notices
-note_outstanding n s = cond (the_promise s.promises n).handled s (record s { outstanding = and_last s.outstanding n })
+note_outstanding n s = if (the_promise s.promises n).handled then s else record s { outstanding = and_last s.outstanding n }

@@ -1,5 +1,5 @@
 -- Promises: what happens to the record of one promise.
-use Rattle.std.specs.Prelude.{ℕ, Bool, true, false, cond, not, ◌&&◌, List, [], ◌∷◌, map, Option, Some, None, ◌==◌}
+use Rattle.std.specs.Prelude.{ℕ, Bool, true, false, if◌then◌else◌, not, ◌&&◌, List, [], ◌∷◌, map, Option, Some, None, ◌==◌}
 use Rattle.page_types.specs.Values.{Value}
 use Rattle.page_types.specs.declared.FaultName.TheVariants.{TypeError}
 use Rattle.page_parts.specs.Words.{and_last, numbered}
@@ -84,15 +84,15 @@ adopt n q from = record { promise = record q { locked = true }; settled = false;
 -- other value it fulfils
 abbrev pub resolve_unlocked : ℕ → PromiseRecord → Value → Option ℕ → Change
 resolve_unlocked n q v None = settle n q (Fulfilled v)
-resolve_unlocked n q v (Some other) = cond (other == n) (settle n q (Failed (a_fault TypeError))) (adopt n q other)
+resolve_unlocked n q v (Some other) = if other == n then settle n q (Failed (a_fault TypeError)) else adopt n q other
 
 -- a promise is resolved with a value; the first resolution wins
 abbrev pub resolve : ℕ → PromiseRecord → Value → Change
-resolve n q v = cond q.locked (no_change q) (resolve_unlocked n q v (promise_in v))
+resolve n q v = if q.locked then no_change q else resolve_unlocked n q v (promise_in v)
 
 -- a promise is rejected, unless a resolution came before
 abbrev pub reject : ℕ → PromiseRecord → Value → Change
-reject n q v = cond q.locked (no_change q) (settle n q (Failed v))
+reject n q v = if q.locked then no_change q else settle n q (Failed v)
 
 -- what the job of an inner subscription does: it settles a pending promise, also one that is locked. Ours: no derived promise is made for
 -- it, since none could be seen

@@ -1,5 +1,5 @@
 -- Signals with a priority.
-use Rattle.std.specs.Prelude.{ℕ, Bool, true, false, cond, List, [], ◌∷◌, Option, Some, None, ◌==◌, find, option_map}
+use Rattle.std.specs.Prelude.{ℕ, Bool, true, false, if◌then◌else◌, List, [], ◌∷◌, Option, Some, None, ◌==◌, find, option_map}
 use Rattle.page_types.specs.declared.Priority.{Priority}
 use Rattle.page_types.specs.declared.Priority.TheVariants.{Background, UserVisible, UserBlocking}
 use Rattle.page_parts.specs.Words.{and_last}
@@ -51,7 +51,7 @@ followers ps s = elim (record_of ps s) [ None ↦ [] | Some r ↦ r.followers ]
 -- the record of one signal is changed
 abbrev pub changed_at : ℕ → (PrioRecord → PrioRecord) → Prios → Prios
 changed_at s f [] = []
-changed_at s f (r ∷ rs) = cond (r.signal == s) (f r) r ∷ changed_at s f rs
+changed_at s f (r ∷ rs) = (if r.signal == s then f r else r) ∷ changed_at s f rs
 
 -- a signal is given its first priority
 abbrev pub give : ℕ → Priority → Prios → Prios

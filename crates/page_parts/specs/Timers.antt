@@ -1,5 +1,5 @@
 -- Timers: the id map and the active timers.
-use Rattle.std.specs.Prelude.{ℕ, suc, ◌+◌, ◌-◌, ◌*◌, ◌%◌, ◌^◌, Bool, false, cond, ◌&&◌, ◌||◌, List, [], ◌∷◌, Option, Some, None, ℤ, pos, negsuc, nat_lt, ◌==◌, find, unwrap_or, option_map}
+use Rattle.std.specs.Prelude.{ℕ, suc, ◌+◌, ◌-◌, ◌*◌, ◌%◌, ◌^◌, Bool, false, if◌then◌else◌, ◌&&◌, ◌||◌, List, [], ◌∷◌, Option, Some, None, ℤ, pos, negsuc, nat_lt, ◌==◌, find, unwrap_or, option_map}
 use Rattle.page_parts.specs.Words.{and_last, without, is_there}
 
 -- ---- HTML, "Timers"
@@ -35,11 +35,11 @@ modulo_word (negsuc n) = 2 ^ 32 - 1 - n % 2 ^ 32
 
 -- The timeout in milliseconds: modulo 2 ^ 32 into the range of 32 bits with a sign, and 0 for one below 0.
 abbrev pub milliseconds : ℤ → ℕ
-milliseconds timeout = cond (nat_lt (modulo_word timeout) (2 ^ 31)) (modulo_word timeout) 0
+milliseconds timeout = if nat_lt (modulo_word timeout) (2 ^ 31) then modulo_word timeout else 0
 
 -- a nesting level above 5 makes a timeout 4 milliseconds at least
 abbrev pub clamped : ℕ → ℕ → ℕ
-clamped nesting ms = cond (nat_lt 5 nesting && nat_lt ms 4) 4 ms
+clamped nesting ms = if nat_lt 5 nesting && nat_lt ms 4 then 4 else ms
 
 -- ---- HTML, "Timers": run steps after a timeout
 
@@ -107,7 +107,7 @@ is_live id handle t = elim (id_entry id t) [ None ↦ false | Some e ↦ e.handl
 -- the one of least due time among these, and of least start among those
 abbrev pub first_from : ActiveTimer → List ActiveTimer → ActiveTimer
 first_from a [] = a
-first_from a (b ∷ more) = first_from (cond (nat_lt b.due a.due || ((b.due == a.due) && nat_lt b.start a.start)) b a) more
+first_from a (b ∷ more) = first_from (if nat_lt b.due a.due || ((b.due == a.due) && nat_lt b.start a.start) then b else a) more
 
 -- the first of a list of active timers
 abbrev pub first_of : List ActiveTimer → Option ActiveTimer

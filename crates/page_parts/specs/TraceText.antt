@@ -1,5 +1,5 @@
 -- The text of a trace.
-use Rattle.std.specs.Prelude.{ℕ, Bool, true, false, cond, List, [], ◌∷◌, ◌++◌, Option, Some, None, ℤ, Result, Ok, Err, codes}
+use Rattle.std.specs.Prelude.{ℕ, Bool, true, false, if◌then◌else◌, List, [], ◌∷◌, ◌++◌, Option, Some, None, ℤ, Result, Ok, Err, codes}
 use Rattle.page_types.specs.declared.Source.{Source}
 use Rattle.page_types.specs.declared.Source.TheVariants.{User, Net, Dom, Timer, Render, Sched, Idle}
 use Rattle.page_types.specs.declared.End.{End}
@@ -101,7 +101,7 @@ event_text (Period d) = codes "period" ++ number_field d
 event_text (IdleLine d) = codes "idle" ++ number_field d
 event_text (Frame t) = codes "frame" ++ number_field t
 event_text (Enq r queue continuation n) =
-    codes "enq" ++ number_field r ++ queue_text queue ++ cond continuation (codes " cont") (codes " task") ++ number_field n
+    codes "enq" ++ number_field r ++ queue_text queue ++ (if continuation then codes " cont" else codes " task") ++ number_field n
 event_text (Prio s priority) = codes "prio" ++ number_field s ++ field (priority_text priority)
 event_text (Abort s) = codes "abort" ++ number_field s
 event_text (Wait t) = codes "wait" ++ number_field t

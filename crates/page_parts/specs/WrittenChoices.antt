@@ -1,5 +1,5 @@
 -- The free choices of a run: which source is served, what the clock reads, what a host closure answers.
-use Rattle.std.specs.Prelude.{ℕ, suc, ◌+◌, ◌^◌, Bool, true, false, cond, ◌&&◌, List, [], ◌∷◌, map, replicate, Option, Some, None, ℤ, nat_lt, nat_le, slice_index, find, filter, unwrap_or, Result}
+use Rattle.std.specs.Prelude.{ℕ, suc, ◌+◌, ◌^◌, Bool, true, false, if◌then◌else◌, ◌&&◌, List, [], ◌∷◌, map, replicate, Option, Some, None, ℤ, nat_lt, nat_le, slice_index, find, filter, unwrap_or, Result}
 use Rattle.page_types.specs.declared.Source.{Source}
 use Rattle.page_types.specs.declared.Source.TheVariants.{User}
 use Rattle.page_parts.specs.HostClosures.{meets}
@@ -23,7 +23,7 @@ is_runnable rs source = elim (find (λ r. same_source r.source source) rs) [ Non
 -- the source of least first task, among these and the best so far
 abbrev pub least_first : Source → ℕ → List Runnable → Source
 least_first best n [] = best
-least_first best n (r ∷ rs) = cond (nat_lt r.first n) (least_first r.source r.first rs) (least_first best n rs)
+least_first best n (r ∷ rs) = if nat_lt r.first n then least_first r.source r.first rs else least_first best n rs
 
 -- the source whose first task has the least number
 abbrev pub by_fifo : List Runnable → Source
@@ -40,12 +40,12 @@ count_of counts source = slice_index counts (source_number source)
 
 -- the counts at a choice: those of sources without a runnable task become 0
 abbrev pub counts_now : List Runnable → List ℕ → List ℕ
-counts_now rs counts = map (λ s. cond (is_runnable rs s) (count_of counts s) 0) default_list
+counts_now rs counts = map (λ s. if is_runnable rs s then count_of counts s else 0) default_list
 
 -- the source of greatest count, among these and the best so far; the earlier one where counts are equal
 abbrev pub greatest_from : List ℕ → Source → List Source → Source
 greatest_from counts best [] = best
-greatest_from counts best (s ∷ more) = greatest_from counts (cond (nat_lt (count_of counts best) (count_of counts s)) s best) more
+greatest_from counts best (s ∷ more) = greatest_from counts (if nat_lt (count_of counts best) (count_of counts s) then s else best) more
 
 -- the source of greatest count in a list
 abbrev pub greatest : List ℕ → List Source → Option Source
@@ -59,7 +59,8 @@ by_fair k counts rs =
 
 -- the counts after a choice: 0 for the chosen source, one more for each other source with a runnable task
 abbrev pub counts_after : List Runnable → Source → List ℕ → List ℕ
-counts_after rs chosen counts = map (λ s. cond (same_source s chosen) 0 (cond (is_runnable rs s) (suc (count_of counts s)) 0)) default_list
+counts_after rs chosen counts =
+    map (λ s. if same_source s chosen then 0 else if is_runnable rs s then suc (count_of counts s) else 0) default_list
 
 -- the source that the policy gives
 abbrev pub policy_source : Policy → List ℕ → List Runnable → Source
@@ -97,7 +98,7 @@ pub record PickedAnswer : Type 0 where
 abbrev pub next_source : List Runnable → Choices → Option PickedSource
 next_source rs (Recorded [] readings answers) = None
 next_source rs (Recorded (s ∷ sources) readings answers) =
-    cond (is_runnable rs s) (Some (record { source = s; left = Recorded sources readings answers })) None
+    if is_runnable rs s then Some (record { source = s; left = Recorded sources readings answers }) else None
 next_source rs (Written policy counts late answers) =
     let s = policy_source policy counts rs in
     Some (record { source = s; left = Written policy (counts_after rs s (counts_now rs counts)) late answers })
@@ -106,7 +107,7 @@ next_source rs (Written policy counts late answers) =
 abbrev pub next_reading : ℕ → Choices → Option PickedReading
 next_reading target (Recorded sources [] answers) = None
 next_reading target (Recorded sources (t ∷ readings) answers) =
-    cond (nat_le target t && nat_lt t (2 ^ 63)) (Some (record { reading = t; left = Recorded sources readings answers })) None
+    if nat_le target t && nat_lt t (2 ^ 63) then Some (record { reading = t; left = Recorded sources readings answers }) else None
 next_reading target (Written policy counts [] answers) = Some (record { reading = target; left = Written policy counts [] answers })
 next_reading target (Written policy counts (l ∷ late) answers) =
     Some (record { reading = target + l; left = Written policy counts late answers })
@@ -114,7 +115,7 @@ next_reading target (Written policy counts (l ∷ late) answers) =
 -- the first answer of a list, where it meets the relation
 abbrev pub first_answer : HostKind → ℤ → List (Result ℤ ℤ) → (List (Result ℤ ℤ) → Choices) → Option PickedAnswer
 first_answer kind x [] left = None
-first_answer kind x (a ∷ answers) left = cond (meets kind x a) (Some (record { answer = a; left = left answers })) None
+first_answer kind x (a ∷ answers) left = if meets kind x a then Some (record { answer = a; left = left answers }) else None
 
 -- the next host answer: none where it is absent or does not meet the relation
 abbrev pub next_answer : HostKind → ℤ → Choices → Option PickedAnswer

@@ -1,5 +1,5 @@
 -- What the host of the examples does: one operation calls its argument twice, and every other one answers unit.
-use Rattle.std.specs.Prelude.{◌≡◌, ℕ, ◌-◌, ◌≤◌, Bool, true, false, cond, ◌&&◌, List, [], ◌∷◌, map, reverse, length, nat_lt}
+use Rattle.std.specs.Prelude.{◌≡◌, ℕ, ◌-◌, ◌≤◌, Bool, true, false, if◌then◌else◌, ◌&&◌, List, [], ◌∷◌, map, reverse, length, nat_lt}
 use Rattle.page_types.specs.declared.FaultName.TheVariants.{TypeError}
 use Rattle.page_types.specs.declared.Op.{Op}
 use Rattle.page_types.specs.declared.Op.TheVariants.{QueueMicrotask}
@@ -65,7 +65,7 @@ Leaves ask before after = (after.functions ≡ before.functions) × (after.opera
 
 abbrev pub times_of : List Pending → ℕ
 times_of [] = 0
-times_of (p ∷ rest) = cond p.again 1 0
+times_of (p ∷ rest) = if p.again then 1 else 0
 
 abbrev pub times_left : Told → ℕ → ℕ
 times_left told ticket = times_of told.pending

@@ -14,7 +14,7 @@ use Rattle.page_model.specs.Invoke.{WhenReported, when_reported, call_begun, cal
 use Rattle.page_model.specs.PageSignals.{run_algorithms, reason_set, change_begun, change_ended, has_priority, priority_value}
 use Rattle.page_model.specs.Additions.{after, Adds}
 use Rattle.page_model.specs.Folds.{ChangePiece, ChangeOf, EndChange, Rest, AbortsLeft, ChangesLeft, Fold, Reached, begin_listener, next_listener, fire, aborts_from, changes_of, each_change, change_from, changes_from, rest_from, go_on, callback_ended, begin_abort, begin_change}
-use Rattle.page_model.proofs.Adding.{run_algorithms-adds, reason_set-adds, report_before-adds, report_after-adds}
+use Rattle.page_model.proofs.Adding.Lines.{run_algorithms-adds, reason_set-adds, report_before-adds, report_after-adds}
 use Rattle.page_rules.specs.FoldActs.{reached_after}
 
 module _ (es : List Stamped) where

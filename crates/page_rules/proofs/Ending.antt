@@ -11,7 +11,7 @@ use Rattle.page_model.specs.Folds.{Fold}
 use Rattle.page_model.specs.FoldBounds.{IsBounded}
 use Rattle.page_model.specs.Hosted.{EndsSame}
 use Rattle.page_model.specs.PageHost.{Hosting, with_folds, page_rules}
-use Rattle.page_model.proofs.Hosting.{calls-follow-by-steps}
+use Rattle.page_model.proofs.Stepping.Hosting.{calls-follow-by-steps}
 use Rattle.trace_text.specs.declared.lines.NoLine.{NoLine}
 use Rattle.trace_text.specs.Given.{Keeping}
 use Rattle.page_rules.specs.Lined.{Lined, lined, lined_rules}

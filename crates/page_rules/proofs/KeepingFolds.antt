@@ -21,7 +21,7 @@ use Rattle.page_model.specs.PageSignals.{run_algorithms, reason_set, change_begu
 use Rattle.page_model.specs.Operations.{priority_in, reason_given, int_within, does, busy_for, operation, may_operate}
 use Rattle.page_model.specs.Folds.{ChangePiece, ChangeOf, EndChange, Rest, AbortsLeft, ChangesLeft, Fold, Reached, Finished, Calls, begin_listener, next_listener, fire, aborts_from, changes_of, each_change, change_from, changes_from, rest_from, go_on, callback_ended, begin_abort, begin_change}
 use Rattle.page_model.specs.PageHost.{Hosting, reached_step, resume_innermost, step_fault, step_given, step_abort, step_change_by, step_change, bare, no_calls, done_step, step_op, step_known, page_rules}
-use Rattle.page_model.proofs.Bounded.{and-second}
+use Rattle.page_model.proofs.Bounding.Bounded.{and-second}
 use Rattle.page_rules.specs.Steady.{StaysInScript, TakesAtMost, SteadyInScript, asks_busy, asked_page, reached_page}
 use Rattle.page_rules.proofs.KeepingPages.{Lasting, lasting, lasting-steady, Has, DoneHas, Keeps, run_algorithms-keeps, reason_set-keeps, report_before-keeps, report_after-keeps}
 use Rattle.page_rules.proofs.KeepingOperations.{operations-keep}

@@ -17,7 +17,7 @@ use Rattle.page_model.specs.Invoke.{WhenReported, call_begun, call_ended, thrown
 use Rattle.page_model.specs.Parallel.{ItemKind, ArrivalItem, HostItem, TimerItem, IdleItem, FrameItem, Item, complete, complete_at, take_item, due_item, first_item, take_due, item_count, parallel}
 use Rattle.page_model.specs.Turns.{without_task}
 use Rattle.page_model.specs.PageTime.{without_timer, completion_of}
-use Rattle.page_model.proofs.Combining.{lead_into-related, resolve_derived-related}
+use Rattle.page_model.proofs.Adding.Combining.{lead_into-related, resolve_derived-related}
 use Rattle.page_rules.specs.Steady.{Steady, SteadyInScript}
 use Rattle.page_rules.proofs.KeepingPages.{staying, staying-steady, lasting, lasting-steady, Has, Keeps, settle-keeps, follow-keeps, subscribe-keeps, relates-keeps, report_before-keeps, report_after-keeps}
 

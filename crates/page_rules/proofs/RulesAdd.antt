@@ -18,8 +18,8 @@ use Rattle.page_model.specs.Folds.{Fold, Reached, Finished, Calls, go_on, callba
 use Rattle.page_model.specs.Invoke.{in_script}
 use Rattle.page_model.specs.Additions.{after}
 use Rattle.page_model.specs.PageHost.{Hosting, reached_step, resume_innermost, step_fault, step_given, step_abort, step_change_by, step_change, bare, no_calls, done_step, step_op, step_known, page_rules}
-use Rattle.page_model.proofs.AddingRuns.{in_script-adds}
-use Rattle.page_model.proofs.AddingOperations.{operation-adds}
+use Rattle.page_model.proofs.Adding.Runs.{in_script-adds}
+use Rattle.page_model.proofs.Adding.Operations.{operation-adds}
 use Rattle.page_rules.specs.FoldActs.{reached_after}
 use Rattle.page_rules.specs.Lined.{hosting_after, stepped_by}
 use Rattle.page_rules.proofs.AddingFolds.{go_on-adds, callback_ended-adds, begin_abort-adds, begin_change-adds}

@@ -1,5 +1,5 @@
 -- How the part's calls are what the model's page does.
-use Rattle.std.specs.Prelude.{◌≡◌, ℕ, true, false, cond, List, [], ◌∷◌, length, map, None, Some, ⊤}
+use Rattle.std.specs.Prelude.{◌≡◌, ℕ, true, false, if◌then◌else◌, List, [], ◌∷◌, length, map, None, Some, ⊤}
 use Rattle.page_types.specs.Values.{Value}
 use Rattle.page_types.specs.Events.{Abort, Drop, Prio}
 use Rattle.page_types.specs.declared.Priority.{Priority}
@@ -177,8 +177,8 @@ ChangeIs s priority st p =
     is_changing st.prios s ≡ false
     → (own : Priority) → priority_of st.prios s ≡ Some own
     → folds.begin_change priority (length st.prios) s (with_signalling st p)
-    ≡ cond (model.has_priority st.prios s priority) (Done (with_signalling st p))
-    (innermost_meaning (change_opened s priority st).folds (with_signalling (change_opened s priority st) p))
+    ≡ (if model.has_priority st.prios s priority then Done (with_signalling st p)
+    else innermost_meaning (change_opened s priority st).folds (with_signalling (change_opened s priority st) p))
 
 -- less is left to visit after each step that is not the end
 abbrev pub FallsAt : Signalling → Type 0

@@ -16,7 +16,7 @@ use Rattle.page_model.specs.State.{Page, context}
 use Rattle.promise_core.proofs.Records.{length-and_last}
 use Rattle.page_model.specs.PagePromises.{new_promise, last_promise, inner_subscription, resolve, reject}
 use Rattle.page_model.specs.PageCombinators.{settle_result, last_combinator, with_combinator, combinator_made, with_element, item_made, item_number, element_made, subscribe_into, each_item, all_made, race_made, promises_for, are_promises_left, passed_on, pass_on}
-use Rattle.page_model.proofs.Adding.{subscribe-adds, resolve-adds}
+use Rattle.page_model.proofs.Adding.Lines.{subscribe-adds, resolve-adds}
 use Rattle.trace_text.specs.declared.lines.NoLine.{NoLine}
 use Rattle.trace_text.specs.Given.{Keeping, Seen}
 use Rattle.trace_text.specs.Acts.{Act, At, Does}

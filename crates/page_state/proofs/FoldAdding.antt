@@ -8,7 +8,7 @@ use Rattle.page_model.specs.State.{Page}
 use Rattle.page_model.specs.PageSignals.{abort_registrations}
 use Rattle.page_model.specs.Additions.{after}
 use Rattle.page_model.specs.Folds.{Rest, AbortsLeft, ChangesLeft, fire, rest_from}
-use Rattle.page_model.proofs.Adding.{abort_registrations-adds}
+use Rattle.page_model.proofs.Adding.Lines.{abort_registrations-adds}
 use Rattle.page_events.specs.declared.target.Target.TheVariants.{Signal}
 use Rattle.page_folds.specs.Steps.{Stage, Between, Algorithms, ToTell, ToFire, Calling}
 use Rattle.page_folds.specs.OfModel.{Kind, OfChange, arguments_of, reason_in, told, stage_meaning}

@@ -13,7 +13,7 @@ use Rattle.page_model.specs.Invoke.{register_as}
 use Rattle.page_model.specs.PagePromises.{new_promise, last_promise, inner_subscription, settle, subscribe}
 use Rattle.page_model.specs.PageCombinators.{with_element, element_made}
 use Rattle.page_model.specs.Operations.{micro_registered}
-use Rattle.page_model.proofs.Adding.{subscribe-adds}
+use Rattle.page_model.proofs.Adding.Lines.{subscribe-adds}
 use Rattle.trace_text.specs.declared.lines.NoLine.{NoLine}
 use Rattle.trace_text.specs.declared.lines.NoLine.TheVariants.{OutOfMemory}
 use Rattle.trace_text.specs.Given.{Keeping, Seen}

@@ -10,10 +10,10 @@ use Rattle.page_model.specs.PageTime.{next_frame, completion_of, without_timer}
 use Rattle.page_model.specs.SchedulerTasks.{enqueue}
 use Rattle.page_model.specs.Parallel.{Item, ItemKind, ArrivalItem, HostItem, TimerItem, IdleItem, FrameItem, frame_items, first_item_of, first_item, complete, complete_at, take_item, due_item, take_due, item_count, parallel}
 use Rattle.page_model.specs.Additions.{after}
-use Rattle.page_model.proofs.Adding.{cond_of-adds}
-use Rattle.page_model.proofs.AddingTurns.{parallel-adds}
-use Rattle.page_model.proofs.Holding.{IfThere}
-use Rattle.page_model.proofs.BoundsOfItems.{items_waiting, items-within, Known, due-known, taken-items, take_due-agree}
+use Rattle.page_model.proofs.Adding.Lines.{cond_of-adds}
+use Rattle.page_model.proofs.Adding.Turns.{parallel-adds}
+use Rattle.page_model.proofs.Holding.Evaluation.{IfThere}
+use Rattle.page_model.proofs.Bounding.Items.{items_waiting, items-within, Known, due-known, taken-items, take_due-agree}
 use Rattle.trace_text.specs.declared.lines.NoLine.{NoLine}
 use Rattle.trace_text.specs.Given.{Keeping, Seen}
 use Rattle.trace_text.specs.Acts.{At, Does}

@@ -6,7 +6,7 @@ use Rattle.page_types.specs.Values.{Value}
 use Rattle.page_types.specs.Events.{Abort}
 use Rattle.page_model.specs.State.{emit, emit_each}
 use Rattle.page_model.specs.PageSignals.{abort_registration, abort_registrations}
-use Rattle.page_model.proofs.Adding.{emit_each-adds, abort_registrations-adds}
+use Rattle.page_model.proofs.Adding.Lines.{emit_each-adds, abort_registrations-adds}
 use Rattle.trace_text.specs.declared.lines.NoLine.{NoLine}
 use Rattle.trace_text.specs.Given.{Keeping, Seen}
 use Rattle.trace_text.specs.Acts.{Act, At, Does}

@@ -1,5 +1,5 @@
 -- What gives a promise a handler, apart from the task that tells of it, and what is made of an item of a combinator.
-use Rattle.std.specs.Prelude.{ℕ, Bool, cond, Option, Some, None}
+use Rattle.std.specs.Prelude.{ℕ, Bool, if◌then◌else◌, Option, Some, None}
 use Rattle.page_types.specs.Values.{Value, PromiseValue}
 use Rattle.page_types.specs.declared.Source.TheVariants.{Dom}
 use Rattle.page_types.specs.declared.RegKind.TheVariants.{Then as ThenKind}
@@ -14,7 +14,7 @@ use Rattle.page_model.specs.PageCombinators.{last_combinator, combinator_made, w
 
 -- HTML, "Unhandled promise rejections": where promise number n was outstanding, a task is queued which fires `rejectionhandled`
 abbrev pub told_if : (was : Bool) → (n : ℕ) → Page → Page
-told_if was n p = cond was (queue_task Dom (NotifyHandled n)) (λ q. q) p
+told_if was n p = (if was then queue_task Dom (NotifyHandled n) else (λ q. q)) p
 
 -- ECMA-262, "PerformPromiseThen": promise number n gets a reaction, of which no task tells yet
 abbrev pub reacted : ℕ → Reaction → Page → Page

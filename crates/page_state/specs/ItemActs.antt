@@ -1,5 +1,5 @@
 -- Taking one item of what goes on in parallel. HTML, "Event loops: processing model"
-use Rattle.std.specs.Prelude.{ℕ, Bool, true, false, cond, Option, None, Some, nat_lt}
+use Rattle.std.specs.Prelude.{ℕ, Bool, true, false, if◌then◌else◌, Option, None, Some, nat_lt}
 use Rattle.page_types.specs.Events.{Due}
 use Rattle.page_model.specs.State.{PrioSource, Page, the_registration, emit}
 use Rattle.page_model.specs.PageSignals.{is_aborted_source}
@@ -12,7 +12,8 @@ item_taken p = elim (due_item p.now (first_item p)) [ None ↦ p | Some a ↦ ta
 
 -- the completion steps of a delayed `postTask`
 abbrev pub post_completed : (registration : ℕ) → PrioSource → Page → Page
-post_completed r source p = cond (is_aborted_source p (the_registration p r).signal) (λ q. q) (enqueue r source false) (emit (Due r) p)
+post_completed r source p =
+    (if is_aborted_source p (the_registration p r).signal then (λ q. q) else enqueue r source false) (emit (Due r) p)
 
 -- whether a moment is before another, which may be absent
 abbrev pub before_due : ℕ → Option ℕ → Bool

@@ -1,4 +1,4 @@
-ghost use Rattle.std.specs.Prelude.{◌≡◌, ◌≢◌, ℕ, ◌+◌, ◌^◌, ◌<◌, ◌≤◌, map, None, Some, IsSome, IfOk, OnOk, OnErr, IsOk, IfSome, IfNone, cond, option_map, is_some, not};
+ghost use Rattle.std.specs.Prelude.{◌≡◌, ◌≢◌, ℕ, ◌+◌, ◌^◌, ◌<◌, ◌≤◌, map, None, Some, IsSome, IfOk, OnOk, OnErr, IsOk, IfSome, IfNone, if◌then◌else◌, option_map, is_some, not};
 ghost use Rattle.std.specs.List.{list_all};
 
 #[cfg(test)]
@@ -211,7 +211,7 @@ impl<L: Ledger> PageTasks<L> {
     pub fn drop_sched(&mut self, registration: u32) -> bool
         ensures there { result ≡ is_there (sched_task_for registration self.old) }
         ensures gone { self.new ≡ with_spare self.new.spare (without_registration registration self.old) }
-        ensures spare { self.new.spare ≡ self.old.spare + cond result 1 0 }
+        ensures spare { self.new.spare ≡ self.old.spare + (if result then 1 else 0) }
     {
         let Some(ticket) = take_ticket(&mut self.tickets, registration) else {
             return false;

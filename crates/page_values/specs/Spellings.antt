@@ -1,5 +1,5 @@
 -- What a trace may hold as a value, from the reader's side: bytes alone, with no value and no names at hand.
-use Rattle.std.specs.Prelude.{◌≡◌, ℕ, zero, suc, ◌<◌, ◌^◌, Bool, true, false, cond, not, ◌&&◌, ◌||◌, ◌⊎◌, List, [], ◌∷◌, ◌++◌, ℤ, FitsSigned, IsTrue, ◌==◌, nat_le, codes}
+use Rattle.std.specs.Prelude.{◌≡◌, ℕ, zero, suc, ◌<◌, ◌^◌, Bool, true, false, if◌then◌else◌, not, ◌&&◌, ◌||◌, ◌⊎◌, List, [], ◌∷◌, ◌++◌, ℤ, FitsSigned, IsTrue, ◌==◌, nat_le, codes}
 use Rattle.std.specs.Int.{w64}
 use Rattle.std.specs.List.{join_with_byte}
 use Rattle.page_types.specs.declared.FaultName.{FaultName}
@@ -15,7 +15,7 @@ is_plain b = (nat_le 32 b && nat_le b 126) && not (b == 34)
 abbrev mutual
   pub are_parts : List ℕ → Bool
   are_parts [] = true
-  are_parts (b ∷ bs) = cond (b == 92) (is_escape_first bs) (is_plain b && are_parts bs)
+  are_parts (b ∷ bs) = if b == 92 then is_escape_first bs else is_plain b && are_parts bs
 
   pub is_escape_first : List ℕ → Bool
   is_escape_first [] = false

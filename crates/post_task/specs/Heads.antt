@@ -1,5 +1,5 @@
 -- The first tasks of the priority sources. Prioritized Task Scheduling, "Selecting the Task Queue of the Next Scheduler Task"
-use Rattle.std.specs.Prelude.{ℕ, ◌+◌, ◌*◌, Bool, true, false, cond, List, Option, map}
+use Rattle.std.specs.Prelude.{ℕ, ◌+◌, ◌*◌, Bool, true, false, if◌then◌else◌, List, Option, map}
 use Rattle.std.specs.Option.{option_map, option_or}
 use Rattle.page_types.specs.declared.Priority.{Priority}
 use Rattle.page_parts.specs.TaskSignals.{rank}
@@ -9,7 +9,7 @@ use Rattle.post_task.specs.declared.tournament.Head.{Head}
 
 -- the effective priority of tasks of this priority
 abbrev pub effective_of : Priority → Bool → ℕ
-effective_of priority continuation = 2 * rank priority + cond continuation 1 0
+effective_of priority continuation = 2 * rank priority + (if continuation then 1 else 0)
 
 module _ {T : Type 0} where
   -- the first of these entries under an effective priority

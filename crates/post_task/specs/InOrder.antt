@@ -1,6 +1,6 @@
 -- All scheduler tasks that wait as one list, in the order in which they were enqueued. Prioritized Task Scheduling,
 -- "Selecting the Task Queue of the Next Scheduler Task"
-use Rattle.std.specs.Prelude.{◌≡◌, ℕ, ◌<◌, Bool, ◌&&◌, ◌||◌, ◌==◌, nat_lt, cond, List, [], ◌∷◌, ◌++◌, map, Option, Some, None}
+use Rattle.std.specs.Prelude.{◌≡◌, ℕ, ◌<◌, Bool, ◌&&◌, ◌||◌, ◌==◌, nat_lt, if◌then◌else◌, List, [], ◌∷◌, ◌++◌, map, Option, Some, None}
 use Rattle.std.specs.List.{filter}
 use Rattle.page_types.specs.declared.Priority.{Priority}
 use Rattle.cell_room.specs.declared.room.Cell.{Cell}
@@ -9,7 +9,7 @@ use Rattle.post_task.specs.Waiting.{Waiting, Among, Inserted, IsFirst, effective
 -- the first of these and the best so far
 abbrev pub first_from : {X : Type 0} → (X → X → Bool) → X → List X → X
 first_from before best [] = best
-first_from before best (item ∷ rest) = first_from before (cond (before item best) item best) rest
+first_from before best (item ∷ rest) = first_from before (if before item best then item else best) rest
 
 -- the first of these, where one item goes before another by this test
 abbrev pub first_by : {X : Type 0} → (X → X → Bool) → List X → Option X
@@ -24,7 +24,7 @@ module _ {T : Type 0} where
   -- a task put in among others by its order
   abbrev pub put_in : Waiting T → List (Waiting T) → List (Waiting T)
   put_in task [] = task ∷ []
-  put_in task (other ∷ rest) = cond (nat_lt task.order other.order) (task ∷ other ∷ rest) (other ∷ put_in task rest)
+  put_in task (other ∷ rest) = if nat_lt task.order other.order then task ∷ other ∷ rest else other ∷ put_in task rest
 
   -- tasks in the order of their orders
   abbrev pub in_order : List (Waiting T) → List (Waiting T)

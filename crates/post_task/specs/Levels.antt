@@ -1,6 +1,6 @@
 -- Two lists of a pool for each priority source. Prioritized Task Scheduling, "Scheduling Tasks and Continuations": a queue for tasks and
 -- one for continuations
-use Rattle.std.specs.Prelude.{◌≡◌, ◌≢◌, ◌⊎◌, ℕ, zero, suc, ◌<◌, Bool, true, false, cond, List, [], ◌∷◌, ◌++◌, map, length, Option, Some, None, IsSome, unwrap_or, Result, IfOk, MatchOption}
+use Rattle.std.specs.Prelude.{◌≡◌, ◌≢◌, ◌⊎◌, ℕ, zero, suc, ◌<◌, Bool, true, false, if◌then◌else◌, List, [], ◌∷◌, ◌++◌, map, length, Option, Some, None, IsSome, unwrap_or, Result, IfOk, MatchOption}
 use Rattle.std.specs.BTreeMap.{BTreeMap, get}
 use Rattle.std.specs.Ordering.{nat_cmp}
 use Rattle.std.specs.List.{find, flat_map}
@@ -28,7 +28,7 @@ pub record Queue : Type 0 where
 -- the queue of a priority source for continuations, or that for other tasks
 abbrev pub queue_in : Level → Bool → Queue
 queue_in level continuation =
-    let list = cond continuation level.continuations.0 level.plain.0 in
+    let list = if continuation then level.continuations.0 else level.plain.0 in
     record { source = level.source; priority = level.priority; continuation = continuation; list = list }
 
 -- the two queues of a priority source
@@ -58,12 +58,12 @@ SameBut but old new = (source : PrioSource) → same_source source but ≡ false
 
 -- the lists of a source once a signal's priority has changed
 abbrev pub moved_level : ℕ → Priority → Level → Level
-moved_level s priority level = cond (has_source (Signal s) level) (record level { priority = priority }) level
+moved_level s priority level = if has_source (Signal s) level then record level { priority = priority } else level
 
 -- the number of the place of a source among these, from 0
 abbrev pub place_of : List Level → PrioSource → Option ℕ
 place_of [] source = None
-place_of (level ∷ rest) source = cond (has_source source level) (Some 0) (option_map suc (place_of rest source))
+place_of (level ∷ rest) source = if has_source source level then Some 0 else option_map suc (place_of rest source)
 
 -- each source has one pair of lists
 abbrev pub AreApart : List Level → Type 0
@@ -93,7 +93,7 @@ StandsNext (Signal s) levels = Unit {0}
 
 -- the map has another place for one source, where that is a signal's
 abbrev pub Notes : PrioSource → Option ℕ → BTreeMap ℕ ℕ → BTreeMap ℕ ℕ → Type 0
-Notes source place old new = (s : ℕ) → get nat_cmp new s ≡ cond (same_source source (Signal s)) place (get nat_cmp old s)
+Notes source place old new = (s : ℕ) → get nat_cmp new s ≡ (if same_source source (Signal s) then place else get nat_cmp old s)
 
 -- each source stands at its place, and the map has those of the signals
 pub record ArePlaced (levels : List Level) (signals : BTreeMap ℕ ℕ) : Type 0 where

@@ -1,5 +1,5 @@
 -- A tree of places in one list: below node n stand the nodes 2 n + 1 and 2 n + 2. Ours: the standards do not say how a queue is selected.
-use Rattle.std.specs.Prelude.{◌≡◌, ◌≢◌, ℕ, ◌+◌, ◌*◌, cond, List, Option, Some, None, slice_index_or, slice_set}
+use Rattle.std.specs.Prelude.{◌≡◌, ◌≢◌, ℕ, ◌+◌, ◌*◌, if◌then◌else◌, List, Option, Some, None, slice_index_or, slice_set}
 use Rattle.std.specs.Option.{option_map}
 use Rattle.post_task.specs.declared.tournament.Head.{Head}
 use Rattle.post_task.specs.declared.tournament.Winner.{Winner}
@@ -10,7 +10,7 @@ use Rattle.post_task.specs.Tournament.{goes_before}
 abbrev pub better : Option Winner → Option Winner → Option Winner
 better None new = new
 better (Some old) None = Some old
-better (Some old) (Some new) = cond (goes_before new.head old.head) (Some new) (Some old)
+better (Some old) (Some new) = if goes_before new.head old.head then Some new else Some old
 
 -- the head of a node's place
 abbrev pub own_of : Node → Option Head

@@ -1,6 +1,6 @@
 -- Scheduler tasks that wait, in one list. Prioritized Task Scheduling, "Scheduling Tasks and Continuations" and "Selecting the Task
 -- Queue of the Next Scheduler Task"
-use Rattle.std.specs.Prelude.{◌≡◌, ◌⊎◌, ℕ, ◌+◌, ◌*◌, ◌≤◌, Bool, false, cond, not, ◌==◌, List, [], ◌∷◌, ◌++◌, Option, MatchOption}
+use Rattle.std.specs.Prelude.{◌≡◌, ◌⊎◌, ℕ, ◌+◌, ◌*◌, ◌≤◌, Bool, false, if◌then◌else◌, not, ◌==◌, List, [], ◌∷◌, ◌++◌, Option, MatchOption}
 use Rattle.page_types.specs.declared.Priority.{Priority}
 use Rattle.page_parts.specs.TaskSignals.{rank, same_priority}
 use Rattle.cell_room.specs.declared.room.Cell.{Cell}
@@ -28,7 +28,7 @@ pub record Waiting (T : Type 0) : Type 0 where
 module _ {T : Type 0} where
   -- the effective priority of a task now: twice the rank of its priority, and one more for a continuation
   abbrev pub effective : Waiting T → ℕ
-  effective task = 2 * rank task.priority + cond task.continuation 1 0
+  effective task = 2 * rank task.priority + (if task.continuation then 1 else 0)
 
   -- one of these tasks
   abbrev pub Among : Waiting T → List (Waiting T) → Type 0
@@ -73,4 +73,4 @@ module _ {T : Type 0} where
 
   -- a task once its signal's priority has changed; one of another source stays as it is
   abbrev pub moved : ℕ → Priority → Waiting T → Waiting T
-  moved s priority task = cond (same_source task.source (Signal s)) (record task { priority = priority }) task
+  moved s priority task = if same_source task.source (Signal s) then record task { priority = priority } else task

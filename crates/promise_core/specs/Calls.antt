@@ -1,5 +1,5 @@
 -- Whole sequences of calls, for the laws on them.
-use Rattle.std.specs.Prelude.{ℕ, ◌+◌, cond, List, [], ◌∷◌, ◌++◌, ◌==◌}
+use Rattle.std.specs.Prelude.{ℕ, ◌+◌, if◌then◌else◌, List, [], ◌∷◌, ◌++◌, ◌==◌}
 use Rattle.page_types.specs.Values.{Value}
 use Rattle.page_parts.specs.Promises as Parts
 use Rattle.page_parts.specs.Promises.{PromiseRecord, Settled, Reaction, PromiseJob, React, Adopt, Change}
@@ -57,7 +57,7 @@ AreOfMade (c ∷ cs) s = IsOfMade c s × AreOfMade cs (after c s)
 abbrev pub settled_by : ℕ → Call → Held → ℕ
 settled_by n Make s = 0
 settled_by n TakeRejected s = 0
-settled_by n (Of m a) s = cond (m == n) (cond (step a m (the_promise s.promises m)).settled 1 0) 0
+settled_by n (Of m a) s = if m == n then (if (step a m (the_promise s.promises m)).settled then 1 else 0) else 0
 
 -- how often calls settle promise n
 abbrev pub times_settled : ℕ → List Call → Held → ℕ
@@ -67,7 +67,7 @@ times_settled n (c ∷ cs) s = settled_by n c s + times_settled n cs (after c s)
 -- the reactions of promise n for which jobs came
 abbrev pub reactions_of : ℕ → List PromiseJob → List Reaction
 reactions_of n [] = []
-reactions_of n (React m r ∷ js) = cond (m == n) (r ∷ reactions_of n js) (reactions_of n js)
+reactions_of n (React m r ∷ js) = if m == n then r ∷ reactions_of n js else reactions_of n js
 reactions_of n (Adopt into from ∷ js) = reactions_of n js
 
 -- those for which a call brought jobs
@@ -91,4 +91,4 @@ abbrev pub subscribed : ℕ → List Call → List Reaction
 subscribed n [] = []
 subscribed n (Make ∷ cs) = subscribed n cs
 subscribed n (TakeRejected ∷ cs) = subscribed n cs
-subscribed n (Of m a ∷ cs) = cond (m == n) (given a) [] ++ subscribed n cs
+subscribed n (Of m a ∷ cs) = (if m == n then given a else []) ++ subscribed n cs

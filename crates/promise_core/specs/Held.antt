@@ -1,5 +1,5 @@
 -- All promises and the rejected ones, and what calls do to them.
-use Rattle.std.specs.Prelude.{ℕ, zero, suc, Bool, false, true, cond, ◌&&◌, List, [], ◌∷◌, ◌<◌, ◌≤◌, length, nat_lt, ◌==◌, Option, ◌≡◌, refl}
+use Rattle.std.specs.Prelude.{ℕ, zero, suc, Bool, false, true, if◌then◌else◌, ◌&&◌, List, [], ◌∷◌, ◌<◌, ◌≤◌, length, nat_lt, ◌==◌, Option, ◌≡◌, refl}
 use Rattle.std.specs.Coded.{Coded, code_by, coded_bool, coded_list, coded_option, coded×, coded⊎, coded_ℕ}
 use mathlib.Core.Logic.{◌⊎◌, inl, inr}
 use Rattle.page_types.specs.Values.{Value}
@@ -30,7 +30,7 @@ abbrev pub changed : ℕ → Change → Held → Held
 changed n c s =
     record {
       promises = with_numbered s.promises n c.promise;
-      rejected = cond c.newly_rejected (and_last s.rejected n) s.rejected;
+      rejected = if c.newly_rejected then and_last s.rejected n else s.rejected;
     }
 
 -- promise number n is not to be notified about

@@ -1,5 +1,5 @@
 -- What stands in a room of nodes, read along their links. Ours: the standards do not say how queues are stored.
-use Rattle.std.specs.Prelude.{◌≡◌, ℕ, zero, suc, cond, Bool, false, List, [], ◌∷◌, map, Option, Some, None}
+use Rattle.std.specs.Prelude.{◌≡◌, ℕ, zero, suc, if◌then◌else◌, Bool, false, List, [], ◌∷◌, map, Option, Some, None}
 use Rattle.std.specs.Option.{option_map}
 use Rattle.cell_room.specs.Cells.{Cells, item_at}
 use Rattle.cell_room.specs.declared.room.Cell.{Cell}
@@ -42,7 +42,7 @@ module _ {T : Type 0} where
 
   -- the node in one cell, where there is one, is changed, and every other cell keeps what it had
   pub record Relinks (old new : Cell → Option (Node T)) (cell : Option Cell) (change : Node T → Node T) : Type 0 where
-    pub each : (other : Cell) → new other ≡ cond (is_cell cell other) (option_map change (old other)) (old other)
+    pub each : (other : Cell) → new other ≡ (if is_cell cell other then option_map change (old other) else old other)
 
 -- the ends of a list once a cell has left that stood between these two: the first of what follows it is first where nothing stood before,
 -- and what stood before is last where nothing follows

@@ -26,7 +26,7 @@ struct OneCall {
 }
 
 impl Host for OneCall {
-    ghost use Rattle.std.specs.Prelude.{◌≡◌, Bool, true, false, cond, [], ◌∷◌};
+    ghost use Rattle.std.specs.Prelude.{◌≡◌, Bool, true, false, if◌then◌else◌, [], ◌∷◌};
     ghost use Rattle.page_types.specs.Values.{UnitValue};
     ghost use Rattle.lang_meaning.specs.HostSteps.{StepValue, StepThrow, StepInvoke};
 
@@ -36,7 +36,7 @@ impl Host for OneCall {
 
     ghost now = { λ host. record {
       told = host.is_open;
-      tickets = cond host.is_open (7 ∷ []) [];
+      tickets = if host.is_open then 7 ∷ [] else [];
       room = 0;
       functions = 0;
       refusals = host.refusals;
@@ -44,7 +44,7 @@ impl Host for OneCall {
     } };
 
     ghost rules = { record {
-      op = λ op args told. record { step = cond told (StepThrow UnitValue) (StepInvoke UnitValue [] 7); host = true };
+      op = λ op args told. record { step = if told then StepThrow UnitValue else StepInvoke UnitValue [] 7; host = true };
       resume = λ ticket end told. record { step = StepValue UnitValue; host = false };
     } };
 

@@ -8,7 +8,7 @@ use Rattle.page_model.specs.State.{Registration, last_registration}
 use Rattle.page_model.specs.PageTime.{init_timer, request_frame, request_idle, idle_timeout}
 use Rattle.page_model.specs.Invoke.{register_as}
 use Rattle.page_model.specs.Operations.{timer_registered, timer_set, frame_requested, idle_requested}
-use Rattle.page_model.proofs.Adding.{cond_of-adds}
+use Rattle.page_model.proofs.Adding.Lines.{cond_of-adds}
 use Rattle.trace_text.specs.declared.lines.NoLine.{NoLine}
 use Rattle.trace_text.specs.Given.{Keeping, Seen}
 use Rattle.trace_text.specs.Acts.{At, Does}

@@ -16,7 +16,7 @@ use Rattle.host_jobs.specs.KeptAnswers.{next_kept}
 use Rattle.page_model.specs.Choosing.{Rules, is_reading, chosen_source, chosen_reading, chosen_answer, as_source, as_reading, as_answer, choice_rules}
 use Rattle.page_model.specs.Likeness.{SameChoice, ChooseAlike, EndAlike}
 use Rattle.page_model.specs.Turns.{Turned, GoesOn, Ended, Stuck, run, run_by, events_of_run}
-use Rattle.page_model.proofs.RunsAlike.{legal-alike, runs-alike, alike-events}
+use Rattle.page_model.proofs.ChosenAlone.RunsAlike.{legal-alike, runs-alike, alike-events}
 use Rattle.trace_text.specs.Line.{Line, Head, Of}
 use Rattle.trace_text.specs.Given.{Keeping, Seen, StopsAmong, Gives as TakesLines}
 use Rattle.trace_text.specs.declared.lines.NoLine.TheVariants as line

@@ -1,5 +1,5 @@
 -- Lines that are compared with the bytes of a trace, in which each ends with a line feed.
-use Rattle.std.specs.Prelude.{ℕ, suc, ◌==◌, ◌&&◌, cond, List, [], ◌∷◌, ◌++◌, Option, Some, None}
+use Rattle.std.specs.Prelude.{ℕ, suc, ◌==◌, ◌&&◌, if◌then◌else◌, List, [], ◌∷◌, ◌++◌, Option, Some, None}
 use Rattle.page_types.specs.Events.{Stamped}
 use Rattle.page_parts.specs.Words.{same_bytes}
 use Rattle.page_parts.specs.TraceText.{line_text}
@@ -20,13 +20,14 @@ pub record TextKept : Type 0 where
 abbrev pub met_line : TextKept → Stamped → Option (List ℕ × List ℕ) → Option TextKept
 met_line kept e None = None
 met_line kept e (Some (line, after)) =
-    cond (same_bytes (line ++ 10 ∷ []) (line_text e)) (Some (record { form = kept.form; left = after; matched = suc kept.matched })) None
+    if same_bytes (line ++ 10 ∷ []) (line_text e)
+    then Some (record { form = kept.form; left = after; matched = suc kept.matched }) else None
 
 -- What is kept after a line: none where the next one is another or absent. The head comes first, and only there.
 abbrev pub met_in_text : TextKept → Line → Option TextKept
 met_in_text kept (Head form) =
-    cond (kept.matched == 0 && kept.form == form) (Some (record { form = kept.form; left = kept.left; matched = 1 })) None
-met_in_text kept (Of e) = cond (kept.matched == 0) None (met_line kept e (cut_at 10 kept.left))
+    if kept.matched == 0 && kept.form == form then Some (record { form = kept.form; left = kept.left; matched = 1 }) else None
+met_in_text kept (Of e) = if kept.matched == 0 then None else met_line kept e (cut_at 10 kept.left)
 
 -- no line fails
 abbrev pub text_keeping : Keeping TextKept

@@ -1,5 +1,5 @@
 -- How lines are compared with those of a trace that is kept.
-use Rattle.std.specs.Prelude.{ℕ, zero, suc, ◌==◌, Bool, false, cond, List, [], ◌∷◌, map, Option, Some, None}
+use Rattle.std.specs.Prelude.{ℕ, zero, suc, ◌==◌, Bool, false, if◌then◌else◌, List, [], ◌∷◌, map, Option, Some, None}
 use Rattle.page_types.specs.Events.{Stamped}
 use Rattle.page_parts.specs.Words.{same_bytes}
 use Rattle.page_parts.specs.TraceText.{line_text}
@@ -30,7 +30,7 @@ same_line a b = false
 -- what is kept after a line, where these were kept: none where the next one is another or absent
 abbrev pub met : List Line → ℕ → Line → Option Kept
 met [] matched line = None
-met (next ∷ left) matched line = cond (same_line next line) (Some (record { left = left; matched = suc matched })) None
+met (next ∷ left) matched line = if same_line next line then Some (record { left = left; matched = suc matched }) else None
 
 -- no line fails
 abbrev pub check_keeping : Keeping Kept

@@ -1,5 +1,5 @@
 -- How one line of a trace is read, by its fields.
-use Rattle.std.specs.Prelude.{◌≡◌, ◌≢◌, ℕ, zero, suc, Bool, true, false, cond, List, [], ◌∷◌, ◌++◌, Option, Some, None, option_map, Result, Ok, Err, ℤ, pos, negsuc, codes, find, IsTrue, ◌==◌, if◌then◌else◌}
+use Rattle.std.specs.Prelude.{◌≡◌, ◌≢◌, ℕ, zero, suc, Bool, true, false, List, [], ◌∷◌, ◌++◌, Option, Some, None, option_map, Result, Ok, Err, ℤ, pos, negsuc, codes, find, IsTrue, ◌==◌, if◌then◌else◌}
 use Rattle.page_types.specs.declared.Source.{Source}
 use Rattle.page_types.specs.declared.Source.TheVariants.{User, Net, Dom, Timer, Render, Sched, Idle}
 use Rattle.page_types.specs.declared.End.{End}
@@ -67,11 +67,11 @@ end_at word = find (λ e. is_word (end_text e) word) all_ends
 
 -- `ok` or `err`
 unfoldable pub how_at : List ℕ → Option Bool
-how_at word = cond (is_word (codes "ok") word) (Some true) (cond (is_word (codes "err") word) (Some false) None)
+how_at word = if is_word (codes "ok") word then Some true else if is_word (codes "err") word then Some false else None
 
 -- `cont` or `task`
 unfoldable pub form_at : List ℕ → Option Bool
-form_at word = cond (is_word (codes "cont") word) (Some true) (cond (is_word (codes "task") word) (Some false) None)
+form_at word = if is_word (codes "cont") word then Some true else if is_word (codes "task") word then Some false else None
 
 -- a priority, or `s` and the number of a signal
 unfoldable pub queue_at : List ℕ → Option QueueName
@@ -202,15 +202,15 @@ numbered_at bytes =
 -- the events with other fields, but no value, in a form
 unfoldable pub worded_at : ℕ → List ℕ → Option Event
 worded_at form bytes =
-    cond (is_word (codes "ret") bytes) (Some Ret)
-    (read_or (behind (codes "turn ") bytes) turn_at
+    if is_word (codes "ret") bytes then Some Ret
+    else read_or (behind (codes "turn ") bytes) turn_at
     (read_or (behind (codes "reg ") bytes) (if form == 1 then reg_at else reg_by_at)
     (read_or (behind (codes "arm ") bytes) arm_at
     (read_or (behind (codes "job ") bytes) job_at
     (read_or (behind (codes "enq ") bytes) enq_at
     (read_or (behind (codes "prio ") bytes) prio_at
     (read_or (behind (codes "host ") bytes) host_at
-    (read_or (behind (codes "end ") bytes) (λ word. option_map EndLine (end_at word)) None))))))))
+    (read_or (behind (codes "end ") bytes) (λ word. option_map EndLine (end_at word)) None)))))))
 
 -- the events with a value
 unfoldable pub valued_at : List ℕ → Option Event

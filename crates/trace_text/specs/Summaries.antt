@@ -1,5 +1,5 @@
 -- What a summary of a trace counts.
-use Rattle.std.specs.Prelude.{ℕ, suc, ◌-◌, ◌^◌, min, Bool, true, false, cond, List, [], ◌∷◌, Option, Some, None, Result}
+use Rattle.std.specs.Prelude.{ℕ, suc, ◌-◌, ◌^◌, min, Bool, true, false, if◌then◌else◌, List, [], ◌∷◌, Option, Some, None, Result}
 use Rattle.std.specs.Result.{result_err}
 use Rattle.page_types.specs.Counts.{raised}
 use Rattle.page_types.specs.declared.End.{End}
@@ -77,7 +77,7 @@ summarised s = record { turns = s.turns; calls = s.calls; drops = s.drops; settl
 
 -- one more where the event is such a one
 abbrev pub counted : (Event → Bool) → ℕ → Event → ℕ
-counted test before event = cond (test event) (raised before) before
+counted test before event = if test event then raised before else before
 
 abbrev pub counts_after : Counts → Event → Counts
 counts_after before event = record {

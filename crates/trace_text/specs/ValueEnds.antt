@@ -1,5 +1,5 @@
 -- What stands behind a value at the front of some bytes.
-use Rattle.std.specs.Prelude.{◌≡◌, ℕ, Bool, true, false, cond, ◌||◌, ◌==◌, ◌⊎◌, List, [], ◌∷◌, ◌++◌, length, drop, take_while, Option, Some, None, codes, IsTrue}
+use Rattle.std.specs.Prelude.{◌≡◌, ℕ, Bool, true, false, if◌then◌else◌, ◌||◌, ◌==◌, ◌⊎◌, List, [], ◌∷◌, ◌++◌, length, drop, take_while, Option, Some, None, codes, IsTrue}
 use Rattle.std.specs.List.{join_with_byte}
 use Rattle.page_base.specs.Decimals.{is_digit, number_at, after_digits}
 use Rattle.page_base.specs.Fields.{behind, ◌>>=◌, read_or}
@@ -14,7 +14,7 @@ after_number most bytes = number_at most bytes >>= λ n. Some (after_digits byte
 
 -- behind the size of a negative integer, which is not 0
 unfoldable pub after_negative : List ℕ → Option (List ℕ)
-after_negative bytes = number_at 9223372036854775808 bytes >>= λ n. cond (n == 0) None (Some (after_digits bytes))
+after_negative bytes = number_at 9223372036854775808 bytes >>= λ n. if n == 0 then None else Some (after_digits bytes)
 
 -- behind an integer of 64 bits
 unfoldable pub after_int : List ℕ → Option (List ℕ)
@@ -24,12 +24,15 @@ abbrev mutual
   -- behind the parts of a text and the `"` that ends it
   pub after_parts : List ℕ → Option (List ℕ)
   after_parts [] = None
-  after_parts (b ∷ bytes) = cond (b == 34) (Some bytes) (cond (b == 92) (after_escape bytes) (cond (is_plain b) (after_parts bytes) None))
+  after_parts (b ∷ bytes) =
+      if b == 34 then Some bytes
+      else if b == 92 then after_escape bytes
+      else if is_plain b then after_parts bytes else None
 
   -- the same after a `\`
   pub after_escape : List ℕ → Option (List ℕ)
   after_escape [] = None
-  after_escape (b ∷ bytes) = cond (b == 34 || (b == 92 || b == 110)) (after_parts bytes) None
+  after_escape (b ∷ bytes) = if b == 34 || (b == 92 || b == 110) then after_parts bytes else None
 
 -- behind the text of a fault, in brackets
 unfoldable pub after_cause : List ℕ → Option (List ℕ)
@@ -72,14 +75,14 @@ begins_number (b ∷ bytes) = b == 45 || is_digit b
 
 -- behind a value with no values inside
 unfoldable pub after_simple : List ℕ → Option (List ℕ)
-after_simple bytes = cond (begins_number bytes) (after_int bytes) (after_word bytes)
+after_simple bytes = if begins_number bytes then after_int bytes else after_word bytes
 
 -- ---- Ours: what begins a row of values
 
 -- behind a name and the bracket that opens its row
 unfoldable pub inside_name : List ℕ → Option (List ℕ)
 inside_name bytes =
-    cond (is_name (take_while is_name_byte bytes)) (behind (codes "(") (drop (length (take_while is_name_byte bytes)) bytes)) None
+    if is_name (take_while is_name_byte bytes) then behind (codes "(") (drop (length (take_while is_name_byte bytes)) bytes) else None
 
 -- behind what begins a list or a function, with the byte that will close it
 unfoldable pub inside : List ℕ → Option (ℕ × List ℕ)

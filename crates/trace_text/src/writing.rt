@@ -1,6 +1,6 @@
 //! The lines of events.
 
-ghost use Rattle.std.specs.Prelude.{◌≡◌, ◌++◌, [], ◌∷◌, cond, codes, OnOk, OnErr, IfOk};
+ghost use Rattle.std.specs.Prelude.{◌≡◌, ◌++◌, [], ◌∷◌, if◌then◌else◌, codes, OnOk, OnErr, IfOk};
 ghost use Rattle.page_types.specs.Events.{Turn, Throw, Reg, Arm, Job, Settle, Enq, Prio, Host, Send, EndLine};
 ghost use Rattle.page_parts.specs.Spelling.{priority_text};
 ghost use Rattle.page_parts.specs.TraceText.{source_text, end_text, kind_text, field, number_field, int_field, by_field, queued_text, queue_text, how_text, answer_text, event_text, line_text};
@@ -190,7 +190,7 @@ fn write_queue(queue: QueueName, into: &mut Vec<u8>) -> Result<(), AllocError>
 }
 
 fn write_form(cont: bool, into: &mut Vec<u8>) -> Result<(), AllocError>
-    ensures { IfOk result (λ _. into.new.items ≡ into.old.items ++ cond cont (codes " cont") (codes " task")) }
+    ensures { IfOk result (λ _. into.new.items ≡ into.old.items ++ (if cont then codes " cont" else codes " task")) }
 {
     into.extend_from_slice(if cont { b" cont" } else { b" task" })
 }

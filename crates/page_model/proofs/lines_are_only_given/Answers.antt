@@ -1,7 +1,7 @@
 use Rattle.lang_meaning.specs.Evaluation.{call_from_outside}
 use Rattle.page_model.specs.Operations.{page_operations}
-use Rattle.page_model.proofs.AddingOperations.{outside-adds}
-use Rattle.page_model.proofs.AddingTurns.{turns-adds}
+use Rattle.page_model.proofs.Adding.Operations.{outside-adds}
+use Rattle.page_model.proofs.Adding.Turns.{turns-adds}
 use Rattle.page_model.proofs.lines_are_only_given.Goals as goal
 
 pub returns : goal.returns

@@ -1,6 +1,6 @@
 use Rattle.page_values.specs.Seen.{seen}
 use Rattle.page_model.specs.Invoke.{thrown, report_before}
-use Rattle.page_model.proofs.Adding.{report_before-adds}
+use Rattle.page_model.proofs.Adding.Lines.{report_before-adds}
 use Rattle.page_script.specs.Reports.{when_seen}
 use Rattle.page_state.proofs.Acting.{Does-next, Does-leave}
 use Rattle.page_host.proofs.pieces.threw_in.Goals as goal

@@ -1,7 +1,7 @@
 use Rattle.promise_core.specs.Seen.{settled_seen}
 use Rattle.page_model.specs.PagePromises.{settle}
 use Rattle.page_model.specs.PageSignals.{unwatch}
-use Rattle.page_model.proofs.Adding.{unwatch-adds}
+use Rattle.page_model.proofs.Adding.Lines.{unwatch-adds}
 use Rattle.page_state.proofs.Acting.{Does-leave}
 use Rattle.page_host.proofs.TaskEnds.{Does-unwatched}
 use Rattle.page_host.proofs.sched_tasks.post_over_in.Goals as goal

@@ -1,7 +1,7 @@
 use Rattle.lang_meaning.specs.Evaluation.{call_from_outside}
 use Rattle.page_model.specs.Operations.{page_operations}
 use Rattle.page_model.specs.Hosted.{call_by_steps}
-use Rattle.page_model.proofs.RunsBySteps.{acts-agree, callers-agree}
+use Rattle.page_model.proofs.Stepping.Runs.{acts-agree, callers-agree}
 use Rattle.page_model.proofs.acts.acts_by_steps_are_the_acts.Goals as goal
 
 pub returns-clause-same : goal.returns-clause-same

@@ -3,9 +3,9 @@ use Rattle.lang_meaning.specs.Evaluation.{call_from_outside}
 use Rattle.page_model.specs.Operations.{page_operations}
 use Rattle.page_model.specs.Turns.{first_state}
 use Rattle.page_model.specs.Gaps.{serve, run_gaps_by}
-use Rattle.page_model.proofs.HoldingOperations.{outside-go}
-use Rattle.page_model.proofs.HoldingTurns.{serve-kept, acts-kept}
-use Rattle.page_model.proofs.FuelAndTime.{forward, Took, took_on, took, turn_forward}
+use Rattle.page_model.proofs.Holding.Operations.{outside-go}
+use Rattle.page_model.proofs.Holding.Turns.{serve-kept, acts-kept}
+use Rattle.page_model.proofs.Holding.FuelAndTime.{forward, Took, took_on, took, turn_forward}
 use Rattle.page_model.proofs.acts.acts_go_forward.Goals as goal
 
 pub returns-clause-served : goal.returns-clause-served

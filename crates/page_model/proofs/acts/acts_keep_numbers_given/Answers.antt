@@ -1,7 +1,7 @@
 use Rattle.std.specs.Prelude.{[]}
 use Rattle.page_model.specs.Turns.{first_state}
 use Rattle.page_model.specs.Gaps.{run_gaps_by}
-use Rattle.page_model.proofs.NumbersTurns.{first_state-given, acts-keep}
+use Rattle.page_model.proofs.GivenNumbers.Turns.{first_state-given, acts-keep}
 use Rattle.page_model.proofs.acts.acts_keep_numbers_given.Goals as goal
 
 pub returns-clause-many : goal.returns-clause-many

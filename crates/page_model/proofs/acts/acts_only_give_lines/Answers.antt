@@ -1,7 +1,7 @@
 use Rattle.lang_meaning.specs.Evaluation.{call_from_outside}
 use Rattle.page_model.specs.Operations.{page_operations}
-use Rattle.page_model.proofs.AddingOperations.{outside-adds}
-use Rattle.page_model.proofs.AddingActs.{acts-adds}
+use Rattle.page_model.proofs.Adding.Operations.{outside-adds}
+use Rattle.page_model.proofs.Adding.Acts.{acts-adds}
 use Rattle.page_model.proofs.acts.acts_only_give_lines.Goals as goal
 
 pub returns : goal.returns

@@ -1,7 +1,7 @@
 use Rattle.std.proofs.Common.{sym, ap, ◌∙◌}
 use Rattle.page_parts.specs.WrittenChoices.{Choices}
 use Rattle.page_model.specs.Gaps.{run_gaps}
-use Rattle.page_model.proofs.Replaying.{gaps-again}
+use Rattle.page_model.proofs.ChosenAlone.Replaying.{gaps-again}
 use Rattle.page_model.proofs.acts.choices_determine_a_run_by_acts.Goals as goal
 
 pub returns : goal.returns

@@ -1,4 +1,4 @@
-use Rattle.page_model.proofs.Replaying.{gaps-again}
+use Rattle.page_model.proofs.ChosenAlone.Replaying.{gaps-again}
 use Rattle.page_model.proofs.acts.choices_of_acts_are_data.Goals as goal
 
 pub returns : goal.returns

@@ -1,9 +1,9 @@
 use Rattle.lang_meaning.specs.Evaluation.{call_from_outside}
 use Rattle.page_model.specs.State.{State}
 use Rattle.page_model.specs.Operations.{page_operations}
-use Rattle.page_model.proofs.HoldingOperations.{outside-go}
-use Rattle.page_model.proofs.HoldingTurns.{acts-kept}
-use Rattle.page_model.proofs.OneDeep.{one_deep}
+use Rattle.page_model.proofs.Holding.Operations.{outside-go}
+use Rattle.page_model.proofs.Holding.Turns.{acts-kept}
+use Rattle.page_model.proofs.Bounding.OneDeep.{one_deep}
 use Rattle.page_model.proofs.acts.following_stays_one_deep_by_acts.Goals as goal
 
 -- of a turn nothing more is asked

@@ -1,4 +1,4 @@
-use Rattle.page_model.proofs.FurtherChoices.{gaps-further}
+use Rattle.page_model.proofs.ChosenAlone.FurtherChoices.{gaps-further}
 use Rattle.page_model.proofs.acts.further_choices_of_acts_are_left.Goals as goal
 
 pub returns : goal.returns

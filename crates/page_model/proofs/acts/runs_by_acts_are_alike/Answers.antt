@@ -1,4 +1,4 @@
-use Rattle.page_model.proofs.RunsAlike.{gaps-alike}
+use Rattle.page_model.proofs.ChosenAlone.RunsAlike.{gaps-alike}
 use Rattle.page_model.proofs.acts.runs_by_acts_are_alike.Goals as goal
 
 pub returns : goal.returns

@@ -1,4 +1,4 @@
-use Rattle.page_model.proofs.InOrder.{arrival-in_order, taken-in_order, parallel-in_order}
+use Rattle.page_model.proofs.Holding.InOrder.{arrival-in_order, taken-in_order, parallel-in_order}
 use Rattle.page_model.proofs.arrivals.arrivals_stay_in_order.Goals as goal
 
 pub returns-clause-one_more : goal.returns-clause-one_more

@@ -1,6 +1,6 @@
 use Rattle.std.proofs.Common.{arith}
 use Rattle.page_model.specs.Parallel.{item_count}
-use Rattle.page_model.proofs.BoundsOfItems.{items-within, take_due-agree, take_due_or-agree, take_due-all}
+use Rattle.page_model.proofs.Bounding.Items.{items-within, take_due-agree, take_due_or-agree, take_due-all}
 use Rattle.page_model.proofs.bounds.due_items_are_all_taken.Goals as goal
 
 pub returns-clause-whatever_at_0 : goal.returns-clause-whatever_at_0

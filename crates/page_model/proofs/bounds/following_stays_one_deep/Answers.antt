@@ -3,10 +3,10 @@ use Rattle.lang_meaning.specs.Evaluation.{calls, call_from_outside}
 use Rattle.page_model.specs.State.{State}
 use Rattle.page_model.specs.Operations.{page_operations}
 use Rattle.page_model.specs.Turns.{first_state, run_by}
-use Rattle.page_model.proofs.Holding.{every_any}
-use Rattle.page_model.proofs.HoldingOperations.{page_operations-go, calls-go, outside-go}
-use Rattle.page_model.proofs.HoldingTurns.{turns-kept}
-use Rattle.page_model.proofs.OneDeep.{one_deep, kept_of, no_priorities}
+use Rattle.page_model.proofs.Holding.Evaluation.{every_any}
+use Rattle.page_model.proofs.Holding.Operations.{page_operations-go, calls-go, outside-go}
+use Rattle.page_model.proofs.Holding.Turns.{turns-kept}
+use Rattle.page_model.proofs.Bounding.OneDeep.{one_deep, kept_of, no_priorities}
 use Rattle.page_model.proofs.bounds.following_stays_one_deep.Goals as goal
 
 -- of a turn nothing more is asked

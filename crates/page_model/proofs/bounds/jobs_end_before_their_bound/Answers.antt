@@ -1,6 +1,6 @@
 use Rattle.std.proofs.Common.{suc, sym, ◌∙◌, lt-suc_self}
 use Rattle.lang_meaning.specs.Machine.{OutOfFuel}
-use Rattle.page_model.proofs.BoundsOfFuel.{run_jobs-agree}
+use Rattle.page_model.proofs.Bounding.Fuel.{run_jobs-agree}
 use Rattle.page_model.proofs.bounds.jobs_end_before_their_bound.Goals as goal
 
 pub returns-clause-whatever_at_0 : goal.returns-clause-whatever_at_0

@@ -2,7 +2,7 @@ use Rattle.std.proofs.Common.{suc, sym, ◌∙◌, lt-suc_self}
 use Rattle.lang_meaning.specs.Machine.{OutOfFuel}
 use Rattle.lang_meaning.specs.Evaluation.{eval, exec_block}
 use Rattle.page_model.specs.Bounds.{at_depth}
-use Rattle.page_model.proofs.BoundsOfFuel.{loop_turns-agree, eval_forward, block_forward}
+use Rattle.page_model.proofs.Bounding.Fuel.{loop_turns-agree, eval_forward, block_forward}
 use Rattle.page_model.proofs.bounds.loops_end_before_their_bound.Goals as goal
 
 pub returns-clause-whatever_at_0 : goal.returns-clause-whatever_at_0

@@ -3,9 +3,9 @@ use Rattle.lang_meaning.specs.Machine.{finish}
 use Rattle.lang_meaning.specs.Evaluation.{calls}
 use Rattle.page_model.specs.Invoke.{in_script}
 use Rattle.page_model.specs.Operations.{page_operations}
-use Rattle.page_model.proofs.HoldingRuns.{in_script-goes}
-use Rattle.page_model.proofs.HoldingOperations.{calls-go}
-use Rattle.page_model.proofs.OneDeep.{one_deep, change-agree}
+use Rattle.page_model.proofs.Holding.Runs.{in_script-goes}
+use Rattle.page_model.proofs.Holding.Operations.{calls-go}
+use Rattle.page_model.proofs.Bounding.OneDeep.{one_deep, change-agree}
 use Rattle.page_model.proofs.bounds.priority_changes_end_before_their_bound.Goals as goal
 
 pub returns-clause-whatever_at_0 : goal.returns-clause-whatever_at_0

@@ -1,6 +1,6 @@
 use Rattle.std.proofs.Common.{suc, sym, ◌∙◌, lt-suc_self}
 use Rattle.page_model.specs.Turns.{Stuck, AtBound, first_state, run_by}
-use Rattle.page_model.proofs.BoundsOfFuel.{turns-agree}
+use Rattle.page_model.proofs.Bounding.Fuel.{turns-agree}
 use Rattle.page_model.proofs.bounds.runs_end_before_their_bound.Goals as goal
 
 pub returns-clause-whatever_at_0 : goal.returns-clause-whatever_at_0

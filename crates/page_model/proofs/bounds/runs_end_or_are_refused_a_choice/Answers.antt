@@ -1,6 +1,6 @@
 use Rattle.std.proofs.Common.{refl}
 use Rattle.page_model.specs.Turns.{first_state, run_by}
-use Rattle.page_model.proofs.Ending.{turns-end}
+use Rattle.page_model.proofs.Bounding.Ending.{turns-end}
 use Rattle.page_model.proofs.bounds.runs_end_or_are_refused_a_choice.Goals as goal
 
 pub returns : goal.returns

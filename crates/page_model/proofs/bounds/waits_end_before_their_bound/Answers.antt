@@ -1,7 +1,7 @@
 use Rattle.std.proofs.Common.{suc, refl}
 use Rattle.page_model.specs.Turns.{first_state, run_by}
-use Rattle.page_model.proofs.Waiting.{turn-agree, from_greater}
-use Rattle.page_model.proofs.CountedTurns.{row-agree}
+use Rattle.page_model.proofs.Bounding.Waiting.{turn-agree, from_greater}
+use Rattle.page_model.proofs.Bounding.CountedTurns.{row-agree}
 use Rattle.page_model.proofs.bounds.waits_end_before_their_bound.Goals as goal
 
 pub returns-clause-whatever_at_0 : goal.returns-clause-whatever_at_0

@@ -2,7 +2,7 @@ use Rattle.std.proofs.Common.{refl, sym, subst}
 use Rattle.page_model.specs.ChoicesAreData.{HasEnded, with_left, no_choices}
 use Rattle.page_model.specs.PageTrace.{EndsWith}
 use Rattle.page_model.specs.Turns.{Turned, GoesOn, Ended, Stuck, run_by, events_of_run}
-use Rattle.page_model.proofs.Replaying.{run-again}
+use Rattle.page_model.proofs.ChosenAlone.Replaying.{run-again}
 use Rattle.page_model.proofs.choices.choices_are_data.Goals as goal
 
 pub returns-clause-again : goal.returns-clause-again

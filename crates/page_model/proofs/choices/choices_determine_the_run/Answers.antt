@@ -1,7 +1,7 @@
 use Rattle.std.proofs.Common.{sym, ap, ◌∙◌}
 use Rattle.page_parts.specs.WrittenChoices.{Choices}
 use Rattle.page_model.specs.Turns.{run}
-use Rattle.page_model.proofs.Replaying.{run-again}
+use Rattle.page_model.proofs.ChosenAlone.Replaying.{run-again}
 use Rattle.page_model.proofs.choices.choices_determine_the_run.Goals as goal
 
 pub returns : goal.returns

@@ -1,4 +1,4 @@
-use Rattle.page_model.proofs.FurtherChoices.{run-further}
+use Rattle.page_model.proofs.ChosenAlone.FurtherChoices.{run-further}
 use Rattle.page_model.proofs.choices.further_choices_are_left.Goals as goal
 
 pub returns : goal.returns

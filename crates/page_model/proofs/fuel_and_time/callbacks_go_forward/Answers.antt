@@ -1,6 +1,6 @@
 use Rattle.page_model.specs.Invoke.{invoke, in_task}
-use Rattle.page_model.proofs.HoldingRuns.{invoke-goes, in_task-goes}
-use Rattle.page_model.proofs.FuelAndTime.{no_script, forward, goes_forward, calls_forward}
+use Rattle.page_model.proofs.Holding.Runs.{invoke-goes, in_task-goes}
+use Rattle.page_model.proofs.Holding.FuelAndTime.{no_script, forward, goes_forward, calls_forward}
 use Rattle.page_model.proofs.fuel_and_time.callbacks_go_forward.Goals as goal
 
 pub returns-clause-in_a_task : goal.returns-clause-in_a_task

@@ -1,8 +1,8 @@
 use Rattle.lang_meaning.specs.Evaluation.{calls, call_from_outside}
 use Rattle.page_model.specs.Operations.{page_operations}
-use Rattle.page_model.proofs.HoldingOperations.{calls-go, outside-go}
-use Rattle.page_model.proofs.Holding.{every_any}
-use Rattle.page_model.proofs.FuelAndTime.{forward, forward_of}
+use Rattle.page_model.proofs.Holding.Operations.{calls-go, outside-go}
+use Rattle.page_model.proofs.Holding.Evaluation.{every_any}
+use Rattle.page_model.proofs.Holding.FuelAndTime.{forward, forward_of}
 use Rattle.page_model.proofs.fuel_and_time.calls_go_forward.Goals as goal
 
 pub returns-clause-at_depth : goal.returns-clause-at_depth

@@ -1,6 +1,6 @@
 use Rattle.page_model.specs.Invoke.{run_jobs, checkpoint}
-use Rattle.page_model.proofs.HoldingRuns.{run_jobs-goes, checkpoint-goes}
-use Rattle.page_model.proofs.FuelAndTime.{no_script, forward, goes_forward, calls_forward}
+use Rattle.page_model.proofs.Holding.Runs.{run_jobs-goes, checkpoint-goes}
+use Rattle.page_model.proofs.Holding.FuelAndTime.{no_script, forward, goes_forward, calls_forward}
 use Rattle.page_model.proofs.fuel_and_time.jobs_go_forward.Goals as goal
 
 pub returns-clause-all_jobs : goal.returns-clause-all_jobs

@@ -1,7 +1,7 @@
 use Rattle.page_model.specs.Operations.{page_operations}
-use Rattle.page_model.proofs.HoldingOperations.{page_operations-go}
-use Rattle.page_model.proofs.Holding.{every_any}
-use Rattle.page_model.proofs.FuelAndTime.{no_script, forward, forward_of, calls_forward}
+use Rattle.page_model.proofs.Holding.Operations.{page_operations-go}
+use Rattle.page_model.proofs.Holding.Evaluation.{every_any}
+use Rattle.page_model.proofs.Holding.FuelAndTime.{no_script, forward, forward_of, calls_forward}
 use Rattle.page_model.proofs.fuel_and_time.operations_go_forward.Goals as goal
 
 pub returns : goal.returns

@@ -1,5 +1,5 @@
 use Rattle.std.proofs.Common.{ap}
-use Rattle.page_model.proofs.Leaving.{parallel-leaves}
+use Rattle.page_model.proofs.Bounding.Leaving.{parallel-leaves}
 use Rattle.page_model.proofs.fuel_and_time.parallel_items_take_no_time.Goals as goal
 
 pub returns : goal.returns

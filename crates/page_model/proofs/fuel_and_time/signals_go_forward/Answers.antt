@@ -1,6 +1,6 @@
 use Rattle.page_model.specs.PageSignals.{dispatch, abort, change}
-use Rattle.page_model.proofs.HoldingRuns.{dispatch-goes, abort-goes, change-goes}
-use Rattle.page_model.proofs.FuelAndTime.{no_script, forward, goes_forward, ways_forward}
+use Rattle.page_model.proofs.Holding.Runs.{dispatch-goes, abort-goes, change-goes}
+use Rattle.page_model.proofs.Holding.FuelAndTime.{no_script, forward, goes_forward, ways_forward}
 use Rattle.page_model.proofs.fuel_and_time.signals_go_forward.Goals as goal
 
 pub returns-clause-fired : goal.returns-clause-fired

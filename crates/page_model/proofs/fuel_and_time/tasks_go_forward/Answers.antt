@@ -1,10 +1,10 @@
 use Rattle.std.proofs.Common.{ap}
-use Rattle.page_model.proofs.Leaving.{answer_host-leaves}
+use Rattle.page_model.proofs.Bounding.Leaving.{answer_host-leaves}
 use Rattle.page_model.specs.Invoke.{in_task}
 use Rattle.page_model.specs.Tasks.{perform_steps, perform_sched, after_task}
-use Rattle.page_model.proofs.HoldingRuns.{in_task-goes}
-use Rattle.page_model.proofs.HoldingTurns.{perform_steps-goes, perform_sched-goes, after_task-goes}
-use Rattle.page_model.proofs.FuelAndTime.{no_script, forward, goes_forward, calls_forward}
+use Rattle.page_model.proofs.Holding.Runs.{in_task-goes}
+use Rattle.page_model.proofs.Holding.Turns.{perform_steps-goes, perform_sched-goes, after_task-goes}
+use Rattle.page_model.proofs.Holding.FuelAndTime.{no_script, forward, goes_forward, calls_forward}
 use Rattle.page_model.proofs.fuel_and_time.tasks_go_forward.Goals as goal
 
 pub returns-clause-steps : goal.returns-clause-steps

@@ -2,9 +2,9 @@ use Rattle.std.proofs.Common.{suc}
 use Rattle.lang_meaning.specs.Evaluation.{call_from_outside}
 use Rattle.page_model.specs.Operations.{page_operations}
 use Rattle.page_model.specs.Turns.{turn, first_state, run_by}
-use Rattle.page_model.proofs.HoldingOperations.{outside-go}
-use Rattle.page_model.proofs.HoldingTurns.{turn-kept, turns-kept}
-use Rattle.page_model.proofs.FuelAndTime.{forward, Took, took_on, took, turn_forward}
+use Rattle.page_model.proofs.Holding.Operations.{outside-go}
+use Rattle.page_model.proofs.Holding.Turns.{turn-kept, turns-kept}
+use Rattle.page_model.proofs.Holding.FuelAndTime.{forward, Took, took_on, took, turn_forward}
 use Rattle.page_model.proofs.fuel_and_time.turns_go_forward.Goals as goal
 
 pub returns-clause-one_turn : goal.returns-clause-one_turn

@@ -1,4 +1,4 @@
-use Rattle.page_model.proofs.RunsAlike.{runs-alike}
+use Rattle.page_model.proofs.ChosenAlone.RunsAlike.{runs-alike}
 use Rattle.page_model.proofs.likeness.runs_are_alike.Goals as goal
 
 pub returns : goal.returns

@@ -1,4 +1,4 @@
-use Rattle.page_model.proofs.NumbersOperations.{calls-keep}
+use Rattle.page_model.proofs.GivenNumbers.Operations.{calls-keep}
 use Rattle.page_model.proofs.numbers.calls_keep_numbers_given.Goals as goal
 
 pub returns : goal.returns

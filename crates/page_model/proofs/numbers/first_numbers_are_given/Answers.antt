@@ -1,4 +1,4 @@
-use Rattle.page_model.proofs.NumbersTurns.{first_state-given}
+use Rattle.page_model.proofs.GivenNumbers.Turns.{first_state-given}
 use Rattle.page_model.proofs.numbers.first_numbers_are_given.Goals as goal
 
 pub returns : goal.returns

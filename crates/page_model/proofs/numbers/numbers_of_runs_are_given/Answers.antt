@@ -1,6 +1,6 @@
 use Rattle.std.proofs.Common.{suc}
 use Rattle.page_model.specs.Turns.{first_state, run_by}
-use Rattle.page_model.proofs.NumbersTurns.{first_state-given, turns-keep}
+use Rattle.page_model.proofs.GivenNumbers.Turns.{first_state-given, turns-keep}
 use Rattle.page_model.proofs.numbers.numbers_of_runs_are_given.Goals as goal
 
 pub returns-clause-after : goal.returns-clause-after

@@ -1,4 +1,4 @@
-use Rattle.page_model.proofs.NumbersTurns.{turn-keeps, turns-keep}
+use Rattle.page_model.proofs.GivenNumbers.Turns.{turn-keeps, turns-keep}
 use Rattle.page_model.proofs.numbers.turns_keep_numbers_given.Goals as goal
 
 pub returns-clause-one : goal.returns-clause-one

@@ -1,4 +1,4 @@
-use Rattle.page_model.proofs.Tickets.{resume-accounts}
+use Rattle.page_model.proofs.Stepping.Tickets.{resume-accounts}
 use Rattle.page_model.proofs.steps.callbacks_account_for_tickets.Goals as goal
 
 pub returns : goal.returns

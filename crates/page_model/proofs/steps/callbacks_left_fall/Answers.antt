@@ -1,4 +1,4 @@
-use Rattle.page_model.proofs.HostBounds.{resume-within}
+use Rattle.page_model.proofs.Bounding.HostBounds.{resume-within}
 use Rattle.page_model.proofs.steps.callbacks_left_fall.Goals as goal
 
 pub returns : goal.returns

@@ -1,4 +1,4 @@
-use Rattle.page_model.proofs.Unrolling.{dispatch-unrolls}
+use Rattle.page_model.proofs.Bounding.Unrolling.{dispatch-unrolls}
 use Rattle.page_model.proofs.steps.dispatch_is_a_fold.Goals as goal
 
 pub returns : goal.returns

@@ -1,4 +1,4 @@
-use Rattle.page_model.proofs.FirstBounds.{first-bounded}
+use Rattle.page_model.proofs.Bounding.FirstBounds.{first-bounded}
 use Rattle.page_model.proofs.steps.first_page_is_bounded.Goals as goal
 
 pub returns : goal.returns

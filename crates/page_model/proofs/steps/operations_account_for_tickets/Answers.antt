@@ -1,4 +1,4 @@
-use Rattle.page_model.proofs.Tickets.{known-accounts}
+use Rattle.page_model.proofs.Stepping.Tickets.{known-accounts}
 use Rattle.page_model.proofs.steps.operations_account_for_tickets.Goals as goal
 
 pub returns : goal.returns

@@ -1,4 +1,4 @@
-use Rattle.page_model.proofs.HostBounds.{known-within}
+use Rattle.page_model.proofs.Bounding.HostBounds.{known-within}
 use Rattle.page_model.proofs.steps.operations_keep_bounds.Goals as goal
 
 pub returns : goal.returns

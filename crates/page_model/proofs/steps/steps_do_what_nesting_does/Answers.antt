@@ -1,4 +1,4 @@
-use Rattle.page_model.proofs.Hosting.{calls-follow-by-steps}
+use Rattle.page_model.proofs.Stepping.Hosting.{calls-follow-by-steps}
 use Rattle.page_model.proofs.steps.steps_do_what_nesting_does.Goals as goal
 
 pub returns : goal.returns

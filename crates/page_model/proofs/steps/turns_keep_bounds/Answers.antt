@@ -1,7 +1,7 @@
 use Rattle.lang_meaning.specs.Evaluation.{call_from_outside}
 use Rattle.page_model.specs.Operations.{page_operations}
 use Rattle.page_model.specs.Hosted.{call_by_steps}
-use Rattle.page_model.proofs.RunsBySteps.{turns-agree, callers-agree}
+use Rattle.page_model.proofs.Stepping.Runs.{turns-agree, callers-agree}
 use Rattle.page_model.proofs.steps.turns_keep_bounds.Goals as goal
 
 pub returns : goal.returns

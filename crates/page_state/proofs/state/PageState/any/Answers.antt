@@ -1,6 +1,6 @@
 use Rattle.std.proofs.Common.{◌≡◌, ◌∙◌, ℕ, length, add-one, ap, sym, subst, Result}
 use Rattle.std.specs.Prelude.{IfOk}
-use Rattle.page_model.proofs.Dependents.{any-length}
+use Rattle.page_model.proofs.Stepping.Dependents.{any-length}
 use Rattle.page_signals.specs.Signalling.{Signalling}
 use Rattle.trace_text.specs.declared.lines.NoLine.{NoLine}
 use Rattle.page_state.proofs.state.PageState.any.Goals as goal

@@ -1,7 +1,7 @@
 use Rattle.std.proofs.Common.{refl}
 use Rattle.page_model.specs.State.{Page}
 use Rattle.page_model.specs.PageTime.{start_period, idle_step}
-use Rattle.page_model.proofs.Adding.{start_period-adds}
+use Rattle.page_model.proofs.Adding.Lines.{start_period-adds}
 use Rattle.page_state.proofs.Acting.{Does-next, Does-silent, Does-wants}
 use Rattle.page_state.proofs.state.PageState.idle_step.Goals as goal
 

@@ -1,6 +1,6 @@
 use Rattle.std.proofs.Common.{Option}
 use Rattle.page_model.specs.Parallel.{parallel}
-use Rattle.page_model.proofs.BoundsOfItems.{items_waiting}
+use Rattle.page_model.proofs.Bounding.Items.{items_waiting}
 use Rattle.trace_text.specs.declared.lines.NoLine.{NoLine}
 use Rattle.trace_text.specs.Acts.{At, Does}
 use Rattle.page_state.specs.Standing.{Standing, page_of}

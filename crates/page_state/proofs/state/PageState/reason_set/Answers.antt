@@ -2,7 +2,7 @@ use Rattle.std.proofs.Common.{◌≡◌, List, ℕ, map, ap, refl, ◌∙◌}
 use Rattle.page_types.specs.Events.{Abort}
 use Rattle.page_values.specs.Seen.{seen}
 use Rattle.page_model.specs.State.{emit_each}
-use Rattle.page_model.proofs.Adding.{emit_each-adds}
+use Rattle.page_model.proofs.Adding.Lines.{emit_each-adds}
 use Rattle.page_state.specs.Standing.{page_of}
 use Rattle.page_state.specs.AbortActs.{reason_marked, reason_silent}
 use Rattle.page_state.proofs.Acting.{Does-next, Does-silent, Does-is}

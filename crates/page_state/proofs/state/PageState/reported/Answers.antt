@@ -1,7 +1,7 @@
 use Rattle.std.proofs.Common.{ap, ◌∙◌}
 use Rattle.page_values.specs.Seen.{seen}
 use Rattle.page_model.specs.Invoke.{thrown, report_before, report_after}
-use Rattle.page_model.proofs.Adding.{report_before-adds, report_after-adds}
+use Rattle.page_model.proofs.Adding.Lines.{report_before-adds, report_after-adds}
 use Rattle.page_script.specs.Reports.{when_seen}
 use Rattle.page_state.proofs.Acting.{Does-next, Does-leave}
 use Rattle.page_state.proofs.state.PageState.reported.Goals as goal

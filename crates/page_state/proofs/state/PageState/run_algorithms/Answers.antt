@@ -2,7 +2,7 @@ use Rattle.page_model.specs.PageSignals.{abort_registrations, reason_value, run_
 use Rattle.std.proofs.Common.{◌≡◌, ℕ, List, ap, refl, ◌∙◌}
 use Rattle.page_types.specs.Values.{Value}
 use Rattle.page_values.specs.Seen.{seen}
-use Rattle.page_model.proofs.Adding.{abort_registrations-adds}
+use Rattle.page_model.proofs.Adding.Lines.{abort_registrations-adds}
 use Rattle.page_state.specs.Standing.{page_of}
 use Rattle.page_state.specs.AbortActs.{algorithms_taken}
 use Rattle.page_state.proofs.Acting.{Does-next, Does-silent, Does-is}
