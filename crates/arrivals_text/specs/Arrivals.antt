@@ -101,7 +101,7 @@ rank_of (place.At t) = 10
 
 -- whether a line may stand at a place: the first one is `page 1` or `page 2`, and each one comes later in the order than the one before
 -- it; only `host` lines may follow each other, with rising numbers, and `at` lines, with times that do not fall
-abbrev pub may_follow : Place → Place → Bool
+abbrev pub may_follow : (last next : Place) → Bool
 may_follow place.Start next = rank_of next == 1
 may_follow (place.Host k) (place.Host l) = nat_lt k l
 may_follow (place.At t) (place.At u) = nat_le t u

@@ -26,7 +26,7 @@ all_of (None ∷ answers) = None
 all_of (Some x ∷ answers) = option_map (λ xs. x ∷ xs) (all_of answers)
 
 -- the canonical decimal of a number within limits
-unfoldable pub number_in : ℕ → ℕ → List ℕ → Option ℕ
+unfoldable pub number_in : (low high : ℕ) → List ℕ → Option ℕ
 number_in low high bytes = number_at high bytes >>= λ n. where_true (is_empty (after_digits bytes) && nat_le low n) n
 
 -- the word of a source among these

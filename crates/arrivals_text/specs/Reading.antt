@@ -64,7 +64,7 @@ Gives (Err (Is fault)) wanted = wanted ≡ Err fault.line
 Gives (Err OutOfMemory) wanted = ⊤
 
 -- a line of the file was taken, or refused
-abbrev pub IsTaken : Option (List Line) → Place → Settings → Option Place → Settings → Type 0
+abbrev pub IsTaken : Option (List Line) → Place → (old : Settings) → Option Place → (new : Settings) → Type 0
 IsTaken None last old next new = next ≡ None
 IsTaken (Some lines) last old next new = (next ≡ Some (last_place last lines)) × (new ≡ settings_after old lines)
 

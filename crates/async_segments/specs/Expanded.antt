@@ -88,11 +88,11 @@ abbrev mutual
 -- ---- the functions
 
 -- the parameters of the function, and unit for each further local name
-abbrev pub first_values : List (List ℕ) → List (List ℕ) → List Expr
+abbrev pub first_values : (parameters locals : List (List ℕ)) → List Expr
 first_values parameters locals = variables parameters ++ map (λ x. UnitLiteral) (without (has_name parameters) locals)
 
 -- { var p__ = promise(); f__0(p__, A); return p__; }
-abbrev pub starting_body : List ℕ → List (List ℕ) → List (List ℕ) → Block
+abbrev pub starting_body : List ℕ → (parameters locals : List (List ℕ)) → Block
 starting_body f parameters locals =
     with_stmt (VarStmt (new_name (codes "p__")) (call (codes "promise") []))
     (with_stmt (ExprStmt (call (segment_name f 0) (promise ∷ first_values parameters locals)))

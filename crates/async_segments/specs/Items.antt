@@ -33,7 +33,7 @@ pub record WritesOne (item : MarkedItem) (old new : List Written) (count : ℕ) 
   pub adds : Adds old new (script_spelling (expanded_item item))
   pub functions : count ≡ length (functions_of (expanded_item item))
 
-abbrev pub WritesBehind : Item → List Written → List Written → ℕ → Type 0
+abbrev pub WritesBehind : Item → (old new : List Written) → ℕ → Type 0
 WritesBehind item old new count =
     (at : ℕ) → (marked : MarkedItem) × (behind_mark at item ≡ Some marked) × WritesOne marked old new count
 
@@ -42,7 +42,7 @@ abbrev pub RefusesBehind : Item → Type 0
 RefusesBehind item = (at : ℕ) (marked : MarkedItem) → behind_mark at item ≡ Some marked → IsSmall marked → ⊥
 
 -- an item behind none is a mark, or is written as it is; an item behind a mark is written as an async function
-abbrev pub WritesNext : Option ℕ → Item → Option ℕ → List Written → List Written → ℕ → Type 0
+abbrev pub WritesNext : (open : Option ℕ) → Item → (mark : Option ℕ) → (old new : List Written) → ℕ → Type 0
 WritesNext None item None old new count = (mark_at item ≡ None) × WritesOne (Plain item) old new count
 WritesNext None item (Some at) old new count = (mark_at item ≡ Some at) × (new ≡ old) × (count ≡ 0)
 WritesNext (Some at) item None old new count = (m : MarkedItem) × (behind_mark at item ≡ Some m) × WritesOne m old new count

@@ -68,7 +68,7 @@ statement_of (Stored x) e = AssignStmt x e
 statement_of Returned e = ReturnStmt (Some e)
 
 -- statements, and others behind them
-abbrev pub followed_by : Block → Block → Block
+abbrev pub followed_by : (no_stmts others : Block) → Block
 followed_by no_stmts others = others
 followed_by (with_stmt s rest) others = with_stmt s (followed_by rest others)
 

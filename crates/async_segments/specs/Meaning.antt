@@ -94,7 +94,7 @@ function_with program x vs = FunValue (function_number program x) (values_of vs)
 
 -- The next segment waits for a promise, under the locals as they are now: RangeError where these and the promise of the call
 -- are too heavy as a list or nest too deep.
-abbrev pub waits_for : {H : Type 0} → Around H → AsyncFunction → ℕ → ℕ → Value → Machine H → Done H
+abbrev pub waits_for : {H : Type 0} → Around H → AsyncFunction → (k promise : ℕ) → Value → Machine H → Done H
 waits_for w f k promise q m =
     let now = kept_values f promise m in
     let next = function_with w.program (segment_name f.name (k + 1)) now in
@@ -102,7 +102,8 @@ waits_for w f k promise q m =
     given (within_limits (ListValue (values_of now))) RangeError m (λ list m. w.operate Then (q ∷ next ∷ rejecting ∷ []) m)
 
 -- the segment, before its promise is settled
-abbrev pub segment_run : {H : Type 0} → Around H → AsyncFunction → ℕ → Part → ℕ → Value → Machine H → Done H
+abbrev pub segment_run : {H : Type 0} → Around H → AsyncFunction → (k : ℕ) → Part → (promise : ℕ) → Value → Machine H
+    → Done H
 segment_run w f k part promise awaited m = and_then (reached w part awaited m) (waits_for w f k promise)
 
 -- what is returned resolves the promise, and what is thrown rejects it
@@ -113,7 +114,8 @@ settled w promise (Returns v m) = w.operate ResolveOp (PromiseValue promise ∷ 
 settled w promise (OutOfFuel m) = OutOfFuel m
 
 -- the segment with number k of a function, for the call with this promise
-abbrev pub segment : {H : Type 0} → Around H → AsyncFunction → ℕ → Part → ℕ → Value → Machine H → Done H
+abbrev pub segment : {H : Type 0} → Around H → AsyncFunction → (k : ℕ) → Part → (promise : ℕ) → Value → Machine H
+    → Done H
 segment w f k part promise awaited m = settled w promise (segment_run w f k part promise awaited m)
 
 -- ---- what an async function does

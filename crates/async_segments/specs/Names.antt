@@ -10,7 +10,7 @@ abbrev pub new_name : List ℕ → Named
 new_name x = record { name = x; at = 0 }
 
 -- these names, and then those of others that are not among them, in their order
-abbrev pub with_new : List (List ℕ) → List (List ℕ) → List (List ℕ)
+abbrev pub with_new : (names more : List (List ℕ)) → List (List ℕ)
 with_new names [] = names
 with_new names (x ∷ xs) = with_new (if has_name names x then names else and_last names x) xs
 

@@ -81,7 +81,7 @@ abbrev pub unit_behind : List (List ℕ) → List ℕ → List Symbol
 unit_behind parameters x = if has_name parameters x then [] else SignOf (codes ",") ∷ WordOf (codes "unit") ∷ []
 
 -- f__0(p__, A);
-abbrev pub first_call_symbols : List ℕ → List (List ℕ) → List (List ℕ) → List Symbol
+abbrev pub first_call_symbols : List ℕ → (parameters locals : List (List ℕ)) → List Symbol
 first_call_symbols f parameters locals = stmt_spelling (ExprStmt (call (segment_name f 0) (promise ∷ first_values parameters locals)))
 
 -- the end of a segment at an await, and the beginning of the next one

@@ -9,7 +9,8 @@ next_kept test [] = None
 next_kept test (answer ∷ more) = if test answer then Some (answer, more) else None
 
 -- a call gave the next kept answer or refused where there is none, if the kept answers are told
-abbrev pub FollowsKept : (Result ℤ ℤ → Bool) → Option (List (Result ℤ ℤ)) → Result (Result ℤ ℤ) NoHost → Option (List (Result ℤ ℤ)) → Type 0
+abbrev pub FollowsKept : (Result ℤ ℤ → Bool) → (before : Option (List (Result ℤ ℤ))) → Result (Result ℤ ℤ) NoHost
+    → (after : Option (List (Result ℤ ℤ))) → Type 0
 FollowsKept test None result after = after ≡ None
 FollowsKept test (Some kept) result after =
     (left : List (Result ℤ ℤ)) × (after ≡ Some left) × FollowsRule (next_kept test kept) kept result left

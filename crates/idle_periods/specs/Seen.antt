@@ -14,6 +14,6 @@ abbrev pub beyond : ℕ → List Callback → List Callback
 beyond last callbacks = filter (λ callback. nat_lt last callback.handle) callbacks
 
 -- the handles rise from entry to entry; they are above `low`, and not above `high`
-abbrev pub HandlesRise : ℕ → List (ℕ × ℕ) → ℕ → Type 0
+abbrev pub HandlesRise : (low : ℕ) → List (ℕ × ℕ) → (high : ℕ) → Type 0
 HandlesRise low [] high = low ≤ high
 HandlesRise low (entry ∷ entries) high = (low < entry.0) × HandlesRise entry.0 entries high

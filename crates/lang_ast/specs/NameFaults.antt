@@ -34,7 +34,7 @@ is_declared_once role.Parameter = true
 is_declared_once role.Variable = true
 is_declared_once r = false
 
-abbrev pub same_scope : Option ℕ → Option ℕ → Bool
+abbrev pub same_scope : (s t : Option ℕ) → Bool
 same_scope None None = true
 same_scope (Some n) (Some m) = n == m
 same_scope s t = false
@@ -59,13 +59,13 @@ is_operation x = is_there (op_named x)
 
 -- Whether the name of a variable clashes with a function's: outside functions it is the second one, inside a function
 -- any function of the script.
-abbrev pub clashes : List Occurrence → List Occurrence → Option ℕ → List ℕ → Bool
+abbrev pub clashes : (all before : List Occurrence) → Option ℕ → List ℕ → Bool
 clashes all before None x = names_function before x
 clashes all before (Some n) x = names_function all x
 
 -- Whether a name is given a second time, or given though it is an operation's or a function's: `all` are the names of
 -- the script, `before` those that stand before it.
-abbrev pub is_twice : List Occurrence → List Occurrence → Role → Option ℕ → List ℕ → Bool
+abbrev pub is_twice : (all before : List Occurrence) → Role → Option ℕ → List ℕ → Bool
 is_twice all before role.Function scope x = is_operation x || names_function before x || names_as is_variable before None x
 is_twice all before role.Parameter scope x = is_operation x || clashes all before scope x || names_as is_declared_once before scope x
 is_twice all before role.Variable scope x = is_operation x || clashes all before scope x || names_as is_declared_once before scope x
@@ -91,13 +91,13 @@ is_arity r x = false
 
 -- The fault of a name, if there is one. No name has two: one that is given can only be given twice, one that is used
 -- is unknown, or an operation that is called.
-abbrev pub fault_of : List Occurrence → List Occurrence → Occurrence → Option Fault
+abbrev pub fault_of : (all before : List Occurrence) → Occurrence → Option Fault
 fault_of all before o =
     if is_twice all before o.mention.role o.scope o.mention.name then Some (TwiceAt o.mention.at)
     else if is_unknown all o.mention.role o.scope o.mention.name then Some (UnknownAt o.mention.at)
     else if is_arity o.mention.role o.mention.name then Some (ArityAt o.mention.at) else None
 
-abbrev pub fault_in : List Occurrence → List Occurrence → Option Occurrence → Option Fault
+abbrev pub fault_in : (all before : List Occurrence) → Option Occurrence → Option Fault
 fault_in all before None = None
 fault_in all before (Some o) = fault_of all before o
 

@@ -50,7 +50,7 @@ abbrev pub int_answer : ℤ → Answer
 int_answer n = if fits n then Ok (IntValue n) else Err RangeError
 
 -- two integers, or TypeError
-abbrev pub both_ints : Value → Value → (ℤ → ℤ → Answer) → Answer
+abbrev pub both_ints : (a b : Value) → (ℤ → ℤ → Answer) → Answer
 both_ints a b next = need (int_in a) TypeError (λ x. need (int_in b) TypeError (next x))
 
 -- a value within the limits of weight and nesting, or RangeError
@@ -62,13 +62,13 @@ abbrev pub limited : {H : Type 0} → Value → Machine H → Done H
 limited v m = answered (limited_value v) m
 
 -- a sum of two integers, or two texts in a row
-abbrev pub sum_answer : SumSign → Value → Value → Answer
+abbrev pub sum_answer : SumSign → (a b : Value) → Answer
 sum_answer Plus (TextValue a) b = need (text_in b) TypeError (λ bs. limited_value (TextValue (a ++ bs)))
 sum_answer Plus a b = both_ints a b (λ x y. int_answer (x +ℤ y))
 sum_answer Minus a b = both_ints a b (λ x y. int_answer (x -ℤ y))
 
 -- the same as a step of the machine
-abbrev pub sum_of : {H : Type 0} → SumSign → Value → Value → Machine H → Done H
+abbrev pub sum_of : {H : Type 0} → SumSign → (a b : Value) → Machine H → Done H
 sum_of sign a b m = answered (sum_answer sign a b) m
 
 -- whether an integer is 0
@@ -76,29 +76,29 @@ abbrev pub is_zero : ℤ → Bool
 is_zero n = same_int n (pos 0)
 
 -- whether x can be divided by y: y is not 0, and x is not the least integer where y is -1
-abbrev pub divides : ℤ → ℤ → Bool
+abbrev pub divides : (x y : ℤ) → Bool
 divides x y = not (is_zero y) && not (same_int y (negsuc 0) && same_int x (neg_ℤ (pos (2 ^ 63))))
 
 -- a quotient or a remainder, or RangeError
-abbrev pub divided : (ℤ → ℤ → ℤ) → ℤ → ℤ → Answer
+abbrev pub divided : (ℤ → ℤ → ℤ) → (x y : ℤ) → Answer
 divided by x y = if divides x y then Ok (IntValue (by x y)) else Err RangeError
 
 -- division truncates towards zero, and a remainder has the sign of the dividend
-abbrev pub product_answer : ProductSign → Value → Value → Answer
+abbrev pub product_answer : ProductSign → (a b : Value) → Answer
 product_answer Times a b = both_ints a b (λ x y. int_answer (x *ℤ y))
 product_answer Divide a b = both_ints a b (divided int_div)
 product_answer Remainder a b = both_ints a b (divided int_rem)
 
 -- the same as a step of the machine
-abbrev pub product_of : {H : Type 0} → ProductSign → Value → Value → Machine H → Done H
+abbrev pub product_of : {H : Type 0} → ProductSign → (a b : Value) → Machine H → Done H
 product_of sign a b m = answered (product_answer sign a b) m
 
 -- the answer of a comparison of two integers
-abbrev pub ordered : (ℤ → ℤ → Bool) → ℤ → ℤ → Answer
+abbrev pub ordered : (ℤ → ℤ → Bool) → (x y : ℤ) → Answer
 ordered test x y = Ok (BoolValue (test x y))
 
 -- equality compares any two values by structure, and order two integers
-abbrev pub compare_answer : CompareSign → Value → Value → Answer
+abbrev pub compare_answer : CompareSign → (a b : Value) → Answer
 compare_answer Equals a b = Ok (BoolValue (same a b))
 compare_answer Differs a b = Ok (BoolValue (not (same a b)))
 compare_answer Less a b = both_ints a b (ordered int_lt)
@@ -107,7 +107,7 @@ compare_answer Greater a b = both_ints a b (ordered (λ x y. int_lt y x))
 compare_answer AtLeast a b = both_ints a b (ordered (λ x y. int_le y x))
 
 -- the same as a step of the machine
-abbrev pub compared : {H : Type 0} → CompareSign → Value → Value → Machine H → Done H
+abbrev pub compared : {H : Type 0} → CompareSign → (a b : Value) → Machine H → Done H
 compared sign a b m = answered (compare_answer sign a b) m
 
 -- a negated integer within 64 bits, or a negated Bool
@@ -125,15 +125,15 @@ place_in vs (pos n) = slice_get (items_of vs) n
 place_in vs (negsuc n) = None
 
 -- an item of a list by its place, from 0: RangeError outside the list
-abbrev pub item_answer : Value → Value → Answer
+abbrev pub item_answer : (v i : Value) → Answer
 item_answer v i = need (list_in v) TypeError (λ vs. need (int_in i) TypeError (λ n. need (place_in vs n) RangeError Ok))
 
 -- the same as a step of the machine
-abbrev pub item_at : {H : Type 0} → Value → Value → Machine H → Done H
+abbrev pub item_at : {H : Type 0} → (v i : Value) → Machine H → Done H
 item_at v i m = answered (item_answer v i) m
 
 -- a value is tested: with a Bool comes one way or the other, with any other value TypeError
-abbrev pub tested : {H : Type 0} → Value → Machine H → (Machine H → Done H) → (Machine H → Done H) → Done H
+abbrev pub tested : {H : Type 0} → Value → Machine H → (held failed : Machine H → Done H) → Done H
 tested v m held failed = given (bool_in v) TypeError m (λ b m. branch b m held failed)
 
 -- a function of the script: its name, the names of its parameters, its body
@@ -173,7 +173,7 @@ abbrev pub called : {H : Type 0} → Caller H → Value → List Value → Machi
 called call v args m = given (func_in v) TypeError m (λ f m. call f.function (items_of f.bound ++ args) m)
 
 -- what is called by a name: an operation, or the value that the name has before the arguments
-abbrev pub call_of : {H : Type 0} → Around H → List ℕ → Machine H → List Value → Machine H → Done H
+abbrev pub call_of : {H : Type 0} → Around H → List ℕ → (before : Machine H) → List Value → (m : Machine H) → Done H
 call_of w x before args m =
     elim (op_named x) [
       | Some op ↦ w.operate op args m
@@ -231,7 +231,7 @@ abbrev mutual
   eval_product w (with_factor sign e parts) v m = and_then (eval w e m) (λ x m. and_then (product_of sign v x m) (eval_product w parts))
 
 -- The turns of a loop. Each entry into the body takes a unit of fuel, so there are at most as many as units are left.
-abbrev pub loop_turns : {H : Type 0} → ℕ → (Machine H → Done H) → (Machine H → Done H) → Machine H → Done H
+abbrev pub loop_turns : {H : Type 0} → ℕ → (test body : Machine H → Done H) → Machine H → Done H
 loop_turns zero test body m = OutOfFuel m
 loop_turns (suc n) test body m =
     and_then (test m) (λ v m. tested v m (λ m. take_unit m (λ m. and_then (body m) (λ u m. loop_turns n test body m))) finish)

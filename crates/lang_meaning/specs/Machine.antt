@@ -72,7 +72,7 @@ given None fault m next = throw_fault fault m
 given (Some x) fault m next = next x m
 
 -- one way or the other
-abbrev pub branch : {H : Type 0} → Bool → Machine H → (Machine H → Done H) → (Machine H → Done H) → Done H
+abbrev pub branch : {H : Type 0} → Bool → Machine H → (held failed : Machine H → Done H) → Done H
 branch true m held failed = held m
 branch false m held failed = failed m
 
@@ -91,7 +91,7 @@ value_in [] x = None
 value_in (a ∷ more) x = if same_bytes a.name x then Some a.value else value_in more x
 
 -- the first of two that is there
-abbrev pub or_else : {X : Type 0} → Option X → Option X → Option X
+abbrev pub or_else : {X : Type 0} → (first second : Option X) → Option X
 or_else None o = o
 or_else (Some x) o = Some x
 

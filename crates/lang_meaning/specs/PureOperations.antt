@@ -29,11 +29,11 @@ length_answer (TextValue bs) = Ok (IntValue (pos (length bs)))
 length_answer v = need (list_in v) TypeError (λ vs. Ok (IntValue (pos (length (items_of vs)))))
 
 -- `push`: a list with a value at its end
-abbrev pub push_answer : Value → Value → Answer
+abbrev pub push_answer : (l v : Value) → Answer
 push_answer l v = need (list_in l) TypeError (λ vs. limited_value (ListValue (values_of (and_last (items_of vs) v))))
 
 -- `bind`: a function with more bound arguments, behind those that it has
-abbrev pub bind_answer : Value → Value → Answer
+abbrev pub bind_answer : (f l : Value) → Answer
 bind_answer f l =
     need (func_in f) TypeError (λ f. need (list_in l) TypeError (λ vs.
     limited_value (FunValue f.function (values_of (items_of f.bound ++ items_of vs)))))

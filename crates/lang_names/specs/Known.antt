@@ -13,7 +13,7 @@ abbrev pub has_name : NameSet → Option ℕ → List ℕ → Bool
 has_name set scope x = contains_by (λ k. option_eq nat_eq scope k.0 && pointwise nat_eq x k.1.now) set.names
 
 -- a name was added to a set
-abbrev pub Added : NameSet → NameSet → Option ℕ → List ℕ → Type 0
+abbrev pub Added : (old new : NameSet) → Option ℕ → List ℕ → Type 0
 Added old new scope x = (s : Option ℕ) (y : List ℕ) → has_name new s y ≡ ((same_scope scope s && same_bytes x y) || has_name old s y)
 
 -- a set has the names that these give as something of this kind

@@ -70,17 +70,17 @@ pub record Both {X Y : Type 0} (A : X → List Symbol → List Symbol → Type 0
   pub second : B p.1 mid end
 
 -- {part}
-abbrev pub Many : {X : Type 0} → (X → List Symbol → List Symbol → Type 0) → List X → List Symbol → List Symbol → Type 0
+abbrev pub Many : {X : Type 0} → (X → List Symbol → List Symbol → Type 0) → List X → (ks end : List Symbol) → Type 0
 Many R [] ks end = ks ≡ end
 Many R (x ∷ xs) ks end = (mid : List Symbol) × R x ks mid × Many R xs mid end
 
 -- [part]
-abbrev pub Perhaps : {X : Type 0} → (X → List Symbol → List Symbol → Type 0) → Option X → List Symbol → List Symbol → Type 0
+abbrev pub Perhaps : {X : Type 0} → (X → List Symbol → List Symbol → Type 0) → Option X → (ks end : List Symbol) → Type 0
 Perhaps R None ks end = ks ≡ end
 Perhaps R (Some x) ks end = R x ks end
 
 -- a name
-abbrev pub NameRead : Named → List Symbol → List Symbol → Type 0
+abbrev pub NameRead : Named → (ks end : List Symbol) → Type 0
 NameRead x ks end = ks ≡ name_symbol x ∷ end
 
 -- an expression of this level, or of one that binds more tightly
@@ -92,35 +92,35 @@ pub record Reads (n : ℕ) (e : Expr) (ks end : List Symbol) : Type 0 where
   pub spelled : ks ≡ spelling e ++ end
 
 -- an operand behind one of several signs
-abbrev pub Signed : {S : Type 0} → (S → Symbol) → ℕ → S × Expr → List Symbol → List Symbol → Type 0
+abbrev pub Signed : {S : Type 0} → (S → Symbol) → ℕ → S × Expr → (ks end : List Symbol) → Type 0
 Signed sign n p ks end = Behind (sign p.0) (Reads n) p.1 ks end
 
-abbrev pub SumItem : SumSign × Expr → List Symbol → List Symbol → Type 0
+abbrev pub SumItem : SumSign × Expr → (ks end : List Symbol) → Type 0
 SumItem = Signed sum_sign 4
 
-abbrev pub ProductItem : ProductSign × Expr → List Symbol → List Symbol → Type 0
+abbrev pub ProductItem : ProductSign × Expr → (ks end : List Symbol) → Type 0
 ProductItem = Signed product_sign 5
 
-abbrev pub CompareItem : CompareSign × Expr → List Symbol → List Symbol → Type 0
+abbrev pub CompareItem : CompareSign × Expr → (ks end : List Symbol) → Type 0
 CompareItem = Signed compare_sign 3
 
 -- an operand behind `||` or `&&`
-abbrev pub OrItem : Expr → List Symbol → List Symbol → Type 0
+abbrev pub OrItem : Expr → (ks end : List Symbol) → Type 0
 OrItem = Behind (SignOf (codes "||")) (Reads 1)
 
-abbrev pub AndItem : Expr → List Symbol → List Symbol → Type 0
+abbrev pub AndItem : Expr → (ks end : List Symbol) → Type 0
 AndItem = Behind (SignOf (codes "&&")) (Reads 2)
 
 -- "[" expr "]"
-abbrev pub Place : Expr → List Symbol → List Symbol → Type 0
+abbrev pub Place : Expr → (ks end : List Symbol) → Type 0
 Place = Behind (SignOf (codes "[")) (Closed (Reads 0) (SignOf (codes "]")))
 
 -- "," expr
-abbrev pub CommaItem : Expr → List Symbol → List Symbol → Type 0
+abbrev pub CommaItem : Expr → (ks end : List Symbol) → Type 0
 CommaItem = Behind (SignOf (codes ",")) (Reads 0)
 
 -- [part {item}]
-abbrev pub Separated : {X : Type 0} → (X → List Symbol → List Symbol → Type 0) → (X → List Symbol → List Symbol → Type 0) → List X
+abbrev pub Separated : {X : Type 0} → (item next : X → List Symbol → List Symbol → Type 0) → List X
     → List Symbol → List Symbol → Type 0
 Separated R item [] ks end = ks ≡ end
 Separated R item (x ∷ xs) ks end = (mid : List Symbol) × R x ks mid × Many item xs mid end
@@ -148,50 +148,50 @@ pub record StmtRead (s : Stmt) (ks end : List Symbol) : Type 0 where
   pub spelled : ks ≡ stmt_spelling s ++ end
 
 -- expr ";"
-abbrev pub Ended : Expr → List Symbol → List Symbol → Type 0
+abbrev pub Ended : Expr → (ks end : List Symbol) → Type 0
 Ended = Closed (Reads 0) (SignOf (codes ";"))
 
 -- "(" expr ")"
-abbrev pub Condition : Expr → List Symbol → List Symbol → Type 0
+abbrev pub Condition : Expr → (ks end : List Symbol) → Type 0
 Condition = Behind (SignOf (codes "(")) (Closed (Reads 0) (SignOf (codes ")")))
 
 -- "{" {stmt} "}"
-abbrev pub BlockRead : List Stmt → List Symbol → List Symbol → Type 0
+abbrev pub BlockRead : List Stmt → (ks end : List Symbol) → Type 0
 BlockRead = Behind (SignOf (codes "{")) (Closed (Many StmtRead) (SignOf (codes "}")))
 
 -- "else" "if" "(" expr ")" block
-abbrev pub ElseIf : Expr × List Stmt → List Symbol → List Symbol → Type 0
+abbrev pub ElseIf : Expr × List Stmt → (ks end : List Symbol) → Type 0
 ElseIf = Behind (WordOf (codes "else")) (Behind (WordOf (codes "if")) (Both Condition BlockRead))
 
 -- "else" block
-abbrev pub Else : List Stmt → List Symbol → List Symbol → Type 0
+abbrev pub Else : List Stmt → (ks end : List Symbol) → Type 0
 Else = Behind (WordOf (codes "else")) BlockRead
 
 -- "(" name ")"
-abbrev pub BracketedName : Named → List Symbol → List Symbol → Type 0
+abbrev pub BracketedName : Named → (ks end : List Symbol) → Type 0
 BracketedName = Behind (SignOf (codes "(")) (Closed NameRead (SignOf (codes ")")))
 
 -- the statements, each as the parts that are read one after another
 
-abbrev pub VarParts : Named × Expr → List Symbol → List Symbol → Type 0
+abbrev pub VarParts : Named × Expr → (ks end : List Symbol) → Type 0
 VarParts = Behind (WordOf (codes "var")) (Both NameRead (Behind (SignOf (codes "=")) Ended))
 
-abbrev pub AssignParts : Named × Expr → List Symbol → List Symbol → Type 0
+abbrev pub AssignParts : Named × Expr → (ks end : List Symbol) → Type 0
 AssignParts = Both NameRead (Behind (SignOf (codes "=")) Ended)
 
-abbrev pub IfParts : Expr × (List Stmt × (List (Expr × List Stmt) × Option (List Stmt))) → List Symbol → List Symbol → Type 0
+abbrev pub IfParts : Expr × (List Stmt × (List (Expr × List Stmt) × Option (List Stmt))) → (ks end : List Symbol) → Type 0
 IfParts = Behind (WordOf (codes "if")) (Both Condition (Both BlockRead (Both (Many ElseIf) (Perhaps Else))))
 
-abbrev pub WhileParts : Expr × List Stmt → List Symbol → List Symbol → Type 0
+abbrev pub WhileParts : Expr × List Stmt → (ks end : List Symbol) → Type 0
 WhileParts = Behind (WordOf (codes "while")) (Both Condition BlockRead)
 
-abbrev pub ReturnParts : Option Expr → List Symbol → List Symbol → Type 0
+abbrev pub ReturnParts : Option Expr → (ks end : List Symbol) → Type 0
 ReturnParts = Behind (WordOf (codes "return")) (Closed (Perhaps (Reads 0)) (SignOf (codes ";")))
 
-abbrev pub ThrowParts : Expr → List Symbol → List Symbol → Type 0
+abbrev pub ThrowParts : Expr → (ks end : List Symbol) → Type 0
 ThrowParts = Behind (WordOf (codes "throw")) Ended
 
-abbrev pub TryParts : List Stmt × (Named × List Stmt) → List Symbol → List Symbol → Type 0
+abbrev pub TryParts : List Stmt × (Named × List Stmt) → (ks end : List Symbol) → Type 0
 TryParts = Behind (WordOf (codes "try")) (Both BlockRead (Behind (WordOf (codes "catch")) (Both BracketedName BlockRead)))
 
 -- the symbols begin with a sign
@@ -208,7 +208,7 @@ abbrev pub NotElseIf : List Symbol → Type 0
 NotElseIf ks = (rest : List Symbol) → ks ≡ WordOf (codes "else") ∷ WordOf (codes "if") ∷ rest → ⊥
 
 -- "," name
-abbrev pub CommaName : Named → List Symbol → List Symbol → Type 0
+abbrev pub CommaName : Named → (ks end : List Symbol) → Type 0
 CommaName = Behind (SignOf (codes ",")) NameRead
 
 -- names with commas between them
@@ -216,11 +216,11 @@ pub record NamesListed (xs : List Named) (ks end : List Symbol) : Type 0 where
   pub inner : Separated NameRead CommaName xs ks end
 
 -- "(" [name {"," name}] ")"
-abbrev pub Parameters : List Named → List Symbol → List Symbol → Type 0
+abbrev pub Parameters : List Named → (ks end : List Symbol) → Type 0
 Parameters = Behind (SignOf (codes "(")) (Closed NamesListed (SignOf (codes ")")))
 
 -- "fn" name "(" [name {"," name}] ")" block
-abbrev pub FnParts : Named × (List Named × List Stmt) → List Symbol → List Symbol → Type 0
+abbrev pub FnParts : Named × (List Named × List Stmt) → (ks end : List Symbol) → Type 0
 FnParts = Behind (WordOf (codes "fn")) (Both NameRead (Both Parameters BlockRead))
 
 pub record ItemRead (item : Item) (ks end : List Symbol) : Type 0 where

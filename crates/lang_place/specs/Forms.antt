@@ -20,18 +20,18 @@ pub data Part : Type 0 where
 -- a terminal, two forms in a row, one of two forms, `[x]`, `{x}`, and what a name of the grammar stands for
 pub data Form : Type 0 where
   one : Terminal → Form
-  row : Form → Form → Form
-  either : Form → Form → Form
+  row : (first rest : Form) → Form
+  either : (one other : Form) → Form
   perhaps : Form → Form
   many : Form → Form
   part : Part → Form
 
 infixr 6 ◌·◌
-abbrev pub ◌·◌ : Form → Form → Form
+abbrev pub ◌·◌ : (first rest : Form) → Form
 a · b = row a b
 
 infixr 4 ◌∣◌
-abbrev pub ◌∣◌ : Form → Form → Form
+abbrev pub ◌∣◌ : (one other : Form) → Form
 a ∣ b = either a b
 
 -- name {"," name}

@@ -21,7 +21,7 @@ pub record HasRoom (count : Count) : Type 0 where
   pub names : head_names count.standing ≤ 9
 
 -- a token more is counted
-abbrev pub CountsOn : Count → Count → Terminal → List ℕ → Type 0
+abbrev pub CountsOn : (old new : Count) → Terminal → List ℕ → Type 0
 CountsOn old new t content = (c : Counts) → Holds old c → Holds new (counted c t content)
 
 -- with it the counts are within their limits

@@ -22,5 +22,5 @@ pub record StopsAt (ts : List TokenSeen) (at : ℕ) : Type 0 where
   pub place : at ≡ token.at
 
 -- the byte at which the script stops to be the beginning of one, and where it begins one to its end, that end
-abbrev pub IsPlace : List TokenSeen → ℕ → ℕ → Type 0
+abbrev pub IsPlace : List TokenSeen → (end at : ℕ) → Type 0
 IsPlace ts end at = StopsAt ts at ⊎ (BeginsScript ts × (at ≡ end))

@@ -48,7 +48,7 @@ abbrev pub is_sign : List ℕ → Bool
 is_sign spelling = list_any (λ sign. bytes_eq sign spelling) signs
 
 -- these bytes spell a token of the kind that holds this content
-abbrev pub IsToken : TokenKind → List ℕ → List ℕ → Type 0
+abbrev pub IsToken : TokenKind → (content spelling : List ℕ) → Type 0
 IsToken Name content spelling = IsNameSpelling spelling × (is_word spelling ≡ false) × (content ≡ spelling)
 IsToken Word content spelling = IsNameSpelling spelling × (is_word spelling ≡ true) × (content ≡ spelling)
 IsToken (Number n) content spelling =

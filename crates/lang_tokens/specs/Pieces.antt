@@ -30,14 +30,14 @@ comment_at n [] = Gap n
 comment_at n (b ∷ bs) = if b == 10 then Gap n else comment_at (n + 1) bs
 
 -- The rest of a name, after n of its bytes, where all of them begin whole. The 65th byte is bad.
-abbrev pub name_at : List ℕ → ℕ → List ℕ → Piece
+abbrev pub name_at : (whole : List ℕ) → ℕ → (rest : List ℕ) → Piece
 name_at whole n [] = Token (kind_of_name (take n whole)) n
 name_at whole n (b ∷ bs) =
     if is_name_byte b then (if nat_lt n 64 then name_at whole (n + 1) bs else Bad n)
     else Token (kind_of_name (take n whole)) n
 
 -- The rest of a number, after n digits with this value. The first digit with which the value is too large is bad.
-abbrev pub number_at : ℕ → ℕ → List ℕ → Piece
+abbrev pub number_at : (v n : ℕ) → List ℕ → Piece
 number_at v n [] = Token (Number (pos v)) n
 number_at v n (b ∷ bs) =
     if is_ascii_digit b then
@@ -55,7 +55,7 @@ is_escaped b = b == 34 || b == 92 || b == 110
 abbrev mutual
   -- The rest of a text, after n of its bytes with v bytes of value. Each part is one byte of value, and the part with
   -- which there would be 65,536 is bad at its first byte.
-  pub text_at : ℕ → ℕ → List ℕ → Piece
+  pub text_at : (v n : ℕ) → List ℕ → Piece
   text_at v n [] = Bad n
   text_at v n (b ∷ bs) =
       if b == 34 then Token Text (n + 1)
@@ -65,7 +65,7 @@ abbrev mutual
       else Bad n)))
 
   -- the same after a `\`
-  pub escape_at : ℕ → ℕ → List ℕ → Piece
+  pub escape_at : (v n : ℕ) → List ℕ → Piece
   escape_at v n [] = Bad n
   escape_at v n (b ∷ bs) = if is_escaped b then text_at (v + 1) (n + 1) bs else Bad n
 

@@ -13,7 +13,7 @@ pub record TokenList : Type 0 where
   pub length : ℕ
 
 -- the tokens stand one behind another, each of a byte at least, from one place to another
-abbrev pub InOrder : ℕ → ℕ → List TokenSeen → Type 0
+abbrev pub InOrder : (from to : ℕ) → List TokenSeen → Type 0
 InOrder from to [] = from ≤ to
 InOrder from to (t ∷ ts) = (from ≤ t.at) × (t.at < t.end) × InOrder t.end to ts
 
@@ -37,7 +37,7 @@ content_of Text spelling = value_of (drop 1 spelling)
 content_of Sign spelling = spelling
 
 -- the token of so many bytes at the front of the bytes, which begin at this offset
-abbrev pub token_at : ℕ → List ℕ → TokenKind → ℕ → TokenSeen
+abbrev pub token_at : (at : ℕ) → List ℕ → TokenKind → (size : ℕ) → TokenSeen
 token_at at bs kind size = record { at = at; end = at + size; kind = kind; content = content_of kind (take size bs) }
 
 abbrev pub Lexed : Type 0
@@ -54,7 +54,7 @@ with_piece after at bs (Token kind size) = with_front (token_at at bs kind size 
 with_piece after at bs (Bad size) = Err (at + size)
 
 -- piece by piece, at most so many
-abbrev pub cut : ℕ → ℕ → List ℕ → Lexed
+abbrev pub cut : (n at : ℕ) → List ℕ → Lexed
 cut n at [] = Ok []
 cut zero at (b ∷ bs) = Ok []
 cut (suc n) at (b ∷ bs) = with_piece (cut n) at (b ∷ bs) (piece_at (b ∷ bs))

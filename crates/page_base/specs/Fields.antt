@@ -3,17 +3,17 @@ use Rattle.std.specs.Prelude.{ℕ, Bool, if◌then◌else◌, ◌==◌, List, []
 use Rattle.page_parts.specs.Words.{same_bytes}
 
 -- what follows a start, where the bytes begin with it
-abbrev pub behind_start : List ℕ → List ℕ → Option (List ℕ)
+abbrev pub behind_start : (start bytes : List ℕ) → Option (List ℕ)
 behind_start [] bytes = Some bytes
 behind_start (c ∷ start) [] = None
 behind_start (c ∷ start) (b ∷ bytes) = if b == c then behind_start start bytes else None
 
 -- the same, for any start
-unfoldable pub behind : List ℕ → List ℕ → Option (List ℕ)
+unfoldable pub behind : (start bytes : List ℕ) → Option (List ℕ)
 behind start bytes = behind_start start bytes
 
 -- whether the bytes are this word
-unfoldable pub is_word : List ℕ → List ℕ → Bool
+unfoldable pub is_word : (word bytes : List ℕ) → Bool
 is_word word bytes = same_bytes word bytes
 
 -- what stands before the first byte of a kind, and what stands behind it

@@ -47,7 +47,7 @@ pub record WroteStart (script arrivals : List ℕ) (hosts : List HostClosure) (o
   pub wrote : WroteRunStart program settings.setup hosts old new
 
 -- the first of the two files that is longer than its limit
-abbrev pub IsTooLong : WhichFile → List ℕ → List ℕ → Type 0
+abbrev pub IsTooLong : WhichFile → (script arrivals : List ℕ) → Type 0
 IsTooLong Script script arrivals = 1048576 < length script
 IsTooLong Arrivals script arrivals = Fits script × (1048576 < length arrivals)
 IsTooLong Trace script arrivals = ⊥

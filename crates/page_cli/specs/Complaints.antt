@@ -45,5 +45,5 @@ pub record Puts {E : Type 0} (old : Option (List ℕ)) (before : ℕ) (piece : L
   pub start : OnErr result (Rose before now × AppendsStartOf old new piece)
 
 -- the same, whatever the call answered
-abbrev pub PutsOrFails : Option (List ℕ) → ℕ → List ℕ → Option (List ℕ) → ℕ → Type 0
+abbrev pub PutsOrFails : (old : Option (List ℕ)) → (before : ℕ) → List ℕ → (new : Option (List ℕ)) → (now : ℕ) → Type 0
 PutsOrFails old before piece new now = (new ≡ appended old piece) ⊎ (Rose before now × AppendsStartOf old new piece)

@@ -51,7 +51,7 @@ pub record WrotePictureStart (what : Picture) (bytes : List ℕ) (old new : Opti
   pub start : AppendsStartOf old new text
 
 -- what an answer says of a trace
-abbrev pub AnswersTrace : Answer → Picture → List ℕ → Option (List ℕ) → Option (List ℕ) → Type 0
+abbrev pub AnswersTrace : Answer → Picture → List ℕ → (old new : Option (List ℕ)) → Type 0
 AnswersTrace Written what bytes old new = WrotePicture what bytes old new
 AnswersTrace (BadTrace line) what bytes old new = (length bytes ≤ most_of what) × IsBadLine bytes line × (new ≡ old)
 AnswersTrace (TooLong Trace) what bytes old new = (most_of what < length bytes) × (new ≡ old)
@@ -61,7 +61,7 @@ AnswersTrace OutOfMemory what bytes old new = new ≡ old
 AnswersTrace answer what bytes old new = ⊥
 
 -- what an answer to the events of a trace says
-abbrev pub AnswersEvents : Answer → Picture → List Stamped → Option (List ℕ) → Option (List ℕ) → Type 0
+abbrev pub AnswersEvents : Answer → Picture → List Stamped → (old new : Option (List ℕ)) → Type 0
 AnswersEvents Written what es old new = (text : List ℕ) × IsPicture what es text × (new ≡ appended old text)
 AnswersEvents WriteFault what es old new = (text : List ℕ) × IsPicture what es text × AppendsStartOf old new text
 AnswersEvents OutOfMemory what es old new = new ≡ old

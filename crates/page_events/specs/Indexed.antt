@@ -15,7 +15,7 @@ use Rattle.page_events.specs.declared.listener.Kind.{Kind}
 use Rattle.page_events.specs.declared.listener.Listener.{Listener}
 
 -- kinds of events in their order: by the signal, and then by the name
-abbrev pub kind_cmp : Kind → Kind → Ordering
+abbrev pub kind_cmp : (a b : Kind) → Ordering
 kind_cmp a b = ordering_then (option_cmp nat_cmp a.signal b.signal) (slice_cmp nat_cmp a.name.items b.name.items)
 
 -- whether a listener is for events of this name at this signal, or at the window where there is none

@@ -43,7 +43,7 @@ abbrev pub fold_seen : Fold → OpenFold
 fold_seen f = record { stage = stage_seen f.stage; rest = rest_seen f.rest }
 
 -- a change of signal number s to this priority that has begun, or was passed over
-abbrev pub IsBegun : (chain s : ℕ) (priority : Priority) → Prios → Option Begun → Prios → Type 0
+abbrev pub IsBegun : (chain s : ℕ) (priority : Priority) → (old : Prios) → Option Begun → (new : Prios) → Type 0
 IsBegun chain s priority before None after = (before_change chain before s priority ≡ None) × (after ≡ before)
 IsBegun chain s priority before (Some b) after =
     (before_change chain before s priority ≡ Some b.before)

@@ -88,13 +88,14 @@ change_ended s ps = record ps { prios = ended s ps.prios }
 
 -- The priority before a change of a signal, where no chain of followers is longer than `chain`. None where it is passed over: while a
 -- change of it is in progress, where this is its priority already, and where it has none.
-abbrev pub before_change : ℕ → Prios → ℕ → Priority → Option Priority
+abbrev pub before_change : (chain : ℕ) → Prios → (s : ℕ) → Priority → Option Priority
 before_change chain prios s priority =
     if chain == 0 || is_changing prios s || has_priority prios s priority then None else priority_of prios s
 
 -- Prioritized Task Scheduling, "The TaskSignal Interface": a change of one signal, before other pieces: it is passed over, or its
 -- priority is set, and then come `prioritychange`, the changes of its followers and the change's end
-abbrev pub change_from : {R : Type 0} → Option Priority → Priority → ℕ → ℕ → List ChangePiece → (Parts R → Came R) → Parts R → Came R
+abbrev pub change_from : {R : Type 0} → Option Priority → Priority → (chain s : ℕ) → List ChangePiece → (Parts R → Came R)
+    → Parts R → Came R
 change_from None priority chain s more next ps = next ps
 change_from (Some before) priority chain s more next ps =
     Gives (step.Changed s before)
@@ -135,7 +136,7 @@ abbrev pub reason_set : {R : Type 0} → ℕ → R → Parts R → Parts R
 reason_set s reason ps = record ps { signals = with_reason reason (marked s ps.signals) ps.signals }
 
 -- the priority of a signal was set, and was `before` until then
-abbrev pub change_fold : {R : Type 0} → ℕ → Priority → Priority → Parts R → OpenFold
+abbrev pub change_fold : {R : Type 0} → ℕ → (priority before : Priority) → Parts R → OpenFold
 change_fold s priority before ps =
     record {
       stage = ToTell s before;

@@ -31,7 +31,7 @@ abort_visits ps (s ∷ ss) =
 
 -- The change of a signal, and of those that follow it, where no chain of followers is longer than the number. None where this is its
 -- priority already.
-abbrev pub change_visits : {R : Type 0} → Priority → Parts R → ℕ → ℕ → ℕ
+abbrev pub change_visits : {R : Type 0} → Priority → Parts R → (zero s : ℕ) → ℕ
 change_visits priority ps zero s = 0
 change_visits priority ps (suc n) s =
     if has_priority ps.prios s priority

@@ -20,7 +20,7 @@ abbrev pub derived : (finally : Bool) → (into : ℕ) → Settled → Value →
 derived finally into how = if finally then pass_on into how else resolve into
 
 -- why a page stopped, after a call that stops for this reason, and how often
-abbrev pub stop_kept : Option NoLine → Option NoLine → Option NoLine
+abbrev pub stop_kept : (now before : Option NoLine) → Option NoLine
 stop_kept None before = before
 stop_kept (Some why) before = Some why
 

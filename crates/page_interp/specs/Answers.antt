@@ -21,12 +21,12 @@ Answers {S} (ends e) r = ◌≡◌ {A = Left S} (ends e) (answer_left r)
 Answers (refused stop) r = ⊥
 Answers no_memory r = ⊤
 
-abbrev pub int_sum : SumSign → ℤ → ℤ → ℤ
+abbrev pub int_sum : SumSign → (x y : ℤ) → ℤ
 int_sum Plus x y = x +ℤ y
 int_sum Minus x y = x -ℤ y
 
 -- a product, a quotient or a remainder, where it is an integer of 64 bits
-abbrev pub int_product : ProductSign → ℤ → ℤ → Option ℤ
+abbrev pub int_product : ProductSign → (x y : ℤ) → Option ℤ
 int_product Times x y = if fits (x *ℤ y) then Some (x *ℤ y) else None
 int_product Divide x y = if divides x y then Some (int_div x y) else None
 int_product Remainder x y = if divides x y then Some (int_rem x y) else None
@@ -36,11 +36,11 @@ abbrev pub MadeGives : {S : Type 0} → Result Value ValueFault → Left S → T
 MadeGives made l = (wanted : Option Model.Value) → IsMade made wanted → Answers l (need wanted RangeError Ok)
 
 -- both values are integers, and these are they
-abbrev pub AreInts : Model.Value → Model.Value → ℤ × ℤ → Type 0
+abbrev pub AreInts : (a b : Model.Value) → ℤ × ℤ → Type 0
 AreInts a b p = (next : ℤ → ℤ → Answer) → both_ints a b next ≡ next p.0 p.1
 
 -- one of the values is no integer, and this is how that is left
-abbrev pub AreNoInts : {S : Type 0} → Model.Value → Model.Value → Exit S → Type 0
+abbrev pub AreNoInts : {S : Type 0} → (a b : Model.Value) → Exit S → Type 0
 AreNoInts a b x = (next : ℤ → ℤ → Answer) → Answers (exit_left x) (both_ints a b next)
 
 -- a text and another value in a row
@@ -48,5 +48,5 @@ abbrev pub text_answer : List ℕ → Model.Value → Answer
 text_answer a b = need (text_in b) TypeError (λ bs. limited_value (TextValue (a ++ bs)))
 
 -- the sum or the difference of two integers
-abbrev pub int_sum_answer : SumSign → Model.Value → Model.Value → Answer
+abbrev pub int_sum_answer : SumSign → (a b : Model.Value) → Answer
 int_sum_answer sign a b = both_ints a b (λ x y. int_answer (int_sum sign x y))

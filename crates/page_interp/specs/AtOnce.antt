@@ -42,7 +42,7 @@ pub record HasFirst (p : Code.Program) (store : Store) (current : Current) (es :
   pub value : direct_there p store current expr.now ≡ Some (seen v)
 
 -- a step that does not ask the host leads from one place to another, where what holds everywhere holds at the first
-abbrev pub Leads : {T : Type 0} → HostRules T → Program → Place → Place → Type 0
+abbrev pub Leads : {T : Type 0} → HostRules T → Program → (a b : Place) → Type 0
 Leads rules p a b = Holds p a → Goes rules p a b
 
 -- where a loop stands at the end of a turn

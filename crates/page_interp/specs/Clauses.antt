@@ -19,7 +19,7 @@ script code = seen_program code
 -- are open, and the names of the local variables.
 pub record Body (T : Type 0) : Type 1 where
   pub rules : HostRules T
-  pub leaves : Ask → T → T → Type 0
+  pub leaves : Ask → (before after : T) → Type 0
   pub script : Program
   pub depth : ℕ
   pub names : List (List ℕ)

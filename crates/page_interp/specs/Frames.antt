@@ -98,7 +98,7 @@ turn w n e block v m =
     tested v m (λ m. take_unit m (λ m. and_then (exec_block w block m) (λ u m. loop_turns n (eval w e) (exec_block w block) m))) finish
 
 -- the host goes on after a callback, with at most so many callbacks more
-abbrev pub goes_on : {T : Type 0} → HostRules T → Around (Limited T) → ℕ → ℕ → Done (Limited T) → Done (Limited T)
+abbrev pub goes_on : {T : Type 0} → HostRules T → Around (Limited T) → (n ticket : ℕ) → Done (Limited T) → Done (Limited T)
 goes_on rules w n ticket d =
     after_callback (λ ticket end m. ask_limited rules (AskResume ticket end) m (steps_by (ask_limited rules) w.call n)) ticket d
 
@@ -164,7 +164,7 @@ meaning_at rules p ns a host = left_to_do rules p ns a (state_at p host a)
 
 -- The number of a frame is great enough: no loop makes more turns than there are units, and between two callbacks that
 -- take a unit fewer than 2 ^ 64 come.
-abbrev pub HasTurns : ℕ → Frame → ℕ → Type 0
+abbrev pub HasTurns : (fuel : ℕ) → Frame → (n : ℕ) → Type 0
 HasTurns fuel (frame.Test e block) n = fuel ≤ n
 HasTurns fuel (frame.Turn e block) n = fuel + 1 ≤ n
 HasTurns fuel (frame.Host ticket) n = (fuel + 1) * (2 ^ 64) ≤ n
@@ -255,7 +255,7 @@ unfoldable pub steps_left : Program → Place → ℕ
 steps_left p a = a.store.fuel * (2 * program_size p + 8) + (focus_weight a.focus + frames_weight a.frames)
 
 -- operations have as many arguments as they take: so many values are there, and so many come
-abbrev pub HasArguments : ℕ → Purpose → ℕ → Type 0
+abbrev pub HasArguments : (count : ℕ) → Purpose → (n : ℕ) → Type 0
 HasArguments count (purpose.Ask op) n = n ≡ count_of op
 HasArguments count (purpose.Call o) n = SomeIsNumbered count (option_map seen o)
 HasArguments count purpose.List n = ⊤
@@ -309,7 +309,7 @@ FrameIsSound count (frame.Try x handler) = CallsFit (in_block (seen_block handle
 FrameIsSound count (frame.Open names locals) = AreNumberedIn count (variables_of names.now locals.items)
 FrameIsSound count (frame.Host ticket) = ⊤
 
-abbrev pub AreSound : ℕ → ℕ → List Frame → Type 0
+abbrev pub AreSound : (count size : ℕ) → List Frame → Type 0
 AreSound count size [] = ⊤
 AreSound count size (f ∷ fs) = FrameIsSound count f × (frame_size f ≤ size) × AreSound count size fs
 
@@ -499,7 +499,7 @@ pub record Answering {T S : Type 0} (rules : HostRules T) (leaves : Ask → T �
   pub numbered : StepIsNumbered (count_of_functions p) step
 
 -- so many steps of the host are enough
-abbrev pub MayCome : ℕ → (ℕ → ℕ) → HostStep → ℕ → Type 0
+abbrev pub MayCome : (fuel : ℕ) → (ℕ → ℕ) → HostStep → (n : ℕ) → Type 0
 MayCome fuel left step n = fuel * (2 ^ 64) + calls_left left step ≤ n
 
 -- the steps of a host from one on, with at most so many callbacks
@@ -507,7 +507,8 @@ abbrev pub steps_on : {T : Type 0} → HostRules T → ℕ → HostStep → Arou
 steps_on rules n step d m = steps_by (ask_limited rules) d.call n step m
 
 -- the host is resumed after a callback that ended so
-abbrev pub resumes : {T : Type 0} → HostRules T → ℕ → ℕ → CallbackEnd → Around (Limited T) → Machine (Limited T) → Done (Limited T)
+abbrev pub resumes : {T : Type 0} → HostRules T → (n ticket : ℕ) → CallbackEnd → Around (Limited T)
+    → Machine (Limited T) → Done (Limited T)
 resumes rules n ticket end d m = ask_limited rules (AskResume ticket end) m (steps_by (ask_limited rules) d.call n)
 
 -- a variable has taken a value: a local one, or else a global one

@@ -77,7 +77,8 @@ pub record Ends {H : Type 0} (f : Machine (Limited H) → Done (Limited H)) (a :
   pub ends : (left : Option ℕ) → f (limited (more asks left) a) ≡ done e (limited left b)
 
 -- what f does around a limited host ends as this is left
-abbrev pub Comes : {H S : Type 0} → (Machine (Limited H) → Done (Limited H)) → Machine H → Left S → Machine H → Type 0
+abbrev pub Comes : {H S : Type 0} → (Machine (Limited H) → Done (Limited H)) → (a : Machine H) → Left S
+    → (b : Machine H) → Type 0
 Comes f a (ends e) b = Ends f a e b
 Comes f a (refused stop) b = ⊤
 Comes f a no_memory b = ⊤
@@ -108,7 +109,7 @@ WhereSettled (refused stop) P = ⊤
 WhereSettled no_memory P = ⊤
 
 -- the host refused where this is left so: its count rose, and that stop is its last; else it did not
-abbrev pub Refuses : {S : Type 0} → Left S → ℕ → ℕ → Option S → Type 0
+abbrev pub Refuses : {S : Type 0} → Left S → (before after : ℕ) → Option S → Type 0
 Refuses (ends e) before after last = after ≡ before
 Refuses (refused stop) before after last = Rose before after × (last ≡ Some stop)
 Refuses no_memory before after last = after ≡ before
@@ -185,7 +186,7 @@ moment_of p h store frames = record { machine = machine_of p h.told store frames
 -- functions; and inside one of its calls or not
 pub record Scope (T : Type 0) : Type 1 where
   pub rules : HostRules T
-  pub leaves : Ask → T → T → Type 0
+  pub leaves : Ask → (before after : T) → Type 0
   pub count : ℕ
   pub inside : Bool
 

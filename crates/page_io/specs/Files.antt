@@ -8,13 +8,13 @@ use Rattle.page_io.specs.declared.fetched.FetchFault.{FetchFault}
 use Rattle.page_io.specs.declared.fetched.FetchFault.TheVariants.{Failed, OutOfMemory}
 
 -- what was put behind the old bytes, by the answer
-abbrev pub FetchedOf : List ℕ → ℕ → List ℕ → Result Fetched FetchFault → List ℕ → Type 0
+abbrev pub FetchedOf : (content : List ℕ) → ℕ → (old : List ℕ) → Result Fetched FetchFault → (new : List ℕ) → Type 0
 FetchedOf content limit old (Ok Whole) new = (length content ≤ limit) × (new ≡ old ++ content)
 FetchedOf content limit old (Ok TooLong) new = (limit < length content) × (new ≡ old ++ take (limit + 1) content)
 FetchedOf content limit old (Err fault) new = (part : List ℕ) × IsStartOf part content × (new ≡ old ++ part)
 
 -- the same, where the folder tells the file
-abbrev pub Fetches : Option (List ℕ) → ℕ → List ℕ → Result Fetched FetchFault → List ℕ → Type 0
+abbrev pub Fetches : Option (List ℕ) → ℕ → (old : List ℕ) → Result Fetched FetchFault → (new : List ℕ) → Type 0
 Fetches None limit old result new = ⊤
 Fetches (Some content) limit old result new = FetchedOf content limit old result new
 

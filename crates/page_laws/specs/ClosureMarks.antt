@@ -113,7 +113,7 @@ pub record WasGivenUp (asks : List Ask) (first last : Page) (k : ℕ) : Type 0 w
   pub aborted : WasAborted first last ask
 
 -- each of two holds where the other does
-abbrev pub Exactly : Type 0 → Type 0 → Type 0
+abbrev pub Exactly : (one other : Type 0) → Type 0
 Exactly A B = (A → B) × (B → A)
 
 -- What became of the closures from the first page to the last. The marks follow the lines, for what was asked on the way. A closure

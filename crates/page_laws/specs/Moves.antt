@@ -438,7 +438,7 @@ IsAtIdle (at_idle q e) = Unit {0}
 IsAtIdle u = ⊥
 
 -- each signal that was aborted is so still
-abbrev pub StaysAborted : Page → Page → Type 0
+abbrev pub StaysAborted : (p q : Page) → Type 0
 StaysAborted p q = (s : ℕ) → is_aborted p s ≡ true → is_aborted q s ≡ true
 
 -- where it waits as a delayed post, it was called or dropped
@@ -702,7 +702,7 @@ pub data Beginning : Type 0 where
   APost : SchedTask → Beginning
   AContinuation : SchedTask → Beginning
   AMicro : WaitingJob → List WaitingJob → ℕ → Beginning
-  AReaction : WaitingJob → List WaitingJob → ℕ → Reaction → ℕ → Beginning
+  AReaction : WaitingJob → List WaitingJob → (promise : ℕ) → Reaction → (number : ℕ) → Beginning
 
 -- the registration that is called
 abbrev pub called_by : Beginning → ℕ

@@ -54,12 +54,12 @@ waiting past = filter (λ t. not (was_called past t.registration || was_dropped 
 abbrev pub effective : History → Enqueued → Option ℕ
 effective past t = option_map (λ p. 2 * rank_of p + (if t.continuation then 1 else 0)) (queue_priority past t.queue)
 
-abbrev pub goes_first : ℕ → ℕ → ℕ → ℕ → Bool
+abbrev pub goes_first : (priority order other_priority other_order : ℕ) → Bool
 goes_first priority order other_priority other_order =
     nat_lt other_priority priority || ((priority == other_priority) && nat_le order other_order)
 
 -- whether a task goes before another, or is that task
-abbrev pub precedes : History → Enqueued → Enqueued → Bool
+abbrev pub precedes : History → (t u : Enqueued) → Bool
 precedes past t u = is_some_and (λ n. is_some_and (λ m. goes_first n t.order m u.order) (effective past u)) (effective past t)
 
 -- the tasks of a registration that wait and go before every other that waits
@@ -135,7 +135,7 @@ is_done past =
     list_all (λ r. is_over_as past r (kind_of past r)) (registered past) && list_all (was_each_due past) (armed_ever past)
     && (count_lines is_answer past == length (filter (λ r. not (was_dropped past r)) (registered_for is_host past)))
 
-abbrev pub ends_truly : ℕ → History → ℕ → End → Bool
+abbrev pub ends_truly : (until : ℕ) → History → (now : ℕ) → End → Bool
 ends_truly until past now end.Done = is_done past
 ends_truly until past now end.Fuel = true
 ends_truly until past now end.Clock = nat_le until now

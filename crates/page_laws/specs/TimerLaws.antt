@@ -48,33 +48,33 @@ abbrev pub level_due : (form : ℕ) → History → ℕ → Option ℕ
 level_due form past r = if form == 2 then level_by_turn past else level_by_call past r
 
 -- a whole number of milliseconds, and 4 at least from level 7 on
-abbrev pub is_delay : ℕ → ℕ → Bool
+abbrev pub is_delay : (delay level : ℕ) → Bool
 is_delay delay level = (delay % 1000 == 0) && (nat_lt level 7 || nat_le 4000 delay)
 
-abbrev pub arms_well : (form : ℕ) → History → ℕ → ℕ → ℕ → ℕ → Bool
+abbrev pub arms_well : (form : ℕ) → History → (now r due level : ℕ) → Bool
 arms_well form past now r due level =
     if has_kind is_timer past r
     then is_some_and (λ n. n == level) (level_due form past r) && nat_le now due && is_delay (due - now) level
     else not (has_kind has_no_level past r) || (level == 0)
 
 -- each of these that was armed before, for no later time, has been due since
-abbrev pub all_due : History → ℕ → ℕ → History → Bool
+abbrev pub all_due : (older : History) → (r due : ℕ) → (newer : History) → Bool
 all_due older r due newer =
     list_all (λ a. (a == r) || not (is_some_and (λ t. nat_le t due) (armed_for older a)) || was_due newer a) (active older)
 
-abbrev pub armed_passes : ℕ → Event → History → History → Bool
+abbrev pub armed_passes : ℕ → Event → (older newer : History) → Bool
 armed_passes r (Arm q due level) older newer = not (q == r) || all_due older r due newer
 armed_passes r e older newer = true
 
 -- Whatever was active when a registration was armed, and for no later time, is due before it. The lines go back to
 -- where it was due before; `newer` holds those that came after them.
-abbrev pub passes_none : ℕ → History → History → Bool
+abbrev pub passes_none : ℕ → (newer past : History) → Bool
 passes_none r newer [] = true
 passes_none r newer (e ∷ past) =
     if is_due_of r e.event then true
     else armed_passes r e.event past newer && passes_none r (e ∷ newer) past
 
-abbrev pub is_due_now : History → ℕ → ℕ → Bool
+abbrev pub is_due_now : History → (now r : ℕ) → Bool
 is_due_now past now r = is_some_and (λ due. nat_le due now) (armed_for past r)
 
 abbrev pub goes_in_order : History → ℕ → Bool
@@ -188,12 +188,12 @@ may_be_drawn past r =
 abbrev pub was_done : History → ℕ → Bool
 was_done past r = was_called past r || was_dropped past r
 
-abbrev pub framed_at : Event → History → History → Bool
+abbrev pub framed_at : Event → (older all : History) → Bool
 framed_at (Frame t) older all = list_all (was_done all) (registered_for is_frame older)
 framed_at e older all = true
 
 -- the callbacks that were requested before a frame line, among these lines, were called or dropped
-abbrev pub all_framed : History → History → Bool
+abbrev pub all_framed : (all past : History) → Bool
 all_framed all [] = true
 all_framed all (e ∷ past) = if is_rest e.event then true else framed_at e.event past all && all_framed all past
 
@@ -229,7 +229,7 @@ period_start (e ∷ past) = period_in e e.event (period_start past)
 abbrev pub none_earlier : History → ℕ → Bool
 none_earlier past d = list_all (λ r. not (is_some_and (λ due. nat_lt due d) (armed_for past r))) (active past)
 
-abbrev pub is_deadline : History → ℕ → ℕ → Bool
+abbrev pub is_deadline : History → (now d : ℕ) → Bool
 is_deadline past now d = is_some_and (λ start. nat_le d (start + 50000)) (period_start past) && nat_lt now d && none_earlier past d
 
 abbrev pub called_idly : Event → History → List ℕ → List ℕ

@@ -29,7 +29,8 @@ run_jobs_or other call zero m = other m
 run_jobs_or other call (suc n) m = run_oldest call m.host.notices.jobs (run_jobs_or other call n) m
 
 -- the turns of a loop
-abbrev pub loop_turns_or : {H : Type 0} → (Machine H → Done H) → ℕ → (Machine H → Done H) → (Machine H → Done H) → Machine H → Done H
+abbrev pub loop_turns_or : {H : Type 0} → (other : Machine H → Done H) → ℕ → (test body : Machine H → Done H)
+    → Machine H → Done H
 loop_turns_or other zero test body m = other m
 loop_turns_or other (suc n) test body m =
     and_then (test m) (λ v m. tested v m (λ m. take_unit m (λ m. and_then (body m) (λ u m. loop_turns_or other n test body m))) finish)
@@ -39,18 +40,21 @@ abbrev pub at_depth : Program → ℕ → Around Page
 at_depth program depth = around program page_operations (calls program page_operations depth)
 
 -- the turns of a run
-abbrev pub turns_or : {C : Type 0} → (State → C → Turned C) → Rules C → Caller Page → ℕ → ℕ → State → C → Turned C
+abbrev pub turns_or : {C : Type 0} → (State → C → Turned C) → Rules C → Caller Page → (until zero : ℕ) → State → C
+    → Turned C
 turns_or other rules call until zero m c = other m c
 turns_or other rules call until (suc n) m c = next_turn (turn rules call until m c) (turns_or other rules call until n)
 
 -- the waits of a turn
-abbrev pub from_step_one_or : {C : Type 0} → (State → C → Turned C) → Rules C → Caller Page → ℕ → ℕ → State → C → Turned C
+abbrev pub from_step_one_or : {C : Type 0} → (State → C → Turned C) → Rules C → Caller Page → (until zero : ℕ) → State → C
+    → Turned C
 from_step_one_or other rules call until zero m c = other m c
 from_step_one_or other rules call until (suc n) m c =
     after_step_one rules call until (from_step_one_or other rules call until n) c (step_one m)
 
 -- a turn with so many more waits
-abbrev pub turn_or : {C : Type 0} → (State → C → Turned C) → ℕ → Rules C → Caller Page → ℕ → State → C → Turned C
+abbrev pub turn_or : {C : Type 0} → (State → C → Turned C) → (more : ℕ) → Rules C → Caller Page → (until : ℕ) → State
+    → C → Turned C
 turn_or other more rules call until m c = from_step_one_or other rules call until (more + suc (suc (item_count m.host))) m c
 
 -- at most n turns, each done so
@@ -68,7 +72,7 @@ take_due_or other zero p = other p
 take_due_or other (suc n) p = elim (due_item p.now (first_item p)) [ None ↦ p | Some a ↦ take_due_or other n (take_item a.what p) ]
 
 -- the followers of a priority change
-abbrev pub change_or : (ℕ → State → Done Page) → Ways → Priority → ℕ → ℕ → State → Done Page
+abbrev pub change_or : (ℕ → State → Done Page) → Ways → Priority → (zero s : ℕ) → State → Done Page
 change_or other w priority zero s m = other s m
 change_or other w priority (suc n) s m =
     branch (is_changing m.host.prios s || has_priority m.host.prios s priority) m finish

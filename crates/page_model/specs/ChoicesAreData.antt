@@ -31,13 +31,13 @@ with_further more_sources more_readings more_answers (Written policy counts late
     Written policy counts late (answers ++ more_answers)
 
 -- these events begin with those
-abbrev pub BeginsWith : List Stamped → List Stamped → Type 0
+abbrev pub BeginsWith : (start es : List Stamped) → Type 0
 BeginsWith start es = (rest : List Stamped) × (es ≡ start ++ rest)
 
 -- What a run does that has further choices, by how the run without them ends: where that one ended it ends the same in the same state,
 -- and the further choices are left;
 -- where that one is stuck, its events come first.
-abbrev pub Continues : List Source → List ℕ → List (Result ℤ ℤ) → Turned Choices → Turned Choices → Type 0
+abbrev pub Continues : List Source → List ℕ → List (Result ℤ ℤ) → (told t : Turned Choices) → Type 0
 Continues more_sources more_readings more_answers (GoesOn m c) t = t ≡ GoesOn m (with_further more_sources more_readings more_answers c)
 Continues more_sources more_readings more_answers (Ended end m c) t =
     t ≡ Ended end m (with_further more_sources more_readings more_answers c)

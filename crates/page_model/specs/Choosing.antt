@@ -26,7 +26,7 @@ legal is_legal None = None
 legal is_legal (Some x) = if is_legal x.choice then Some x else None
 
 -- a reading of the clock: not before the target, and below 2 ^ 63
-abbrev pub is_reading : ℕ → ℕ → Bool
+abbrev pub is_reading : (target t : ℕ) → Bool
 is_reading target t = nat_le target t && nat_lt t (2 ^ 63)
 
 -- the source that is served: one with a runnable task

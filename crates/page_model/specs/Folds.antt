@@ -71,7 +71,7 @@ each_change one chain (s ∷ ss) more next p = one s (changes_of chain ss more) 
 
 -- the change of one signal, before other pieces: it is passed over, or its priority is set, `prioritychange` is fired, and then come its
 -- followers and the change's end
-abbrev pub change_from : Priority → ℕ → ℕ → List ChangePiece → (Page → Reached) → Page → Reached
+abbrev pub change_from : Priority → (zero s : ℕ) → List ChangePiece → (Page → Reached) → Page → Reached
 change_from priority zero s more next p = next p
 change_from priority (suc n) s more next p =
     let ss = followers p.prios s in
@@ -111,11 +111,11 @@ abbrev pub begin_abort : ℕ → Value → Page → Reached
 begin_abort s reason p = aborts_from (marked s p.signals) (reason_set reason (marked s p.signals) p)
 
 -- the priority of a signal is changed: the first callback
-abbrev pub begin_change : Priority → ℕ → ℕ → Page → Reached
+abbrev pub begin_change : Priority → (chain s : ℕ) → Page → Reached
 begin_change priority chain s p = changes_from priority (ChangeOf chain s ∷ []) p
 
 -- the fold of a change that begins at a page: its listeners, and then its followers, its end and other pieces
-abbrev pub change_fold : WhenReported → Priority → ℕ → ℕ → List ChangePiece → Page → Fold
+abbrev pub change_fold : WhenReported → Priority → (chain s : ℕ) → List ChangePiece → Page → Fold
 change_fold when priority chain s more p =
     record {
       when = when;

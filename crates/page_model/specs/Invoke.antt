@@ -30,7 +30,7 @@ abbrev pub register_as : RegKind → Registration → Page → Page
 register_as kind x p = emit (Reg (suc (length p.registrations)) kind (caller p)) (record p { registrations = and_last p.registrations x })
 
 -- a registration with these two callbacks and nothing else
-abbrev pub register : RegKind → Option Func → Option Func → Page → Page
+abbrev pub register : RegKind → (f g : Option Func) → Page → Page
 register kind f g p =
     register_as kind (record {
       role = OfKind kind;
@@ -203,7 +203,7 @@ abbrev pub checkpoint_begun : Page → Page
 checkpoint_begun p = record p { performing = true }
 
 -- the checkpoint ends with the notification; the nesting level and the scheduling state are what they were before
-abbrev pub checkpoint_ended : Page → Page → Page
+abbrev pub checkpoint_ended : (before p : Page) → Page
 checkpoint_ended before p =
     record (notify_rejected p) { performing = false; level = before.level; scheduling = before.scheduling }
 

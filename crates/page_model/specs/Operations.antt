@@ -76,7 +76,7 @@ priority_in v = elim (text_in v) [
 ]
 
 -- an integer from low to high
-abbrev pub int_within : ℤ → ℤ → ℤ → Bool
+abbrev pub int_within : (low high n : ℤ) → Bool
 int_within low high n = int_le low n && int_le n high
 
 -- milliseconds from 0 to 1,000,000,000
@@ -123,7 +123,7 @@ script_promise p =
     record made { script_promises = and_last made.script_promises (last_promise made) }
 
 -- `resolve` and `reject`: TypeError where the promise was not made by `promise`
-abbrev pub settle_own : (ℕ → Value → Page → Page) → Value → Value → State → Done Page
+abbrev pub settle_own : (ℕ → Value → Page → Page) → (p v : Value) → State → Done Page
 settle_own settle p v m =
     given (promise_in p) TypeError m (λ n m. branch (has_number m.host.script_promises n) m (does (settle n v)) (throw_fault TypeError))
 
@@ -136,13 +136,13 @@ abbrev pub resolved_value : Value → State → Done Page
 resolved_value v m = elim (promise_in v) [ Some n ↦ Gives v m | None ↦ settled_promise promises.resolve v m ]
 
 -- the derived promise and the `then` registration are made, and the promise gets the reaction
-abbrev pub then_made : ℕ → Value → Value → Page → Page
+abbrev pub then_made : ℕ → (f g : Value) → Page → Page
 then_made n f g p =
     let made = register ThenKind (func_in f) (func_in g) (new_promise p) in
     promises.subscribe n (record { registration = Some (last_registration made); into = last_promise made; state = made.scheduling }) made
 
 -- `then`: handlers that are no functions are absent
-abbrev pub then_value : Value → Value → Value → State → Done Page
+abbrev pub then_value : (v f g : Value) → State → Done Page
 then_value v f g m =
     given (promise_in v) TypeError m (λ n m. where_left (promise_left m.host && registration_left m.host) m
     (answers last_promise_value (then_made n f g)))
@@ -169,7 +169,7 @@ timer_set kind repeats f timeout p =
     init_timer None (last_registration made) repeats timeout made
 
 -- `setTimeout` and `setInterval`, which answer the id
-abbrev pub set_timer : RegKind → Bool → Value → Value → State → Done Page
+abbrev pub set_timer : RegKind → Bool → (f ms : Value) → State → Done Page
 set_timer kind repeats f ms m =
     given (func_in f) TypeError m (λ f m. given (int_in ms) TypeError m (λ ms m.
     where_left (registration_left m.host && is_left m.host.timers.ids_made) m
@@ -200,7 +200,7 @@ idle_requested f ms p =
     request_idle ms (last_registration made) made
 
 -- `requestIdleCallback`, which answers the handle. Ours: RangeError above 1,000,000,000 milliseconds
-abbrev pub request_idle_callback : Value → Value → State → Done Page
+abbrev pub request_idle_callback : (f ms : Value) → State → Done Page
 request_idle_callback f ms m =
     given (func_in f) TypeError m (λ f m. given (int_in ms) TypeError m (λ ms m.
     where_left (int_le ms (pos 1000000000) && registration_left m.host && is_left m.host.idle.made) m
@@ -248,7 +248,7 @@ abbrev pub reason_given : Value → Value
 reason_given v = if is_unit v then a_fault AbortError else v
 
 -- `abort` of a controller
-abbrev pub abort_by : Ways → Value → Value → State → Done Page
+abbrev pub abort_by : Ways → (c reason : Value) → State → Done Page
 abort_by w c reason m = given (controller_in c) TypeError m (λ s m. abort w s (reason_given reason) m)
 
 -- a signal's priority is changed: TypeError where it has none, NotAllowedError while a change is in progress
@@ -259,7 +259,7 @@ change_by w s priority m =
     (throw_fault TypeError)
 
 -- `setPriority` of a controller
-abbrev pub set_priority_by : Ways → Value → Value → State → Done Page
+abbrev pub set_priority_by : Ways → (c v : Value) → State → Done Page
 set_priority_by w c v m =
     given (controller_in c) TypeError m (λ s m. given (priority_in v) TypeError m (λ priority m. change_by w s priority m))
 
@@ -304,7 +304,7 @@ any_following ss s m =
     given (priority_of m.host.prios on) TypeError m (λ priority m. any_with_priority ss priority (Some on) m)
 
 -- `taskAny`: a fixed priority, or a signal's
-abbrev pub make_task_any : Value → Value → State → Done Page
+abbrev pub make_task_any : (l x : Value) → State → Done Page
 make_task_any l x m =
     given (signals_in l) TypeError m (λ ss m. elim (priority_in x) [
       | Some priority ↦ any_with_priority ss priority None m
@@ -342,7 +342,7 @@ listener_added target name f p =
     record made { listeners = add target name (last_registration made) made.listeners }
 
 -- `listen`, which answers the registration
-abbrev pub listen : Value → Value → Value → State → Done Page
+abbrev pub listen : (t name f : Value) → State → Done Page
 listen t name f m =
     given (target_in t) TypeError m (λ target m. given (text_in name) TypeError m (λ name m. given (func_in f) TypeError m (λ f m.
     where_left (registration_left m.host) m (answers (λ p. IntValue (pos (last_registration p))) (listener_added target name f)))))
@@ -400,7 +400,7 @@ promised kind f signal p =
     watch signal (last_registration registered) registered
 
 -- a delayed `postTask` is started, with its `arm` line
-abbrev pub post_delayed : ℕ → ℕ → PrioSource → Page → Page
+abbrev pub post_delayed : (ms r : ℕ) → PrioSource → Page → Page
 post_delayed ms r source p = run_after ms (EnqueuePost r source) (emit (Arm r (p.now + ms * 1000) 0) p)
 
 -- a `postTask` is registered, and its task is enqueued now or after a delay
@@ -418,7 +418,7 @@ post_accepted f priority signal ms m =
     (answers last_promise_value (post_queued f (prio_source_of m.host priority signal) signal ms)))
 
 -- `postTask`: an argument of a wrong kind rejects the promise, the first one first
-abbrev pub post_task : Value → Value → Value → Value → State → Done Page
+abbrev pub post_task : (f priority signal ms : Value) → State → Done Page
 post_task f priority signal ms m =
     given_or_rejected (func_in f) m (λ f m. given_or_rejected (priority_or_unit priority) m (λ priority m.
     given_or_rejected (signal_or_unit signal) m (λ signal m. given_or_rejected (delay_in ms) m
@@ -493,14 +493,14 @@ host_accepted k c x signal m =
     (rejected_with (a_fault NotAllowedError))
 
 -- a number that the closure does not take, or a closure that is not there, rejects with RangeError
-abbrev pub host_asked : ℤ → ℤ → Option ℕ → State → Done Page
+abbrev pub host_asked : (k x : ℤ) → Option ℕ → State → Done Page
 host_asked k x signal m = elim (fitting (closure_at m.host k) x) [
   | None ↦ rejected_with (a_fault RangeError) m
   | Some c ↦ host_accepted (not_below_zero k) c x signal m
 ]
 
 -- `host`: an argument of a wrong kind rejects the promise
-abbrev pub host : Value → Value → Value → State → Done Page
+abbrev pub host : (k x signal : Value) → State → Done Page
 host k x signal m =
     given_or_rejected (int_in k) m (λ k m. given_or_rejected (int_in x) m (λ x m.
     given_or_rejected (signal_or_unit signal) m (λ signal m. host_asked k x signal m)))
@@ -545,7 +545,7 @@ finally_made n f p =
     promises.subscribe n (record { registration = Some (last_registration made); into = last_promise made; state = made.scheduling }) made
 
 -- `finally`: a handler that is no function is absent
-abbrev pub finally_value : Value → Value → State → Done Page
+abbrev pub finally_value : (v f : Value) → State → Done Page
 finally_value v f m =
     given_or_rejected (promise_in v) m (λ n m. where_left (promise_left m.host && registration_left m.host) m
     (answers last_promise_value (finally_made n f)))
@@ -571,7 +571,7 @@ abbrev pub posts_taken : Page → Page
 posts_taken p = record p { posts = [] }
 
 -- `postMessage`: RangeError where the list of port and value would be too heavy
-abbrev pub post_message : Value → Value → State → Done Page
+abbrev pub post_message : (n v : Value) → State → Done Page
 post_message n v m =
     given (port_in n) TypeError m (λ port m. given (sendable_in v) TypeError m (λ v m.
     given (within_limits (ListValue (values_of (n ∷ v ∷ [])))) RangeError m (λ whole m. does (posted port v) m)))

@@ -49,7 +49,7 @@ step_given folds None p next = step_fault folds TypeError p
 step_given folds (Some x) p next = next x
 
 -- `abort` of a controller
-abbrev pub step_abort : List Fold → Value → Value → Page → Stepped Hosting
+abbrev pub step_abort : List Fold → (c reason : Value) → Page → Stepped Hosting
 step_abort folds c reason p = step_given folds (controller_in c) p (λ s. reached_step folds (begin_abort s (reason_given reason) p))
 
 -- a signal's priority is changed: TypeError where it has none, NotAllowedError while a change is in progress
@@ -61,7 +61,7 @@ step_change_by folds s priority p =
     else step_fault folds TypeError p
 
 -- `setPriority` of a controller
-abbrev pub step_change : List Fold → Value → Value → Page → Stepped Hosting
+abbrev pub step_change : List Fold → (c v : Value) → Page → Stepped Hosting
 step_change folds c v p =
     step_given folds (controller_in c) p (λ s. step_given folds (priority_in v) p (λ priority. step_change_by folds s priority p))
 

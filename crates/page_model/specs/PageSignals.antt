@@ -198,7 +198,7 @@ abbrev pub has_priority : Prios → ℕ → Priority → Bool
 has_priority ps s priority = elim (priority_of ps s) [ None ↦ false | Some own ↦ same_priority own priority ]
 
 -- A priority change passes over a signal whose change is in progress or which has the priority. No chain of followers is longer than n.
-abbrev pub change : Ways → Priority → ℕ → ℕ → State → Done Page
+abbrev pub change : Ways → Priority → (zero s : ℕ) → State → Done Page
 change w priority zero s m = finish m
 change w priority (suc n) s m =
     branch (TaskSignals.is_changing m.host.prios s || has_priority m.host.prios s priority) m finish

@@ -49,7 +49,7 @@ abbrev pub clear_id : ℕ → Page → Page
 clear_id id p = record p { timers = Timers.clear id p.timers }
 
 -- the registration that has this timer id
-abbrev pub registration_with_id : ℕ → ℕ → List Registration → ℕ
+abbrev pub registration_with_id : (id r : ℕ) → List Registration → ℕ
 registration_with_id id r [] = 0
 registration_with_id id r (x ∷ more) = if x.timer_id == id then r else registration_with_id id (suc r) more
 
@@ -130,13 +130,13 @@ idle_step p = start_period (record p { last_idle_start = p.now })
 -- ---- requestIdleCallback, "The requestIdleCallback() method" and "Invoke idle callback timeout algorithm"
 
 -- an idle timeout is started for the callback requested last, with its `arm` line
-abbrev pub idle_timeout : ℕ → ℕ → Page → Page
+abbrev pub idle_timeout : (ms r : ℕ) → Page → Page
 idle_timeout ms r p =
     emit (Arm r (p.now + ms * 1000) 0)
     (record p { idle_timers = and_last p.idle_timers (record { due = p.now + ms * 1000; handle = p.idle.made; registration = r }) })
 
 -- an idle callback is requested; with a positive timeout an idle timeout is started
-abbrev pub request_idle : ℕ → ℕ → Page → Page
+abbrev pub request_idle : (ms r : ℕ) → Page → Page
 request_idle ms r p = (if ms == 0 then (λ q. q) else idle_timeout ms r) (record p { idle = IdleCallbacks.request r p.idle })
 
 -- the callback of a handle, where it waits

@@ -30,7 +30,7 @@ put_event x [] = x ∷ []
 put_event x (y ∷ ys) = if nat_lt x.event.time y.event.time then x ∷ y ∷ ys else y ∷ put_event x ys
 
 -- events are put one after another
-abbrev pub put_events : List LoopEvent → List LoopEvent → List LoopEvent
+abbrev pub put_events : (events more : List LoopEvent) → List LoopEvent
 put_events [] ys = ys
 put_events (x ∷ xs) ys = put_events xs (put_event x ys)
 

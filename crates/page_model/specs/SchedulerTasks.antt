@@ -19,7 +19,7 @@ abbrev pub effective : Page → SchedTask → ℕ
 effective p t = 2 * rank (priority_now p t.source) + (if t.continuation then 1 else 0)
 
 -- whether a goes before b
-abbrev pub goes_before : Page → SchedTask → SchedTask → Bool
+abbrev pub goes_before : Page → (a b : SchedTask) → Bool
 goes_before p a b = nat_lt (effective p b) (effective p a) || ((effective p a == effective p b) && nat_lt a.order b.order)
 
 -- the first of these and the best so far

@@ -72,7 +72,7 @@ next_turn (Ended end m c) next = Ended end m c
 next_turn (Stuck at m c) next = Stuck at m c
 
 -- one way or the other
-abbrev pub choose_turned : {C : Type 0} → Bool → (State → Turned C) → (State → Turned C) → State → Turned C
+abbrev pub choose_turned : {C : Type 0} → Bool → (held failed : State → Turned C) → State → Turned C
 choose_turned true held failed m = held m
 choose_turned false held failed m = failed m
 
@@ -175,7 +175,8 @@ waited t None again c m = Stuck (NoReading t) m c
 waited t (Some r) again c m = again (on_page (λ p. emit (Wait t) (at_time r.choice p)) m) r.left
 
 -- step 2 with a target
-abbrev pub step_two_at : {C : Type 0} → Rules C → ℕ → ℕ → (State → C → Turned C) → (State → Turned C) → C → State → Turned C
+abbrev pub step_two_at : {C : Type 0} → Rules C → (until t : ℕ) → (State → C → Turned C) → (State → Turned C) → C
+    → State → Turned C
 step_two_at rules until t again next c m =
     choose_turned (nat_le until m.host.now || nat_le until t)
     (λ m. ends ClockEnd c (on_page (λ p. at_time (max p.now until) p) m))
@@ -202,7 +203,7 @@ after_step_one rules call until again c m =
     (from_step_three rules call until c) m
 
 -- steps 1 and 2, again after each wait; each wait takes an item, opens a frame or comes to the idle moment, so n of them are enough
-abbrev pub from_step_one : {C : Type 0} → Rules C → Caller Page → ℕ → ℕ → State → C → Turned C
+abbrev pub from_step_one : {C : Type 0} → Rules C → Caller Page → (until zero : ℕ) → State → C → Turned C
 from_step_one rules call until zero m c = Stuck AtBound m c
 from_step_one rules call until (suc n) m c = after_step_one rules call until (from_step_one rules call until n) c (step_one m)
 
@@ -211,7 +212,7 @@ abbrev pub turn : {C : Type 0} → Rules C → Caller Page → ℕ → State →
 turn rules call until m c = from_step_one rules call until (suc (suc (item_count m.host))) m c
 
 -- at most n turns
-abbrev pub turns : {C : Type 0} → Rules C → Caller Page → ℕ → ℕ → State → C → Turned C
+abbrev pub turns : {C : Type 0} → Rules C → Caller Page → (until zero : ℕ) → State → C → Turned C
 turns rules call until zero m c = Stuck AtBound m c
 turns rules call until (suc n) m c = next_turn (turn rules call until m c) (turns rules call until n)
 

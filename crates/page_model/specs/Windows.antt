@@ -63,7 +63,7 @@ abbrev pub is_ready : List PageRun → ℕ → Bool
 is_ready rs k = elim (run_at k rs) as (λ r. Bool) [ None ↦ false | Some r ↦ has_runnable r ]
 
 -- the first of two that is there
-abbrev pub or_number : Option ℕ → Option ℕ → Option ℕ
+abbrev pub or_number : (first second : Option ℕ) → Option ℕ
 or_number None k = k
 or_number (Some j) k = Some j
 

@@ -52,12 +52,12 @@ abbrev pub sources_through : {R : Type 0} → Signals R → ℕ → List ℕ
 sources_through ss s = if is_empty (the_signal ss s).sources then s ∷ [] else (the_signal ss s).sources
 
 -- numbers, and more of them, each once
-abbrev pub and_new : List ℕ → List ℕ → List ℕ
+abbrev pub and_new : (known more : List ℕ) → List ℕ
 and_new known [] = known
 and_new known (s ∷ more) = and_new (if has_number known s then known else and_last known s) more
 
 -- the sources through all signals of a list, after those that are known
-abbrev pub all_sources : {R : Type 0} → Signals R → List ℕ → List ℕ → List ℕ
+abbrev pub all_sources : {R : Type 0} → Signals R → (known more : List ℕ) → List ℕ
 all_sources ss known [] = known
 all_sources ss known (s ∷ more) = all_sources ss (and_new known (sources_through ss s)) more
 
@@ -96,9 +96,9 @@ abbrev pub with_algorithms : {R : Type 0} → ℕ → List ℕ → Signals R →
 with_algorithms s as' ss = with_numbered ss s (record (the_signal ss s) { algorithms = as' })
 
 -- an algorithm is added at the end
-abbrev pub add_algorithm : {R : Type 0} → ℕ → ℕ → Signals R → Signals R
+abbrev pub add_algorithm : {R : Type 0} → (s a : ℕ) → Signals R → Signals R
 add_algorithm s a ss = with_algorithms s (and_last (the_signal ss s).algorithms a) ss
 
 -- an algorithm is removed
-abbrev pub remove_algorithm : {R : Type 0} → ℕ → ℕ → Signals R → Signals R
+abbrev pub remove_algorithm : {R : Type 0} → (s a : ℕ) → Signals R → Signals R
 remove_algorithm s a ss = with_algorithms s (without (λ b. b == a) (the_signal ss s).algorithms) ss

@@ -56,7 +56,7 @@ abbrev pub once_all : Combine → Settled → Option Settled
 once_all c how = if length c.reports == c.count then Some how else None
 
 -- the first that is there of an outcome and another answer
-abbrev pub or_answer : Option Settled → Option Settled → Option Settled
+abbrev pub or_answer : (first later : Option Settled) → Option Settled
 or_answer None later = later
 or_answer (Some how) later = Some how
 
@@ -74,7 +74,7 @@ outcome_value (Fulfilled v) = ListValue (values_of (BoolValue true ∷ v ∷ [])
 outcome_value (Failed v) = ListValue (values_of (BoolValue false ∷ v ∷ []))
 
 -- a rejection stays one, and for a value comes the outcome that is passed on
-abbrev pub passed_on : Settled → Settled → Settled
+abbrev pub passed_on : (how after : Settled) → Settled
 passed_on how (Fulfilled v) = how
 passed_on how (Failed v) = Failed v
 

@@ -41,5 +41,5 @@ keys f = map (λ c. c.handle) f.callbacks
 -- ---- Ours: the standard leaves the times of rendering opportunities open. They are multiples of the refresh period.
 
 -- the least multiple of the period that is greater than a moment
-abbrev pub next_multiple : ℕ → ℕ → ℕ
+abbrev pub next_multiple : (period after : ℕ) → ℕ
 next_multiple period after = (after / period + 1) * period

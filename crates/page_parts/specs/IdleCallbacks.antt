@@ -46,5 +46,5 @@ at_most n (Some m) = min n m
 
 -- the deadline of an idle period with this start: 50 milliseconds on, lowered to the next due time of a timer, and to the next rendering
 -- where one is awaited
-abbrev pub deadline : ℕ → Option ℕ → Option ℕ → ℕ
+abbrev pub deadline : ℕ → (timer render : Option ℕ) → ℕ
 deadline start timer render = at_most (at_most (start + 50000) timer) render

@@ -78,7 +78,7 @@ there_and None test = false
 there_and (Some x) test = test x
 
 -- whether two deadlines are equal
-abbrev pub same_deadline : Option ℕ → Option ℕ → Bool
+abbrev pub same_deadline : (a b : Option ℕ) → Bool
 same_deadline None None = true
 same_deadline (Some a) (Some b) = a == b
 same_deadline a b = false
@@ -95,7 +95,7 @@ split_and (with_value v vs) test = test v vs
 
 abbrev mutual
   -- whether two values are equal by structure
-  pub same : Value → Value → Bool
+  pub same : (a b : Value) → Bool
   same UnitValue b = is_unit b
   same (BoolValue x) b = there_and (bool_in b) (λ y. if x then y else not y)
   same (IntValue x) b = there_and (int_in b) (same_int x)
@@ -109,7 +109,7 @@ abbrev mutual
   same (FaultValue name x) b = there_and (fault_in b) (λ y. same_bytes (fault_text name) (fault_text y.name) && same_bytes x y.text)
 
   -- the same of values in a row
-  pub same_all : Values → Values → Bool
+  pub same_all : (no_values ys : Values) → Bool
   same_all no_values ys = none_left ys
   same_all (with_value x xs) ys = split_and ys (λ y ys'. same x y && same_all xs ys')
 

@@ -16,7 +16,7 @@ pub record Listener : Type 0 where
   pub name : List ℕ
 
 -- whether two targets are the same
-abbrev pub same_target : Target → Target → Bool
+abbrev pub same_target : (a b : Target) → Bool
 same_target Window Window = true
 same_target (AtSignal a) (AtSignal b) = a == b
 same_target a b = false

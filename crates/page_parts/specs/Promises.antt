@@ -77,7 +77,7 @@ settle n q how =
 -- ---- ECMA-262, "Promise Resolve Functions" and "NewPromiseResolveThenableJob". Ours: only promises count as thenables
 
 -- it is to become what another promise becomes: one job, which subscribes to that one
-abbrev pub adopt : ℕ → PromiseRecord → ℕ → Change
+abbrev pub adopt : (n : ℕ) → PromiseRecord → (from : ℕ) → Change
 adopt n q from = record { promise = record q { locked = true }; settled = false; jobs = Adopt n from ∷ []; newly_rejected = false }
 
 -- a resolution that is the first: with the promise itself it rejects with TypeError, with another promise it adopts that one, with any

@@ -20,5 +20,5 @@ source_number Dom = 5
 source_number Idle = 6
 
 -- whether two sources are the same
-abbrev pub same_source : Source → Source → Bool
+abbrev pub same_source : (a b : Source) → Bool
 same_source a b = source_number a == source_number b

@@ -25,7 +25,7 @@ rank UserVisible = 1
 rank UserBlocking = 2
 
 -- whether two priorities are equal
-abbrev pub same_priority : Priority → Priority → Bool
+abbrev pub same_priority : (a b : Priority) → Bool
 same_priority a b = rank a == rank b
 
 -- the record of a signal that has a priority
@@ -61,7 +61,7 @@ give s priority ps = and_last ps (record { signal = s; priority = priority; foll
 -- aborts
 
 -- s follows another signal from now on
-abbrev pub depend : ℕ → ℕ → Prios → Prios
+abbrev pub depend : (s on : ℕ) → Prios → Prios
 depend s on ps =
     changed_at s (λ r. record r { follows = Some on }) (changed_at on (λ r. record r { followers = and_last r.followers s }) ps)
 

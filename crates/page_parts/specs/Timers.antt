@@ -38,20 +38,20 @@ abbrev pub milliseconds : ℤ → ℕ
 milliseconds timeout = if nat_lt (modulo_word timeout) (2 ^ 31) then modulo_word timeout else 0
 
 -- a nesting level above 5 makes a timeout 4 milliseconds at least
-abbrev pub clamped : ℕ → ℕ → ℕ
+abbrev pub clamped : (nesting ms : ℕ) → ℕ
 clamped nesting ms = if nat_lt 5 nesting && nat_lt ms 4 then 4 else ms
 
 -- ---- HTML, "Timers": run steps after a timeout
 
 -- an active timer is set, with the next start number
-abbrev pub run_after : ℕ → ℕ → Timers → Timers
+abbrev pub run_after : (ms now : ℕ) → Timers → Timers
 run_after ms now t =
     record t { starts_made = suc t.starts_made; active = and_last t.active (record { start = suc t.starts_made; due = now + ms * 1000 }) }
 
 -- ---- HTML, "Timers": timer initialisation steps
 
 -- the map of ids with this handle at the id
-abbrev pub with_id : ℕ → ℕ → List TimerId → List TimerId
+abbrev pub with_id : (id handle : ℕ) → List TimerId → List TimerId
 with_id id handle ids = and_last (without (λ e. e.id == id) ids) (record { id = id; handle = handle })
 
 -- what initialising a timer gives: its id, its unique handle, its start number, its due time and its nesting level
@@ -63,7 +63,7 @@ pub record Armed : Type 0 where
   pub level : ℕ
 
 -- a timer is initialised, again under its id or under the next one: one level deeper than now
-abbrev pub armed : Option ℕ → ℤ → ℕ → ℕ → Timers → Armed
+abbrev pub armed : Option ℕ → ℤ → (nesting now : ℕ) → Timers → Armed
 armed again timeout nesting now t =
     record {
       id = unwrap_or again (suc t.ids_made);
@@ -99,7 +99,7 @@ abbrev pub clear : ℕ → Timers → Timers
 clear id t = record t { ids = without (λ e. e.id == id) t.ids }
 
 -- whether the id is in the map with this handle
-abbrev pub is_live : ℕ → ℕ → Timers → Bool
+abbrev pub is_live : (id handle : ℕ) → Timers → Bool
 is_live id handle t = elim (id_entry id t) [ None ↦ false | Some e ↦ e.handle == handle ]
 
 -- ---- HTML, "Timers": run steps after a timeout: completion in the order of due time, then of start

@@ -56,11 +56,11 @@ abbrev pub tickets_of : List Pending → List ℕ
 tickets_of pending = map (λ p. p.ticket) pending
 
 -- what the host tells, with the pending callbacks in the order in which they came
-abbrev pub told_by : ℕ → ℕ → List Pending → Told
+abbrev pub told_by : (functions operations : ℕ) → List Pending → Told
 told_by functions operations pending = record { functions = functions; operations = operations; pending = reverse pending }
 
 -- what a refused ask leaves: no more operations than before
-abbrev pub Leaves : Ask → Told → Told → Type 0
+abbrev pub Leaves : Ask → (before after : Told) → Type 0
 Leaves ask before after = (after.functions ≡ before.functions) × (after.operations ≤ before.operations)
 
 abbrev pub times_of : List Pending → ℕ

@@ -54,7 +54,7 @@ pub record SteadyInScript (before after : Page) : Type 0 where
   pub now : after.now ≡ before.now
 
 -- the time goes on, or is the same
-abbrev pub IsNotBefore : Page → Page → Type 0
+abbrev pub IsNotBefore : (before after : Page) → Type 0
 IsNotBefore before after = before.now ≤ after.now
 
 -- whether `busy` is asked for

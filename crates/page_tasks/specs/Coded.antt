@@ -93,7 +93,7 @@ split_steps (AnswerHost t) = inr (inr (inr (inl t)))
 split_steps (NotifyRejected ps) = inr (inr (inr (inr ps)))
 
 -- the steps that have one number at most
-abbrev numbered_steps : ℕ → ℕ → Steps
+abbrev numbered_steps : (zero n : ℕ) → Steps
 numbered_steps zero n = RunScript
 numbered_steps (suc zero) n = TimeOutSignal n
 numbered_steps (suc (suc zero)) n = RunFrame n

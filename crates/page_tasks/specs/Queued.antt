@@ -110,13 +110,13 @@ HasPriority q (P.Fixed priority) = Unit {0}
 HasPriority q (P.Signal s) = IsSome (priority_for q.priorities s)
 
 -- a signal has this priority now where room was made for it, and every other one keeps what it had
-abbrev pub IsMoved : ℕ → Priority → Queued → Queued → Type 0
+abbrev pub IsMoved : ℕ → Priority → (old new : Queued) → Type 0
 IsMoved s priority old new =
     (other : ℕ) → priority_for new.priorities other
     ≡ (if s == other then option_map (λ _. priority) (priority_for old.priorities other) else priority_for old.priorities other)
 
 -- room was made for a signal, which has this priority now, and every other one keeps what it had
-abbrev pub HasRoomFor : ℕ → Priority → Queued → Queued → Type 0
+abbrev pub HasRoomFor : ℕ → Priority → (old new : Queued) → Type 0
 HasRoomFor s priority old new =
     (other : ℕ) → priority_for new.priorities other ≡ (if s == other then Some priority else priority_for old.priorities other)
 

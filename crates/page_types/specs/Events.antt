@@ -28,7 +28,7 @@ pub data Event : Type 0 where
   Report : List ℕ → Event
   Log : List ℕ → Event
   Reg : ℕ → RegKind → Option ℕ → Event  -- with the registration of the innermost open call, which the first form of a trace leaves out
-  Arm : ℕ → ℕ → ℕ → Event
+  Arm : (registration due level : ℕ) → Event
   Due : ℕ → Event
   Drop : ℕ → Event
   Job : ℕ → Queued → Event
@@ -37,7 +37,7 @@ pub data Event : Type 0 where
   Period : ℕ → Event
   IdleLine : ℕ → Event
   Frame : ℕ → Event
-  Enq : ℕ → QueueName → Bool → ℕ → Event
+  Enq : (registration : ℕ) → QueueName → Bool → (order : ℕ) → Event
   Prio : ℕ → Priority → Event
   Abort : ℕ → Event
   Wait : ℕ → Event

@@ -18,7 +18,7 @@ mutual
   pub data Expr : Type 0 where
     Or : Expr → Exprs → Expr
     And : Expr → Exprs → Expr
-    Compare : Expr → CompareSign → Expr → Expr
+    Compare : (left : Expr) → CompareSign → (right : Expr) → Expr
     Sum : Expr → SumParts → Expr
     Product : Expr → ProductParts → Expr
     Unary : UnarySign → Expr → Expr
@@ -58,7 +58,7 @@ mutual
     WhileStmt : Expr → Block → Stmt
     ReturnStmt : Option Expr → Stmt
     ThrowStmt : Expr → Stmt
-    TryStmt : Block → Named → Block → Stmt
+    TryStmt : (body : Block) → Named → (handler : Block) → Stmt
 
   -- statements in a row
   pub data Block : Type 0 where

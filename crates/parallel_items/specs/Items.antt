@@ -42,7 +42,7 @@ abbrev pub due_of : Option Item → Option ℕ
 due_of item = option_map (λ i. i.due) item
 
 -- the one of two that is due earlier, the first of them where they are due together
-abbrev pub earlier : Option Item → Option Item → Option Item
+abbrev pub earlier : (a b : Option Item) → Option Item
 earlier None b = b
 earlier (Some a) None = Some a
 earlier (Some a) (Some b) = Some (if nat_lt b.due a.due then b else a)

@@ -52,7 +52,7 @@ pub record AreKept (t : Timers) (completions : List (ℕ × Completion)) (set : 
 -- ---- idle timeouts
 
 -- the order of the heap: an idle timeout is greater where it is due earlier, or is due together and was started earlier
-abbrev pub sooner : Reverse IdleTimeout → Reverse IdleTimeout → Ordering
+abbrev pub sooner : (x y : Reverse IdleTimeout) → Ordering
 sooner x y =
     ordering_then (nat_cmp y.0.due.0 x.0.due.0)
     (ordering_then (nat_cmp y.0.handle x.0.handle) (nat_cmp y.0.registration x.0.registration))

@@ -18,7 +18,7 @@ first_by before (item ∷ rest) = Some (first_from before item rest)
 
 module _ {T : Type 0} where
   -- whether a goes before b: it has the greater effective priority now, or the lesser order where that is equal
-  abbrev pub precedes : Waiting T → Waiting T → Bool
+  abbrev pub precedes : (a b : Waiting T) → Bool
   precedes a b = nat_lt (effective b) (effective a) || ((effective a == effective b) && nat_lt a.order b.order)
 
   -- a task put in among others by its order
@@ -42,12 +42,12 @@ module _ {T : Type 0} where
   OrdersRise (task ∷ rest) = AreLater task.order rest × OrdersRise rest
 
   -- a task that is enqueued with a greater order is the last
-  abbrev pub EnqueuedLast : Waiting T → List (Waiting T) → List (Waiting T) → Type 0
+  abbrev pub EnqueuedLast : Waiting T → (old new : List (Waiting T)) → Type 0
   EnqueuedLast task old new =
       Inserted task old new → ((other : Waiting T) → Among other old → other.order < task.order) → in_order new ≡ in_order old ++ task ∷ []
 
   -- a task that is taken has left its place
-  abbrev pub TakenOut : Waiting T → List (Waiting T) → List (Waiting T) → Type 0
+  abbrev pub TakenOut : Waiting T → (old new : List (Waiting T)) → Type 0
   TakenOut task old new = Inserted task new old → Inserted task (in_order new) (in_order old)
 
   -- so has one that is taken out by its cell

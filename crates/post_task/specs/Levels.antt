@@ -53,7 +53,7 @@ HasRoom levels (Fixed priority) = Unit {0}
 HasRoom levels (Signal s) = IsSome (priority_in levels (Signal s))
 
 -- each source but one has lists as before, with the same priority
-abbrev pub SameBut : PrioSource → List Level → List Level → Type 0
+abbrev pub SameBut : PrioSource → (old new : List Level) → Type 0
 SameBut but old new = (source : PrioSource) → same_source source but ≡ false → priority_in new source ≡ priority_in old source
 
 -- the lists of a source once a signal's priority has changed
@@ -81,7 +81,7 @@ ListsRise [] = Unit {0}
 ListsRise (level ∷ rest) = (level.plain.0 < level.continuations.0) × AreBehind level.continuations.0 rest × ListsRise rest
 
 -- the source at this place has this list
-abbrev pub HasList : ℕ → ℕ → List Level → Type 0
+abbrev pub HasList : (list place : ℕ) → List Level → Type 0
 HasList list place [] = ⊥
 HasList list zero (level ∷ rest) = (level.plain.0 ≡ list) ⊎ (level.continuations.0 ≡ list)
 HasList list (suc place) (level ∷ rest) = HasList list place rest
@@ -92,7 +92,7 @@ StandsNext (Fixed priority) levels = length levels ≡ rank priority
 StandsNext (Signal s) levels = Unit {0}
 
 -- the map has another place for one source, where that is a signal's
-abbrev pub Notes : PrioSource → Option ℕ → BTreeMap ℕ ℕ → BTreeMap ℕ ℕ → Type 0
+abbrev pub Notes : PrioSource → Option ℕ → (old new : BTreeMap ℕ ℕ) → Type 0
 Notes source place old new = (s : ℕ) → get nat_cmp new s ≡ (if same_source source (Signal s) then place else get nat_cmp old s)
 
 -- each source stands at its place, and the map has those of the signals
@@ -154,7 +154,8 @@ module _ {T : Type 0} where
   task_in sched source continuation order item cell = new_task sched.levels cell source continuation order item
 
   -- where it is enqueued, it is one task more
-  abbrev pub Enqueues : Result Ticket T → (Cell → Waiting T) → Sched → Lists T → Sched → Lists T → Type 0
+  abbrev pub Enqueues : Result Ticket T → (Cell → Waiting T) → (before : Sched) → (old : Lists T) → (after : Sched)
+      → (new : Lists T) → Type 0
   Enqueues result task before old after new =
       IfOk result (λ ticket. Inserted (task ticket.0) (waiting before.levels old) (waiting after.levels new))
 
@@ -166,15 +167,15 @@ module _ {T : Type 0} where
     pub is : given ≡ ordered task
 
   -- what is taken: the first task, none where no task waits
-  abbrev pub IsTaken : Option (ℕ × T) → List (Waiting T) → List (Waiting T) → Type 0
+  abbrev pub IsTaken : Option (ℕ × T) → (old new : List (Waiting T)) → Type 0
   IsTaken result old new = MatchOption result (old ≡ []) (TakesFirst old new)
 
   -- each list but one is as before
-  abbrev pub Elsewhere : ℕ → Lists T → Lists T → Type 0
+  abbrev pub Elsewhere : ℕ → (old new : Lists T) → Type 0
   Elsewhere list old new = (l : ℕ) → l ≢ list → list_of new l ≡ list_of old l
 
   -- the first tasks are those of the lists, where they were so before one list has changed
-  abbrev pub ReadsAgain : ℕ → Lists T → Lists T → Sched → Sched → Type 0
+  abbrev pub ReadsAgain : ℕ → (before pool : Lists T) → (old new : Sched) → Type 0
   ReadsAgain list before pool old new =
       old.heads ≡ firsts old.levels before → Elsewhere list before pool → new.heads ≡ firsts new.levels pool
 

@@ -7,7 +7,7 @@ use Rattle.post_task.specs.declared.tournament.Head.{Head}
 use Rattle.post_task.specs.declared.tournament.Winner.{Winner}
 
 -- whether a goes before b
-abbrev pub goes_before : Head → Head → Bool
+abbrev pub goes_before : (a b : Head) → Bool
 goes_before a b = nat_lt b.effective a.effective || ((a.effective == b.effective) && nat_lt a.order b.order)
 
 -- the head of a place, where it has one

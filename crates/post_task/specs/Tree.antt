@@ -7,7 +7,7 @@ use Rattle.post_task.specs.declared.tournament.Node.{Node}
 use Rattle.post_task.specs.Tournament.{goes_before}
 
 -- the one that goes first of two, and the former where neither does
-abbrev pub better : Option Winner → Option Winner → Option Winner
+abbrev pub better : (old new : Option Winner) → Option Winner
 better None new = new
 better (Some old) None = Some old
 better (Some old) (Some new) = if goes_before new.head old.head then Some new else Some old

@@ -9,7 +9,7 @@ use Rattle.post_task.specs.declared.level.PrioSource.{PrioSource}
 use Rattle.post_task.specs.declared.level.PrioSource.TheVariants.{Fixed, Signal}
 
 -- whether two priority sources are the same
-abbrev pub same_source : PrioSource → PrioSource → Bool
+abbrev pub same_source : (a b : PrioSource) → Bool
 same_source (Fixed a) (Fixed b) = same_priority a b
 same_source (Signal a) (Signal b) = a == b
 same_source (Fixed a) (Signal b) = false

@@ -29,7 +29,8 @@ module _ {T : Type 0} where
   ends_of entries = record { first = first_of entries; last = last_cell None entries }
 
   -- these entries stand in list l one after another, behind one cell and in front of another
-  abbrev pub IsLinked : (Cell → Option (Node T)) → ℕ → Option Cell → List (Entry T) → Option Cell → Type 0
+  abbrev pub IsLinked : (Cell → Option (Node T)) → ℕ → (before : Option Cell) → List (Entry T) → (after : Option Cell)
+      → Type 0
   IsLinked look l before [] after = Unit {0}
   IsLinked look l before (entry ∷ rest) after =
       (look entry.cell ≡ Some (record {

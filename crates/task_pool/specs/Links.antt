@@ -46,7 +46,7 @@ module _ {T : Type 0} where
 
 -- the ends of a list once a cell has left that stood between these two: the first of what follows it is first where nothing stood before,
 -- and what stood before is last where nothing follows
-abbrev pub joined : Ends → Option Cell → Option First → Option Cell → Ends
+abbrev pub joined : Ends → (before : Option Cell) → Option First → (after : Option Cell) → Ends
 joined ends before first after =
     record {
       first = elim before [ None ↦ first | Some cell ↦ ends.first ];

@@ -16,7 +16,7 @@ pub record Lists (T : Type 0) : Type 0 where
   pub inserts : ℕ
 
 -- whether two cells are the same
-abbrev pub same_cell : Cell → Cell → Bool
+abbrev pub same_cell : (a b : Cell) → Bool
 same_cell a b = (a.key == b.key) && (a.generation == b.generation)
 
 module _ {T : Type 0} where

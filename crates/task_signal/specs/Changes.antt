@@ -23,7 +23,7 @@ IsAnswer s p ps (Ok (Some moved)) =
     IsStill s ps × (priority_of ps s ≢ Some p) × (priority_of ps s ≡ Some moved.before) × (moved.dependents.items ≡ followers ps s)
 
 -- the change has begun where it is answered so, and else nothing changes
-abbrev pub Leaves : ℕ → Priority → Prios → Result (Option Moved) ChangeFault → Prios → Type 0
+abbrev pub Leaves : ℕ → Priority → (ps : Prios) → Result (Option Moved) ChangeFault → (after : Prios) → Type 0
 Leaves s p ps (Ok (Some moved)) after = after ≡ begun s p ps
 Leaves s p ps (Ok None) after = after ≡ ps
 Leaves s p ps (Err e) after = after ≡ ps

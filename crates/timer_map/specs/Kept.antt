@@ -11,11 +11,11 @@ use Rattle.timer_map.specs.declared.waiting.ActiveTimer as waiting
 use Rattle.timer_map.specs.Seen.{timers_of, ids_of}
 
 -- the order of the heap: a timer is greater where it is due earlier, or is due together and was started earlier
-abbrev pub earlier : Reverse waiting.ActiveTimer → Reverse waiting.ActiveTimer → Ordering
+abbrev pub earlier : (x y : Reverse waiting.ActiveTimer) → Ordering
 earlier x y = ordering_then (nat_cmp y.0.due.0 x.0.due.0) (nat_cmp y.0.start x.0.start)
 
 -- a number that was given
-abbrev pub Given : ℕ → ℕ → Type 0
+abbrev pub Given : (last n : ℕ) → Type 0
 Given last n = (0 < n) × (n ≤ last)
 
 -- the numbers of items are distinct and among those that were given

@@ -45,7 +45,7 @@ outermost depth (e ∷ after) =
     if ends_turn e.event then [] else with_outermost depth e.time (called e.event) after (outermost (open_after e.event depth) after)
 
 -- the longer one of two calls, the first one where they are equally long
-abbrev pub longer : TurnCall → TurnCall → TurnCall
+abbrev pub longer : (first second : TurnCall) → TurnCall
 longer first second = if nat_lt first.length second.length then second else first
 
 -- the longest one of some calls, the first one among equals

@@ -16,7 +16,7 @@ pub record OpenTurn : Type 0 where
   pub depth : ℕ
   pub longest : Option TurnCall
 
-abbrev pub opened : ℕ → Option Source → ℕ → OpenTurn
+abbrev pub opened : (n : ℕ) → Option Source → (time : ℕ) → OpenTurn
 opened n source time = record { number = n; source = source; begin = time; last = time; depth = 0; longest = None }
 
 -- the longer one of a call, if there is one, and a further one

@@ -8,7 +8,7 @@ use Rattle.page_parts.specs.TraceText.{kind_text}
 -- ---- Ours: when a call ends
 
 -- the end of a call of which the callback returned, or threw, at this time: its own end, where no call is open that began after it
-abbrev pub left_at : ℕ → ℕ → (ℕ → ℕ) → ℕ
+abbrev pub left_at : (zero time : ℕ) → (ℕ → ℕ) → ℕ
 left_at zero time later = time
 left_at (suc inner) time later = later inner
 

@@ -24,7 +24,7 @@ abbrev pub change : {S : Type 0} → (S → S) → Act S
 change f s = record { state = f s; lines = [] }
 
 -- one act and then another
-unfoldable pub seq : {S : Type 0} → Act S → Act S → Act S
+unfoldable pub seq : {S : Type 0} → (a b : Act S) → Act S
 seq a b s = record { state = (b (a s).state).state; lines = (a s).lines ++ (b (a s).state).lines }
 
 -- the act that the state asks for

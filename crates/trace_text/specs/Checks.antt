@@ -17,12 +17,12 @@ lines_of form es = Head form ∷ map Of es
 
 -- The lines of a trace that are left where so many were met and these events are left: before its first line the whole
 -- trace, head and all.
-abbrev pub kept_lines : ℕ → List Stamped → ℕ → List Line
+abbrev pub kept_lines : (form : ℕ) → List Stamped → (zero : ℕ) → List Line
 kept_lines form es zero = lines_of form es
 kept_lines form es (suc matched) = map Of es
 
 -- two lines are the same where both are heads of the same form, or lines of events with the same text
-abbrev pub same_line : Line → Line → Bool
+abbrev pub same_line : (a b : Line) → Bool
 same_line (Head a) (Head b) = a == b
 same_line (Of a) (Of b) = same_bytes (line_text a) (line_text b)
 same_line a b = false

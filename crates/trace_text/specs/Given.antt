@@ -9,7 +9,7 @@ use Rattle.trace_text.specs.declared.lines.NoLine.TheVariants.{Failed, Differs, 
 -- from what it keeps), and what may stand after a line that failed.
 pub record Keeping (T : Type 0) : Type 1 where
   pub rule : T → Line → Option T
-  pub left : T → Line → T → Type 0
+  pub left : (before : T) → Line → (after : T) → Type 0
 
 -- what is told after a line
 abbrev pub next : {T : Type 0} → Keeping T → Option T → Line → Option T
@@ -21,12 +21,12 @@ after_all k told [] = told
 after_all k told (line ∷ lines) = after_all k (next k told line) lines
 
 -- what may be told after a line that failed
-abbrev pub Leaves : {T : Type 0} → Keeping T → Option T → Line → Option T → Type 0
+abbrev pub Leaves : {T : Type 0} → Keeping T → (before : Option T) → Line → (after : Option T) → Type 0
 Leaves k None line after = after ≡ None
 Leaves {T} k (Some t) line after = (u : T) × (after ≡ Some u) × k.left t line u
 
 -- the line was not taken, for this reason
-abbrev pub NotTaken : {T : Type 0} → Keeping T → NoLine → Option T → Line → Option T → Type 0
+abbrev pub NotTaken : {T : Type 0} → Keeping T → NoLine → (told : Option T) → Line → (after : Option T) → Type 0
 NotTaken k Failed told line after = Leaves k told line after
 NotTaken k Differs told line after = (after ≡ told) × (next k told line ≡ None)
 NotTaken k OutOfMemory told line after = after ≡ told
@@ -38,7 +38,7 @@ IsMemory OutOfMemory = ⊤
 
 -- Of these lines the first ones were taken, and no more: the next one was not taken, for this reason.
 -- Memory may also be wanted behind the last one.
-abbrev pub StopsAmong : {T : Type 0} → Keeping T → NoLine → Option T → List Line → Option T → Type 0
+abbrev pub StopsAmong : {T : Type 0} → Keeping T → NoLine → (told : Option T) → List Line → (after : Option T) → Type 0
 StopsAmong k why told [] after = IsMemory why × (after ≡ told)
 StopsAmong k why told (line ∷ lines) after = NotTaken k why told line after ⊎ StopsAmong k why (next k told line) lines after
 
@@ -49,7 +49,7 @@ pub record Seen (T : Type 0) : Type 0 where
   pub refusals : ℕ
 
 -- all of these lines were taken, in order; or the call stopped among them, for this reason
-abbrev pub GivesTold : {T : Type 0} → Keeping T → Option T → List Line → Option NoLine → Option T → Type 0
+abbrev pub GivesTold : {T : Type 0} → Keeping T → (told : Option T) → List Line → Option NoLine → (after : Option T) → Type 0
 GivesTold k told lines None after = (after ≡ after_all k told lines) × (is_some after ≡ is_some told)
 GivesTold k told lines (Some why) after = StopsAmong k why told lines after
 

@@ -229,7 +229,7 @@ IsValueRead bytes None = IsPrinted bytes → ⊥
 IsValueRead bytes (Some value) = (value ≡ bytes) × IsPrinted bytes
 
 -- an event by its fields, of which the value is then tested
-abbrev pub IsTested : Option Event → Option Event → Type 0
+abbrev pub IsTested : (wanted read : Option Event) → Type 0
 IsTested None read = read ≡ None
 IsTested (Some e) None = EventFits e → ⊥
 IsTested (Some e) (Some read) = (read ≡ e) × EventFits e

@@ -19,7 +19,8 @@ abbrev pub seen_through : {O : Type 0} → (O → Option (List ℕ)) → (O → 
 seen_through bytes faults out = record { told = bytes out; faults = faults out; refusals = 0 }
 
 -- a call gave one line to a sink, or stopped at it, as its result tells
-abbrev pub PutsLine : {O X : Type 0} → (O → Option (List ℕ)) → (O → ℕ) → O → Line → Result X NoLine → O → Type 0
+abbrev pub PutsLine : {O X : Type 0} → (O → Option (List ℕ)) → (O → ℕ) → (old : O) → Line → Result X NoLine → (new : O)
+    → Type 0
 PutsLine bytes faults old line result new =
     Gives sink_keeping (seen_through bytes faults old) (line ∷ []) (result_err result) (seen_through bytes faults new)
 

@@ -102,5 +102,5 @@ abbrev pub seen_counts : Counts → Seen Counts
 seen_counts counts = record { told = Some counts; faults = 0; refusals = 0 }
 
 -- a call counted one line, as its result tells
-abbrev pub CountsLine : {X : Type 0} → Counts → Line → Result X NoLine → Counts → Type 0
+abbrev pub CountsLine : {X : Type 0} → (old : Counts) → Line → Result X NoLine → (new : Counts) → Type 0
 CountsLine old line result new = Gives count_keeping (seen_counts old) (line ∷ []) (result_err result) (seen_counts new)
