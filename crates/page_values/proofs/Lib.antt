@@ -4,3 +4,4 @@ pub mod Texts
 pub mod Joined
 pub mod Sameness
 pub mod SpellingsLemmas
+pub mod OneDecimal

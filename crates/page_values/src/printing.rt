@@ -1,9 +1,9 @@
 //! The spelling of values.
 
-ghost use Rattle.std.specs.Prelude.{◌≡◌, ◌++◌, ◌<◌, ◌≤◌, length, ◌^◌, ◌+◌, ℕ, [], IfOk, OnOk, OnErr, IsTrue, slice_get, unwrap_or};
+ghost use Rattle.std.specs.Prelude.{◌≡◌, ◌++◌, ◌≤◌, length, ℕ, [], IfOk, OnOk, OnErr, IsTrue, slice_get, unwrap_or};
 ghost use Rattle.page_types.specs.Values.{DeadlineValue};
 ghost use Rattle.page_parts.specs.Spelling.{spelled, all_spelled, all_escaped, quoted, fault_text, deadline_text};
-ghost use Rattle.page_parts.specs.Words.{digits, decimal_of, int_decimal};
+ghost use Rattle.page_parts.specs.Words.{decimal_of, int_decimal};
 ghost use Rattle.page_values.specs.Names.{are_names};
 ghost use Rattle.page_parts.specs.Kinds.{nesting, greatest_nesting};
 ghost use Rattle.page_values.specs.Seen.{seen};
@@ -12,6 +12,7 @@ ghost use Rattle.page_values.specs.Texts.{is_text};
 ghost use Rattle.page_values.specs.Written.{IsWritten, AreWritten, IsNumbered};
 
 use crate::{FaultName, Items, MemoryFault, Str, Value};
+use itoa::Buffer;
 use std::alloc::{AllocError, Global};
 use std::marker::Model;
 
@@ -210,18 +211,7 @@ pub fn print_int(n: i64, into: &mut Vec<u8>) -> Result<(), AllocError>
 pub fn print_number(n: u64, into: &mut Vec<u8>) -> Result<(), AllocError>
     ensures { IfOk result (λ _. into.new.items ≡ into.old.items ++ decimal_of n) }
 {
-    print_digits(n, into)?;
-    Ok(())
-}
-
-fn print_digits(n: u64, into: &mut Vec<u8>) -> Result<(), AllocError>
-    ensures { IfOk result (λ _. (most : ℕ) → n < 10 ^ (most + 1) → into.new.items ≡ into.old.items ++ digits most n) }
-{
-    if n < 10 {
-        into.push(b'0' + n as u8)?;
-        return Ok(());
-    }
-    print_digits(n / 10, into)?;
-    into.push(b'0' + (n % 10) as u8)?;
+    let mut digits = Buffer::new();
+    into.extend_from_slice(digits.format(n).as_bytes())?;
     Ok(())
 }

@@ -13,7 +13,7 @@ use Rattle.page_parts.specs.Words.{decimal_of}
 use Rattle.page_parts.specs.Spelling.{escaped, all_escaped, quoted}
 use Rattle.page_values.specs.Texts.{is_text, is_text_byte}
 use Rattle.trace_text.proofs.Behind.{left, right}
-use Rattle.trace_text.proofs.OneDecimal.{decimal_is}
+use Rattle.page_values.proofs.OneDecimal.{decimal_is}
 use Rattle.trace_export.specs.Export.{Span, IsSpan, span_text, spans_text, more_spans_text, export_text}
 use Rattle.trace_export.specs.Json.{json_of_span, items_of, json_of}
 use Rattle.trace_export.proofs.ReadSpans.{flat}

@@ -16,7 +16,7 @@ use Rattle.page_parts.specs.Words.{decimal_of, int_decimal, is_empty}
 use Rattle.page_base.specs.Fields.{◌>>=◌, where_true, behind}
 use Rattle.trace_text.specs.LineReading.{number_in, count_at, int_at, negative}
 use Rattle.trace_text.specs.Trace.{IsCount}
-use Rattle.trace_text.proofs.OneDecimal.{decimal_is}
+use Rattle.page_values.proofs.OneDecimal.{decimal_is}
 use Rattle.trace_text.proofs.Cutting.{lacks, some_then, map_then, or_then}
 
 all_digits : (n : ℕ) → IsCount n → list_all is_digit (decimal_of n) ≡ true

@@ -6,7 +6,6 @@ pub mod SinkText
 mod Appending
 pub mod Rows
 pub mod Behind
-pub mod OneDecimal
 pub mod ValueNumbers
 pub mod ValueWords
 pub mod WholeValues

@@ -14,7 +14,7 @@ use Rattle.page_parts.specs.Words.{decimal_of, int_decimal}
 use Rattle.page_base.specs.Decimals.{is_digit, digits_of, after_digits, number_of, number_at, is_canonical}
 use Rattle.page_base.proofs.Numbers.{list_all-take_while, list_all_first}
 use Rattle.page_base.proofs.Printed.{numerals, after_digits-append, number_at-decimal}
-use Rattle.trace_text.proofs.OneDecimal.{decimal_is}
+use Rattle.page_values.proofs.OneDecimal.{decimal_is}
 use Rattle.page_base.specs.Fields.{◌>>=◌, read_or, behind}
 use Rattle.trace_text.specs.ValueEnds.{after_number, after_negative, after_int, begins_number, may_follow}
 use Rattle.trace_text.proofs.Cutting.{behind_whole}

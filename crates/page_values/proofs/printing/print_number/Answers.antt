@@ -1,5 +1,6 @@
-use Rattle.page_parts.proofs.Decimals.{below-own_power}
+use Rattle.std.proofs.Common.{rules, arith}
+use Rattle.page_values.proofs.OneDecimal.{decimal_is}
 use Rattle.page_values.proofs.printing.print_number.Goals as goal
 
 pub returns : goal.returns
-returns c = c.in_ok-print_digits.ensures c.args.n (below-own_power c.args.n)
+returns c = rw (decimal_is c.args.n (omega arith)) (search (rules, c.format.ensures.text))
