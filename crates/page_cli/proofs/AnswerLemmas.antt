@@ -40,6 +40,7 @@ use Rattle.page_cli.specs.Expanding.{WroteExpansion}
 use Rattle.page_cli.specs.Migrated.{WroteMigrated}
 use Rattle.page_cli.specs.Stormed.{WroteStorm}
 use Rattle.page_cli.specs.FormAnswers.{AnswersForm, WroteAll}
+use Rattle.page_cli.specs.HandedOn.{IsWhole}
 use Rattle.page_cli.proofs.ArrivedValues.{holds-no-numbers}
 use Rattle.page_cli.proofs.Closures.{closures-follow}
 
@@ -155,11 +156,6 @@ same-end end.Clock end.Fuel e = absurd (cc)
 same-end end.Clock end.Clock e = refl
 
 -- no other answer has the status of an end
-abbrev IsWhole : Answer → Type 0
-IsWhole (Ended end) = Unit {0}
-IsWhole Written = Unit {0}
-IsWhole answer = ⊥
-
 whole : (answer : Answer) (of_end : End) → status_of answer ≡ status_of_end of_end → IsWhole answer
 whole (Ended one) of_end e = tt
 whole Written of_end e = tt

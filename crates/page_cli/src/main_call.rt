@@ -11,6 +11,7 @@ ghost use Rattle.page_cli.specs.Names.{form_seen, names_seen};
 ghost use Rattle.page_cli.specs.Answering.{AnswersTold, IsRefusal, RunsNothing};
 ghost use Rattle.page_cli.specs.FormAnswers.{AnswersForm, WroteAll};
 ghost use Rattle.page_cli.specs.Completeness.{NothingRose, Completes};
+ghost use Rattle.page_cli.specs.HandedOn.{IsWhole};
 ghost use Rattle.page_cli.specs.Complaints.{complaint, PutsOrFails};
 
 use crate::answer::{Answer, WhichFile};
@@ -124,6 +125,7 @@ fn carry_out<F: Folder, O: Sink>(
     ensures usage { (result.answer ≡ Answer.Usage) ↔ (names_seen asked.entry ≡ None) }
     ensures refused { IsRefusal result.answer → O.bytes result.out ≡ O.bytes out }
     ensures no_put { IsRefusal result.answer → O.puts result.out ≡ O.puts out }
+    ensures whole { IsWhole result.answer → O.IsHandedOn result.out }
     ensures read { (file : WhichFile) → result.answer ≡ Answer.ReadFault file → IfSome (names_seen asked.entry) (λ form.
         Rose (F.faults folder.old (name_of file form)) (F.faults folder.new (name_of file form))) }
     ensures write { result.answer ≡ Answer.WriteFault → Rose (O.faults out) (O.faults result.out) }
@@ -171,6 +173,9 @@ pub fn page_main<F: Folder, O: Sink, E: Sink>(
     // so; or its second form, and it is legal; or what was asked of it; or the expansion of the script.
     ensures written { (end : End) → result.status ≡ status_of_end end → IfSome (form_of (map string_bytes words.now.items)) (λ form.
         WroteAll end form (F.file folder.old) (closures_of hosts) (closures_of result.hosts) (O.bytes out) (O.bytes result.out)) }
+
+    // And all that was put was handed on.
+    ensures whole { IsWhole result.answer → O.IsHandedOn result.out }
 
     // Each other answer comes only where its cause stands, with what it leaves. All this holds of each file that the folder tells, whatever
     // it tells of the others: of a file that it does not tell, it holds of some content.

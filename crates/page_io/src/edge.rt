@@ -1,4 +1,4 @@
-ghost use Rattle.std.specs.Prelude.{◌≡◌, ◌≤◌, ◌<◌, ℕ, [], None, length, IfOk, IsErrOf, OnOk};
+ghost use Rattle.std.specs.Prelude.{◌≡◌, ◌≤◌, ◌<◌, ℕ, [], None, length, IfOk, IsErr, IsErrOf, OnOk};
 ghost use Rattle.page_types.specs.Counts.{raised, HasCause, Rose, refusals_after};
 ghost use Rattle.std.specs.Io.Buffered.{writer_buffer, writer_inner};
 ghost use Rattle.std.specs.Io.KnownBytes.{Appends, Keeps};
@@ -42,9 +42,12 @@ impl<'a, R: Files> RealFolder<'a, R> {
 impl<'a, R: Files> Folder for RealFolder<'a, R> {
     ghost file = { λ _ _. None };
 
+    ghost IsMissing = { λ _ _. ⊥ };
+
     ghost faults = { λ folder _. folder };
 
     fn fetch(&mut self, name: &str, limit: usize, into: &mut Vec<u8>) -> Result<Fetched, FetchFault>
+        ensures missing { ⊥ → IsErr result }
         ensures later { self.old ≤ self.new }
         ensures cause { IsErrOf result FetchFault.Failed → Rose self.old self.new }
         ensures count { self.new ≡ faults_after self.old result }
@@ -109,6 +112,8 @@ impl<W: Write + Drop> Sink for StdSink<W> {
 
     ghost puts = { λ sink. sink.puts };
 
+    ghost IsHandedOn = { λ sink. sink.waiting ≡ [] };
+
     fn put(&mut self, piece: &[u8]) -> Result<(), Failed>
         requires { 0 < length piece.now }
         ensures cause { HasCause self.old.faults self.new.faults result }
@@ -126,11 +131,11 @@ impl<W: Write + Drop> Sink for StdSink<W> {
 
     /// A device that has become full is met here at the latest.
     fn finish(&mut self) -> Result<(), Failed>
+        ensures whole { OnOk result (self.new.waiting ≡ []) }
         ensures cause { HasCause self.old.faults self.new.faults result }
         ensures counted { self.new.puts ≡ self.old.puts }
         ensures count { self.new.faults ≡ refusals_after self.old.faults result }
         ensures taken { Keeps (taken self.old) (taken self.new) }
-        ensures written { OnOk result (self.new.waiting ≡ []) }
     {
         if self.out.flush().is_err() {
             self.faults = self.faults.saturating_add(1);

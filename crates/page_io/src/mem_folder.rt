@@ -1,4 +1,4 @@
-ghost use Rattle.std.specs.Prelude.{◌≡◌, ◌≢◌, ◌≤◌, ◌↔◌, ℕ, List, Option, map, Some, IsNone, IfSome, IsTrue, IsErrOf};
+ghost use Rattle.std.specs.Prelude.{◌≡◌, ◌≢◌, ◌≤◌, ◌↔◌, ℕ, List, Option, map, Some, None, IsNone, IfSome, IsTrue, IsErr, IsErrOf};
 ghost use Rattle.std.specs.Option.{option_copied};
 ghost use Rattle.page_types.specs.Counts.{Rose};
 ghost use Rattle.page_io.specs.Files.{Fetches, FetchedOf};
@@ -56,13 +56,17 @@ impl MemFolder {
 impl Folder for MemFolder {
     ghost file = { λ folder name. first_file folder.files name };
 
+    ghost IsMissing = { λ folder name. first_file folder.files name ≡ None };
+
     ghost faults = { λ folder _. folder.faults };
 
     /// It fails exactly where this call's number is among those that fail or no file has the name. Then nothing was
     /// appended.
     fn fetch(&mut self, name: &str, limit: usize, into: &mut Vec<u8>) -> Result<Fetched, FetchFault>
         ensures content { Fetches (first_file self.old.files name.now) limit into.old.items result into.new.items }
+        ensures missing { first_file self.old.files name.now ≡ None → IsErr result }
         ensures same { (other : List ℕ) → first_file self.new.files other ≡ first_file self.old.files other }
+        ensures stays { (other : List ℕ) → first_file self.old.files other ≡ None → first_file self.new.files other ≡ None }
         ensures later { (other : List ℕ) → self.old.faults ≤ self.new.faults }
         ensures cause { IsErrOf result FetchFault.Failed → Rose self.old.faults self.new.faults }
 

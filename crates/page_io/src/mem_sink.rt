@@ -1,4 +1,4 @@
-ghost use Rattle.std.specs.Prelude.{◌≡◌, ◌+◌, ◌-◌, ◌≤◌, ◌<◌, ◌↔◌, ℕ, List, [], ◌++◌, length, take, Option, Some, IsSome, IfSome, IsErr, IfOk, OnOk, OnErr, vec_len, vec_capacity, true, IsTrue};
+ghost use Rattle.std.specs.Prelude.{◌≡◌, ◌+◌, ◌-◌, ◌≤◌, ◌<◌, ◌↔◌, ℕ, List, [], ◌++◌, length, take, Option, Some, IsSome, IfSome, IsErr, IfOk, OnOk, OnErr, vec_len, vec_capacity, true, false, IsTrue};
 ghost use Rattle.std.specs.Option.{option_copied};
 ghost use Rattle.page_types.specs.Counts.{raised, HasCause};
 ghost use Rattle.page_types.specs.Told.{appended, IsStartOf, AppendsStartOf};
@@ -109,6 +109,8 @@ impl Sink for MemSink {
 
     ghost puts = { λ sink. sink.calls };
 
+    ghost IsHandedOn = { λ sink. sink.fails_at_end ≡ false };
+
     /// It fails exactly where the piece is longer than the room that is left, and then keeps nothing of it, or else where
     /// this call's number is among those that fail, and then keeps as many bytes as stand there, or the whole of a shorter
     /// piece. Takes no memory.
@@ -134,6 +136,7 @@ impl Sink for MemSink {
 
     /// It fails exactly where the sink was made so. Takes no memory.
     fn finish(&mut self) -> Result<(), Failed>
+        ensures whole { OnOk result (self.new.fails_at_end ≡ false) }
         ensures bytes { Some self.new.bytes ≡ Some self.old.bytes }
         ensures cause { HasCause self.old.faults self.new.faults result }
         ensures counted { self.new.calls ≡ self.old.calls }

@@ -17,6 +17,9 @@ pub trait Sink {
     /// How many pieces were put, those that failed among them. It stays at the end of a `u64`.
     ghost puts: { Self → ℕ };
 
+    /// All that was put was handed on.
+    ghost IsHandedOn: { Self → Type 0 };
+
     /// Appends a piece, which is not empty.
     ///
     /// It fails only where the count of faults rose, and then a start of the piece was appended.
@@ -31,6 +34,7 @@ pub trait Sink {
     ///
     /// It fails only where the count of faults rose. The bytes that the sink tells stay, also then.
     fn finish(&mut self) -> Result<(), Failed>
+        ensures whole { OnOk result (IsHandedOn self.new) }
         ensures bytes { bytes self.new ≡ bytes self.old }
         ensures cause { HasCause (faults self.old) (faults self.new) result }
         ensures counted { puts self.new ≡ puts self.old };
