@@ -7,7 +7,6 @@ ghost use Rattle.page_notices.specs.Steps.{held};
 use crate::{
     Kind, PageScript, PrioSource, Priority, Reaction, Registration, Role, SchedulingState,
 };
-use page_base::{End, Source};
 use page_io::MemSink;
 use page_values::{FunNames, Func, Items, Value};
 use std::alloc::Global;
@@ -39,58 +38,6 @@ fn assert_made(rt: &impl Abort, page: &PageScript, p: u32)
     ensures { IsMade (held page.now.notices) p }
 {
     assert!(rt; p > 0 && p <= page.promises_made());
-}
-
-// A microtask's callback throws, and its throw is reported after the checkpoint. The trace tells who registered it.
-fn run_a_microtask(
-    rt: &impl Abort,
-    page: &mut PageScript,
-    lines: &mut LineSink<MemSink>,
-) -> Result<(), Fail> {
-    assert_room(rt, page);
-    page.begin_turn(Some(Source::Dom), lines)?;
-    page.call_begun(1, lines)?;
-    let registration = Registration {
-        role: Role::Of(RegKind::Micro),
-        callback: None,
-        second_callback: None,
-        timer_id: 0,
-        promise: 0,
-        signal: None,
-        finally: false,
-    };
-    assert_room(rt, page);
-    let r = page.register(RegKind::Micro, registration, lines)?;
-    page.queue_micro(r, lines)?;
-    page.returned(lines)?;
-    page.checkpoint_begun();
-    assert!(rt; page.next_job(lines)?.is_some());
-    page.call_begun(r, lines)?;
-    page.thrown(&Value::Int(5), lines)?;
-    assert!(rt; page.next_job(lines)?.is_none());
-    assert_eq!(rt; page.checkpoint_ended(0, None).len(), 0);
-    page.report_after(
-        Role::Of(RegKind::Micro).when_reported(),
-        &Value::Int(5),
-        lines,
-    )?;
-    page.finish(End::Done, lines)?;
-    Ok(())
-}
-
-#[test]
-fn a_throw_of_a_microtask_is_reported_behind_the_checkpoint(rt: HostRuntime) -> Result<(), Fail> {
-    let mut page = first_page(rt.alloc())?;
-    let mut lines = sink(rt.alloc())?;
-    run_a_microtask(&rt, &mut page, &mut lines)?;
-    let sink = lines.into_sink();
-    assert_eq!(rt;
-        sink.bytes(),
-        b"0 turn 1 dom\n0 call 1\n0 reg 2 micro 1\n0 job 1 micro 2\n0 ret\n0 run 1\n\
-        0 call 2\n0 throw 5\n0 report 5\n0 end done\n"
-            .as_slice()
-    );
-    Ok(())
 }
 
 // The result of `all` of no item is promise 1, the item promise 2 and the element promise 3.
