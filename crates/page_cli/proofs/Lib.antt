@@ -12,3 +12,4 @@ mod OwnChoices
 mod MigrateLemmas
 mod StormLemmas
 mod HandingOn
+mod MissingLemmas

@@ -8,6 +8,7 @@ pub mod Answering
 pub mod HandedOn
 pub mod Complaints
 pub mod Refusals
+pub mod Missing
 pub mod Texts
 pub mod Counted
 pub mod Pictures

@@ -47,6 +47,13 @@ GivesFile most content (Err file.Failed) = ⊤
 GivesFile most content (Err file.TooLong) = most < length content
 GivesFile most content (Err file.OutOfMemory) = ⊤
 
+-- what is read of a missing file: nothing, since its fetch failed, or memory is wanting
+abbrev pub IsUnfetched : Result (Vec ℕ Global) FileFault → Type 0
+IsUnfetched (Ok bytes) = ⊥
+IsUnfetched (Err file.Failed) = ⊤
+IsUnfetched (Err file.TooLong) = ⊥
+IsUnfetched (Err file.OutOfMemory) = ⊤
+
 -- the answer to a file that was not read
 abbrev pub answer_to_file : FileFault → WhichFile → Answer
 answer_to_file file.Failed which = answer.ReadFault which

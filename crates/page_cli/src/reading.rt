@@ -7,7 +7,7 @@ ghost use Rattle.arrivals_text.specs.Seen.{settings_of};
 ghost use Rattle.page_cli.specs.ToldFiles.{OfFile};
 ghost use Rattle.page_cli.specs.Scripts.{HasProgram};
 ghost use Rattle.page_cli.specs.Answering.{IsRun, RefusesFiles};
-ghost use Rattle.page_cli.specs.Refusals.{Refuses, GivesFile, answer_to_file, refusal};
+ghost use Rattle.page_cli.specs.Refusals.{Refuses, GivesFile, IsUnfetched, answer_to_file, refusal};
 ghost use Rattle.page_cli.specs.declared.reading.FileFault.TheVariants.{Failed, TooLong};
 
 use crate::answer::{Answer, WhichFile};
@@ -55,7 +55,9 @@ pub(crate) fn fetched<F: Folder>(
 ) -> Result<Vec<u8>, FileFault>
     ensures content { OfFile (F.file folder.old name.now) (λ content. GivesFile most content result) }
     ensures size { IfOk result (λ bytes. length bytes.items ≤ most) }
+    ensures missing { F.IsMissing folder.old name.now → IsUnfetched result }
     ensures same { (other : List ℕ) → F.file folder.new other ≡ F.file folder.old other }
+    ensures stays { (other : List ℕ) → F.IsMissing folder.old other → F.IsMissing folder.new other }
     ensures later { (other : List ℕ) → F.faults folder.old other ≤ F.faults folder.new other }
     ensures cause { IfErr result (λ e. e ≡ Failed → Rose (F.faults folder.old name.now) (F.faults folder.new name.now)) }
 {

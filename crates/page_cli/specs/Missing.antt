@@ -1,0 +1,44 @@
+-- What is answered where the folder tells that it has no file of a name.
+use Rattle.std.specs.Prelude.{◌≡◌, ◌⊎◌, ⊤, ℕ, List}
+use Rattle.page_cli.specs.declared.answer.WhichFile.{WhichFile}
+use Rattle.page_cli.specs.declared.answer.WhichFile.TheVariants.{Script, Arrivals, Trace}
+use Rattle.page_cli.specs.declared.answer.Answer.{Answer}
+use Rattle.page_cli.specs.declared.answer.Answer.TheVariants.{TooLong, ReadFault, OutOfMemory}
+use Rattle.page_cli.specs.Forms.{Form, RunForm, CheckForm, MigrateForm, PictureForm, ExpandForm, name_of}
+
+-- ---- Ours: the files of a form, in the order in which they are fetched
+
+-- the form names this file
+abbrev pub HasFile : Form → WhichFile → Type 0
+HasFile (RunForm names) Script = ⊤
+HasFile (RunForm names) Arrivals = ⊤
+HasFile (CheckForm names) file = ⊤
+HasFile (MigrateForm names) file = ⊤
+HasFile (PictureForm what trace) Trace = ⊤
+HasFile (ExpandForm script) Script = ⊤
+HasFile form file = ⊥
+
+abbrev pub ComesBefore : (first file : WhichFile) → Type 0
+ComesBefore Script Arrivals = ⊤
+ComesBefore Script Trace = ⊤
+ComesBefore Arrivals Trace = ⊤
+ComesBefore first file = ⊥
+
+-- ---- Ours: where a missing file stops a command
+
+-- The command stopped at this file, which could not be read; or at one before it, which could not be read or is too long; or for want of
+-- memory. It did not end, and wrote and judged nothing.
+abbrev pub StopsBy : WhichFile → Answer → Type 0
+StopsBy file (ReadFault other) = (other ≡ file) ⊎ ComesBefore other file
+StopsBy file (TooLong other) = ComesBefore other file
+StopsBy file OutOfMemory = ⊤
+StopsBy file answer = ⊥
+
+-- what an answer says of each file that the form names and the folder tells to be missing
+abbrev pub AnswersMissing : Answer → Form → (IsMissing : List ℕ → Type 0) → Type 0
+AnswersMissing answer form IsMissing =
+    (file : WhichFile) → HasFile form file → IsMissing (name_of file form) → StopsBy file answer
+
+-- no file that the form names is told to be missing
+abbrev pub HasAll : Form → (IsMissing : List ℕ → Type 0) → Type 0
+HasAll form IsMissing = (file : WhichFile) → HasFile form file → IsMissing (name_of file form) → ⊥
