@@ -127,7 +127,7 @@ in_front item None = None
 in_front item (Some items) = Some (item ∷ items)
 
 -- an item behind a mark at a place, or behind none
-abbrev pub next_item : (open : Option ℕ) → Item → (mark : Option ℕ) → (Option ℕ → Found) → Found
+abbrev pub next_item : (begun : Option ℕ) → Item → (mark : Option ℕ) → (Option ℕ → Found) → Found
 next_item None item None rest = in_front (Plain item) (rest None)
 next_item None item (Some at) rest = rest (Some at)
 next_item (Some at) (FnItem f xs body) mark rest = in_front (AsyncFn at f xs (cut body).first (cut body).others) (rest None)

@@ -42,7 +42,7 @@ abbrev pub RefusesBehind : Item → Type 0
 RefusesBehind item = (at : ℕ) (marked : MarkedItem) → behind_mark at item ≡ Some marked → IsSmall marked → ⊥
 
 -- an item behind none is a mark, or is written as it is; an item behind a mark is written as an async function
-abbrev pub WritesNext : (open : Option ℕ) → Item → (mark : Option ℕ) → (old new : List Written) → ℕ → Type 0
+abbrev pub WritesNext : (begun : Option ℕ) → Item → (mark : Option ℕ) → (old new : List Written) → ℕ → Type 0
 WritesNext None item None old new count = (mark_at item ≡ None) × WritesOne (Plain item) old new count
 WritesNext None item (Some at) old new count = (mark_at item ≡ Some at) × (new ≡ old) × (count ≡ 0)
 WritesNext (Some at) item None old new count = (m : MarkedItem) × (behind_mark at item ≡ Some m) × WritesOne m old new count

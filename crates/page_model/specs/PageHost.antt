@@ -57,7 +57,7 @@ abbrev pub step_change_by : List Fold → ℕ → Priority → Page → Stepped 
 step_change_by folds s priority p =
     if is_there (priority_of p.prios s)
     then (if is_changing p.prios s then step_fault folds NotAllowedError p
-      else reached_step folds (begin_change priority (length p.prios) s p))
+    else reached_step folds (begin_change priority (length p.prios) s p))
     else step_fault folds TypeError p
 
 -- `setPriority` of a controller
