@@ -1,6 +1,5 @@
 -- Where a missing file stops a command.
 use Rattle.std.proofs.Common.{ℕ, List, Option, Some, None, Err, refl, sym, subst, inl, inr}
-use Rattle.std.specs.Prelude.{IfSome}
 use Rattle.page_cli.specs.declared.answer.WhichFile.{WhichFile}
 use Rattle.page_cli.specs.declared.answer.WhichFile.TheVariants.{Script, Arrivals, Trace}
 use Rattle.page_cli.specs.declared.answer.Answer.{Answer}
@@ -10,7 +9,7 @@ use Rattle.page_cli.specs.declared.reading.FileFault.{FileFault}
 use Rattle.page_cli.specs.declared.reading.FileFault.TheVariants as fault
 use Rattle.page_cli.specs.Forms.{Form, RunNames, CheckNames, RunForm, CheckForm, MigrateForm, PictureForm, ExpandForm, name_of}
 use Rattle.page_cli.specs.Refusals.{IsUnfetched, answer_to_file}
-use Rattle.page_cli.specs.Missing.{ComesBefore, StopsBy, AnswersMissing, HasAll}
+use Rattle.page_cli.specs.Missing.{ComesBefore, StopsBy, StopsAtMissing, AnswersMissing, HasAll}
 use Rattle.page_cli.specs.HandedOn.{answer_unless_whole, HandsOn}
 
 -- the answer to a missing file
@@ -27,26 +26,26 @@ stops-before fault.OutOfMemory first file h = tt
 
 module _ (IsMissing : List ℕ → Type 0) where
   -- the script was not read
-  pub script-missing : (e : FileFault) (form : Form) → (IsMissing (name_of Script form) → IsUnfetched (Err e)) → AnswersMissing (answer_to_file e Script) form IsMissing
+  pub script-missing : (e : FileFault) (form : Form) → (IsMissing (name_of Script form) → IsUnfetched (Err e)) → StopsAtMissing (answer_to_file e Script) form IsMissing
   script-missing e form h Script has gone = stops-at e Script (h gone)
   script-missing e form h Arrivals has gone = stops-before e Script Arrivals tt
   script-missing e form h Trace has gone = stops-before e Script Trace tt
 
   -- the script was read, and the arrivals were not
-  pub arrivals-missing : (e : FileFault) (form : Form) → (IsMissing (name_of Script form) → ⊥) → (IsMissing (name_of Arrivals form) → IsUnfetched (Err e)) → AnswersMissing (answer_to_file e Arrivals) form IsMissing
+  pub arrivals-missing : (e : FileFault) (form : Form) → (IsMissing (name_of Script form) → ⊥) → (IsMissing (name_of Arrivals form) → IsUnfetched (Err e)) → StopsAtMissing (answer_to_file e Arrivals) form IsMissing
   arrivals-missing e form script h Script has gone = absurd (script gone)
   arrivals-missing e form script h Arrivals has gone = stops-at e Arrivals (h gone)
   arrivals-missing e form script h Trace has gone = stops-before e Arrivals Trace tt
 
   -- these were read, and the trace was not
   pub trace-missing : (e : FileFault) (form : Form) → (IsMissing (name_of Script form) → ⊥) → (IsMissing (name_of Arrivals form) → ⊥) → (IsMissing (name_of Trace form) → IsUnfetched (Err e))
-      → AnswersMissing (answer_to_file e Trace) form IsMissing
+      → StopsAtMissing (answer_to_file e Trace) form IsMissing
   trace-missing e form script arrivals h Script has gone = absurd (script gone)
   trace-missing e form script arrivals h Arrivals has gone = absurd (arrivals gone)
   trace-missing e form script arrivals h Trace has gone = stops-at e Trace (h gone)
 
   -- the trace that is told of was not read
-  pub picture-missing : (e : FileFault) (what : Picture) (trace : List ℕ) → (IsMissing trace → IsUnfetched (Err e)) → AnswersMissing (answer_to_file e Trace) (PictureForm what trace) IsMissing
+  pub picture-missing : (e : FileFault) (what : Picture) (trace : List ℕ) → (IsMissing trace → IsUnfetched (Err e)) → StopsAtMissing (answer_to_file e Trace) (PictureForm what trace) IsMissing
   picture-missing e what trace h Script has gone = absurd has
   picture-missing e what trace h Arrivals has gone = absurd has
   picture-missing e what trace h Trace has gone = stops-at e Trace (h gone)
@@ -72,11 +71,11 @@ module _ (IsMissing : List ℕ → Type 0) where
   script-there script h Arrivals has gone = has
   script-there script h Trace has gone = has
 
-  pub all-there : (answer : Answer) (form : Form) → HasAll form IsMissing → AnswersMissing answer form IsMissing
+  pub all-there : (answer : Answer) (form : Form) → HasAll form IsMissing → StopsAtMissing answer form IsMissing
   all-there answer form all file has gone = absurd (all file has gone)
 
   -- the same files stand in both forms
-  pub missing-migrated : (answer : Answer) (names : CheckNames) → AnswersMissing answer (CheckForm names) IsMissing → AnswersMissing answer (MigrateForm names) IsMissing
+  pub missing-migrated : (answer : Answer) (names : CheckNames) → StopsAtMissing answer (CheckForm names) IsMissing → StopsAtMissing answer (MigrateForm names) IsMissing
   missing-migrated answer names h Script has gone = h Script tt gone
   missing-migrated answer names h Arrivals has gone = h Arrivals tt gone
   missing-migrated answer names h Trace has gone = h Trace tt gone
@@ -97,6 +96,6 @@ handed-stop had answer before now file (inl e) h = let P : Answer → Type 0 = �
 handed-stop had answer before now file (inr r) h = let P : Answer → Type 0 = λ a. StopsBy file a in subst P (sym r.1) (stays-stopped file had h)
 
 pub handed-missing : (IsMissing : List ℕ → Type 0) (had answer : Answer) (before now : ℕ) (words : Option Form) → HandsOn had answer before now
-    → IfSome words (λ form. AnswersMissing had form IsMissing) → IfSome words (λ form. AnswersMissing answer form IsMissing)
+    → AnswersMissing had words IsMissing → AnswersMissing answer words IsMissing
 handed-missing IsMissing had answer before now None on h = tt
 handed-missing IsMissing had answer before now (Some form) on h = λ file has gone. handed-stop had answer before now file on (h file has gone)

@@ -15,7 +15,7 @@ ghost use Rattle.page_cli.specs.Forms.{name_of};
 ghost use Rattle.page_cli.specs.declared.names.Asked.{Asked};
 ghost use Rattle.page_cli.specs.Names.{form_seen};
 ghost use Rattle.page_cli.specs.Answering.{IsRefusal};
-ghost use Rattle.page_cli.specs.Missing.{AnswersMissing};
+ghost use Rattle.page_cli.specs.Missing.{StopsAtMissing};
 ghost use Rattle.page_cli.specs.Checked.{AllFit, AnswersThree, AnswersCheck, HasVerdict, RefusesText, RefusesTrace, TellsVerdict};
 
 use crate::answer::{Answer, WhichFile};
@@ -47,7 +47,7 @@ pub(crate) fn check_named<F: Folder, O: Sink>(
         (O.bytes result.out) }
     ensures refused { IsRefusal result.answer → result.out ≡ out }
     ensures later { O.faults out ≤ O.faults result.out }
-    ensures missing { AnswersMissing result.answer (form_seen (Asked.Check names.entry)) (F.IsMissing folder.old) }
+    ensures missing { StopsAtMissing result.answer (form_seen (Asked.Check names.entry)) (F.IsMissing folder.old) }
     ensures read { (file : WhichFile) → result.answer ≡ Answer.ReadFault file →
         Rose (F.faults folder.old (name_of file (form_seen (Asked.Check names.entry))))
         (F.faults folder.new (name_of file (form_seen (Asked.Check names.entry)))) }

@@ -7,7 +7,7 @@ ghost use Rattle.page_cli.specs.declared.answer.WhichFile.{WhichFile};
 ghost use Rattle.page_cli.specs.declared.answer.WhichFile.TheVariants.{Script};
 ghost use Rattle.page_cli.specs.Answering.{IsRefusal};
 ghost use Rattle.page_cli.specs.Forms.{ExpandForm};
-ghost use Rattle.page_cli.specs.Missing.{AnswersMissing};
+ghost use Rattle.page_cli.specs.Missing.{StopsAtMissing};
 ghost use Rattle.page_cli.specs.Expanding.{AnswersExpand};
 ghost use Rattle.page_cli.specs.ToldFiles.{OfFile};
 
@@ -30,7 +30,7 @@ pub(crate) fn expand_named<F: Folder, O: Sink>(
         AnswersExpand result.answer bytes (O.bytes out) (O.bytes result.out)) }
     ensures refused { IsRefusal result.answer → result.out ≡ out }
     ensures later { O.faults out ≤ O.faults result.out }
-    ensures missing { AnswersMissing result.answer (ExpandForm script.now) (F.IsMissing folder.old) }
+    ensures missing { StopsAtMissing result.answer (ExpandForm script.now) (F.IsMissing folder.old) }
     ensures read { (file : WhichFile) → result.answer ≡ Answer.ReadFault file →
         (file ≡ Script) × Rose (F.faults folder.old script.now) (F.faults folder.new script.now) }
     ensures write { result.answer ≡ Answer.WriteFault → Rose (O.faults out) (O.faults result.out) }

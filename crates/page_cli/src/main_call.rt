@@ -10,7 +10,7 @@ ghost use Rattle.page_cli.specs.Forms.{form_of, name_of, IsRunForm, IsTextForm};
 ghost use Rattle.page_cli.specs.Names.{form_seen, names_seen};
 ghost use Rattle.page_cli.specs.Answering.{AnswersTold, IsRefusal, RunsNothing};
 ghost use Rattle.page_cli.specs.FormAnswers.{AnswersForm, WroteAll};
-ghost use Rattle.page_cli.specs.Missing.{AnswersMissing};
+ghost use Rattle.page_cli.specs.Missing.{AnswersMissing, StopsAtMissing};
 ghost use Rattle.page_cli.specs.Completeness.{NothingRose, Completes};
 ghost use Rattle.page_cli.specs.HandedOn.{IsWhole};
 ghost use Rattle.page_cli.specs.Complaints.{complaint, PutsOrFails};
@@ -55,7 +55,7 @@ fn run_named<F: Folder, O: Sink>(
     ensures hosts { IsRefusal result.answer → closures_of result.hosts ≡ closures_of hosts }
     ensures refused { IsRefusal result.answer → result.out ≡ out }
     ensures later { O.faults out ≤ O.faults result.out }
-    ensures missing { AnswersMissing result.answer (form_seen (Asked.Run names.entry)) (F.IsMissing folder.old) }
+    ensures missing { StopsAtMissing result.answer (form_seen (Asked.Run names.entry)) (F.IsMissing folder.old) }
     ensures read { (file : WhichFile) → result.answer ≡ Answer.ReadFault file →
         Rose (F.faults folder.old (name_of file (form_seen (Asked.Run names.entry))))
         (F.faults folder.new (name_of file (form_seen (Asked.Run names.entry)))) }
@@ -88,7 +88,7 @@ fn answer_to_words<F: Folder, O: Sink>(
     ensures usage { (result.answer ≡ Answer.Usage) ↔ (names_seen asked.entry ≡ None) }
     ensures refused { IsRefusal result.answer → result.out ≡ out }
     ensures later { O.faults out ≤ O.faults result.out }
-    ensures missing { IfSome (names_seen asked.entry) (λ form. AnswersMissing result.answer form (F.IsMissing folder.old)) }
+    ensures missing { AnswersMissing result.answer (names_seen asked.entry) (F.IsMissing folder.old) }
     ensures read { (file : WhichFile) → result.answer ≡ Answer.ReadFault file → IfSome (names_seen asked.entry) (λ form.
         Rose (F.faults folder.old (name_of file form)) (F.faults folder.new (name_of file form))) }
     ensures write { result.answer ≡ Answer.WriteFault → Rose (O.faults out) (O.faults result.out) }
@@ -129,7 +129,7 @@ fn carry_out<F: Folder, O: Sink>(
     ensures refused { IsRefusal result.answer → O.bytes result.out ≡ O.bytes out }
     ensures no_put { IsRefusal result.answer → O.puts result.out ≡ O.puts out }
     ensures whole { IsWhole result.answer → O.IsHandedOn result.out }
-    ensures missing { IfSome (names_seen asked.entry) (λ form. AnswersMissing result.answer form (F.IsMissing folder.old)) }
+    ensures missing { AnswersMissing result.answer (names_seen asked.entry) (F.IsMissing folder.old) }
     ensures read { (file : WhichFile) → result.answer ≡ Answer.ReadFault file → IfSome (names_seen asked.entry) (λ form.
         Rose (F.faults folder.old (name_of file form)) (F.faults folder.new (name_of file form))) }
     ensures write { result.answer ≡ Answer.WriteFault → Rose (O.faults out) (O.faults result.out) }
@@ -188,8 +188,7 @@ pub fn page_main<F: Folder, O: Sink, E: Sink>(
     ensures usage { (result.answer ≡ Answer.Usage) ↔ (form_of (map string_bytes words.now.items) ≡ None) }
     ensures refused { IsRefusal result.answer → O.bytes result.out ≡ O.bytes out }
     ensures no_put { IsRefusal result.answer → O.puts result.out ≡ O.puts out }
-    ensures missing { IfSome (form_of (map string_bytes words.now.items)) (λ form.
-        AnswersMissing result.answer form (F.IsMissing folder.old)) }
+    ensures missing { AnswersMissing result.answer (form_of (map string_bytes words.now.items)) (F.IsMissing folder.old) }
     ensures read { (file : WhichFile) → result.answer ≡ Answer.ReadFault file →
         IfSome (form_of (map string_bytes words.now.items)) (λ form.
         Rose (F.faults folder.old (name_of file form)) (F.faults folder.new (name_of file form))) }

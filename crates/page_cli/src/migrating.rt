@@ -21,7 +21,7 @@ ghost use Rattle.page_cli.specs.Forms.{name_of};
 ghost use Rattle.page_cli.specs.Names.{form_seen};
 ghost use Rattle.page_cli.specs.Running.{CanStop};
 ghost use Rattle.page_cli.specs.Answering.{IsRefusal};
-ghost use Rattle.page_cli.specs.Missing.{AnswersMissing};
+ghost use Rattle.page_cli.specs.Missing.{StopsAtMissing};
 ghost use Rattle.page_cli.specs.Checked.{AllFit};
 ghost use Rattle.page_cli.specs.Migrated.{AnswersMigration, AnswersMigrate, AnswersRetold, HasLegalChoices, RetellsText, retold_to};
 
@@ -56,7 +56,7 @@ pub(crate) fn migrate_named<F: Folder, O: Sink>(
         (O.bytes result.out) }
     ensures refused { IsRefusal result.answer → result.out ≡ out }
     ensures later { O.faults out ≤ O.faults result.out }
-    ensures missing { AnswersMissing result.answer (form_seen (Asked.Migrate names.entry)) (F.IsMissing folder.old) }
+    ensures missing { StopsAtMissing result.answer (form_seen (Asked.Migrate names.entry)) (F.IsMissing folder.old) }
     ensures read { (file : WhichFile) → result.answer ≡ Answer.ReadFault file →
         Rose (F.faults folder.old (name_of file (form_seen (Asked.Migrate names.entry))))
         (F.faults folder.new (name_of file (form_seen (Asked.Migrate names.entry)))) }

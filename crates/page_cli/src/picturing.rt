@@ -8,7 +8,7 @@ ghost use Rattle.page_cli.specs.declared.answer.WhichFile.{WhichFile};
 ghost use Rattle.page_cli.specs.declared.answer.WhichFile.TheVariants.{Trace};
 ghost use Rattle.page_cli.specs.Answering.{IsRefusal};
 ghost use Rattle.page_cli.specs.Forms.{PictureForm};
-ghost use Rattle.page_cli.specs.Missing.{AnswersMissing};
+ghost use Rattle.page_cli.specs.Missing.{StopsAtMissing};
 ghost use Rattle.page_cli.specs.ToldFiles.{OfFile};
 ghost use Rattle.page_cli.specs.Pictures.{AnswersTrace, AnswersEvents, IsPicture, most_of};
 
@@ -36,7 +36,7 @@ pub(crate) fn picture_named<F: Folder, O: Sink>(
         AnswersTrace result.answer what bytes (O.bytes out) (O.bytes result.out)) }
     ensures refused { IsRefusal result.answer → result.out ≡ out }
     ensures later { O.faults out ≤ O.faults result.out }
-    ensures missing { AnswersMissing result.answer (PictureForm what trace.now) (F.IsMissing folder.old) }
+    ensures missing { StopsAtMissing result.answer (PictureForm what trace.now) (F.IsMissing folder.old) }
     ensures read { (file : WhichFile) → result.answer ≡ Answer.ReadFault file →
         (file ≡ Trace) × Rose (F.faults folder.old trace.now) (F.faults folder.new trace.now) }
     ensures write { result.answer ≡ Answer.WriteFault → Rose (O.faults out) (O.faults result.out) }

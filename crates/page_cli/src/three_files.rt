@@ -8,7 +8,7 @@ ghost use Rattle.page_cli.specs.Names.{check_names_seen};
 ghost use Rattle.page_cli.specs.ToldFiles.{CanHold};
 ghost use Rattle.page_cli.specs.Refusals.{answer_to_file};
 ghost use Rattle.page_cli.specs.Checked.{AllFit, IsUnread};
-ghost use Rattle.page_cli.specs.Missing.{AnswersMissing, HasAll};
+ghost use Rattle.page_cli.specs.Missing.{FetchesMissing};
 
 use crate::answer::WhichFile;
 use crate::names::CheckNames;
@@ -43,9 +43,7 @@ pub(crate) fn fetch_three<F: Folder>(
     ensures fit { IfOk result (λ files. AllFit files.script.items files.arrivals.items files.trace.items) }
     ensures unread { IfErr result (λ e. IsUnread (answer_to_file e.fault e.file) (F.file folder.old names.entry.script.now)
         (F.file folder.old names.entry.arrivals.now) (F.file folder.old names.entry.trace.now)) }
-    ensures all { IfOk result (λ _. HasAll (CheckForm (check_names_seen names.entry)) (F.IsMissing folder.old)) }
-    ensures missing { IfErr result (λ e. AnswersMissing (answer_to_file e.fault e.file)
-        (CheckForm (check_names_seen names.entry)) (F.IsMissing folder.old)) }
+    ensures missing { FetchesMissing result (CheckForm (check_names_seen names.entry)) (F.IsMissing folder.old) }
     ensures cause { IfErr result (λ e. e.fault ≡ Failed →
         Rose (F.faults folder.old (name_of e.file (CheckForm (check_names_seen names.entry))))
         (F.faults folder.new (name_of e.file (CheckForm (check_names_seen names.entry))))) }

@@ -66,7 +66,8 @@ impl Folder for MemFolder {
         ensures content { Fetches (first_file self.old.files name.now) limit into.old.items result into.new.items }
         ensures missing { first_file self.old.files name.now ≡ None → IsErr result }
         ensures same { (other : List ℕ) → first_file self.new.files other ≡ first_file self.old.files other }
-        ensures stays { (other : List ℕ) → first_file self.old.files other ≡ None → first_file self.new.files other ≡ None }
+        ensures stays { (other : List ℕ) →
+            first_file self.old.files other ≡ None → first_file self.new.files other ≡ None }
         ensures later { (other : List ℕ) → self.old.faults ≤ self.new.faults }
         ensures cause { IsErrOf result FetchFault.Failed → Rose self.old.faults self.new.faults }
 

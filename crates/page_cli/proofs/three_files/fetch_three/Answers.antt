@@ -29,8 +29,8 @@ returns-in-Err-fetched-2-clause-missing g c =
     (λ gone. c.in-Ok-fetched.ensures.missing (c.fetched.ensures.stays _ gone))
     (λ gone. c.in-Err-fetched-2.ensures.missing (c.fetched-2.ensures.stays _ (c.fetched.ensures.stays _ gone)))
 
-pub returns-in-Ok-fetched-2-clause-all : goal.returns-in-Ok-fetched-2-clause-all
-returns-in-Ok-fetched-2-clause-all g c =
+pub returns-in-Ok-fetched-2-clause-missing : goal.returns-in-Ok-fetched-2-clause-missing
+returns-in-Ok-fetched-2-clause-missing g c =
     all-of-three (g.F.Folder.IsMissing c.args.folder.now) (check_names_seen c.args.names) c.in-Ok.ensures.missing
     (λ gone. c.in-Ok-fetched.ensures.missing (c.fetched.ensures.stays _ gone))
     (λ gone. c.in-Ok-fetched-2.ensures.missing (c.fetched-2.ensures.stays _ (c.fetched.ensures.stays _ gone)))
