@@ -5,13 +5,14 @@ use Rattle.std.proofs.lemmas.Map.Keys.{sorted_head, sorted_tail}
 use Rattle.std.specs.BTreeMap.{BTreeMap, get, is_at, insert_entry}
 use Rattle.std.specs.List.{AllByRecursion}
 use Rattle.std.specs.Map.{keys_of, lookup, remove_entry}
-use Rattle.std.specs.Option.{IsSome, option_map}
+use Rattle.std.specs.Option.{IsSome, IfSome, IfNone, option_map}
 use Rattle.std.specs.Ordering.{is_eq}
 use Rattle.std.specs.declared.alloc.Global.{Global}
 use Rattle.std.specs.declared.cmp.Ordering.TheVariants.{Greater, Less}
 use Rattle.std.specs.declared.vec.Vec.{Vec}
 use Rattle.page_parts.specs.Words.{and_last, is_empty, has_number}
 use Rattle.keyed_list.specs.declared.keyed.Keyed.{Keyed}
+use Rattle.keyed_list.specs.declared.keyed.Taken.{Taken}
 use Rattle.keyed_list.specs.Listed.{keys_in, places_in, places_of, others, AreBelow, AreOrdered, ArePlaces, AddsPlace, DropsPlace, remove_each}
 
 -- the order of numbers finds equal ones
@@ -69,6 +70,23 @@ same_front p (x ∷ xs) (y ∷ ys) h =
     let head : x ≡ y = cc in
     let tail : and_last xs p ≡ and_last ys p = cc in
     ap (λ z. z ∷ xs) head ∙ ap (λ zs. y ∷ zs) (same_front p xs ys tail)
+
+-- and what comes last
+same_last : (xs ys : List ℕ) (a b : ℕ) → and_last xs a ≡ and_last ys b → a ≡ b
+same_last [] [] a b h = cc
+same_last [] (y ∷ []) a b h = cc
+same_last [] (y ∷ z ∷ ys) a b h = cc
+same_last (x ∷ []) [] a b h = cc
+same_last (x ∷ z ∷ xs) [] a b h = cc
+same_last (x ∷ xs) (y ∷ ys) a b h = let tail : and_last xs a ≡ and_last ys b = cc in same_last xs ys a b tail
+
+has_some : (ks : List ℕ) (p : ℕ) → not (is_empty (and_last ks p)) ≡ true
+has_some [] p = refl
+has_some (k ∷ ks) p = refl
+
+never_none : (ks : List ℕ) (p : ℕ) → and_last ks p ≡ [] → ⊥
+never_none [] p h = cc
+never_none (k ∷ ks) p h = cc
 
 -- ---- the index by keys
 
@@ -339,3 +357,20 @@ module _ {T : Type 0} where
       by : (b : Bool) → keys_of (cond b (e ∷ own) own) ≡ [] → (places_in es key ≡ [] → others key es ≡ es) → cond b (others key es) (e ∷ others key es) ≡ e ∷ es
       by true none again = cc
       by false none again = ap (λ rest. e ∷ rest) (again none)
+
+  pub has_number_last : (key p : ℕ) (ks : List ℕ) (es : List (ℕ × Keyed T)) → places_in es key ≡ and_last ks p → has_number (keys_in es) key ≡ true
+  has_number_last key p ks es is = sym (is_listed key es) ∙ ap (λ ks. not (is_empty ks)) is ∙ has_some ks p
+
+  pub has_number_none : (key : ℕ) (es : List (ℕ × Keyed T)) → places_in es key ≡ [] → has_number (keys_in es) key ≡ false
+  has_number_none key es none = sym (is_listed key es) ∙ ap (λ ks. not (is_empty ks)) none
+
+  -- an item that was just pushed is the last one with its key, and leaves what was there before
+  pub taken_back : (es new : List (ℕ × Keyed T)) (s : ℕ) (l : Keyed T) (o : Option (Taken T)) → AreBelow s es
+      → IfSome o (λ t. places_in (and_last es (s, l)) l.key ≡ and_last (places_in new l.key) t.place)
+      → IfSome o (λ t. new ≡ less t.place (and_last es (s, l)))
+      → IfNone o (places_in (and_last es (s, l)) l.key ≡ []) → new ≡ es
+  taken_back es new s l None below last gone none =
+      absurd (never_none (places_in es l.key) s (sym (places_own es s l) ∙ none))
+  taken_back es new s l (Some t) below last gone none =
+      let at : s ≡ t.place = same_last (places_in es l.key) (places_in new l.key) s t.place (sym (places_own es s l) ∙ last) in
+      gone ∙ ap (λ p. less p (and_last es (s, l))) (sym at) ∙ remove_last es s l below

@@ -5,7 +5,7 @@ use Rattle.std.specs.Option.{IsSome}
 use Rattle.page_parts.specs.Words.{and_last}
 use Rattle.keyed_list.specs.declared.keyed.Keyed.{Keyed}
 use Rattle.keyed_list.specs.Listed.{ArePlaces, AreBelow, places_in, places_of}
-use Rattle.keyed_list.proofs.ListedLemmas.{HasKey, KeepsPlaces, last_taken, is_there, key_is, dropped_is, places_dropped, below_less, less}
+use Rattle.keyed_list.proofs.ListedLemmas.{KeepsPlaces, last_taken, is_there, key_is, dropped_is, places_dropped, below_less, less}
 use Rattle.keyed_list.proofs.list.KeyedList.take_last.Goals as goal
 
 pub unwrap-keyed-requires : goal.unwrap-keyed-requires
