@@ -1,5 +1,5 @@
 pub mod ByValueLemmas
-pub mod IndexLemmas
+pub mod AlgorithmLemmas
 pub mod NumberLemmas
 pub mod SignalLemmas
 pub mod AmongLemmas

@@ -1,3 +1,2 @@
 pub mod ByValue
-pub mod Indexed
 pub mod Seen

@@ -1,4 +1,3 @@
 pub mod Dispatching
 pub mod Indexed
-pub mod Removed
 pub mod Seen

@@ -3,7 +3,8 @@ use Rattle.std.specs.Prelude.{ℕ, List, map, Option, None, Some}
 use Rattle.page_parts.specs.Listeners as parts
 use Rattle.page_events.specs.declared.target.Target.{Target}
 use Rattle.page_events.specs.declared.target.Target.TheVariants.{Window, Signal}
-use Rattle.page_events.specs.declared.listener.Listener.{Listener}
+use Rattle.keyed_list.specs.declared.keyed.Keyed.{Keyed}
+use Rattle.page_events.specs.declared.listener.Kind.{Kind}
 
 abbrev pub seen_target : Target → parts.Target
 seen_target Window = parts.Window
@@ -14,9 +15,10 @@ abbrev pub target_at : Option ℕ → parts.Target
 target_at None = parts.Window
 target_at (Some n) = parts.AtSignal n
 
-abbrev pub listener_seen : Listener → parts.Listener
-listener_seen l = record { registration = l.registration; target = target_at l.kind.signal; name = l.kind.name.items }
+-- a listener is the kind of its events, under its registration
+abbrev pub listener_seen : Keyed Kind → parts.Listener
+listener_seen l = record { registration = l.key; target = target_at l.item.signal; name = l.item.name.items }
 
--- listeners with their serial numbers, without them
-abbrev pub listeners_of : List (ℕ × Listener) → List parts.Listener
-listeners_of es = map (λ (e : ℕ × Listener). listener_seen e.1) es
+-- listeners with their places, without them
+abbrev pub listeners_of : List (ℕ × Keyed Kind) → List parts.Listener
+listeners_of es = map (λ (e : ℕ × Keyed Kind). listener_seen e.1) es

@@ -12,13 +12,6 @@ pub(crate) struct Kind {
     pub name: Vec<u8>,
 }
 
-// A listener that was added.
-#[derive(Drop)]
-pub(crate) struct Listener {
-    pub registration: u32,
-    pub kind: Kind,
-}
-
 // The kind of the events of this name at a target.
 pub(crate) fn kind_of(alloc: Global, target: Target, name: &Str) -> Result<Kind, MemoryFault>
     ensures target { IfOk result (λ kind. target_at kind.signal ≡ seen_target target) }

@@ -4,11 +4,10 @@ ghost use Rattle.page_events.specs.Seen.{seen_target};
 ghost use Rattle.page_events.specs.Dispatching.{next_listening, behind_next};
 
 use crate::dispatch::Dispatch;
-use crate::index::{
-    Kinds, Listed, Serials, has_serials, note_serial, put, registrations, take_out, take_out_all,
-};
-use crate::listener::{Listener, kind_of};
+use crate::index::{Kinds, Listed, put, registrations, take_out};
+use crate::listener::kind_of;
 use crate::{MemoryFault, Target};
+use keyed_list::KeyedList;
 use page_values::Str;
 use std::alloc::Global;
 use std::collections::{BTreeMap, VecDeque};
@@ -16,29 +15,26 @@ use std::marker::Model;
 
 /// All listeners of a page, seen as their list in the order in which they were added (DOM, "Interface EventTarget").
 ///
-/// A listener is a registration. Each has a serial number here, by which it is found from its registration and from its target
-/// and name. So no call looks at a listener that it does not name, and what it costs besides those is a look-up.
+/// A listener is a registration. It is found from its registration and from its target and name. So no call looks at a
+/// listener that it does not name, and what it costs besides those is a look-up.
 #[derive(Drop)]
 pub struct Listeners {
     alloc: Global,
     listed: Listed,
-    serials: Serials,
     kinds: Kinds,
-    // The serial number of the next listener.
-    next: u64,
 }
 
 impl Model for Listeners {
     ghost use Rattle.std.specs.Prelude.{List};
     ghost use Rattle.page_parts.specs.Listeners as parts;
     ghost use Rattle.page_events.specs.Seen.{listeners_of};
-    ghost use Rattle.page_events.specs.Indexed.{IsIndexed};
+    ghost use Rattle.page_events.specs.Indexed.{AreKinds};
 
     ghost Value = { List parts.Listener };
 
-    ghost view = { λ listeners. listeners_of listeners.listed.entries };
+    ghost view = { λ listeners. listeners_of listeners.listed };
 
-    ghost invariant = { λ listeners. IsIndexed listeners.listed.entries listeners.serials listeners.kinds listeners.next };
+    ghost invariant = { λ listeners. AreKinds listeners.listed listeners.kinds };
 }
 
 impl Listeners {
@@ -48,10 +44,8 @@ impl Listeners {
     {
         Listeners {
             alloc,
-            listed: BTreeMap::new(alloc),
-            serials: BTreeMap::new(alloc),
+            listed: KeyedList::new(alloc),
             kinds: BTreeMap::new(alloc),
-            next: 0,
         }
     }
 
@@ -62,29 +56,16 @@ impl Listeners {
         ensures added { OnOk result (self.new ≡ with_listener (seen_target target) name.now registration self.old) }
         ensures err { OnErr result (self.new ≡ self.old) }
     {
-        let serial = self.next;
-        let Some(next) = serial.checked_add(1) else {
-            return Err(MemoryFault::OutOfMemory);
-        };
+        let own = kind_of(self.alloc, target, name)?;
         let kind = kind_of(self.alloc, target, name)?;
-        let listener = Listener {
-            registration,
-            kind: kind_of(self.alloc, target, name)?,
-        };
         put(
             self.alloc,
             &mut self.listed,
             &mut self.kinds,
-            serial,
-            listener,
+            registration,
+            own,
             kind,
-        )?;
-        if let Err(fault) = note_serial(self.alloc, &mut self.serials, registration, serial) {
-            take_out(&mut self.listed, &mut self.kinds, serial);
-            return Err(fault);
-        }
-        self.next = next;
-        Ok(())
+        )
     }
 
     /// Removes a listener. A dispatch that has begun does not call it any more. It costs look-ups.
@@ -94,29 +75,21 @@ impl Listeners {
         ensures was { result ≡ is_live registration self.old }
         ensures gone { self.new ≡ without_listener registration self.old }
     {
-        let Some(serials) = self.serials.remove(&registration) else {
-            return false;
-        };
-        take_out_all(&mut self.listed, &mut self.kinds, &serials);
-        !serials.is_empty()
+        take_out(&mut self.listed, &mut self.kinds, registration)
     }
 
     /// Whether a listener is live: it was added, and not removed. It costs look-ups. Takes no memory.
     pub fn is_listening(&self, registration: u32) -> bool
         ensures { result ≡ is_live registration self.now }
     {
-        has_serials(&self.serials, registration)
+        self.listed.contains(u64::from(registration))
     }
 
     /// Whether a number is the registration of a live listener. Each registration is below 2^32. Takes no memory.
     pub fn is_listening_number(&self, number: u64) -> bool
         ensures { result ≡ is_live number self.now }
     {
-        let serials = &self.serials;
-        match u32::try_from(number) {
-            Ok(registration) => has_serials(serials, registration),
-            Err(_) => false,
-        }
+        self.listed.contains(number)
     }
 
     /// Begins a dispatch to the listeners of this target and name as they are now, in the order in which they were added.
@@ -142,7 +115,7 @@ impl Listeners {
         ensures left { dispatch.new ≡ behind_next self.now dispatch.old }
     {
         while let Some(registration) = dispatch.left.pop_front() {
-            if has_serials(&self.serials, registration) {
+            if self.listed.contains(u64::from(registration)) {
                 return Some(registration);
             }
         }

@@ -1,4 +1,4 @@
-use Rattle.std.proofs.Common.{◌≡◌, [], List, ℕ, Option, None, Some, cond, nat_cmp, refl, sym, ap, ◌∙◌, rules}
+use Rattle.std.proofs.Common.{◌≡◌, [], List, ℕ, Option, None, Some, cond, nat_cmp, sym, ap, ◌∙◌, rules}
 use Rattle.std.specs.BTreeMap.{BTreeMap, get, is_at, insert_entry}
 use Rattle.page_events.specs.declared.listener.Kind.{Kind}
 use Rattle.page_events.specs.Indexed.{kind_cmp, registrations_of, SameRegistrations}
@@ -23,4 +23,4 @@ returns-clause-noted c = λ q.
     λ p. c.in_ok-insert-3.ensures.updates.0 p ∙ ap (λ m. cond (is_at (kind_cmp c.args.kind) p) (Some c.insert-2.new.self) (get kind_cmp m p)) kept in
     let no : registrations_of old c.args.kind ≡ [] = ap (λ (o : Option (BTreeMap ℕ ℕ)). elim o as (λ _. List (ℕ × ℕ)) [ None ↦ [] | Some b ↦ b.entries ]) none in
     now_known old c.insert-3.new.self c.args.kind c.insert-2.new.self updates q
-    ∙ ap (λ es. cond (is_at (kind_cmp c.args.kind) q) es (registrations_of old q)) (c.in_ok-insert-2.ensures.entries ∙ ap (λ es. insert_entry nat_cmp es c.args.serial c.args.registration) c.new-own.ensures.empty ∙ ap (λ es. insert_entry nat_cmp es c.args.serial c.args.registration) (sym no))
+    ∙ ap (λ es. cond (is_at (kind_cmp c.args.kind) q) es (registrations_of old q)) (c.in_ok-insert-2.ensures.entries ∙ ap (λ es. insert_entry nat_cmp es c.args.place c.args.registration) c.new-own.ensures.empty ∙ ap (λ es. insert_entry nat_cmp es c.args.place c.args.registration) (sym no))

@@ -1,11 +1,11 @@
-use Rattle.std.proofs.Common.{◌≡◌, List, [], ℕ, Option, None, Some, nat_cmp, sym, ap, ◌∙◌, rules}
-use Rattle.std.specs.BTreeMap.{BTreeMap, get, values}
+use Rattle.std.proofs.Common.{◌≡◌, List, [], ℕ, Option, None, Some, sym, ap, ◌∙◌, rules}
+use Rattle.std.specs.BTreeMap.{BTreeMap, get}
 use Rattle.std.specs.Map.{values_of}
 use Rattle.std.specs.declared.alloc.Global.{Global}
 use Rattle.std.specs.declared.collections.VecDeque.{VecDeque}
 use Rattle.page_parts.specs.Listeners.{snapshot}
 use Rattle.page_events.specs.Seen.{listeners_of, seen_target}
-use Rattle.page_events.specs.Indexed.{kind_cmp, registrations_of, registrations_in}
+use Rattle.page_events.specs.Indexed.{kind_cmp, registrations_of}
 use Rattle.page_events.proofs.IndexLemmas.{registrations_are}
 use Rattle.page_events.proofs.listeners.Listeners.begin.Goals as goal
 use Rattle.page_events.proofs.listeners.Listeners.begin.Goals.{in-Some+in_ok-left-in-Some, in-None}
@@ -14,9 +14,9 @@ pub returns : goal.returns
 returns c =
     let kind = c.in_ok-kind.kind in
     let there : values_of (registrations_of c.self.inside.kinds kind) ≡ snapshot (seen_target c.args.target) c.args.name.now c.args.self.now =
-    ap values_of (c.self.invariant.by_kind kind) ∙ registrations_are c.self.inside.listed.entries kind.signal kind.name.items
-    ∙ ap (λ t. snapshot t kind.name.items (listeners_of c.self.inside.listed.entries)) c.in_ok-kind.ensures.target
-    ∙ ap (λ n. snapshot (seen_target c.args.target) n (listeners_of c.self.inside.listed.entries)) c.in_ok-kind.ensures.name
+    ap values_of (c.self.invariant kind) ∙ registrations_are c.self.inside.listed kind.signal kind.name.items
+    ∙ ap (λ t. snapshot t kind.name.items (listeners_of c.self.inside.listed)) c.in_ok-kind.ensures.target
+    ∙ ap (λ n. snapshot (seen_target c.args.target) n (listeners_of c.self.inside.listed)) c.in_ok-kind.ensures.name
     ∙ ap (snapshot (seen_target c.args.target) c.args.name.now) c.self.view_is in
     elim c.match-get.branch [
       | in-Some+in_ok-left-in-Some w ↦

@@ -5,7 +5,7 @@ use Rattle.page_events.proofs.listeners.Listeners.next.Given as goal
 
 abbrev pub invariant-loop-registration : goal.invariant-loop-registration
 invariant-loop-registration l =
-    let now = listeners_of l.self-inside.listed.entries in
+    let now = listeners_of l.self-inside.listed in
     (next_listening now l.dispatch-inside.left.items ≡ next_listening now l.initial.dispatch-inside.left.items)
     × (behind_next now l.dispatch-inside.left.items ≡ behind_next now l.initial.dispatch-inside.left.items)
 
