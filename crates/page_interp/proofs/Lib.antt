@@ -23,3 +23,4 @@ pub mod NumberTests
 pub mod FromOutside
 pub mod AtOnce
 pub mod BlockSteps
+pub mod StackClauses

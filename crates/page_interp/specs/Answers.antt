@@ -33,7 +33,8 @@ int_product Remainder x y = if divides x y then Some (int_rem x y) else None
 
 -- a value that was made is left, or RangeError where it is too heavy
 abbrev pub MadeGives : {S : Type 0} → Result Value ValueFault → Left S → Type 0
-MadeGives made l = (wanted : Option Model.Value) → IsMade made wanted → Answers l (need wanted RangeError Ok)
+MadeGives made l =
+    (wanted : Option Model.Value) → IsMade made wanted → Answers l (need wanted RangeError Ok)
 
 -- both values are integers, and these are they
 abbrev pub AreInts : (a b : Model.Value) → ℤ × ℤ → Type 0

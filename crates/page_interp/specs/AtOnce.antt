@@ -26,9 +26,10 @@ Assigns (S.Var x e) name expr = (x ≡ name) × (e ≡ expr)
 Assigns (S.Assign x e) name expr = (x ≡ name) × (e ≡ expr)
 Assigns s name expr = ⊥
 
--- the first of some statements only gives the variable of this name this value, and these come after it
-pub record Gives (p : Code.Program) (store : Store) (current : Current) (ss : List Stmt) (name : Named) (v : Value) (rest : List Stmt)
-    : Type 0 where
+-- the first of some statements only gives the variable of this name this value, and these come
+-- after it
+pub record Gives (p : Code.Program) (store : Store) (current : Current)
+    (ss : List Stmt) (name : Named) (v : Value) (rest : List Stmt) : Type 0 where
   pub stmt : Bor Stmt
   pub expr : Bor Expr
   pub first : ss ≡ stmt.now ∷ rest
@@ -36,24 +37,33 @@ pub record Gives (p : Code.Program) (store : Store) (current : Current) (ss : Li
   pub value : direct_there p store current expr.now ≡ Some (seen v)
 
 -- the first of some expressions has this value, and these come after it
-pub record HasFirst (p : Code.Program) (store : Store) (current : Current) (es : List Expr) (v : Value) (rest : List Expr) : Type 0 where
+pub record HasFirst (p : Code.Program) (store : Store) (current : Current)
+    (es : List Expr) (v : Value) (rest : List Expr) : Type 0 where
   pub expr : Bor Expr
   pub first : es ≡ expr.now ∷ rest
   pub value : direct_there p store current expr.now ≡ Some (seen v)
 
--- a step that does not ask the host leads from one place to another, where what holds everywhere holds at the first
+-- a step that does not ask the host leads from one place to another, where what holds everywhere
+-- holds at the first
 abbrev pub Leads : {T : Type 0} → HostRules T → Program → (a b : Place) → Type 0
 Leads rules p a b = Holds p a → Goes rules p a b
 
 -- where a loop stands at the end of a turn
 abbrev pub turned : Store → Current → Bor Expr → Bor (List Stmt) → List Frame → Value → Place
-turned store current test block fs v = place store current (frame.Turn test block ∷ fs) (focus.Value v)
+turned store current test block fs v =
+    place store current (frame.Turn test block ∷ fs) (focus.Value v)
+
+-- where a loop stands with the value of its condition
+abbrev pub tested_at : Store → Current → Bor Expr → Bor (List Stmt) → List Frame → Value → Place
+tested_at store current test block fs v =
+    place store current (frame.Test test block ∷ fs) (focus.Value v)
 
 -- the frames where these statements wait for the end of the one before them
 abbrev pub before_stmt : Bor (List Stmt) → List Frame → List Frame
 before_stmt rest fs = frame.Wait (waiting.Stmts rest) ∷ fs
 
--- the frames where a condition's sides wait for its value, and these statements for the end of the side that comes
+-- the frames where a condition's sides wait for its value, and these statements for the end of the
+-- side that comes
 abbrev pub branches : Bor (List Stmt) → Bor (List (Expr × Vec Stmt Global))
     → Bor (Option (Vec Stmt Global)) → Bor (List Stmt) → List Frame → List Frame
 branches block others last rest fs =

@@ -1,6 +1,7 @@
 -- The names that a machine has of its script.
 use Rattle.std.specs.Prelude.{◌≡◌, ◌<◌, ◌^◌, ◌++◌, ℕ, List, [], map, length, Option, slice_get, Vec}
 use Rattle.std.specs.declared.alloc.Global.{Global}
+use Rattle.page_types.specs.Tree.{Item}
 use Rattle.lang_meaning.specs.Evaluation.{Function, functions_of}
 use Rattle.lang_ast.specs.declared.program.Program.{Program}
 use Rattle.lang_ast.specs.SeenProgram.{seen_program}
@@ -11,13 +12,18 @@ use Rattle.page_interp.specs.Runs.{frame_names, global_names}
 abbrev pub function_at : Program → ℕ → Option Function
 function_at script number = slice_get (functions_of (seen_program script).items) number
 
--- the names of the variables of each function
-abbrev pub names_of_frames : Program → List (List (List ℕ))
-names_of_frames script = map frame_names (functions_of (seen_program script).items)
+-- the names of the variables of each function among some items
+abbrev pub frames_of : List Item → List (List (List ℕ))
+frames_of items = map frame_names (functions_of items)
 
--- the names that a script gives: those of its functions, of its global variables, of the variables of its own body besides
--- them, and of the variables of each function
-pub record AreNamesOf (script : Program) (functions globals none : List (List ℕ)) (locals : List (List (List ℕ))) : Type 0 where
+-- the names of the variables of each function of a script
+abbrev pub names_of_frames : Program → List (List (List ℕ))
+names_of_frames script = frames_of (seen_program script).items
+
+-- the names that a script gives: those of its functions, of its global variables, of the variables
+-- of its own body besides them, and of the variables of each function
+pub record AreNamesOf (script : Program) (functions globals none : List (List ℕ))
+    (locals : List (List (List ℕ))) : Type 0 where
   pub functions_named : functions ≡ function_names (seen_program script).items
   pub globals_named : globals ≡ global_names (seen_program script)
   pub no_names : none ≡ []

@@ -1,12 +1,14 @@
 -- What an expression gives where it calls nothing and nothing is thrown.
-use Rattle.std.specs.Prelude.{ℕ, List, Option, Some, None, Ok, Err}
+use Rattle.std.specs.Prelude.{◌≡◌, ℕ, ℤ, List, Option, Some, None, Ok, Err}
 use Rattle.std.specs.Option.{option_and_then}
 use Rattle.page_types.specs.Values.{Value, IntValue}
 use Rattle.page_types.specs.Tree.{Expr, Compare, Sum, Product, Post, Number, Name, Paren, Exprs, no_exprs, with_expr, SumParts, no_terms, with_term, ProductParts, no_factors, with_factor}
+use Rattle.page_types.specs.declared.SumSign.{SumSign}
+use Rattle.page_types.specs.declared.ProductSign.{ProductSign}
 use Rattle.lang_meaning.specs.Evaluation.{Answer, sum_answer, product_answer, compare_answer, item_answer}
 use Rattle.lang_ast.specs.declared.program.Program as Code
 use Rattle.lang_ast.specs.declared.tree.Expr as Syntax
-use Rattle.lang_ast.specs.Seen.{seen_expr}
+use Rattle.lang_ast.specs.Seen.{seen_expr, seen_exprs, seen_terms, seen_factors}
 use Rattle.page_interp.specs.declared.exit.Store.{Store}
 use Rattle.page_interp.specs.declared.stack.Current.{Current}
 use Rattle.page_interp.specs.Variables.{named_in}
@@ -28,7 +30,8 @@ abbrev mutual
   direct look (Number n) = Some (IntValue n)
   direct look (Name x) = look x.name
   direct look (Paren e) = direct look e
-  direct look (Compare a sign b) = and_so (direct look a) (λ x. and_so (direct look b) (λ y. value_of (compare_answer sign x y)))
+  direct look (Compare a sign b) =
+      and_so (direct look a) (λ x. and_so (direct look b) (λ y. value_of (compare_answer sign x y)))
   direct look (Sum e parts) = and_so (direct look e) (direct_sum look parts)
   direct look (Product e parts) = and_so (direct look e) (direct_product look parts)
   direct look (Post e places) = and_so (direct look e) (direct_item look places)
@@ -50,7 +53,8 @@ abbrev mutual
   pub direct_product : (look : List ℕ → Option Value) → ProductParts → Value → Option Value
   direct_product look no_factors v = Some v
   direct_product look (with_factor sign e parts) v =
-      and_so (direct look e) (λ x. and_so (value_of (product_answer sign v x)) (direct_product look parts))
+      and_so (direct look e)
+      (λ x. and_so (value_of (product_answer sign v x)) (direct_product look parts))
 
 -- the values of names in a call
 abbrev pub names_there : Code.Program → Store → Current → List ℕ → Option Value
@@ -59,3 +63,31 @@ names_there script store current x = named_in script store current.names.now cur
 -- the value of an expression there
 abbrev pub direct_there : Code.Program → Store → Current → Syntax.Expr → Option Value
 direct_there script store current e = direct (names_there script store current) (seen_expr e)
+
+-- the name has this value there
+abbrev pub NameHolds : Code.Program → Store → Current → List ℕ → Value → Type 0
+NameHolds script store current x v = names_there script store current x ≡ Some v
+
+-- the expression has this value there
+abbrev pub HasValue : Code.Program → Store → Current → Syntax.Expr → Value → Type 0
+HasValue script store current e v = direct_there script store current e ≡ Some v
+
+-- the places in a row lead from the first value to the second one
+abbrev pub PlacesGive : Code.Program → Store → Current → List Syntax.Expr
+    → (list v : Value) → Type 0
+PlacesGive script store current es list v =
+    direct_item (names_there script store current) (seen_exprs es) list ≡ Some v
+
+-- the further terms lead from the first sum to the second one
+abbrev pub TermsGive : Code.Program → Store → Current → List (SumSign × Syntax.Expr)
+    → (first total : ℤ) → Type 0
+TermsGive script store current terms first total =
+    direct_sum (names_there script store current) (seen_terms terms) (IntValue first)
+    ≡ Some (IntValue total)
+
+-- the further factors lead from the first product to the second one
+abbrev pub FactorsGive : Code.Program → Store → Current → List (ProductSign × Syntax.Expr)
+    → (first total : ℤ) → Type 0
+FactorsGive script store current factors first total =
+    direct_product (names_there script store current) (seen_factors factors) (IntValue first)
+    ≡ Some (IntValue total)

@@ -12,3 +12,4 @@ pub mod Clauses
 pub mod Frames
 pub mod Direct
 pub mod AtOnce
+pub mod StackClauses

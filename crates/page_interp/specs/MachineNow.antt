@@ -20,9 +20,10 @@ program_in m = seen_program m.script
 -- a variable is stored as its name and its value, and a machine as its script and its variables
 abbrev coded_variable : Coded Variable
 coded_variable =
-    code_by _ (coded× (coded_list coded_ℕ) coded_value) (λ x. (x.name, x.value)) (λ p. record { name = p.0; value = p.1 }) (λ _. refl)
+    code_by _ (coded× (coded_list coded_ℕ) coded_value) (λ x. (x.name, x.value))
+    (λ p. record { name = p.0; value = p.1 }) (λ _. refl)
 
 abbrev pub coded_machine : Coded MachineNow
 coded_machine =
-    code_by _ (coded× program_code.the_row.coded (coded_list coded_variable)) (λ m. (m.script, m.globals))
-    (λ p. record { script = p.0; globals = p.1 }) (λ _. refl)
+    code_by _ (coded× program_code.the_row.coded (coded_list coded_variable))
+    (λ m. (m.script, m.globals)) (λ p. record { script = p.0; globals = p.1 }) (λ _. refl)

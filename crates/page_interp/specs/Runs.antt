@@ -34,7 +34,7 @@ done (throws v) m = Throws v m
 done (returns v) m = Returns v m
 done no_fuel m = OutOfFuel m
 
--- how a part of a run is left: as its meaning ends, or because the host refused, or for want of memory
+-- how a part of a run is left: as its meaning ends, because the host refused, or for want of memory
 pub data Left (S : Type 0) : Type 0 where
   ends : Ended → Left S
   refused : S → Left S
@@ -71,21 +71,25 @@ abbrev pub more : ℕ → Option ℕ → Option ℕ
 more zero asks = asks
 more (suc n) asks = elim (more n asks) [ None ↦ None | Some k ↦ Some (suc k) ]
 
--- From one state to the other the host is asked so often, whatever number of asks is left, and what f does ends so.
-pub record Ends {H : Type 0} (f : Machine (Limited H) → Done (Limited H)) (a : Machine H) (e : Ended) (b : Machine H) : Type 0 where
+-- what is done around a host that is asked only so often
+abbrev pub Part : Type 0 → Type 0
+Part H = Machine (Limited H) → Done (Limited H)
+
+-- From one state to the other the host is asked so often, whatever number of asks is left, and
+-- what f does ends so.
+pub record Ends {H : Type 0} (f : Part H) (a : Machine H) (e : Ended) (b : Machine H) : Type 0 where
   pub asks : ℕ
   pub ends : (left : Option ℕ) → f (limited (more asks left) a) ≡ done e (limited left b)
 
 -- what f does around a limited host ends as this is left
-abbrev pub Comes : {H S : Type 0} → (Machine (Limited H) → Done (Limited H)) → (a : Machine H) → Left S
-    → (b : Machine H) → Type 0
+abbrev pub Comes : {H S : Type 0} → Part H → (a : Machine H) → Left S → (b : Machine H) → Type 0
 Comes f a (ends e) b = Ends f a e b
 Comes f a (refused stop) b = ⊤
 Comes f a no_memory b = ⊤
 
 -- where f leaves the host: as a refused ask may leave it, or as it was after the asks so far
 abbrev pub Stands : {H S : Type 0} → HostRules H → (Ask → H → H → Type 0) → Left S
-    → (Machine (Limited H) → Done (Limited H)) → Machine H → H → Type 0
+    → Part H → Machine H → H → Type 0
 Stands rules leaves (ends e) f m told = IsPassed rules f m told
 Stands rules leaves (refused stop) f m told = IsRefused leaves f m told
 Stands rules leaves no_memory f m told = IsPassed rules f m told
@@ -108,7 +112,7 @@ WhereSettled (ends no_fuel) P = ⊤
 WhereSettled (refused stop) P = ⊤
 WhereSettled no_memory P = ⊤
 
--- the host refused where this is left so: its count rose, and that stop is its last; else it did not
+-- the host refused where this is left so: its count rose, with that stop; else it did not refuse
 abbrev pub Refuses : {S : Type 0} → Left S → (before after : ℕ) → Option S → Type 0
 Refuses (ends e) before after last = after ≡ before
 Refuses (refused stop) before after last = Rose before after × (last ≡ Some stop)
@@ -131,7 +135,7 @@ IsUnsettled Fuel = ⊤
 IsUnsettled (Host stop) = ⊤
 IsUnsettled OutOfMemory = ⊤
 
--- each function that the value names with which this is left has a number below the number of functions
+-- each function that the value names with which this is left has a number below that of functions
 abbrev pub LeftIsNumbered : {S : Type 0} → ℕ → Left S → Type 0
 LeftIsNumbered count (ends (gives v)) = IsNumbered count v
 LeftIsNumbered count (ends (throws v)) = IsNumbered count v
@@ -165,6 +169,10 @@ variables_of (x ∷ xs) (v ∷ vs) = record { name = x; value = seen v } ∷ var
 abbrev pub global_names : Program → List (List ℕ)
 global_names p = names_in (own_body p.items)
 
+-- the global variables with these values
+abbrev pub globals_in : Program → Store → List M.Variable
+globals_in p store = variables_of (global_names p) store.globals.items
+
 -- how many functions a script has
 abbrev pub count_of_functions : Program → ℕ
 count_of_functions p = length (functions_of p.items)
@@ -177,13 +185,14 @@ pub record Moment (T S : Type 0) : Type 0 where
 -- the state with these calls open, the innermost first
 abbrev pub machine_of : {T : Type 0} → Program → T → Store → List (List M.Variable) → Machine T
 machine_of p told store frames =
-    record { globals = variables_of (global_names p) store.globals.items; open_calls = frames; fuel = store.fuel; host = told }
+    record { globals = globals_in p store; open_calls = frames; fuel = store.fuel; host = told }
 
-unfoldable pub moment_of : {T S : Type 0} → Program → HostNow T S → Store → List (List M.Variable) → Moment T S
+unfoldable pub moment_of : {T S : Type 0} → Program → HostNow T S → Store
+    → List (List M.Variable) → Moment T S
 moment_of p h store frames = record { machine = machine_of p h.told store frames; now = h }
 
--- where the machine is: around a host with these rules, and what a refused ask of it may leave; in a script with so many
--- functions; and inside one of its calls or not
+-- where the machine is: around a host with these rules, and what a refused ask of it may leave; in
+-- a script with so many functions; and inside one of its calls or not
 pub record Scope (T : Type 0) : Type 1 where
   pub rules : HostRules T
   pub leaves : Ask → (before after : T) → Type 0
@@ -191,10 +200,12 @@ pub record Scope (T : Type 0) : Type 1 where
   pub inside : Bool
 
 abbrev pub outside : {T : Type 0} → HostRules T → (Ask → T → T → Type 0) → Program → Scope T
-outside rules leaves p = record { rules = rules; leaves = leaves; count = count_of_functions p; inside = false }
+outside rules leaves p =
+    record { rules = rules; leaves = leaves; count = count_of_functions p; inside = false }
 
 abbrev pub inside : {T : Type 0} → HostRules T → (Ask → T → T → Type 0) → Program → Scope T
-inside rules leaves p = record { rules = rules; leaves = leaves; count = count_of_functions p; inside = true }
+inside rules leaves p =
+    record { rules = rules; leaves = leaves; count = count_of_functions p; inside = true }
 
 -- the variables are numbered, where it matters
 abbrev pub AreHeld : ℕ → Bool → List M.Variable → Type 0
@@ -202,8 +213,8 @@ AreHeld count true xs = AreNumberedIn count xs
 AreHeld count false xs = ⊤
 
 module _ {T S : Type 0} where
-  -- what the host may rely on: its functions are the script's, there is room for a call of `busy` for each unit of fuel,
-  -- and values name functions that are there
+  -- what the host may rely on: its functions are the script's, there is room for a call of `busy`
+  -- for each unit of fuel, and values name functions that are there
   pub record IsReady (w : Scope T) (a : Moment T S) : Type 0 where
     pub functions : a.now.functions ≡ w.count
     pub room : a.machine.fuel ≤ a.now.room
@@ -211,7 +222,8 @@ module _ {T S : Type 0} where
     pub held : AreHeld w.count w.inside (locals a.machine.open_calls)
 
   -- A run from one moment to another, with the meaning f.
-  pub record Runs (w : Scope T) (f : Machine (Limited T) → Done (Limited T)) (a : Moment T S) (l : Left S) (b : Moment T S) : Type 0 where
+  pub record Runs (w : Scope T) (f : Part T) (a : Moment T S) (l : Left S) (b : Moment T S)
+      : Type 0 where
     pub meaning : Comes f a.machine l b.machine
     pub stands : Stands w.rules w.leaves l f a.machine b.machine.host
     pub fuel : b.machine.fuel ≤ a.machine.fuel
@@ -222,9 +234,10 @@ module _ {T S : Type 0} where
     pub numbered : LeftIsNumbered w.count l
 
   -- what f does comes to what g does from the second moment on, after some asks of the host
-  pub record Asks (w : Scope T) (f g : Machine (Limited T) → Done (Limited T)) (a b : Moment T S) : Type 0 where
+  pub record Asks (w : Scope T) (f g : Part T) (a b : Moment T S) : Type 0 where
     pub asks : ℕ
-    pub comes : (left : Option ℕ) → f (limited (more asks left) a.machine) ≡ g (limited left b.machine)
+    pub comes : (left : Option ℕ) →
+        f (limited (more asks left) a.machine) ≡ g (limited left b.machine)
     pub stands : IsPassed w.rules f a.machine b.machine.host
     pub fuel : b.machine.fuel ≤ a.machine.fuel
     pub refusals : b.now.refusals ≡ a.now.refusals
@@ -235,7 +248,8 @@ unfoldable pub caller_of : {T : Type 0} → HostRules T → Program → ℕ → 
 caller_of rules program depth = calls program (limited_operations rules) (256 - depth)
 
 unfoldable pub around_of : {T : Type 0} → HostRules T → Program → ℕ → Around (Limited T)
-around_of rules program depth = around program (limited_operations rules) (caller_of rules program depth)
+around_of rules program depth =
+    around program (limited_operations rules) (caller_of rules program depth)
 
 abbrev pub func_of : Option Model.Value → Option Func
 func_of None = None
@@ -246,7 +260,8 @@ abbrev pub func_seen : HeldFunc → Func
 func_seen f = record { function = f.function; bound = f.bound }
 
 -- a call of what a name stands for
-abbrev pub call_given : {T : Type 0} → Caller T → Option Model.Value → List Model.Value → Machine T → Done T
+abbrev pub call_given : {T : Type 0} → Caller T → Option Model.Value → List Model.Value
+    → Machine T → Done T
 call_given call o args m = given o TypeError m (λ f m. called call f args m)
 
 -- the names of a function's variables: its parameters, and those that its body gives

@@ -1,14 +1,13 @@
 //! Operations of the host, with the callbacks that it asks for.
 
-ghost use Rattle.std.specs.Prelude.{◌≡◌, ℕ, List, ◌∷◌, ◌+◌, ◌*◌, ◌^◌, ◌≤◌, IfErr, length, map};
-ghost use Rattle.page_values.specs.Seen.{seen};
+ghost use Rattle.std.specs.Prelude.{◌≡◌, ℕ, List, ◌+◌, ◌≤◌, IfErr, length};
 ghost use Rattle.lang_ast.specs.Operations.{count_of};
-ghost use Rattle.lang_ast.specs.Steps.{AllNumbered, EndIsNumbered, room_taken, seen_outcome, seen_step};
-ghost use Rattle.lang_meaning.specs.Asks.{ask_limited};
-ghost use Rattle.lang_meaning.specs.HostSteps.{asked_by, is_busy};
-ghost use Rattle.page_interp.specs.Clauses.{script};
-ghost use Rattle.page_interp.specs.Frames.{stacked, place, waiting_at, tickets_in, moment_at, Holds, Answering, MayCome, Leaves, Steps, Stood, steps_on, resumes};
-ghost use Rattle.page_interp.specs.Runs.{IsReady, IsUnsettled, outside, count_of_functions};
+ghost use Rattle.lang_ast.specs.Steps.{EndIsNumbered, room_taken, seen_outcome, seen_step};
+ghost use Rattle.lang_meaning.specs.HostSteps.{is_busy};
+ghost use Rattle.page_interp.specs.Clauses.{script, count_in};
+ghost use Rattle.page_interp.specs.Frames.{Holds, AreSeenNumbered};
+ghost use Rattle.page_interp.specs.Runs.{IsUnsettled};
+ghost use Rattle.page_interp.specs.StackClauses.{stand, resting, HasAnswered, AnswerLeaves, IsReadyAt, WaitsUnder, Resumes, IsStanding, AskLeaves, StepsOn};
 ghost use Rattle.page_interp.specs.declared.stack.Focus.TheVariants as focus;
 
 use crate::code::Code;
@@ -19,8 +18,8 @@ use crate::values::joined;
 use lang_ast::{Host, HostStep, Op, Outcome, is_busy};
 use page_values::{Value, fault};
 
-/// What the host answered: its value or throw is next, or the body of a callback. A callback that throws before its call
-/// opens is answered at once.
+/// What the host answered: its value or throw is next, or the body of a callback. A callback that
+/// throws before its call opens is answered at once.
 fn answer<'c, H: Host>(
     code: &'c Code,
     host: &mut H,
@@ -29,15 +28,11 @@ fn answer<'c, H: Host>(
     stack: &mut Vec<Frame<'c>>,
     first: HostStep,
 ) -> Result<Focus<'c>, Exit<H::Stop>>
-    requires answering { (ts : List ℕ) × Answering H.rules H.leaves (script code.now) ts (H.left (H.now host.old).told)
-        (H.now host.old) (waiting_at store.old current.old (stacked stack.old.items)) (seen_step first) }
+    requires answering { (ts : List ℕ) × HasAnswered H.rules H.leaves H.left code.now ts
+        (H.now host.old) (resting store.old current.old stack.old) (seen_step first) }
     ensures unsettled { IfErr result IsUnsettled }
-    ensures leaves { (ts : List ℕ) (n : ℕ) → Answering H.rules H.leaves (script code.now) ts (H.left (H.now host.old).told)
-        (H.now host.old) (waiting_at store.old current.old (stacked stack.old.items)) (seen_step first) →
-        MayCome store.old.fuel (H.left (H.now host.old).told) (seen_step first) n →
-        Leaves H.rules H.leaves (script code.now) ts (steps_on H.rules n (seen_step first)) 2
-        (H.now host.old) (waiting_at store.old current.old (stacked stack.old.items)) result
-        (H.now host.new) store.new current.new (stacked stack.new.items) }
+    ensures leaves { AnswerLeaves H.rules H.leaves H.left H.now code.now (seen_step first) result
+        host.old store.old current.old stack.old host.new store.new current.new stack.new }
 {
     let mut step = first;
     loop {
@@ -76,17 +71,14 @@ pub fn resume<'c, H: Host>(
     ticket: u64,
     outcome: Outcome,
 ) -> Result<Focus<'c>, Exit<H::Stop>>
-    requires holds { Holds (script code.now) (waiting_at store.old current.old (stacked stack.old.items)) }
-    requires ready { IsReady (outside H.rules H.leaves (script code.now))
-        (moment_at (script code.now) (H.now host.old) (waiting_at store.old current.old (stacked stack.old.items))) }
-    requires tickets { (ts : List ℕ) × ((H.now host.old).tickets ≡ ticket ∷ tickets_in (stacked stack.old.items) ts) }
-    requires numbered { EndIsNumbered (count_of_functions (script code.now)) (seen_outcome outcome) }
+    requires holds { Holds (script code.now) (resting store.old current.old stack.old) }
+    requires ready { IsReadyAt H.rules H.leaves code.now (H.now host.old)
+        (resting store.old current.old stack.old) }
+    requires tickets { (ts : List ℕ) × WaitsUnder ticket (H.now host.old) stack.old ts }
+    requires numbered { EndIsNumbered (count_in code.now) (seen_outcome outcome) }
     ensures unsettled { IfErr result IsUnsettled }
-    ensures leaves { (ts : List ℕ) (n : ℕ) → (H.now host.old).tickets ≡ ticket ∷ tickets_in (stacked stack.old.items) ts →
-        (store.old.fuel + 1) * (2 ^ 64) ≤ n →
-        Leaves H.rules H.leaves (script code.now) ts (resumes H.rules n ticket (seen_outcome outcome)) 2
-        (H.now host.old) (waiting_at store.old current.old (stacked stack.old.items)) result
-        (H.now host.new) store.new current.new (stacked stack.new.items) }
+    ensures leaves { Resumes H.rules H.leaves H.now code.now ticket (seen_outcome outcome) result
+        host.old store.old current.old stack.old host.new store.new current.new stack.new }
 {
     match host.resume(ticket, outcome) {
         Ok(step) => answer(code, host, store, current, stack, step),
@@ -104,17 +96,14 @@ fn ask_host<'c, H: Host>(
     op: Op,
     args: Vec<Value>,
 ) -> Result<Focus<'c>, Exit<H::Stop>>
-    requires stood { (ts : List ℕ) × Stood H.rules H.leaves (script code.now) ts (H.now host.old)
-        (waiting_at store.old current.old (stacked stack.old.items)) }
+    requires stood { IsStanding H.rules H.leaves code.now (H.now host.old)
+        (resting store.old current.old stack.old) }
     requires count { length args.items ≡ count_of op }
-    requires args { AllNumbered (count_of_functions (script code.now)) (map seen args.items) }
+    requires args { AreSeenNumbered (count_in code.now) args }
     requires room { store.old.fuel + room_taken (is_busy op) ≤ (H.now host.old).room }
     ensures unsettled { IfErr result IsUnsettled }
-    ensures leaves { (ts : List ℕ) → Stood H.rules H.leaves (script code.now) ts (H.now host.old)
-        (waiting_at store.old current.old (stacked stack.old.items)) →
-        Leaves H.rules H.leaves (script code.now) ts (λ d. asked_by (ask_limited H.rules) d.call op (map seen args.items)) 2
-        (H.now host.old) (waiting_at store.old current.old (stacked stack.old.items)) result
-        (H.now host.new) store.new current.new (stacked stack.new.items) }
+    ensures leaves { AskLeaves H.rules H.leaves H.now code.now op args result
+        host.old store.old current.old stack.old host.new store.new current.new stack.new }
 {
     match host.op(op, args) {
         Ok(step) => answer(code, host, store, current, stack, step),
@@ -132,11 +121,10 @@ pub fn ask<'c, H: Host>(
     op: Op,
     args: Vec<Value>,
 ) -> Result<Focus<'c>, Exit<H::Stop>>
-    requires stood { (ts : List ℕ) × Stood H.rules H.leaves (script code.now) ts (H.now host.old)
-        (place store.old current.old (stacked stack.old.items) (focus.Ask op args)) }
-    ensures { Steps H.rules H.leaves (script code.now) (H.now host.old)
-        (place store.old current.old (stacked stack.old.items) (focus.Ask op args)) result
-        (H.now host.new) store.new current.new (stacked stack.new.items) }
+    requires stood { IsStanding H.rules H.leaves code.now (H.now host.old)
+        (stand store.old current.old stack.old (focus.Ask op args)) }
+    ensures { StepsOn H.rules H.leaves H.now code.now (focus.Ask op args) result
+        host.old store.old current.old stack.old host.new store.new current.new stack.new }
 {
     if is_busy(op) {
         if store.fuel == 0 {

@@ -1,17 +1,14 @@
-//! Steps that are done at once where an expression calls nothing: the arguments of a row, and the condition of a loop.
+//! Steps that are done at once where an expression calls nothing: the arguments of a row, and the
+//! condition of a loop.
 
-ghost use Rattle.std.specs.Prelude.{◌≡◌, ◌∷◌, ◌≤◌, true, Some, IfOk, IfErr, IfSome};
-ghost use Rattle.page_types.specs.Tree.{Program};
+ghost use Rattle.std.specs.Prelude.{◌≡◌, ◌≤◌, true, Some, IfOk, IfErr, IfSome};
 ghost use Rattle.page_parts.specs.Kinds.{bool_in};
 ghost use Rattle.page_values.specs.Seen.{seen};
-ghost use Rattle.page_values.specs.declared.Value.{Value};
-ghost use Rattle.page_interp.specs.AtOnce.{HasFirst, Leads, turned};
-ghost use Rattle.page_interp.specs.Clauses.{script};
-ghost use Rattle.page_interp.specs.Frames.{stacked, place, Holds, Goes, IsWant, IsSet};
+ghost use Rattle.page_interp.specs.AtOnce.{HasFirst};
+ghost use Rattle.page_interp.specs.Frames.{IsWant, IsSet};
+ghost use Rattle.page_interp.specs.StackClauses.{LeadsOn, TestLeads, TurnLeads};
 ghost use Rattle.page_interp.specs.declared.exit.Exit.TheVariants as exit;
-ghost use Rattle.page_interp.specs.declared.stack.Current.{Current};
 ghost use Rattle.page_interp.specs.declared.stack.Focus.TheVariants as focus;
-ghost use Rattle.page_interp.specs.declared.stack.Frame.TheVariants as frame;
 
 use crate::code::Code;
 use crate::direct::direct_value;
@@ -53,11 +50,8 @@ pub fn into_test<'c, H: Host>(
     test: &'c Expr,
     block: &'c [Stmt],
 ) -> Result<Focus<'c>, Exit<H::Stop>>
-    ensures ok { IfOk result (λ f. (p : Program) (current : Current) →
-        Holds p (place store.old current (frame.Test test.entry block.entry ∷ stacked stack.old.items) (focus.Value value)) →
-        Goes H.rules p
-        (place store.old current (frame.Test test.entry block.entry ∷ stacked stack.old.items) (focus.Value value))
-        (place store.new current (stacked stack.new.items) f)) }
+    ensures ok { IfOk result (TestLeads H.rules test.entry block.entry value
+        store.old stack.old store.new stack.new) }
     ensures err { IfErr result (IsWant store.old.fuel) }
     ensures enters { IfErr result (λ _. bool_in (seen value) ≡ Some true) }
     ensures globals { store.new.globals ≡ store.old.globals }
@@ -76,7 +70,8 @@ pub fn into_test<'c, H: Host>(
     }
 }
 
-/// The value of the first of some expressions, where it is found at once, and the expressions after it.
+/// The value of the first of some expressions, where it is found at once, and the expressions after
+/// it.
 fn first_value<'c>(
     code: &Code,
     store: &Store,
@@ -105,9 +100,8 @@ pub fn next_in_row<'c, H: Host>(
     mut values: Vec<Value>,
     exprs: &'c [Expr],
 ) -> Result<Focus<'c>, Exit<H::Stop>>
-    ensures ok { IfOk result (λ f. Leads H.rules (script code.now)
-        (place store.now current.now (stacked stack.old.items) (focus.Row purpose values exprs.entry))
-        (place store.now current.now (stacked stack.new.items) f)) }
+    ensures ok { IfOk result (LeadsOn H.rules code.now (focus.Row purpose values exprs.entry)
+        store.now current.now stack.old store.now current.now stack.new) }
     ensures err { IfErr result (λ x. x ≡ exit.OutOfMemory) }
 {
     match first_value(code, store, current, exprs) {
@@ -129,9 +123,8 @@ pub fn next_turn<'c, H: Host>(
     test: &'c Expr,
     block: &'c [Stmt],
 ) -> Result<Focus<'c>, Exit<H::Stop>>
-    ensures ok { IfOk result (λ f. (v : Value) → Leads H.rules (script code.now)
-        (turned store.old current.now test.entry block.entry (stacked stack.old.items) v)
-        (place store.new current.now (stacked stack.new.items) f)) }
+    ensures ok { IfOk result (TurnLeads H.rules code.now current.now test.entry block.entry
+        store.old stack.old store.new stack.new) }
     ensures err { IfErr result (λ x. x ≡ exit.OutOfMemory) }
     ensures globals { store.new.globals ≡ store.old.globals }
     ensures fuel { store.new.fuel ≤ store.old.fuel }

@@ -4,9 +4,8 @@ ghost use Rattle.std.specs.Prelude.{◌≡◌, List, Some, IfOk, IfErr, IfSome};
 ghost use Rattle.std.specs.Borrow.{Bor};
 ghost use Rattle.lang_ast.specs.declared.tree.Stmt.{Stmt};
 ghost use Rattle.lang_ast.specs.declared.tree.Stmt.TheVariants.{Return};
-ghost use Rattle.page_interp.specs.AtOnce.{Assigns, Gives, Leads, before_stmt, branches};
-ghost use Rattle.page_interp.specs.Clauses.{script};
-ghost use Rattle.page_interp.specs.Frames.{stacked, place, Moves};
+ghost use Rattle.page_interp.specs.AtOnce.{Assigns, Gives};
+ghost use Rattle.page_interp.specs.StackClauses.{MovesBefore, Branches, LeadsBefore, LeadsOn};
 ghost use Rattle.page_interp.specs.declared.exit.Exit.TheVariants as exit;
 ghost use Rattle.page_interp.specs.declared.stack.Focus.TheVariants as focus;
 
@@ -31,8 +30,8 @@ fn assignment(stmt: &Stmt) -> Option<(&Named, &Expr)>
     }
 }
 
-/// The variable and its value, where the first statement only gives a variable a value that is found at once, and the
-/// statements after it.
+/// The variable and its value, where the first statement only gives a variable a value that is
+/// found at once, and the statements after it.
 fn given<'c>(
     code: &Code,
     store: &Store,
@@ -60,8 +59,8 @@ fn later<'c, H: Host>(
     stmt: &'c Stmt,
     rest: &'c [Stmt],
 ) -> Result<Focus<'c>, Exit<H::Stop>>
-    ensures ok { IfOk result (Moves H.rules (before_stmt rest.entry (stacked stack.old.items))
-        (focus.Stmt stmt.entry) (stacked stack.new.items)) }
+    ensures ok { IfOk result (MovesBefore H.rules rest.entry (focus.Stmt stmt.entry)
+        stack.old stack.new) }
     ensures err { IfErr result (λ x. x ≡ exit.OutOfMemory) }
 {
     push(stack, Frame::Wait(Waiting::Stmts(rest)))?;
@@ -75,8 +74,8 @@ fn into_else<'c, H: Host>(
     last: &'c Option<Vec<Stmt>>,
     rest: &'c [Stmt],
 ) -> Result<Focus<'c>, Exit<H::Stop>>
-    ensures ok { IfOk result (Moves H.rules (before_stmt rest.entry (stacked stack.old.items))
-        (focus.Others others.entry last.entry) (stacked stack.new.items)) }
+    ensures ok { IfOk result (MovesBefore H.rules rest.entry (focus.Others others.entry last.entry)
+        stack.old stack.new) }
     ensures err { IfErr result (λ x. x ≡ exit.OutOfMemory) }
 {
     match others.split_first() {
@@ -105,9 +104,8 @@ fn into_branch<'c, H: Host>(
     last: &'c Option<Vec<Stmt>>,
     rest: &'c [Stmt],
 ) -> Result<Focus<'c>, Exit<H::Stop>>
-    ensures ok { IfOk result (Moves H.rules
-        (branches block.entry others.entry last.entry rest.entry (stacked stack.old.items))
-        (focus.Value value) (stacked stack.new.items)) }
+    ensures ok { IfOk result (Branches H.rules block.entry others.entry last.entry rest.entry
+        value stack.old stack.new) }
     ensures err { IfErr result (λ x. x ≡ exit.OutOfMemory) }
 {
     match as_bool(&value) {
@@ -134,9 +132,8 @@ fn into_return<'c, H: Host>(
 ) -> Result<Focus<'c>, Exit<H::Stop>>
     ensures ok { IfOk result (λ f. (stmt : Bor Stmt) (rest : Bor (List Stmt)) →
         stmt.now ≡ Return (Some expr.now) →
-        Leads H.rules (script code.now)
-        (place store.now current.now (before_stmt rest (stacked stack.old.items)) (focus.Stmt stmt))
-        (place store.now current.now (stacked stack.new.items) f)) }
+        LeadsBefore H.rules code.now rest (focus.Stmt stmt)
+        store.now current.now stack.old stack.new f) }
     ensures err { IfErr result (λ x. x ≡ exit.OutOfMemory) }
 {
     match direct_value(code, store, current, expr) {
@@ -155,10 +152,8 @@ fn from_first<'c, H: Host>(
     stmt: &'c Stmt,
     rest: &'c [Stmt],
 ) -> Result<Focus<'c>, Exit<H::Stop>>
-    ensures ok { IfOk result (λ f. Leads H.rules (script code.now)
-        (place store.now current.now (before_stmt rest.entry (stacked stack.old.items))
-        (focus.Stmt stmt.entry))
-        (place store.now current.now (stacked stack.new.items) f)) }
+    ensures ok { IfOk result (LeadsBefore H.rules code.now rest.entry (focus.Stmt stmt.entry)
+        store.now current.now stack.old stack.new) }
     ensures err { IfErr result (λ x. x ≡ exit.OutOfMemory) }
 {
     match stmt {
@@ -186,9 +181,8 @@ fn from_block<'c, H: Host>(
     stack: &mut Vec<Frame<'c>>,
     stmts: &'c [Stmt],
 ) -> Result<Focus<'c>, Exit<H::Stop>>
-    ensures ok { IfOk result (λ f. Leads H.rules (script code.now)
-        (place store.now current.now (stacked stack.old.items) (focus.Block stmts.entry))
-        (place store.now current.now (stacked stack.new.items) f)) }
+    ensures ok { IfOk result (LeadsOn H.rules code.now (focus.Block stmts.entry)
+        store.now current.now stack.old store.now current.now stack.new) }
     ensures err { IfErr result (λ x. x ≡ exit.OutOfMemory) }
 {
     match stmts.split_first() {
@@ -205,9 +199,8 @@ pub fn into_block<'c, H: Host>(
     stack: &mut Vec<Frame<'c>>,
     stmts: &'c [Stmt],
 ) -> Result<Focus<'c>, Exit<H::Stop>>
-    ensures ok { IfOk result (λ f. Leads H.rules (script code.now)
-        (place store.old current.old (stacked stack.old.items) (focus.Block stmts.entry))
-        (place store.new current.new (stacked stack.new.items) f)) }
+    ensures ok { IfOk result (LeadsOn H.rules code.now (focus.Block stmts.entry)
+        store.old current.old stack.old store.new current.new stack.new) }
     ensures err { IfErr result (λ x. x ≡ exit.OutOfMemory) }
     ensures as_before { IfErr result (λ _. store.new ≡ store.old) }
 {

@@ -1,10 +1,9 @@
 //! Calls from outside of the script.
 
-ghost use Rattle.std.specs.Prelude.{◌≡◌, ◌≤◌, ◌++◌, IfOk, map};
-ghost use Rattle.page_types.specs.Values.{items_of};
+ghost use Rattle.std.specs.Prelude.{◌≡◌, ◌≤◌, IfOk, map};
 ghost use Rattle.page_values.specs.Seen.{seen};
 ghost use Rattle.lang_ast.specs.SeenProgram.{seen_program};
-ghost use Rattle.page_interp.specs.Machines.{ran_left};
+ghost use Rattle.page_interp.specs.Machines.{ran_left, bound_args};
 ghost use Rattle.page_interp.specs.Runs.{value_left, as_called};
 
 use crate::code::Code;
@@ -35,16 +34,16 @@ impl<'p> Machine<'p> {
         Ok(Machine { code, store })
     }
 
-    /// Calls a function, or the script's own body, where no call is open: it gets the arguments that are bound to it, and
-    /// then the given ones. What the host asks to be called back is called in that place, and the host is resumed with
-    /// what comes of it.
+    /// Calls a function, or the script's own body, where no call is open: it gets the arguments
+    /// that are bound to it, and then the given ones. What the host asks to be called back is
+    /// called in that place, and the host is resumed with what comes of it.
     ///
-    /// `fuel` is what is left of it before and after. The host has the script's functions, and room for as many calls of
-    /// `busy` as there are units. A call that would be the 257th open one throws RangeError and takes no unit. `Fuel` comes
-    /// only where no unit is left.
+    /// `fuel` is what is left of it before and after. The host has the script's functions, and room
+    /// for as many calls of `busy` as there are units. A call that would be the 257th open one
+    /// throws RangeError and takes no unit. `Fuel` comes only where no unit is left.
     ///
-    /// After an `Err` the host has been asked what the script asks of it, in order, up to one of its asks: that ask was
-    /// refused, or it was the last one before memory was wanting.
+    /// After an `Err` the host has been asked what the script asks of it, in order, up to one of
+    /// its asks: that ask was refused, or it was the last one before memory was wanting.
     pub fn call<H: Host>(
         &mut self,
         host: &mut H,
@@ -58,8 +57,8 @@ impl<'p> Machine<'p> {
         requires args { AllNumbered (functions_in self.old) (map seen args.items) }
         ensures meaning { Means H.rules self.old fuel.old (H.now host.old) fun.now args result
             self.new fuel.new (H.now host.new) }
-        ensures stands { Stands H.rules H.leaves self.old fuel.old (H.now host.old) fun.now args result
-            (H.now host.new) }
+        ensures stands { Stands H.rules H.leaves self.old fuel.old (H.now host.old) fun.now args
+            result (H.now host.new) }
         ensures refusals { Refuses result (H.now host.old) (H.now host.new) }
         ensures tickets { UsesTickets result (H.now host.old) (H.now host.new) }
         ensures numbered { LeftIsNumbered (functions_in self.old) (ran_left result) }
@@ -82,7 +81,7 @@ impl<'p> Machine<'p> {
 
 /// The arguments that are bound to a function, and then the given ones.
 fn bound_first(alloc: Global, fun: &Func, args: Vec<Value>) -> Result<Vec<Value>, MemoryFault>
-    ensures { IfOk result (λ all. map seen all.items ≡ items_of fun.now.bound ++ map seen args.items) }
+    ensures { IfOk result (λ all. map seen all.items ≡ bound_args fun.now args) }
 {
     let bound = copy_items(alloc, &fun.bound)?;
     Ok(joined(bound, args)?)

@@ -17,8 +17,8 @@ use page_values::{MemoryFault, Str};
 use std::alloc::Global;
 use std::marker::Model;
 
-/// A script, and the names of its functions, of its global variables, of the variables of each function, and of what it
-/// calls.
+/// A script, and the names of its functions, of its global variables, of the variables of each
+/// function, and of what it calls.
 #[derive(Drop)]
 pub struct Code<'p> {
     alloc: Global,
@@ -41,7 +41,8 @@ impl<'p> Model for Code<'p> {
 
     ghost view = { λ c. c.program.now };
 
-    ghost invariant = { λ c. AreNamesOf c.program.now c.functions c.globals c.no_names c.locals.items };
+    ghost invariant = { λ c.
+        AreNamesOf c.program.now c.functions c.globals c.no_names c.locals.items };
 }
 
 impl<'p> Code<'p> {

@@ -2,13 +2,12 @@
 //!
 //! Where one of these functions answers `None`, the expression is evaluated part by part.
 
-ghost use Rattle.std.specs.Prelude.{◌≡◌, Ok, Some, IfOk, IfSome};
+ghost use Rattle.std.specs.Prelude.{◌≡◌, Ok, IfOk, IfSome};
 ghost use Rattle.std.specs.Option.{option_map};
 ghost use Rattle.page_types.specs.Values.{BoolValue, IntValue};
 ghost use Rattle.lang_meaning.specs.Evaluation.{compare_answer, sum_answer, product_answer};
-ghost use Rattle.lang_ast.specs.Seen.{seen_expr, seen_exprs, seen_terms, seen_factors};
 ghost use Rattle.page_values.specs.Seen.{seen};
-ghost use Rattle.page_interp.specs.Direct.{direct_item, direct_sum, direct_product, direct_there, names_there, value_of};
+ghost use Rattle.page_interp.specs.Direct.{NameHolds, HasValue, PlacesGive, TermsGive, FactorsGive};
 
 use crate::code::Code;
 use crate::exit::Store;
@@ -29,7 +28,7 @@ fn variable<'a>(
     current: &'a Current,
     name: &Str,
 ) -> Option<&'a Value>
-    ensures { IfSome result (λ v. names_there code.now store.now current.now name.now ≡ Some (seen v.now)) }
+    ensures { IfSome result (λ v. NameHolds code.now store.now current.now name.now (seen v.now)) }
 {
     if let Some(value) = find(current.names, &current.locals, name) {
         return Some(value);
@@ -46,7 +45,7 @@ fn item<'a>(
     expr: &Expr,
     levels: u32,
 ) -> Option<&'a Value>
-    ensures { IfSome result (λ v. direct_there code.now store.now current.now expr.now ≡ Some (seen v.now)) }
+    ensures { IfSome result (λ v. HasValue code.now store.now current.now expr.now (seen v.now)) }
 {
     if levels == 0 {
         return None;
@@ -73,7 +72,7 @@ fn item_in<'a>(
     levels: u32,
 ) -> Option<&'a Value>
     ensures { IfSome result (λ v.
-        direct_item (names_there code.now store.now current.now) (seen_exprs places.now) (seen list.now) ≡ Some (seen v.now)) }
+        PlacesGive code.now store.now current.now places.now (seen list.now) (seen v.now)) }
 {
     let mut value = list;
     let mut rest = places;
@@ -89,7 +88,7 @@ fn item_in<'a>(
 /// An integer.
 #[cycle(direct)]
 fn int(code: &Code, store: &Store, current: &Current, expr: &Expr, levels: u32) -> Option<i64>
-    ensures { IfSome result (λ n. direct_there code.now store.now current.now expr.now ≡ Some (IntValue n)) }
+    ensures { IfSome result (λ n. HasValue code.now store.now current.now expr.now (IntValue n)) }
 {
     if levels == 0 {
         return None;
@@ -131,8 +130,7 @@ fn sum_in(
     terms: &[(SumSign, Expr)],
     levels: u32,
 ) -> Option<i64>
-    ensures { IfSome result (λ n.
-        direct_sum (names_there code.now store.now current.now) (seen_terms terms.now) (IntValue first) ≡ Some (IntValue n)) }
+    ensures { IfSome result (TermsGive code.now store.now current.now terms.now first) }
 {
     let mut total = first;
     let mut rest = terms;
@@ -154,8 +152,7 @@ fn product_in(
     factors: &[(ProductSign, Expr)],
     levels: u32,
 ) -> Option<i64>
-    ensures { IfSome result (λ n.
-        direct_product (names_there code.now store.now current.now) (seen_factors factors.now) (IntValue first) ≡ Some (IntValue n)) }
+    ensures { IfSome result (FactorsGive code.now store.now current.now factors.now first) }
 {
     let mut total = first;
     let mut rest = factors;
@@ -188,7 +185,8 @@ pub fn direct_value(
     current: &Current,
     expr: &Expr,
 ) -> Result<Option<Value>, MemoryFault>
-    ensures { IfOk result (λ o. IfSome o (λ v. direct_there code.now store.now current.now expr.now ≡ Some (seen v))) }
+    ensures { IfOk result (λ o. IfSome o (λ v.
+        HasValue code.now store.now current.now expr.now (seen v))) }
 {
     match expr {
         Expr::Number(_) | Expr::Sum(_, _) | Expr::Product(_, _) => {

@@ -34,7 +34,8 @@ impl<S> From<MemoryFault> for Exit<S> {
     }
 }
 
-/// What a run changes besides the locals and the host: the values of the global variables, and the units of fuel left.
+/// What a run changes besides the locals and the host: the values of the global variables, and the
+/// units of fuel left.
 #[derive(Drop)]
 pub struct Store {
     pub globals: Vec<Value>,

@@ -2,8 +2,8 @@
 
 ghost use Rattle.std.specs.Prelude.{◌≡◌, IfOk, IfErr};
 ghost use Rattle.page_interp.specs.Answers.{Answers};
-ghost use Rattle.page_interp.specs.Clauses.{script};
-ghost use Rattle.page_interp.specs.Frames.{stacked, place, Holds, Goes, Moves, IsAnswer, IsCall};
+ghost use Rattle.page_interp.specs.Frames.{IsAnswer, IsCall};
+ghost use Rattle.page_interp.specs.StackClauses.{MovesOn, LeadsOn};
 ghost use Rattle.page_interp.specs.Runs.{value_left};
 ghost use Rattle.lang_meaning.specs.Evaluation.{Answer};
 ghost use Rattle.page_interp.specs.declared.exit.Exit.TheVariants as exit;
@@ -22,7 +22,8 @@ use std::alloc::Global;
 /// What an operator answers is next.
 pub fn come<'c, S: Drop>(done: Result<Value, Exit<S>>) -> Result<Focus<'c>, Exit<S>>
     ensures ok { IfOk result (λ f. (r : Answer) → Answers (value_left done) r → IsAnswer f r) }
-    ensures err { IfErr result (λ x. (r : Answer) → Answers (value_left done) r → x ≡ exit.OutOfMemory) }
+    ensures err { IfErr result (λ x.
+        (r : Answer) → Answers (value_left done) r → x ≡ exit.OutOfMemory) }
 {
     match done {
         Ok(v) => Ok(Focus::Value(v)),
@@ -42,10 +43,8 @@ pub fn from_expr<'c, H: Host>(
     stack: &mut Vec<Frame<'c>>,
     expr: &'c Expr,
 ) -> Result<Focus<'c>, Exit<H::Stop>>
-    ensures ok { IfOk result (λ f.
-        Holds (script code.now) (place store.now current.now (stacked stack.old.items) (focus.Expr expr.entry)) →
-        Goes H.rules (script code.now) (place store.now current.now (stacked stack.old.items) (focus.Expr expr.entry))
-        (place store.now current.now (stacked stack.new.items) f)) }
+    ensures ok { IfOk result (LeadsOn H.rules code.now (focus.Expr expr.entry)
+        store.now current.now stack.old store.now current.now stack.new) }
     ensures err { IfErr result (λ x. x ≡ exit.OutOfMemory) }
 {
     match direct_value(code, store, current, expr) {
@@ -63,10 +62,8 @@ fn by_parts<'c, H: Host>(
     stack: &mut Vec<Frame<'c>>,
     expr: &'c Expr,
 ) -> Result<Focus<'c>, Exit<H::Stop>>
-    ensures ok { IfOk result (λ f.
-        Holds (script code.now) (place store.now current.now (stacked stack.old.items) (focus.Expr expr.entry)) →
-        Goes H.rules (script code.now) (place store.now current.now (stacked stack.old.items) (focus.Expr expr.entry))
-        (place store.now current.now (stacked stack.new.items) f)) }
+    ensures ok { IfOk result (LeadsOn H.rules code.now (focus.Expr expr.entry)
+        store.now current.now stack.old store.now current.now stack.new) }
     ensures err { IfErr result (λ x. x ≡ exit.OutOfMemory) }
 {
     match expr {
@@ -118,8 +115,8 @@ pub fn from_row<'c, H: Host>(
     values: Vec<Value>,
     exprs: &'c [Expr],
 ) -> Result<Focus<'c>, Exit<H::Stop>>
-    ensures ok { IfOk result (Moves H.rules (stacked stack.old.items) (focus.Row purpose values exprs.entry)
-        (stacked stack.new.items)) }
+    ensures ok { IfOk result (MovesOn H.rules (focus.Row purpose values exprs.entry)
+        stack.old stack.new) }
     ensures err { IfErr result (λ x. x ≡ exit.OutOfMemory) }
 {
     match exprs.split_first() {

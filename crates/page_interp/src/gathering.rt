@@ -1,10 +1,10 @@
 //! The names that a script gives.
 
-ghost use Rattle.std.specs.Prelude.{◌≡◌, IfOk, OnOk, map};
-ghost use Rattle.lang_meaning.specs.Evaluation.{names_in, names_in_stmt, names_in_others, names_in_else, functions_of, own_body};
+ghost use Rattle.std.specs.Prelude.{◌≡◌, IfOk, OnOk};
+ghost use Rattle.lang_meaning.specs.Evaluation.{names_in, names_in_stmt, names_in_others, names_in_else, own_body};
 ghost use Rattle.lang_ast.specs.Seen.{seen_stmt, seen_block, seen_others, seen_else, seen_items, seen_function};
 ghost use Rattle.page_interp.specs.Runs.{frame_names};
-ghost use Rattle.page_interp.specs.CodeNames.{Appends};
+ghost use Rattle.page_interp.specs.CodeNames.{frames_of, Appends};
 
 use crate::names::Names;
 use lang_ast::{Expr, Function, Item, Stmt};
@@ -58,7 +58,8 @@ fn names_in_others(
     others: &Vec<(Expr, Vec<Stmt>)>,
     into: &mut Vec<Str>,
 ) -> Result<(), MemoryFault>
-    ensures { OnOk result (Appends into.old into.new (names_in_others (seen_others others.now.items))) }
+    ensures { OnOk result (Appends into.old into.new
+        (names_in_others (seen_others others.now.items))) }
 {
     for other in others {
         names_in(alloc, &other.1, into)?;
@@ -95,7 +96,7 @@ pub fn frame_names(alloc: Global, function: &Function) -> Result<Names, MemoryFa
 
 /// The names of the variables of each function.
 pub fn all_frame_names(alloc: Global, items: &[Item]) -> Result<Vec<Names>, MemoryFault>
-    ensures { IfOk result (λ all. all.items ≡ map frame_names (functions_of (seen_items items.now))) }
+    ensures { IfOk result (λ all. all.items ≡ frames_of (seen_items items.now)) }
 {
     let mut all = Vec::new(alloc);
     for item in items {

@@ -24,8 +24,8 @@ pub enum Stopped<S> {
 
 /// The machine of one script, with its global variables.
 ///
-/// A unit of fuel is taken for each call of a function (the script's own body counts as one), for each entry into the
-/// block of a `while`, and for each call of `busy` before the host is asked.
+/// A unit of fuel is taken for each call of a function (the script's own body counts as one), for
+/// each entry into the block of a `while`, and for each call of `busy` before the host is asked.
 #[derive(Drop)]
 pub struct Machine<'p> {
     pub(crate) code: Code<'p>,
@@ -34,11 +34,8 @@ pub struct Machine<'p> {
 
 impl<'p> Model for Machine<'p> {
     ghost use Rattle.std.specs.Prelude.{IsTrue};
-    ghost use Rattle.lang_ast.specs.SeenProgram.{seen_program};
     ghost use Rattle.page_interp.specs.MachineNow.{MachineNow, coded_machine};
-    ghost use Rattle.page_interp.specs.NumberTests.{are_numbered_in};
-    ghost use Rattle.page_interp.specs.Runs.{count_of_functions};
-    ghost use Rattle.page_interp.specs.Variables.{globals_of};
+    ghost use Rattle.page_interp.specs.Variables.{globals_of, globals_are_numbered};
 
     ghost Value = { MachineNow };
 
@@ -46,5 +43,5 @@ impl<'p> Model for Machine<'p> {
 
     ghost view = { λ m. record { script = m.code; globals = globals_of m.code m.store } };
 
-    ghost invariant = { λ m. IsTrue (are_numbered_in (count_of_functions (seen_program m.code)) (globals_of m.code m.store)) };
+    ghost invariant = { λ m. IsTrue (globals_are_numbered m.code m.store) };
 }

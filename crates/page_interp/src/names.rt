@@ -11,8 +11,9 @@ use std::marker::Model;
 /// Among how many names a name is sought one after the other.
 const FEW: usize = 8;
 
-/// The names of functions or of variables, in order. A name may stand there more than once; it is found by its first
-/// place, in a number of steps that grows with the logarithm of how many there are.
+/// The names of functions or of variables, in order. A name may stand there more than once; it is
+/// found by its first place, in a number of steps that grows with the logarithm of how many there
+/// are.
 #[derive(Drop)]
 pub struct Names {
     names: Vec<Str>,

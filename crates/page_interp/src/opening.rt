@@ -1,16 +1,14 @@
 //! Calls: what may be called, and how a call opens and closes.
 
-ghost use Rattle.std.specs.Prelude.{◌≡◌, ◌<◌, ◌≤◌, Some, IfOk, IfErr, map};
+ghost use Rattle.std.specs.Prelude.{◌≡◌, ◌<◌, ◌≤◌, Some, IfOk, IfErr};
 ghost use Rattle.std.specs.Option.{option_map};
 ghost use Rattle.page_values.specs.Seen.{seen};
 ghost use Rattle.lang_ast.specs.Calls.{CallsFit};
 ghost use Rattle.lang_ast.specs.Names.{in_block};
-ghost use Rattle.lang_ast.specs.Steps.{AllNumbered};
-ghost use Rattle.page_interp.specs.Clauses.{script};
 ghost use Rattle.page_interp.specs.CodeNames.{function_at};
-ghost use Rattle.page_interp.specs.Frames.{stacked, place, Holds, Opens, IsWant, IsUncalled, IsBody, call_names, call_variables, call_body};
-ghost use Rattle.page_interp.specs.Runs.{func_of, func_seen, variables_of, count_of_functions};
-ghost use Rattle.page_interp.specs.declared.stack.Focus.{Focus};
+ghost use Rattle.page_interp.specs.Frames.{IsWant, IsUncalled, IsBody, call_names};
+ghost use Rattle.page_interp.specs.Runs.{func_of, func_seen};
+ghost use Rattle.page_interp.specs.StackClauses.{body_at, AreCallLocals, OpensOn};
 
 use crate::code::Code;
 use crate::exit::{Exit, Store};
@@ -55,8 +53,7 @@ pub fn callee_locals(
     function: u32,
     args: Vec<Value>,
 ) -> Result<Vec<Value>, MemoryFault>
-    ensures { IfOk result (λ locals. variables_of (call_names (function_at code.now function)) locals.items ≡
-        call_variables (function_at code.now function) (map seen args.items)) }
+    ensures { IfOk result (AreCallLocals (function_at code.now function) args) }
 {
     match code.function(function) {
         Some(called) => locals_for(called.parameters.len(), code.locals_of(function), args),
@@ -66,8 +63,8 @@ pub fn callee_locals(
 
 /// Its body.
 pub fn callee_body<'c>(code: &'c Code, function: u32) -> Focus<'c>
-    ensures body { IsBody (call_body (script code.now) (function_at code.now function)) result }
-    ensures fits { CallsFit (in_block (call_body (script code.now) (function_at code.now function))) }
+    ensures body { IsBody (body_at code.now function) result }
+    ensures fits { CallsFit (in_block (body_at code.now function)) }
 {
     match code.function(function) {
         Some(called) => Focus::Block(&called.body),
@@ -85,11 +82,8 @@ pub fn open<'c, H: Host>(
     args: Vec<Value>,
 ) -> Result<Focus<'c>, Exit<H::Stop>>
     requires room { current.old.depth < 256 }
-    ensures ok { IfOk result (λ f. (g : Focus) →
-        Holds (script code.now) (place store.old current.old (stacked stack.old.items) g) →
-        AllNumbered (count_of_functions (script code.now)) (map seen args.items) →
-        Opens H.rules (script code.now) function (map seen args.items)
-        (place store.old current.old (stacked stack.old.items) g) (place store.new current.new (stacked stack.new.items) f)) }
+    ensures ok { IfOk result (OpensOn H.rules code.now function args
+        store.old current.old stack.old store.new current.new stack.new) }
     ensures err { IfErr result (IsWant store.old.fuel) }
     ensures globals { store.new.globals ≡ store.old.globals }
     ensures fuel { store.new.fuel ≤ store.old.fuel }

@@ -9,8 +9,9 @@ use page_values::{MemoryFault, Str};
 use std::alloc::Global;
 use std::collections::BTreeMap;
 
-/// What operations some names stand for. A name that is among them is found in a number of steps that grows with the
-/// logarithm of how many there are, and any other one among the names of all operations.
+/// What operations some names stand for. A name that is among them is found in a number of steps
+/// that grows with the logarithm of how many there are, and any other one among the names of all
+/// operations.
 #[derive(Drop)]
 pub struct Operations {
     ops: BTreeMap<Vec<u8>, Option<Op>>,

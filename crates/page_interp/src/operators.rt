@@ -99,8 +99,8 @@ pub fn multiply<S: Drop>(
     }
 }
 
-/// A product, a quotient or a remainder within 64 bits. Division truncates towards zero, and a remainder has the sign of the
-/// dividend.
+/// A product, a quotient or a remainder within 64 bits. Division truncates towards zero, and a
+/// remainder has the sign of the dividend.
 pub fn int_product(sign: ProductSign, x: i64, y: i64) -> Option<i64>
     ensures { result ≡ int_product sign x y }
 {

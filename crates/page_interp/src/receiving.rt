@@ -4,7 +4,8 @@ ghost use Rattle.std.specs.Prelude.{◌≡◌, ◌∷◌, List, IfOk, IfErr};
 ghost use Rattle.page_parts.specs.Kinds.{bool_in};
 ghost use Rattle.page_values.specs.Seen.{seen};
 ghost use Rattle.page_interp.specs.declared.stack.Frame.{Frame};
-ghost use Rattle.page_interp.specs.Frames.{stacked, Moves, IsPicked};
+ghost use Rattle.page_interp.specs.Frames.{Moves, IsPicked};
+ghost use Rattle.page_interp.specs.StackClauses.{Takes};
 ghost use Rattle.page_interp.specs.declared.exit.Exit.TheVariants as exit;
 ghost use Rattle.page_interp.specs.declared.stack.Focus.TheVariants as focus;
 ghost use Rattle.page_interp.specs.declared.stack.Frame.TheVariants as frame;
@@ -26,8 +27,7 @@ fn into_or<'c, H: Host>(
     value: Value,
     rest: &'c [Expr],
 ) -> Result<Focus<'c>, Exit<H::Stop>>
-    ensures ok { IfOk result (Moves H.rules (frame.Wait (waiting.Or rest.entry) ∷ stacked stack.old.items)
-        (focus.Value value) (stacked stack.new.items)) }
+    ensures ok { IfOk result (Takes H.rules value (waiting.Or rest.entry) stack.old stack.new) }
     ensures err { IfErr result (λ x. x ≡ exit.OutOfMemory) }
 {
     match as_bool(&value) {
@@ -47,8 +47,7 @@ fn into_and<'c, H: Host>(
     value: Value,
     rest: &'c [Expr],
 ) -> Result<Focus<'c>, Exit<H::Stop>>
-    ensures ok { IfOk result (Moves H.rules (frame.Wait (waiting.And rest.entry) ∷ stacked stack.old.items)
-        (focus.Value value) (stacked stack.new.items)) }
+    ensures ok { IfOk result (Takes H.rules value (waiting.And rest.entry) stack.old stack.new) }
     ensures err { IfErr result (λ x. x ≡ exit.OutOfMemory) }
 {
     match as_bool(&value) {
@@ -67,8 +66,7 @@ fn into_terms<'c, H: Host>(
     value: Value,
     terms: &'c [(SumSign, Expr)],
 ) -> Result<Focus<'c>, Exit<H::Stop>>
-    ensures ok { IfOk result (Moves H.rules (frame.Wait (waiting.Terms terms.entry) ∷ stacked stack.old.items)
-        (focus.Value value) (stacked stack.new.items)) }
+    ensures ok { IfOk result (Takes H.rules value (waiting.Terms terms.entry) stack.old stack.new) }
     ensures err { IfErr result (λ x. x ≡ exit.OutOfMemory) }
 {
     match terms.split_first() {
@@ -86,8 +84,8 @@ fn into_term<'c, H: Host>(
     sign: SumSign,
     rest: &'c [(SumSign, Expr)],
 ) -> Result<Focus<'c>, Exit<H::Stop>>
-    ensures ok { IfOk result (Moves H.rules (frame.Wait (waiting.Term sum sign rest.entry) ∷ stacked stack.old.items)
-        (focus.Value value) (stacked stack.new.items)) }
+    ensures ok { IfOk result (Takes H.rules value (waiting.Term sum sign rest.entry)
+        stack.old stack.new) }
     ensures err { IfErr result (λ x. x ≡ exit.OutOfMemory) }
 {
     push(stack, Frame::Wait(Waiting::Terms(rest)))?;
@@ -100,8 +98,8 @@ fn into_factors<'c, H: Host>(
     value: Value,
     factors: &'c [(ProductSign, Expr)],
 ) -> Result<Focus<'c>, Exit<H::Stop>>
-    ensures ok { IfOk result (Moves H.rules (frame.Wait (waiting.Factors factors.entry) ∷ stacked stack.old.items)
-        (focus.Value value) (stacked stack.new.items)) }
+    ensures ok { IfOk result (Takes H.rules value (waiting.Factors factors.entry)
+        stack.old stack.new) }
     ensures err { IfErr result (λ x. x ≡ exit.OutOfMemory) }
 {
     match factors.split_first() {
@@ -119,8 +117,8 @@ fn into_factor<'c, H: Host>(
     sign: ProductSign,
     rest: &'c [(ProductSign, Expr)],
 ) -> Result<Focus<'c>, Exit<H::Stop>>
-    ensures ok { IfOk result (Moves H.rules (frame.Wait (waiting.Factor product sign rest.entry) ∷ stacked stack.old.items)
-        (focus.Value value) (stacked stack.new.items)) }
+    ensures ok { IfOk result (Takes H.rules value (waiting.Factor product sign rest.entry)
+        stack.old stack.new) }
     ensures err { IfErr result (λ x. x ≡ exit.OutOfMemory) }
 {
     push(stack, Frame::Wait(Waiting::Factors(rest)))?;
@@ -133,8 +131,8 @@ fn into_places<'c, H: Host>(
     value: Value,
     places: &'c [Expr],
 ) -> Result<Focus<'c>, Exit<H::Stop>>
-    ensures ok { IfOk result (Moves H.rules (frame.Wait (waiting.Places places.entry) ∷ stacked stack.old.items)
-        (focus.Value value) (stacked stack.new.items)) }
+    ensures ok { IfOk result (Takes H.rules value (waiting.Places places.entry)
+        stack.old stack.new) }
     ensures err { IfErr result (λ x. x ≡ exit.OutOfMemory) }
 {
     match places.split_first() {
@@ -151,8 +149,8 @@ fn into_place<'c, H: Host>(
     list: Value,
     rest: &'c [Expr],
 ) -> Result<Focus<'c>, Exit<H::Stop>>
-    ensures ok { IfOk result (Moves H.rules (frame.Wait (waiting.Place list rest.entry) ∷ stacked stack.old.items)
-        (focus.Value value) (stacked stack.new.items)) }
+    ensures ok { IfOk result (Takes H.rules value (waiting.Place list rest.entry)
+        stack.old stack.new) }
     ensures err { IfErr result (λ x. x ≡ exit.OutOfMemory) }
 {
     push(stack, Frame::Wait(Waiting::Places(rest)))?;
@@ -178,7 +176,8 @@ fn into_row<'c, H: Host>(
     rest: &'c [Expr],
 ) -> Result<Focus<'c>, Exit<H::Stop>>
     ensures ok { IfOk result (λ f. (fs : List Frame) →
-        Moves H.rules (frame.Wait (waiting.Row purpose values rest.entry) ∷ fs) (focus.Value value) fs f) }
+        Moves H.rules (frame.Wait (waiting.Row purpose values rest.entry) ∷ fs)
+        (focus.Value value) fs f) }
     ensures err { IfErr result (λ x. x ≡ exit.OutOfMemory) }
 {
     append(&mut values, value)?;
@@ -192,8 +191,7 @@ pub fn receive<'c, H: Host>(
     waiting: Waiting<'c>,
     value: Value,
 ) -> Result<Focus<'c>, Exit<H::Stop>>
-    ensures ok { IfOk result (Moves H.rules (frame.Wait waiting.entry ∷ stacked stack.old.items) (focus.Value value)
-        (stacked stack.new.items)) }
+    ensures ok { IfOk result (Takes H.rules value waiting.entry stack.old stack.new) }
     ensures err { IfErr result (λ x. x ≡ exit.OutOfMemory) }
 {
     match waiting {

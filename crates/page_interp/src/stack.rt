@@ -1,7 +1,7 @@
 //! The frames of a run: what is to be done next, and what waits for its value.
 
-ghost use Rattle.std.specs.Prelude.{◌≡◌, [], ◌∷◌, IfOk, IfErr, IfSome, IfNone};
-ghost use Rattle.page_interp.specs.Frames.{stacked};
+ghost use Rattle.std.specs.Prelude.{◌≡◌, [], IfOk, IfErr, IfSome, IfNone};
+ghost use Rattle.page_interp.specs.Frames.{stacked, HasOnTop};
 ghost use Rattle.page_interp.specs.declared.exit.Exit.TheVariants as exit;
 ghost use Rattle.page_interp.specs.declared.stack.Focus.TheVariants as focus;
 ghost use Rattle.page_interp.specs.declared.stack.Frame.TheVariants as frame;
@@ -104,7 +104,7 @@ pub struct Current<'c> {
 
 /// A frame on top.
 pub fn push<'c, S: Drop>(stack: &mut Vec<Frame<'c>>, frame: Frame<'c>) -> Result<(), Exit<S>>
-    ensures pushed { IfOk result (λ _. stacked stack.new.items ≡ frame.entry ∷ stacked stack.old.items) }
+    ensures pushed { IfOk result (λ _. HasOnTop stack.new frame.entry stack.old) }
     ensures err { IfErr result (λ x. x ≡ exit.OutOfMemory) }
 {
     match stack.push(frame) {
@@ -115,7 +115,7 @@ pub fn push<'c, S: Drop>(stack: &mut Vec<Frame<'c>>, frame: Frame<'c>) -> Result
 
 /// The frame on top, which goes.
 pub fn pop<'c>(stack: &mut Vec<Frame<'c>>) -> Option<Frame<'c>>
-    ensures some { IfSome result (λ frame. stacked stack.old.items ≡ frame ∷ stacked stack.new.items) }
+    ensures some { IfSome result (λ frame. HasOnTop stack.old frame stack.new) }
     ensures none { IfNone result (stacked stack.old.items ≡ []) }
     ensures empty { IfNone result (stacked stack.new.items ≡ []) }
 {
@@ -128,7 +128,7 @@ pub fn wait<'c, S: Drop>(
     waiting: Waiting<'c>,
     expr: &'c Expr,
 ) -> Result<Focus<'c>, Exit<S>>
-    ensures pushed { IfOk result (λ _. stacked stack.new.items ≡ frame.Wait waiting.entry ∷ stacked stack.old.items) }
+    ensures pushed { IfOk result (λ _. HasOnTop stack.new (frame.Wait waiting.entry) stack.old) }
     ensures next { IfOk result (λ f. f ≡ focus.Expr expr.entry) }
     ensures err { IfErr result (λ x. x ≡ exit.OutOfMemory) }
 {
@@ -142,7 +142,7 @@ pub fn within<'c, S: Drop>(
     frame: Frame<'c>,
     next: Focus<'c>,
 ) -> Result<Focus<'c>, Exit<S>>
-    ensures pushed { IfOk result (λ _. stacked stack.new.items ≡ frame.entry ∷ stacked stack.old.items) }
+    ensures pushed { IfOk result (λ _. HasOnTop stack.new frame.entry stack.old) }
     ensures next { IfOk result (λ f. f ≡ next.entry) }
     ensures err { IfErr result (λ x. x ≡ exit.OutOfMemory) }
 {

@@ -4,7 +4,7 @@ ghost use Rattle.std.specs.Prelude.{◌≡◌, IfOk, IfErr, IfSome, IfNone};
 ghost use Rattle.page_types.specs.Tree.{no_stmts, with_stmt};
 ghost use Rattle.lang_meaning.specs.Evaluation.{own_body};
 ghost use Rattle.lang_ast.specs.Seen.{seen_stmt, seen_items};
-ghost use Rattle.page_interp.specs.Frames.{stacked, Moves};
+ghost use Rattle.page_interp.specs.StackClauses.{MovesOn};
 ghost use Rattle.page_interp.specs.declared.exit.Exit.TheVariants as exit;
 ghost use Rattle.page_interp.specs.declared.stack.Focus.TheVariants as focus;
 
@@ -18,7 +18,7 @@ pub fn from_stmt<'c, H: Host>(
     stack: &mut Vec<Frame<'c>>,
     stmt: &'c Stmt,
 ) -> Result<Focus<'c>, Exit<H::Stop>>
-    ensures ok { IfOk result (Moves H.rules (stacked stack.old.items) (focus.Stmt stmt.entry) (stacked stack.new.items)) }
+    ensures ok { IfOk result (MovesOn H.rules (focus.Stmt stmt.entry) stack.old stack.new) }
     ensures err { IfErr result (λ x. x ≡ exit.OutOfMemory) }
 {
     match stmt {
@@ -42,7 +42,8 @@ pub fn from_others<'c, H: Host>(
     others: &'c [(Expr, Vec<Stmt>)],
     last: &'c Option<Vec<Stmt>>,
 ) -> Result<Focus<'c>, Exit<H::Stop>>
-    ensures ok { IfOk result (Moves H.rules (stacked stack.old.items) (focus.Others others.entry last.entry) (stacked stack.new.items)) }
+    ensures ok { IfOk result (MovesOn H.rules (focus.Others others.entry last.entry)
+        stack.old stack.new) }
     ensures err { IfErr result (λ x. x ≡ exit.OutOfMemory) }
 {
     match others.split_first() {
@@ -75,7 +76,7 @@ pub fn from_items<'c, H: Host>(
     stack: &mut Vec<Frame<'c>>,
     items: &'c [Item],
 ) -> Result<Focus<'c>, Exit<H::Stop>>
-    ensures ok { IfOk result (Moves H.rules (stacked stack.old.items) (focus.Items items.entry) (stacked stack.new.items)) }
+    ensures ok { IfOk result (MovesOn H.rules (focus.Items items.entry) stack.old stack.new) }
     ensures err { IfErr result (λ x. x ≡ exit.OutOfMemory) }
 {
     match first_stmt(items) {

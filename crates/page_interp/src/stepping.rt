@@ -1,12 +1,12 @@
 //! The steps of a run, until the outermost call ends.
 
-ghost use Rattle.std.specs.Prelude.{◌≡◌, [], ◌∷◌, ◌+◌, ◌<◌, ◌≤◌, List, ℕ, IfOk, IfErr, map};
+ghost use Rattle.std.specs.Prelude.{◌≡◌, [], ◌+◌, ◌<◌, ◌≤◌, IfOk, IfErr, map};
 ghost use Rattle.std.specs.Option.{option_map};
 ghost use Rattle.page_values.specs.Seen.{seen};
-ghost use Rattle.lang_ast.specs.Steps.{AllNumbered};
-ghost use Rattle.page_interp.specs.Clauses.{script, CanCall};
-ghost use Rattle.page_interp.specs.Frames.{does, stacked, place, Stood, Steps, Holds, Goes, Finishes, IsWant, IsCallable};
-ghost use Rattle.page_interp.specs.Runs.{Runs, outside, moment_of, caller_of, value_left, count_of_functions};
+ghost use Rattle.page_interp.specs.Clauses.{count_in, CanCall, CallRuns};
+ghost use Rattle.page_interp.specs.Frames.{place, IsWant, IsCallable, AreSeenNumbered};
+ghost use Rattle.page_interp.specs.Runs.{value_left};
+ghost use Rattle.page_interp.specs.StackClauses.{stand, LeadsOn, IsStanding, StepsOn, RunEnds};
 ghost use Rattle.page_interp.specs.declared.stack.Focus.TheVariants as focus;
 
 use crate::asking::{ask, resume};
@@ -45,10 +45,8 @@ fn call<'c, H: Host>(
     callee: Option<Value>,
     args: Vec<Value>,
 ) -> Result<Focus<'c>, Exit<H::Stop>>
-    ensures ok { IfOk result (λ f.
-        Holds (script code.now) (place store.old current.old (stacked stack.old.items) (focus.Call callee args)) →
-        Goes H.rules (script code.now) (place store.old current.old (stacked stack.old.items) (focus.Call callee args))
-        (place store.new current.new (stacked stack.new.items) f)) }
+    ensures ok { IfOk result (LeadsOn H.rules code.now (focus.Call callee args)
+        store.old current.old stack.old store.new current.new stack.new) }
     ensures err { IfErr result (IsWant store.old.fuel) }
     ensures called { IfErr result (λ _. IsCallable current.old.depth (option_map seen callee)) }
     ensures globals { store.new.globals ≡ store.old.globals }
@@ -75,11 +73,10 @@ fn from_value<'c, H: Host>(
     stack: &mut Vec<Frame<'c>>,
     value: Value,
 ) -> Result<Focus<'c>, Exit<H::Stop>>
-    requires stood { (ts : List ℕ) × Stood H.rules H.leaves (script code.now) ts (H.now host.old)
-        (place store.old current.old (stacked stack.old.items) (focus.Value value)) }
-    ensures { Steps H.rules H.leaves (script code.now) (H.now host.old)
-        (place store.old current.old (stacked stack.old.items) (focus.Value value)) result
-        (H.now host.new) store.new current.new (stacked stack.new.items) }
+    requires stood { IsStanding H.rules H.leaves code.now (H.now host.old)
+        (stand store.old current.old stack.old (focus.Value value)) }
+    ensures { StepsOn H.rules H.leaves H.now code.now (focus.Value value) result
+        host.old store.old current.old stack.old host.new store.new current.new stack.new }
 {
     match pop(stack) {
         None => Err(Exit::Return(Value::Unit)),
@@ -122,11 +119,10 @@ fn from_throw<'c, H: Host>(
     stack: &mut Vec<Frame<'c>>,
     value: Value,
 ) -> Result<Focus<'c>, Exit<H::Stop>>
-    requires stood { (ts : List ℕ) × Stood H.rules H.leaves (script code.now) ts (H.now host.old)
-        (place store.old current.old (stacked stack.old.items) (focus.Throw value)) }
-    ensures { Steps H.rules H.leaves (script code.now) (H.now host.old)
-        (place store.old current.old (stacked stack.old.items) (focus.Throw value)) result
-        (H.now host.new) store.new current.new (stacked stack.new.items) }
+    requires stood { IsStanding H.rules H.leaves code.now (H.now host.old)
+        (stand store.old current.old stack.old (focus.Throw value)) }
+    ensures { StepsOn H.rules H.leaves H.now code.now (focus.Throw value) result
+        host.old store.old current.old stack.old host.new store.new current.new stack.new }
 {
     match pop(stack) {
         None => Err(Exit::Throw(value)),
@@ -165,11 +161,10 @@ fn from_return<'c, H: Host>(
     stack: &mut Vec<Frame<'c>>,
     value: Value,
 ) -> Result<Focus<'c>, Exit<H::Stop>>
-    requires stood { (ts : List ℕ) × Stood H.rules H.leaves (script code.now) ts (H.now host.old)
-        (place store.old current.old (stacked stack.old.items) (focus.Return value)) }
-    ensures { Steps H.rules H.leaves (script code.now) (H.now host.old)
-        (place store.old current.old (stacked stack.old.items) (focus.Return value)) result
-        (H.now host.new) store.new current.new (stacked stack.new.items) }
+    requires stood { IsStanding H.rules H.leaves code.now (H.now host.old)
+        (stand store.old current.old stack.old (focus.Return value)) }
+    ensures { StepsOn H.rules H.leaves H.now code.now (focus.Return value) result
+        host.old store.old current.old stack.old host.new store.new current.new stack.new }
 {
     match pop(stack) {
         None => Err(Exit::Return(value)),
@@ -205,11 +200,10 @@ fn step<'c, H: Host>(
     stack: &mut Vec<Frame<'c>>,
     focus: Focus<'c>,
 ) -> Result<Focus<'c>, Exit<H::Stop>>
-    requires stood { (ts : List ℕ) × Stood H.rules H.leaves (script code.now) ts (H.now host.old)
-        (place store.old current.old (stacked stack.old.items) focus) }
-    ensures { Steps H.rules H.leaves (script code.now) (H.now host.old)
-        (place store.old current.old (stacked stack.old.items) focus.entry) result
-        (H.now host.new) store.new current.new (stacked stack.new.items) }
+    requires stood { IsStanding H.rules H.leaves code.now (H.now host.old)
+        (stand store.old current.old stack.old focus) }
+    ensures { StepsOn H.rules H.leaves H.now code.now focus.entry result
+        host.old store.old current.old stack.old host.new store.new current.new stack.new }
 {
     match focus {
         Focus::Expr(expr) => from_expr::<H>(code, store, current, stack, expr),
@@ -236,12 +230,10 @@ fn run<'c, H: Host>(
     mut current: Current<'c>,
     first: Focus<'c>,
 ) -> Exit<H::Stop>
-    requires stood { (ts : List ℕ) × Stood H.rules H.leaves (script code.now) ts (H.now host.old)
+    requires stood { IsStanding H.rules H.leaves code.now (H.now host.old)
         (place store.old current [] first) }
-    ensures { (ts : List ℕ) →
-        Stood H.rules H.leaves (script code.now) ts (H.now host.old) (place store.old current.entry [] first.entry) →
-        Finishes H.rules H.leaves (script code.now) ts (λ d. does d first.entry) (H.now host.old)
-        (place store.old current.entry [] first.entry) result (H.now host.new) store.new }
+    ensures { RunEnds H.rules H.leaves code.now (place store.old current.entry [] first.entry)
+        (H.now host.old) result (H.now host.new) store.new }
 {
     let mut stack = Vec::new(code.alloc());
     let mut focus = first;
@@ -262,11 +254,9 @@ pub fn run_function<H: Host>(
     args: Vec<Value>,
 ) -> Result<Value, Exit<H::Stop>>
     requires ready { CanCall H.rules H.leaves code.now (H.now host.old) store.old }
-    requires args { AllNumbered (count_of_functions (script code.now)) (map seen args.items) }
-    ensures { Runs (outside H.rules H.leaves (script code.now))
-        (caller_of H.rules (script code.now) 0 function (map seen args.items))
-        (moment_of (script code.now) (H.now host.old) store.old []) (value_left result)
-        (moment_of (script code.now) (H.now host.new) store.new []) }
+    requires args { AreSeenNumbered (count_in code.now) args }
+    ensures { CallRuns H.rules H.leaves code.now function (map seen args.items)
+        (H.now host.old) store.old (value_left result) (H.now host.new) store.new }
 {
     if store.fuel == 0 {
         return Err(Exit::Fuel);

@@ -116,8 +116,8 @@ pub fn name_value<S: Drop>(
     }
 }
 
-/// The variables of a call: the parameters with their arguments, and then those that the body gives. Surplus arguments are
-/// dropped, and the rest is unit.
+/// The variables of a call: the parameters with their arguments, and then those that the body
+/// gives. Surplus arguments are dropped, and the rest is unit.
 pub fn locals_for(
     parameters: usize,
     names: &Names,

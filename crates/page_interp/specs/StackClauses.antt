@@ -1,0 +1,199 @@
+-- What the functions of the machine promise of a step, with the stack that they work on.
+use Rattle.std.specs.Prelude.{◌≡◌, ◌≤◌, ◌+◌, ◌*◌, ◌^◌, ℕ, List, ◌∷◌, map, Option, Result, Vec}
+use Rattle.std.specs.declared.alloc.Global.{Global}
+use Rattle.std.specs.Borrow.{Bor}
+use Rattle.page_types.specs.Tree.{Program, Block}
+use Rattle.page_types.specs.declared.Op.{Op}
+use Rattle.page_values.specs.declared.Value.{Value}
+use Rattle.page_values.specs.Seen.{seen}
+use Rattle.lang_ast.specs.declared.program.Program as Code
+use Rattle.lang_ast.specs.declared.tree.Expr.{Expr}
+use Rattle.lang_ast.specs.declared.tree.Stmt.{Stmt}
+use Rattle.lang_ast.specs.Hosts.{HostNow}
+use Rattle.lang_meaning.specs.Evaluation.{Function}
+use Rattle.lang_meaning.specs.HostSteps.{HostRules, HostStep, Ask, CallbackEnd, asked_by}
+use Rattle.lang_meaning.specs.Asks.{ask_limited}
+use Rattle.page_interp.specs.declared.exit.Exit.{Exit}
+use Rattle.page_interp.specs.declared.exit.Store.{Store}
+use Rattle.page_interp.specs.declared.stack.Current.{Current}
+use Rattle.page_interp.specs.declared.stack.Focus.{Focus}
+use Rattle.page_interp.specs.declared.stack.Focus.TheVariants as focus
+use Rattle.page_interp.specs.declared.stack.Frame.{Frame}
+use Rattle.page_interp.specs.declared.stack.Frame.TheVariants as frame
+use Rattle.page_interp.specs.declared.stack.Waiting.{Waiting}
+use Rattle.page_interp.specs.AtOnce.{Leads, before_stmt, branches, turned, tested_at}
+use Rattle.page_interp.specs.Clauses.{script, count_in}
+use Rattle.page_interp.specs.CodeNames.{function_at}
+use Rattle.page_interp.specs.Frames.{Place, Holds, Moves, Opens, Stood, Steps, Answering, MayCome, Leaves, Finishes, stacked, place, waiting_at, moment_at, tickets_in, does, steps_on, resumes, call_names, call_variables, call_body, AreSeenNumbered}
+use Rattle.page_interp.specs.Runs.{IsReady, outside, variables_of}
+
+-- ---- The stack
+
+-- where the machine stands, with this stack
+abbrev pub stand : Store → Current → Vec Frame Global → Focus → Place
+stand store current stack f = place store current (stacked stack.items) f
+
+-- where it stands and needs nothing more of what is next
+abbrev pub resting : Store → Current → Vec Frame Global → Place
+resting store current stack = waiting_at store current (stacked stack.items)
+
+-- ---- A step that does not ask the host
+
+-- it leads on with no eye on the variables
+abbrev pub MovesOn : {T : Type 0} → HostRules T → Focus → (old new : Vec Frame Global)
+    → Focus → Type 0
+MovesOn rules f old new = Moves rules (stacked old.items) f (stacked new.items)
+
+-- the same of a value that comes back to what waits for it
+abbrev pub Takes : {T : Type 0} → HostRules T → Value → Waiting → (old new : Vec Frame Global)
+    → Focus → Type 0
+Takes rules v waiting old new =
+    Moves rules (frame.Wait waiting ∷ stacked old.items) (focus.Value v) (stacked new.items)
+
+-- the same where these statements wait for its end
+abbrev pub MovesBefore : {T : Type 0} → HostRules T → Bor (List Stmt) → Focus
+    → (old new : Vec Frame Global) → Focus → Type 0
+MovesBefore rules rest f old new =
+    Moves rules (before_stmt rest (stacked old.items)) f (stacked new.items)
+
+-- the same of a condition's value, where its sides wait for it, and these statements for their end
+abbrev pub Branches : {T : Type 0} → HostRules T → Bor (List Stmt)
+    → Bor (List (Expr × Vec Stmt Global)) → Bor (Option (Vec Stmt Global)) → Bor (List Stmt)
+    → Value → (old new : Vec Frame Global) → Focus → Type 0
+Branches rules block others last rest v old new =
+    Moves rules (branches block others last rest (stacked old.items)) (focus.Value v)
+    (stacked new.items)
+
+-- it leads from the store, the variables and the stack before to those after
+abbrev pub LeadsOn : {T : Type 0} → HostRules T → Code.Program → Focus
+    → Store → Current → Vec Frame Global → Store → Current → Vec Frame Global → Focus → Type 0
+LeadsOn rules code f store current stack store' current' stack' = λ f'.
+    Leads rules (script code) (stand store current stack f) (stand store' current' stack' f')
+
+-- the same where these statements wait for its end
+abbrev pub LeadsBefore : {T : Type 0} → HostRules T → Code.Program → Bor (List Stmt) → Focus
+    → Store → Current → (old new : Vec Frame Global) → Focus → Type 0
+LeadsBefore rules code rest f store current old new = λ f'.
+    Leads rules (script code) (place store current (before_stmt rest (stacked old.items)) f)
+    (stand store current new f')
+
+-- it leads on from the value of a loop's condition
+abbrev pub TestLeads : {T : Type 0} → HostRules T → Bor Expr → Bor (List Stmt) → Value
+    → Store → Vec Frame Global → Store → Vec Frame Global → Focus → Type 0
+TestLeads rules test block v store stack store' stack' = λ f'. (p : Program) (current : Current) →
+    Leads rules p (tested_at store current test block (stacked stack.items) v)
+    (stand store' current stack' f')
+
+-- it leads on from the end of a loop's turn
+abbrev pub TurnLeads : {T : Type 0} → HostRules T → Code.Program → Current
+    → Bor Expr → Bor (List Stmt)
+    → Store → Vec Frame Global → Store → Vec Frame Global → Focus → Type 0
+TurnLeads rules code current test block store stack store' stack' = λ f'. (v : Value) →
+    Leads rules (script code) (turned store current test block (stacked stack.items) v)
+    (stand store' current stack' f')
+
+-- ---- A call
+
+-- what is called by a number has this body
+abbrev pub body_at : Code.Program → ℕ → Block
+body_at code function = call_body (script code) (function_at code function)
+
+-- the variables of what is called with these arguments have these values
+abbrev pub AreCallLocals : Option Function → (args locals : Vec Value Global) → Type 0
+AreCallLocals called args locals =
+    variables_of (call_names called) locals.items ≡ call_variables called (map seen args.items)
+
+-- a call opens, whatever was next before it
+abbrev pub OpensOn : {T : Type 0} → HostRules T → Code.Program → ℕ → (args : Vec Value Global)
+    → Store → Current → Vec Frame Global → Store → Current → Vec Frame Global → Focus → Type 0
+OpensOn rules code function args store current stack store' current' stack' = λ f'.
+    (f : Focus) → Holds (script code) (stand store current stack f) →
+    AreSeenNumbered (count_in code) args →
+    Opens rules (script code) function (map seen args.items)
+    (stand store current stack f) (stand store' current' stack' f')
+
+-- ---- A step that may ask the host
+
+-- a run stands there, with some tickets that were open before it
+abbrev pub IsStanding : {T S : Type 0} → HostRules T → (Ask → T → T → Type 0) → Code.Program
+    → HostNow T S → Place → Type 0
+IsStanding rules leaves code h a = (ts : List ℕ) × Stood rules leaves (script code) ts h a
+
+-- a step leads from the host, the store, the variables and the stack before to those after
+abbrev pub StepsOn : {Self T S : Type 0} → HostRules T → (Ask → T → T → Type 0)
+    → (now : Self → HostNow T S) → Code.Program → Focus → Result Focus (Exit S)
+    → Self → Store → Current → Vec Frame Global
+    → Self → Store → Current → Vec Frame Global → Type 0
+StepsOn rules leaves now code f result
+    host store current stack host' store' current' stack' =
+    Steps rules leaves (script code) (now host) (stand store current stack f) result
+    (now host') store' current' (stacked stack'.items)
+
+-- a run from there ends so, whatever tickets were open before it
+abbrev pub RunEnds : {T S : Type 0} → HostRules T → (Ask → T → T → Type 0) → Code.Program
+    → Place → HostNow T S → Exit S → HostNow T S → Store → Type 0
+RunEnds rules leaves code a h x h' store' =
+    (ts : List ℕ) → Stood rules leaves (script code) ts h a →
+    Finishes rules leaves (script code) ts (λ d. does d a.focus) h a x h' store'
+
+-- ---- Asks of the host
+
+-- what is known where the host has answered with this step
+abbrev pub HasAnswered : {T S : Type 0} → HostRules T → (Ask → T → T → Type 0)
+    → (left : T → ℕ → ℕ) → Code.Program → List ℕ → HostNow T S → Place → HostStep → Type 0
+HasAnswered rules leaves left code ts h a step =
+    Answering rules leaves (script code) ts (left h.told) h a step
+
+-- what comes of an answer of the host
+abbrev pub AnswerLeaves : {Self T S : Type 0} → HostRules T → (Ask → T → T → Type 0)
+    → (left : T → ℕ → ℕ) → (now : Self → HostNow T S) → Code.Program
+    → HostStep → Result Focus (Exit S)
+    → Self → Store → Current → Vec Frame Global
+    → Self → Store → Current → Vec Frame Global → Type 0
+AnswerLeaves rules leaves left now code step result
+    host store current stack host' store' current' stack' =
+    (ts : List ℕ) (n : ℕ) →
+    HasAnswered rules leaves left code ts (now host) (resting store current stack) step →
+    MayCome store.fuel (left (now host).told) step n →
+    Leaves rules leaves (script code) ts (steps_on rules n step) 2
+    (now host) (resting store current stack) result
+    (now host') store' current' (stacked stack'.items)
+
+-- the host waits for a callback under this ticket, above those of its frames
+abbrev pub WaitsUnder : {T S : Type 0} → (ticket : ℕ) → HostNow T S → Vec Frame Global
+    → List ℕ → Type 0
+WaitsUnder ticket h stack ts = h.tickets ≡ ticket ∷ tickets_in (stacked stack.items) ts
+
+-- the host may rely there on what it relies on
+abbrev pub IsReadyAt : {T S : Type 0} → HostRules T → (Ask → T → T → Type 0) → Code.Program
+    → HostNow T S → Place → Type 0
+IsReadyAt rules leaves code h a =
+    IsReady (outside rules leaves (script code)) (moment_at (script code) h a)
+
+-- what comes of the host's going on after a callback that ended so
+abbrev pub Resumes : {Self T S : Type 0} → HostRules T → (Ask → T → T → Type 0)
+    → (now : Self → HostNow T S) → Code.Program
+    → (ticket : ℕ) → CallbackEnd → Result Focus (Exit S)
+    → Self → Store → Current → Vec Frame Global
+    → Self → Store → Current → Vec Frame Global → Type 0
+Resumes rules leaves now code ticket end result
+    host store current stack host' store' current' stack' =
+    (ts : List ℕ) (n : ℕ) → WaitsUnder ticket (now host) stack ts →
+    (store.fuel + 1) * (2 ^ 64) ≤ n →
+    Leaves rules leaves (script code) ts (resumes rules n ticket end) 2
+    (now host) (resting store current stack) result
+    (now host') store' current' (stacked stack'.items)
+
+-- what comes of an operation that the host is asked for
+abbrev pub AskLeaves : {Self T S : Type 0} → HostRules T → (Ask → T → T → Type 0)
+    → (now : Self → HostNow T S) → Code.Program
+    → Op → (args : Vec Value Global) → Result Focus (Exit S)
+    → Self → Store → Current → Vec Frame Global
+    → Self → Store → Current → Vec Frame Global → Type 0
+AskLeaves rules leaves now code op args result
+    host store current stack host' store' current' stack' =
+    (ts : List ℕ) → Stood rules leaves (script code) ts (now host) (resting store current stack) →
+    Leaves rules leaves (script code) ts
+    (λ d. asked_by (ask_limited rules) d.call op (map seen args.items)) 2
+    (now host) (resting store current stack) result
+    (now host') store' current' (stacked stack'.items)
