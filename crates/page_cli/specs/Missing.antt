@@ -30,7 +30,7 @@ ComesBefore first file = ⊥
 -- ---- Ours: where a missing file stops a command
 
 -- The command stopped at this file, which could not be read; or at one before it, which could not be read or is too long; or for want of
--- memory. It did not end, and wrote and judged nothing.
+-- memory. That is no end of a run, no text that was written, and no verdict on one.
 abbrev pub StopsBy : WhichFile → Answer → Type 0
 StopsBy file (ReadFault other) = (other ≡ file) ⊎ ComesBefore other file
 StopsBy file (TooLong other) = ComesBefore other file
