@@ -41,7 +41,7 @@ pub fn copy_text(alloc: Global, text: &Str) -> Result<Str, MemoryFault>
 pub fn copy_items(alloc: Global, items: &Items) -> Result<Items, MemoryFault>
     ensures { IfOk result (λ vs. vs ≡ items.now) }
 {
-    let mut copies = Vec::new(alloc);
+    let mut copies = Vec::with_capacity(alloc, items.items.len())?;
     append_copies(alloc, &items.items, &mut copies)?;
     Ok(Items { items: copies })
 }
@@ -57,7 +57,11 @@ pub(crate) fn append_copies(
 {
     into.reserve(items.len())?;
     for value in items {
-        into.push(copy(alloc, value)?)?;
+        if let Value::Int(n) = value {
+            into.push(Value::Int(*n))?;
+        } else {
+            into.push(copy(alloc, value)?)?;
+        }
     }
     Ok(())
 }
