@@ -21,6 +21,7 @@ use crate::{Did, Page};
 use page_hosts::HostPort;
 use page_interp::Machine;
 use page_signals::{Dispatch, Target};
+use page_tasks::WindowEvent;
 use page_values::{MemoryFault, Str, Value, copy};
 use std::alloc::Global;
 use std::sync::ledger::Ledger;
@@ -31,13 +32,14 @@ impl<P: HostPort, L: Lines, M: Ledger> Page<P, L, M> {
     pub(crate) fn fire_at_window(
         &mut self,
         machine: &mut Machine<'_>,
-        name: Str,
-        value: Value,
+        event: WindowEvent,
     ) -> Result<Did, NoLine>
         requires { CanCall machine.old self.old }
-        ensures { Runs L.keeping L.seen (λ call. firing.dispatch (model.in_task call) parts.Window name (seen value ∷ []))
+        ensures { Runs L.keeping L.seen
+            (λ call. firing.dispatch (model.in_task call) parts.Window event.name (seen event.value ∷ []))
             (result_err result) (did_how result) machine.old self.old machine.new self.new }
     {
+        let WindowEvent { name, value } = event;
         let Ok(args) = lone_argument(self.state.alloc(), value) else {
             return Err(self.wanting());
         };

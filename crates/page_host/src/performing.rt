@@ -107,7 +107,7 @@ impl<P: HostPort, L: Lines, M: Ledger> Page<P, L, M> {
             TaskSteps::RunScript => self.run_script(machine),
             TaskSteps::RunTimer(task) => self.run_timer(machine, task),
             TaskSteps::TimeOutSignal(s) => self.time_out_signal(machine, s),
-            TaskSteps::FireAtWindow { name, value } => self.fire_at_window(machine, name, value),
+            TaskSteps::FireAtWindow(event) => self.fire_at_window(machine, Box::into_inner(event)),
             TaskSteps::AnswerHost(_) => Ok(Did::Finished),
             TaskSteps::RunFrame(time) => self.run_frame(machine, time),
             TaskSteps::InvokeIdle => self.invoke_idle(machine),

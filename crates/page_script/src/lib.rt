@@ -3,6 +3,7 @@
 //! The calls are those of the model's page in `page_model`, on the fields of this part. Times are in microseconds.
 #![tactic(auto)]
 
+mod callbacks;
 mod combiner;
 mod combining;
 mod laws;
@@ -11,9 +12,8 @@ mod naming;
 mod parts;
 mod registrations;
 mod script;
-#[cfg(test)]
-mod tests;
 
+pub use callbacks::{BothCallbacks, Callbacks};
 pub use laws::{
     acts_follow_one_another, calls_touch_the_script_alone,
     functions_that_touch_the_script_alone_compose, promises_are_counted,

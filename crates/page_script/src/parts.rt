@@ -2,8 +2,9 @@
 
 ghost use Rattle.std.specs.Prelude.{◌≡◌};
 
+use crate::callbacks::Callbacks;
 use page_base::Micros;
-use page_values::{Func, Value};
+use page_values::Value;
 use post_task::PrioSource;
 use trace_text::RegKind;
 
@@ -43,8 +44,7 @@ impl Role {
 /// A callback that was handed in: what it is for, the functions to call, and where it has one its timer id, its promise and
 /// the signal that can abort it. Numbers are counted from 1, and 0 names nothing. A handler that is no function is absent.
 ///
-/// A page keeps each one to its end, so they are small: the fields lie in this order, and the second callback, which only the
-/// handlers of a promise have, stands in a box.
+/// A page keeps each one to its end, so they are small: the fields lie in this order.
 #[derive(Drop)]
 pub struct Registration {
     pub role: Role,
@@ -53,8 +53,7 @@ pub struct Registration {
     pub timer_id: u32,
     pub promise: u32,
     pub signal: Option<u32>,
-    pub callback: Option<Func>,
-    pub second_callback: Option<Box<Func>>,
+    pub callbacks: Callbacks,
 }
 
 /// A scheduling state (Prioritized Task Scheduling, "Scheduling Tasks and Continuations"): the signal that aborts what is

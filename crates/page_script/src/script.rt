@@ -23,6 +23,7 @@ mod promises;
 mod running;
 mod states;
 
+use crate::callbacks::Callbacks;
 use crate::combiner::Combining;
 use crate::marked::Marked;
 use crate::naming::is_numbered;
@@ -105,8 +106,7 @@ impl PageScript {
         let mut registrations = Registrations::new(alloc);
         registrations.push(Registration {
             role: Role::Script,
-            callback: Some(script),
-            second_callback: None,
+            callbacks: Callbacks::First(script),
             timer_id: 0,
             promise: 0,
             signal: None,
@@ -191,9 +191,9 @@ impl PageScript {
     {
         let registration = self.registration(r);
         if second {
-            registration.second_callback.as_deref()
+            registration.callbacks.second()
         } else {
-            registration.callback.as_ref()
+            registration.callbacks.first()
         }
     }
 

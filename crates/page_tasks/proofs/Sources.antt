@@ -66,7 +66,7 @@ pub host_is : (steps : TaskSteps) → host_task_of (steps_of steps) ≡ option_m
 host_is V.RunScript = refl
 host_is (V.RunTimer t) = refl
 host_is (V.TimeOutSignal s) = refl
-host_is (V.FireAtWindow name value) = refl
+host_is (V.FireAtWindow event) = refl
 host_is (V.AnswerHost t) = refl
 host_is (V.RunFrame t) = refl
 host_is V.InvokeIdle = refl
@@ -78,7 +78,7 @@ noted_one : (n : ℕ) (s : Source) (steps : TaskSteps) → map noted (option_to_
 noted_one n s V.RunScript = refl
 noted_one n s (V.RunTimer t) = refl
 noted_one n s (V.TimeOutSignal t) = refl
-noted_one n s (V.FireAtWindow name value) = refl
+noted_one n s (V.FireAtWindow event) = refl
 noted_one n s (V.AnswerHost t) = refl
 noted_one n s (V.RunFrame t) = refl
 noted_one n s V.InvokeIdle = refl

@@ -11,7 +11,7 @@ abbrev pub host_task_in : TaskSteps → Option HostTask
 host_task_in V.RunScript = None
 host_task_in (V.RunTimer t) = None
 host_task_in (V.TimeOutSignal s) = None
-host_task_in (V.FireAtWindow name value) = None
+host_task_in (V.FireAtWindow event) = None
 host_task_in (V.AnswerHost t) = Some t
 host_task_in (V.RunFrame t) = None
 host_task_in V.InvokeIdle = None

@@ -34,7 +34,7 @@ abbrev pub steps_of : TaskSteps → Model.Steps
 steps_of V.RunScript = Model.RunScript
 steps_of (V.RunTimer t) = Model.RunTimer (timer_task t)
 steps_of (V.TimeOutSignal s) = Model.TimeOutSignal s
-steps_of (V.FireAtWindow name value) = Model.FireAtWindow name (seen value)
+steps_of (V.FireAtWindow event) = Model.FireAtWindow event.value.name (seen event.value.value)
 steps_of (V.AnswerHost t) = Model.AnswerHost (host_task t)
 steps_of (V.RunFrame t) = Model.RunFrame t.0
 steps_of V.InvokeIdle = Model.InvokeIdle

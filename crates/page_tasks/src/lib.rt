@@ -10,7 +10,7 @@ mod tickets;
 
 pub use laws::queued_tasks_are_those_of_a_page;
 pub use page_base::{Micros, Source};
-pub use page_task::{PageTask, PostedTask, SchedTask, TaskSteps};
+pub use page_task::{PageTask, PostedTask, SchedTask, TaskSteps, WindowEvent};
 pub use page_tasks::PageTasks;
 pub use post_task::{PrioSource, Priority};
 pub use task_pool::{MemoryFault, Pool, Steps};

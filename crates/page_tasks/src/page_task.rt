@@ -5,7 +5,17 @@ use page_base::Micros;
 use page_values::{Str, Value};
 use post_task::PrioSource;
 
+/// An event that an arrival brings to the window: its name, and the value that its listeners are given.
+#[derive(Drop)]
+pub struct WindowEvent {
+    pub name: Str,
+    pub value: Value,
+}
+
 /// The steps of a task of a task source (HTML, "Event loops: definitions").
+///
+/// A page can have many of them queued at once, mostly of timers. So the event of an arrival, which is the largest by far, stands
+/// in a box: then none is larger than those of a timer.
 #[derive(Drop)]
 pub enum TaskSteps {
     RunScript,
@@ -13,7 +23,7 @@ pub enum TaskSteps {
     /// The signal is aborted by its timeout.
     TimeOutSignal(u32),
     /// An event of an arrival is fired at the window.
-    FireAtWindow { name: Str, value: Value },
+    FireAtWindow(Box<WindowEvent>),
     AnswerHost(HostTask),
     /// A frame, with its timestamp.
     RunFrame(Micros),
@@ -45,8 +55,8 @@ pub struct SchedTask {
 
 /// What stands in the pool of all queued tasks.
 ///
-/// Each cell of the pool is as large as the largest task, so the steps, which are three times the size of a scheduler task, stand
-/// in a box.
+/// Each cell of the pool is as large as the largest task, so the steps, which are more than twice the size of a scheduler task,
+/// stand in a box.
 #[derive(Drop)]
 pub enum PageTask {
     /// A task of a task source other than the scheduler's.

@@ -12,7 +12,7 @@ ghost use Rattle.signal_operations.specs.Delays.{started_after};
 
 use page_base::Micros;
 use page_hosts::HostPort;
-use page_script::{Registration, Role};
+use page_script::{Callbacks, Registration, Role};
 use page_state::PageState;
 use parallel_items::Completion;
 use std::sync::ledger::Ledger;
@@ -79,8 +79,7 @@ pub(crate) fn timeout_signal_made<P: HostPort, M: Ledger, L: Lines>(
     let signal = page.make_signal()?;
     let registration = Registration {
         role: Role::Of(RegKind::Signal),
-        callback: None,
-        second_callback: None,
+        callbacks: Callbacks::Absent,
         timer_id: 0,
         promise: 0,
         signal: None,

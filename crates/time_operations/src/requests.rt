@@ -10,7 +10,7 @@ ghost use Rattle.page_state.specs.PageActs.{at, on_page};
 ghost use Rattle.time_operations.specs.Rows.{callback_of_kind};
 
 use page_hosts::HostPort;
-use page_script::{Registration, Role};
+use page_script::{Callbacks, Registration, Role};
 use page_state::PageState;
 use page_values::Func;
 use std::sync::ledger::Ledger;
@@ -80,8 +80,7 @@ fn callback_of_kind(kind: RegKind, callback: Func, timer_id: u32) -> Registratio
 {
     Registration {
         role: Role::Of(kind),
-        callback: Some(callback),
-        second_callback: None,
+        callbacks: Callbacks::First(callback),
         timer_id,
         promise: 0,
         signal: None,

@@ -15,7 +15,7 @@ ghost use Rattle.page_state.specs.PageActs.{at, on_page, changed_by, read_by};
 
 use super::PageState;
 use page_hosts::HostPort;
-use page_script::{Registration, Role};
+use page_script::{Callbacks, Registration, Role};
 use page_values::{Func, Value};
 use std::sync::ledger::Ledger;
 use trace_text::{Lines, NoLine, RegKind};
@@ -59,10 +59,10 @@ impl<P: HostPort, M: Ledger> PageState<P, M> {
         ensures number { IfOk result (λ r. r ≡ read_by last_registration self.new) }
     {
         let promise = self.new_promise()?;
+        let callbacks = Callbacks::first_alone(callback);
         let registration = Registration {
             role: Role::Of(kind),
-            callback,
-            second_callback: None,
+            callbacks,
             timer_id: 0,
             promise,
             signal,

@@ -177,7 +177,7 @@ impl<P: HostPort, M: Ledger> PageState<P, M> {
         let Some(registration) = self.the_registration(r) else {
             return Err(NoLine::OutOfMemory);
         };
-        let Some(function) = &registration.callback else {
+        let Some(function) = registration.callbacks.first() else {
             return Ok(None);
         };
         let callback = function_copied(self.alloc, function)?;

@@ -18,7 +18,7 @@ ghost use Rattle.page_state.specs.Handling.{handlers_made, last_reaction, then_w
 
 use super::PageState;
 use page_hosts::HostPort;
-use page_script::{Reaction, Registration, Role};
+use page_script::{Callbacks, Reaction, Registration, Role};
 use page_values::{Func, Value};
 use std::alloc::Global;
 use std::sync::ledger::Ledger;
@@ -116,27 +116,15 @@ fn handlers(
         ≡ then_with (option_map function_seen first) (option_map function_seen second) finally) }
     ensures memory { IfErr result (λ why. why ≡ OutOfMemory) }
 {
-    Ok(Registration {
-        role: Role::Of(RegKind::Then),
-        finally,
-        timer_id: 0,
-        promise: 0,
-        signal: None,
-        callback: first,
-        second_callback: boxed(alloc, second)?,
-    })
-}
-
-// The same function in a box, where there is one.
-fn boxed(alloc: Global, function: Option<Func>) -> Result<Option<Box<Func>>, NoLine>
-    ensures same { IfOk result (λ boxed. option_map (λ f. function_seen f.value) boxed ≡ option_map function_seen function) }
-    ensures memory { IfErr result (λ why. why ≡ OutOfMemory) }
-{
-    let Some(function) = function else {
-        return Ok(None);
-    };
-    match Box::new(alloc, function) {
-        Ok(function) => Ok(Some(function)),
+    match Callbacks::of_two(alloc, first, second) {
+        Ok(callbacks) => Ok(Registration {
+            role: Role::Of(RegKind::Then),
+            finally,
+            timer_id: 0,
+            promise: 0,
+            signal: None,
+            callbacks,
+        }),
         Err(_) => Err(NoLine::OutOfMemory),
     }
 }

@@ -21,7 +21,7 @@ ghost use Rattle.page_state.specs.PageActs.{at, on_page, changed_by, read_by};
 use super::PageState;
 use page_base::Source;
 use page_hosts::HostPort;
-use page_script::{NextJob, Registration, Role, Settled};
+use page_script::{Callbacks, NextJob, Registration, Role, Settled};
 use page_tasks::TaskSteps;
 use page_values::Func;
 use std::sync::ledger::Ledger;
@@ -39,8 +39,7 @@ impl<P: HostPort, M: Ledger> PageState<P, M> {
     {
         let registration = Registration {
             role: Role::Of(RegKind::Micro),
-            callback: Some(callback),
-            second_callback: None,
+            callbacks: Callbacks::First(callback),
             timer_id: 0,
             promise: 0,
             signal: None,

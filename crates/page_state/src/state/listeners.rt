@@ -14,7 +14,7 @@ ghost use Rattle.page_state.specs.SignalActs.{listening, unlistened, listener_dr
 
 use super::PageState;
 use page_hosts::HostPort;
-use page_script::{Registration, Role};
+use page_script::{Callbacks, Registration, Role};
 use page_signals::{Dispatch, Target};
 use page_values::{Func, Str};
 use std::sync::ledger::Ledger;
@@ -36,8 +36,7 @@ impl<P: HostPort, M: Ledger> PageState<P, M> {
     {
         let registration = Registration {
             role: Role::Of(RegKind::Listener),
-            callback: Some(callback),
-            second_callback: None,
+            callbacks: Callbacks::First(callback),
             timer_id: 0,
             promise: 0,
             signal: None,

@@ -24,7 +24,7 @@ use super::PageState;
 use crate::moments::{is_before, sooner};
 use page_base::{Micros, Source};
 use page_hosts::HostPort;
-use page_tasks::{PrioSource, TaskSteps};
+use page_tasks::{PrioSource, TaskSteps, WindowEvent};
 use parallel_items::{Arrival, Completion, Taken};
 use std::sync::ledger::Ledger;
 use trace_text::{Event, Lines, NoLine};
@@ -229,11 +229,14 @@ impl<P: HostPort, M: Ledger> PageState<P, M> {
         if arrival.source == Source::Sched {
             return Err(NoLine::OutOfMemory);
         }
-        let steps = TaskSteps::FireAtWindow {
+        let event = WindowEvent {
             name: arrival.name,
             value: arrival.value,
         };
-        self.queue(arrival.source, steps)
+        let Ok(event) = Box::new(self.alloc, event) else {
+            return Err(NoLine::OutOfMemory);
+        };
+        self.queue(arrival.source, TaskSteps::FireAtWindow(event))
     }
 
     // A delayed `postTask` is enqueued, with its lines. Where its signal was aborted it is not.

@@ -13,4 +13,4 @@ pub returns-in_default : goal.returns-in_default
 returns-in_default g c = runs-wanted _ RanOut _ _ c.wanting.ensures.why c.wanting.ensures.stopped
 
 pub returns : goal.returns
-returns g c = dispatch-given Window c.args.name (seen c.args.value ∷ []) _ (ap (map seen) c.deref.ensures.value ∙ c.in-Ok.ensures) c.dispatch_in_task.ensures
+returns g c = dispatch-given Window c.args.event.name (seen c.args.event.value ∷ []) _ (ap (map seen) c.deref.ensures.value ∙ c.in-Ok.ensures) c.dispatch_in_task.ensures

@@ -1,6 +1,7 @@
-use Rattle.std.proofs.Common.{ap}
+use Rattle.std.proofs.Common.{ap, sym, ◌∙◌}
 use Rattle.page_values.specs.Seen.{seen}
 use Rattle.page_tasks.specs.Seen.{steps_of, timer_task}
+use Rattle.page_tasks.specs.declared.page_task.WindowEvent.{WindowEvent}
 use Rattle.page_model.specs.State.{RunTimer, TimeOutSignal, FireAtWindow, RunFrame, InvokeIdle, NotifyRejected, NotifyHandled}
 use Rattle.page_host.proofs.TaskRuns.{runs-nothing}
 use Rattle.page_host.proofs.TaskPerforms.{steps-as, steps-done}
@@ -16,7 +17,11 @@ pub returns-in-TimeOutSignal : goal.returns-in-TimeOutSignal
 returns-in-TimeOutSignal g c = steps-done (TimeOutSignal c.in-TimeOutSignal.s) c.time_out_signal.result (ap steps_of c.in-TimeOutSignal.is) c.time_out_signal.ensures
 
 pub returns-in-FireAtWindow : goal.returns-in-FireAtWindow
-returns-in-FireAtWindow g c = steps-done (FireAtWindow c.in-FireAtWindow.name (seen c.in-FireAtWindow.value)) c.fire_at_window.result (ap steps_of c.in-FireAtWindow.is) c.fire_at_window.ensures
+returns-in-FireAtWindow g c =
+    let event = c.into_inner.result in
+    steps-done (FireAtWindow event.name (seen event.value)) c.fire_at_window.result
+    (ap steps_of c.in-FireAtWindow.is ∙ ap (λ (x : WindowEvent). FireAtWindow x.name (seen x.value)) (sym c.into_inner.ensures))
+    c.fire_at_window.ensures
 
 pub returns-in-RunFrame : goal.returns-in-RunFrame
 returns-in-RunFrame g c = steps-done (RunFrame c.in-RunFrame.time.0) c.run_frame.result (ap steps_of c.in-RunFrame.is) c.run_frame.ensures

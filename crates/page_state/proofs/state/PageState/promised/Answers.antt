@@ -26,7 +26,7 @@ returns-in_err-r-clause-does g c =
     Does-next new_promise (λ p. watched_with kind f signal (last_promise p) p) (watched_with-adds kind f signal)
     (Does-silent g.L.Lines.keeping new_promise c.args.self.now _ refl c.in_ok-promise.ensures.made)
     (Does-read (watched_with kind f signal) last_promise n c.new_promise.new.self c.in_ok-promise.ensures.number
-    (Does-leave (register_as kind x) (λ p. watch signal (last_registration p) p) _ (last_watched-adds signal) c.from_residual-in_err-r.ensures.1 c.in_err-r.ensures.does))
+    (Does-leave (register_as kind x) (λ p. watch signal (last_registration p) p) _ (last_watched-adds signal) c.from_residual-in_err-r.ensures.1 (rw (c.first_alone-callbacks.ensures.the_first, c.first_alone-callbacks.ensures.the_second) at c.in_err-r.ensures.does)))
 
 pub returns-in_err-watch-clause-does : goal.returns-in_err-watch-clause-does
 returns-in_err-watch-clause-does g c =
@@ -38,7 +38,7 @@ returns-in_err-watch-clause-does g c =
     Does-next new_promise (λ p. watched_with kind f signal (last_promise p) p) (watched_with-adds kind f signal)
     (Does-silent g.L.Lines.keeping new_promise c.args.self.now _ refl c.in_ok-promise.ensures.made)
     (Does-read (watched_with kind f signal) last_promise n c.new_promise.new.self c.in_ok-promise.ensures.number
-    (Does-next (register_as kind x) (λ p. watch signal (last_registration p) p) (last_watched-adds signal) c.in_ok-r.ensures.does
+    (Does-next (register_as kind x) (λ p. watch signal (last_registration p) p) (last_watched-adds signal) (rw (c.first_alone-callbacks.ensures.the_first, c.first_alone-callbacks.ensures.the_second) at c.in_ok-r.ensures.does)
     (Does-read (watch signal) last_registration c.in_ok-r.r c.register_as.new.self c.in_ok-r.ensures.number
     (Does-wanted g.L.Lines.keeping (watch signal c.in_ok-r.r) c.register_as.new.self c.watch.new.self _ _ c.from_residual-in_err-watch.ensures.1 c.in_err-watch.ensures.memory))))
 
@@ -52,6 +52,6 @@ returns-clause-does g c =
     Does-next new_promise (λ p. watched_with kind f signal (last_promise p) p) (watched_with-adds kind f signal)
     (Does-silent g.L.Lines.keeping new_promise c.args.self.now _ refl c.in_ok-promise.ensures.made)
     (Does-read (watched_with kind f signal) last_promise n c.new_promise.new.self c.in_ok-promise.ensures.number
-    (Does-next (register_as kind x) (λ p. watch signal (last_registration p) p) (last_watched-adds signal) c.in_ok-r.ensures.does
+    (Does-next (register_as kind x) (λ p. watch signal (last_registration p) p) (last_watched-adds signal) (rw (c.first_alone-callbacks.ensures.the_first, c.first_alone-callbacks.ensures.the_second) at c.in_ok-r.ensures.does)
     (Does-read (watch signal) last_registration c.in_ok-r.r c.register_as.new.self c.in_ok-r.ensures.number
     (Does-silent g.L.Lines.keeping (watch signal c.in_ok-r.r) c.register_as.new.self _ (watch-quiet signal c.in_ok-r.r c.register_as.new.self) c.in_ok-watch.ensures.watched))))
