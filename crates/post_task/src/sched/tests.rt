@@ -2,6 +2,8 @@ ghost use Rattle.std.specs.Prelude.{◌≡◌, ◌≢◌, ℕ, ◌+◌, ◌^◌,
 ghost use Rattle.std.specs.List.{find};
 ghost use Rattle.post_task.specs.Waiting.{Waiting, Among, has_cell};
 ghost use Rattle.post_task.specs.Levels.{waiting, HasRoom, Kept};
+ghost use Rattle.post_task.specs.declared.level.PrioSource.TheVariants.{Fixed};
+ghost use Rattle.page_types.specs.declared.Priority.TheVariants.{UserVisible};
 
 use super::*;
 use std::marker::Brand;
@@ -11,27 +13,50 @@ use std::test::Fail;
 
 const VISIBLE: PrioSource = PrioSource::Fixed(Priority::UserVisible);
 
+/// A task to be enqueued.
+struct Posted {
+    source: PrioSource,
+    continuation: bool,
+    order: u64,
+    item: char,
+}
+
+fn visible(order: u64, item: char) -> Posted
+    ensures source { result.source ≡ Fixed UserVisible }
+    ensures order { result.order ≡ order }
+{
+    Posted {
+        source: VISIBLE,
+        continuation: false,
+        order,
+        item,
+    }
+}
+
 // Enqueues a task whose order is greater than that of every task that waits.
 fn put<L: Ledger>(
     rt: &impl Abort,
     queues: &mut SchedQueues<char>,
     pool: &mut Pool<char>,
-    source: PrioSource,
-    continuation: bool,
-    order: u64,
-    item: char,
+    task: Posted,
     steps: &mut Steps<L>,
 ) -> Ticket
     requires kept { Kept queues.old pool.old }
-    requires room { HasRoom queues.old.levels source }
-    requires later { (task : Waiting ℕ) → Among task (waiting queues.old.levels pool.old) → task.order < order }
+    requires room { HasRoom queues.old.levels task.source }
+    requires later { (w : Waiting ℕ) → Among w (waiting queues.old.levels pool.old) → w.order < task.order }
     requires inserts { pool.old.inserts + 1 < 2 ^ 64 }
     ensures same { queues.new.levels ≡ queues.old.levels }
     ensures kept { Kept queues.new pool.new }
-    ensures earlier { (task : Waiting ℕ) → Among task (waiting queues.new.levels pool.new) → task.order < order + 1 }
+    ensures earlier { (w : Waiting ℕ) → Among w (waiting queues.new.levels pool.new) → w.order < task.order + 1 }
     ensures found { find (has_cell result.0) (waiting queues.new.levels pool.new) ≢ None }
     ensures inserts { pool.new.inserts ≡ pool.old.inserts + 1 }
 {
+    let Posted {
+        source,
+        continuation,
+        order,
+        item,
+    } = task;
     match queues.enqueue(pool, source, continuation, order, item, steps) {
         Ok(ticket) => ticket,
         Err(_) => panic!(rt; "no memory"),
@@ -48,44 +73,30 @@ fn by_priority<L: Ledger>(rt: &impl Abort, alloc: Global, blank: Blank) -> Resul
     let mut pool = Pool::new(alloc);
     let mut queues = SchedQueues::new(alloc, &mut pool)?;
     assert_eq!(rt; queues.select(&pool), None);
+    put(rt, &mut queues, &mut pool, visible(1, 'a'), &mut steps);
+    put(rt, &mut queues, &mut pool, visible(2, 'b'), &mut steps);
     put(
         rt,
         &mut queues,
         &mut pool,
-        VISIBLE,
-        false,
-        1,
-        'a',
-        &mut steps,
-    );
-    put(
-        rt,
-        &mut queues,
-        &mut pool,
-        VISIBLE,
-        false,
-        2,
-        'b',
-        &mut steps,
-    );
-    put(
-        rt,
-        &mut queues,
-        &mut pool,
-        VISIBLE,
-        true,
-        3,
-        'c',
+        Posted {
+            source: VISIBLE,
+            continuation: true,
+            order: 3,
+            item: 'c',
+        },
         &mut steps,
     );
     let last = put(
         rt,
         &mut queues,
         &mut pool,
-        PrioSource::Fixed(Priority::Background),
-        true,
-        4,
-        'd',
+        Posted {
+            source: PrioSource::Fixed(Priority::Background),
+            continuation: true,
+            order: 4,
+            item: 'd',
+        },
         &mut steps,
     );
     assert_eq!(rt; queues.remove(&mut pool, last, &mut steps), Some((4, 'd')));
@@ -112,32 +123,27 @@ fn by_signal<L: Ledger>(rt: &impl Abort, alloc: Global, blank: Blank) -> Result<
         rt,
         &mut queues,
         &mut pool,
-        signal,
-        false,
-        1,
-        'a',
+        Posted {
+            source: signal,
+            continuation: false,
+            order: 1,
+            item: 'a',
+        },
         &mut steps,
     );
     put(
         rt,
         &mut queues,
         &mut pool,
-        signal,
-        false,
-        2,
-        'b',
+        Posted {
+            source: signal,
+            continuation: false,
+            order: 2,
+            item: 'b',
+        },
         &mut steps,
     );
-    put(
-        rt,
-        &mut queues,
-        &mut pool,
-        VISIBLE,
-        false,
-        3,
-        'c',
-        &mut steps,
-    );
+    put(rt, &mut queues, &mut pool, visible(3, 'c'), &mut steps);
     assert_eq!(rt; queues.select(&pool), Some(3));
     queues.move_priority(7, Priority::UserBlocking);
     assert_eq!(rt; queues.take(&mut pool, &mut steps), Some((1, 'a')));

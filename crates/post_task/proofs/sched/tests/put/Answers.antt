@@ -6,7 +6,7 @@ use Rattle.post_task.proofs.sched.tests.put.Goals as goal
 pub returns-clause-earlier : goal.returns-clause-earlier
 returns-clause-earlier g c task a =
     elim (among_inserted _ task _ _ c.in-Ok.ensures.waits a) [
-      | inl e ↦ let same : c.args.order ≡ task.order = ap (λ (w : Waiting ℕ). w.order) e in omega (arith, same)
+      | inl e ↦ let same : c.args.task.order ≡ task.order = ap (λ (w : Waiting ℕ). w.order) e in omega (arith, same)
       | inr before ↦ omega (arith, c.requires.later task before)
     ]
 
