@@ -135,56 +135,46 @@ fn a_trace_that_is_not_legal_is_refused_as_by_check(rt: HostRuntime) -> Result<(
     Ok(())
 }
 
+fn is_named(alloc: Global, example: &Example, status: u8, line: &str) -> Result<bool, Fail> {
+    let ended = example.run(alloc)?;
+    Ok(is_refusal(&ended, status, line))
+}
+
 #[test]
-fn a_file_that_is_not_read_is_named(rt: HostRuntime) -> Result<(), Fail> {
+fn a_file_that_is_too_long_is_named(rt: HostRuntime) -> Result<(), Fail> {
     let long = vec![in rt.alloc(); b' '; 1_048_577]?;
     let example = of_trace(b"log(", b"page 3\n", b"");
-    let examples = [
-        (
-            Example {
-                script: Some(&long),
-                ..example
-            },
-            6,
-            "pageloop: too long: s\n",
-        ),
-        (
-            Example {
-                arrivals: Some(&long),
-                ..example
-            },
-            6,
-            "pageloop: too long: a\n",
-        ),
-        (
-            Example {
-                failing_fetches: &[1],
-                ..example
-            },
-            74,
-            "pageloop: read fault: s\n",
-        ),
-        (
-            Example {
-                failing_fetches: &[2],
-                ..example
-            },
-            74,
-            "pageloop: read fault: a\n",
-        ),
-        (
-            Example {
-                trace: None,
-                ..example
-            },
-            74,
-            "pageloop: read fault: t\n",
-        ),
-    ];
-    for (number, (example, status, line)) in examples.into_iter().enumerate() {
-        let ended = example.run(rt.alloc())?;
-        assert!(rt; is_refusal(&ended, status, line), "example {number}");
-    }
+    let script = Example {
+        script: Some(&long),
+        ..example
+    };
+    assert!(rt; is_named(rt.alloc(), &script, 6, "pageloop: too long: s\n")?);
+    let arrivals = Example {
+        arrivals: Some(&long),
+        ..example
+    };
+    assert!(rt; is_named(rt.alloc(), &arrivals, 6, "pageloop: too long: a\n")?);
+    Ok(())
+}
+
+#[test]
+fn a_file_that_is_not_read_is_named(rt: HostRuntime) -> Result<(), Fail> {
+    let example = of_trace(b"log(", b"page 3\n", b"");
+    let script = Example {
+        failing_fetches: &[1],
+        ..example
+    };
+    assert!(rt; is_named(rt.alloc(), &script, 74, "pageloop: read fault: s\n")?);
+    let arrivals = Example {
+        failing_fetches: &[2],
+        ..example
+    };
+    assert!(rt; is_named(rt.alloc(), &arrivals, 74, "pageloop: read fault: a\n")?);
+    let trace = Example {
+        trace: None,
+        ..example
+    };
+    assert!(rt; is_named(rt.alloc(), &trace, 74, "pageloop: read fault: t\n")?);
     Ok(())
 }
 

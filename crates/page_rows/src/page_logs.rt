@@ -45,172 +45,178 @@ fn is_met(alloc: Global, page: &Page) -> Result<bool, Fail> {
     )
 }
 
+/// Timers that nest.
+const CLAMPED: [Page; 6] = [
+    Page {
+        script: "fn f() { log(now()); setTimeout(f, 0); } setTimeout(f, 0);",
+        arrivals: "page 1\nuntil 10000\n",
+        logs: "0\n0\n0\n0\n0\n0\n4000\n8000\n",
+        status: 11,
+    },
+    Page {
+        script: "fn f() { log(now()); } setInterval(f, 0);",
+        arrivals: "page 1\nuntil 10000\n",
+        logs: "0\n0\n0\n0\n0\n0\n4000\n8000\n",
+        status: 11,
+    },
+    Page {
+        script: "fn f() { log(now()); } setTimeout(f, 2147483648);",
+        arrivals: "page 1\n",
+        logs: "0\n",
+        status: 0,
+    },
+    Page {
+        script: "fn f() { log(now()); } setTimeout(f, 2147483647);",
+        arrivals: "page 1\n",
+        logs: "",
+        status: 11,
+    },
+    Page {
+        script: "fn g() { log(now()); setTimeout(f, 0); } fn f() { queueMicrotask(g); } setTimeout(f, 0);",
+        arrivals: "page 1\nfuel 30\n",
+        logs: "0\n0\n0\n0\n0\n0\n0\n",
+        status: 10,
+    },
+    Page {
+        script: "fn g() { log(now()); setTimeout(f, 0); } fn f() { queueMicrotask(g); } setTimeout(f, 0);",
+        arrivals: "page 2\nuntil 10000\n",
+        logs: "0\n0\n0\n0\n0\n0\n4000\n8000\n",
+        status: 11,
+    },
+];
+
 #[test]
 fn timers_are_clamped_by_their_nesting(rt: HostRuntime) -> Result<(), Fail> {
-    let pages = [
-        Page {
-            script: "fn f() { log(now()); setTimeout(f, 0); } setTimeout(f, 0);",
-            arrivals: "page 1\nuntil 10000\n",
-            logs: "0\n0\n0\n0\n0\n0\n4000\n8000\n",
-            status: 11,
-        },
-        Page {
-            script: "fn f() { log(now()); } setInterval(f, 0);",
-            arrivals: "page 1\nuntil 10000\n",
-            logs: "0\n0\n0\n0\n0\n0\n4000\n8000\n",
-            status: 11,
-        },
-        Page {
-            script: "fn f() { log(now()); } setTimeout(f, 2147483648);",
-            arrivals: "page 1\n",
-            logs: "0\n",
-            status: 0,
-        },
-        Page {
-            script: "fn f() { log(now()); } setTimeout(f, 2147483647);",
-            arrivals: "page 1\n",
-            logs: "",
-            status: 11,
-        },
-        Page {
-            script: "fn g() { log(now()); setTimeout(f, 0); } fn f() { queueMicrotask(g); } setTimeout(f, 0);",
-            arrivals: "page 1\nfuel 30\n",
-            logs: "0\n0\n0\n0\n0\n0\n0\n",
-            status: 10,
-        },
-        Page {
-            script: "fn g() { log(now()); setTimeout(f, 0); } fn f() { queueMicrotask(g); } setTimeout(f, 0);",
-            arrivals: "page 2\nuntil 10000\n",
-            logs: "0\n0\n0\n0\n0\n0\n4000\n8000\n",
-            status: 11,
-        },
-    ];
-    for page in pages {
+    for page in CLAMPED {
         assert!(rt; is_met(rt.alloc(), &page)?, "{}", page.script);
     }
     Ok(())
 }
+
+/// Promises that adopt, reactions, listeners and their checkpoints.
+const ADOPTING: [Page; 8] = [
+    Page {
+        script: "fn a(v) { log(\"a\"); } fn b(v) { log(\"b\"); } fn c(v) { log(\"c\"); } fn x(v) { log(\"x\"); } var \
+p = promise(); resolve(p, resolved(1)); then(p, x, unit); then(then(then(resolved(0), a, unit), b, \
+unit), c, unit);",
+        arrivals: "page 1\n",
+        logs: "\"a\"\n\"b\"\n\"x\"\n\"c\"\n",
+        status: 0,
+    },
+    Page {
+        script: "fn f(v) { log(v); } then(all([resolved(1), 2]), f, unit);",
+        arrivals: "page 1\n",
+        logs: "[1,2]\n",
+        status: 0,
+    },
+    Page {
+        script: "fn m1() { log(\"m1\"); } fn m2() { log(\"m2\"); } fn l1(s) { log(\"L1\"); queueMicrotask(m1); } fn \
+l2(s) { log(\"L2\"); queueMicrotask(m2); } var t = timeoutSignal(5); listen(t, \"abort\", l1); \
+listen(t, \"abort\", l2);",
+        arrivals: "page 1\n",
+        logs: "\"L1\"\n\"m1\"\n\"L2\"\n\"m2\"\n",
+        status: 0,
+    },
+    Page {
+        script: "fn m1() { log(\"m1\"); } fn m2() { log(\"m2\"); } fn l1(s) { log(\"L1\"); queueMicrotask(m1); } fn \
+l2(s) { log(\"L2\"); queueMicrotask(m2); } var c = controller(); var t = signal(c); listen(t, \
+\"abort\", l1); listen(t, \"abort\", l2); abort(c, unit);",
+        arrivals: "page 1\n",
+        logs: "\"L1\"\n\"L2\"\n\"m1\"\n\"m2\"\n",
+        status: 0,
+    },
+    Page {
+        script: "var c = controller(); var s = signal(c); var n = 0; fn b(x) { log(\"b\"); } fn a(x) { unlisten(n); \
+log(\"a\"); } listen(s, \"abort\", a); n = listen(s, \"abort\", b); abort(c, unit);",
+        arrivals: "page 1\n",
+        logs: "\"a\"\n",
+        status: 0,
+    },
+    Page {
+        script: "var c = controller(); var d = controller(); fn q(x) { log(\"q\"); } fn p(x) { log(\"p\"); abort(d, \
+unit); log(\"r\"); } listen(signal(c), \"abort\", p); listen(signal(d), \"abort\", q); abort(c, \
+unit);",
+        arrivals: "page 1\n",
+        logs: "\"p\"\n\"q\"\n\"r\"\n",
+        status: 0,
+    },
+    Page {
+        script: "var c = controller(); var s = signal(c); var d = anySignal([s]); fn l(x) { log(aborted(d)); } fn \
+e(x) { log(\"d\"); } listen(s, \"abort\", l); listen(d, \"abort\", e); abort(c, \"why\"); \
+log(reason(d));",
+        arrivals: "page 1\n",
+        logs: "true\n\"d\"\n\"why\"\n",
+        status: 0,
+    },
+    Page {
+        script: "var c = controller(); var s = signal(c); var d = anySignal([s]); fn l(x) { log(aborted(d)); } fn \
+e(x) { log(\"d\"); } listen(s, \"abort\", l); listen(d, \"abort\", e); log(reason(anySignal([s, \
+abortedSignal(\"no\")]))); abort(c, \"why\"); log(reason(d));",
+        arrivals: "page 1\n",
+        logs: "\"no\"\ntrue\n\"d\"\n\"why\"\n",
+        status: 0,
+    },
+];
 
 #[test]
 fn promises_adopt_and_listeners_have_checkpoints(rt: HostRuntime) -> Result<(), Fail> {
-    let pages = [
-        Page {
-            script: "fn a(v) { log(\"a\"); } fn b(v) { log(\"b\"); } fn c(v) { log(\"c\"); } fn x(v) { log(\"x\"); } var \
-p = promise(); resolve(p, resolved(1)); then(p, x, unit); then(then(then(resolved(0), a, unit), b, \
-unit), c, unit);",
-            arrivals: "page 1\n",
-            logs: "\"a\"\n\"b\"\n\"x\"\n\"c\"\n",
-            status: 0,
-        },
-        Page {
-            script: "fn f(v) { log(v); } then(all([resolved(1), 2]), f, unit);",
-            arrivals: "page 1\n",
-            logs: "[1,2]\n",
-            status: 0,
-        },
-        Page {
-            script: "fn m1() { log(\"m1\"); } fn m2() { log(\"m2\"); } fn l1(s) { log(\"L1\"); queueMicrotask(m1); } fn \
-l2(s) { log(\"L2\"); queueMicrotask(m2); } var t = timeoutSignal(5); listen(t, \"abort\", l1); \
-listen(t, \"abort\", l2);",
-            arrivals: "page 1\n",
-            logs: "\"L1\"\n\"m1\"\n\"L2\"\n\"m2\"\n",
-            status: 0,
-        },
-        Page {
-            script: "fn m1() { log(\"m1\"); } fn m2() { log(\"m2\"); } fn l1(s) { log(\"L1\"); queueMicrotask(m1); } fn \
-l2(s) { log(\"L2\"); queueMicrotask(m2); } var c = controller(); var t = signal(c); listen(t, \
-\"abort\", l1); listen(t, \"abort\", l2); abort(c, unit);",
-            arrivals: "page 1\n",
-            logs: "\"L1\"\n\"L2\"\n\"m1\"\n\"m2\"\n",
-            status: 0,
-        },
-        Page {
-            script: "var c = controller(); var s = signal(c); var n = 0; fn b(x) { log(\"b\"); } fn a(x) { unlisten(n); \
-log(\"a\"); } listen(s, \"abort\", a); n = listen(s, \"abort\", b); abort(c, unit);",
-            arrivals: "page 1\n",
-            logs: "\"a\"\n",
-            status: 0,
-        },
-        Page {
-            script: "var c = controller(); var d = controller(); fn q(x) { log(\"q\"); } fn p(x) { log(\"p\"); abort(d, \
-unit); log(\"r\"); } listen(signal(c), \"abort\", p); listen(signal(d), \"abort\", q); abort(c, \
-unit);",
-            arrivals: "page 1\n",
-            logs: "\"p\"\n\"q\"\n\"r\"\n",
-            status: 0,
-        },
-        Page {
-            script: "var c = controller(); var s = signal(c); var d = anySignal([s]); fn l(x) { log(aborted(d)); } fn \
-e(x) { log(\"d\"); } listen(s, \"abort\", l); listen(d, \"abort\", e); abort(c, \"why\"); \
-log(reason(d));",
-            arrivals: "page 1\n",
-            logs: "true\n\"d\"\n\"why\"\n",
-            status: 0,
-        },
-        Page {
-            script: "var c = controller(); var s = signal(c); var d = anySignal([s]); fn l(x) { log(aborted(d)); } fn \
-e(x) { log(\"d\"); } listen(s, \"abort\", l); listen(d, \"abort\", e); log(reason(anySignal([s, \
-abortedSignal(\"no\")]))); abort(c, \"why\"); log(reason(d));",
-            arrivals: "page 1\n",
-            logs: "\"no\"\ntrue\n\"d\"\n\"why\"\n",
-            status: 0,
-        },
-    ];
-    for page in pages {
+    for page in ADOPTING {
         assert!(rt; is_met(rt.alloc(), &page)?, "{}", page.script);
     }
     Ok(())
 }
 
-#[test]
-fn posted_tasks_run_by_their_priorities(rt: HostRuntime) -> Result<(), Fail> {
-    let pages = [
-        Page {
-            script: "fn a() { log(\"a\"); } fn b() { log(\"b\"); } fn e() { log(\"e\"); } postTask(a, \"background\", \
+/// Posted tasks and continuations.
+const POSTED: [Page; 6] = [
+    Page {
+        script: "fn a() { log(\"a\"); } fn b() { log(\"b\"); } fn e() { log(\"e\"); } postTask(a, \"background\", \
 unit, 0); postTask(b, \"user-visible\", unit, 0); postTask(e, \"user-blocking\", unit, 0);",
-            arrivals: "page 1\n",
-            logs: "\"e\"\n\"b\"\n\"a\"\n",
-            status: 0,
-        },
-        Page {
-            script: "fn a() { log(\"a\"); } fn b() { log(\"b\"); } fn e() { log(\"e\"); } var c = \
+        arrivals: "page 1\n",
+        logs: "\"e\"\n\"b\"\n\"a\"\n",
+        status: 0,
+    },
+    Page {
+        script: "fn a() { log(\"a\"); } fn b() { log(\"b\"); } fn e() { log(\"e\"); } var c = \
 taskController(\"background\"); postTask(a, unit, signal(c), 0); postTask(b, \"user-visible\", \
 unit, 0); postTask(e, \"user-blocking\", unit, 0); setPriority(c, \"user-blocking\");",
-            arrivals: "page 1\n",
-            logs: "\"a\"\n\"e\"\n\"b\"\n",
-            status: 0,
-        },
-        Page {
-            script: "fn a() { log(\"a\"); } fn b() { log(\"b\"); } fn e() { log(\"e\"); } var c = \
+        arrivals: "page 1\n",
+        logs: "\"a\"\n\"e\"\n\"b\"\n",
+        status: 0,
+    },
+    Page {
+        script: "fn a() { log(\"a\"); } fn b() { log(\"b\"); } fn e() { log(\"e\"); } var c = \
 taskController(\"background\"); postTask(a, unit, taskAny([], signal(c)), 0); postTask(b, \
 \"user-visible\", unit, 0); setPriority(c, \"user-blocking\");",
-            arrivals: "page 1\n",
-            logs: "\"a\"\n\"b\"\n",
-            status: 0,
-        },
-        Page {
-            script: "fn a() { log(\"a\"); } fn b() { log(\"b\"); } postTask(a, unit, unit, 1); busy(2000); postTask(b, \
+        arrivals: "page 1\n",
+        logs: "\"a\"\n\"b\"\n",
+        status: 0,
+    },
+    Page {
+        script: "fn a() { log(\"a\"); } fn b() { log(\"b\"); } postTask(a, unit, unit, 1); busy(2000); postTask(b, \
 unit, unit, 0);",
-            arrivals: "page 1\n",
-            logs: "\"b\"\n\"a\"\n",
-            status: 0,
-        },
-        Page {
-            script: "fn y(v) { log(\"y\"); } fn m() { then(yieldTask(), y, unit); } fn b() { log(\"b\"); } fn a() { \
+        arrivals: "page 1\n",
+        logs: "\"b\"\n\"a\"\n",
+        status: 0,
+    },
+    Page {
+        script: "fn y(v) { log(\"y\"); } fn m() { then(yieldTask(), y, unit); } fn b() { log(\"b\"); } fn a() { \
 queueMicrotask(m); postTask(b, \"user-visible\", unit, 0); } postTask(a, \"background\", unit, 0);",
-            arrivals: "page 1\n",
-            logs: "\"y\"\n\"b\"\n",
-            status: 0,
-        },
-        Page {
-            script: "fn y(v) { log(\"y\"); } fn m() { then(yieldTask(), y, unit); } fn b() { log(\"b\"); } fn a() { \
+        arrivals: "page 1\n",
+        logs: "\"y\"\n\"b\"\n",
+        status: 0,
+    },
+    Page {
+        script: "fn y(v) { log(\"y\"); } fn m() { then(yieldTask(), y, unit); } fn b() { log(\"b\"); } fn a() { \
 queueMicrotask(m); postTask(b, \"user-visible\", unit, 0); } postTask(a, \"background\", unit, 0);",
-            arrivals: "page 2\n",
-            logs: "\"b\"\n\"y\"\n",
-            status: 0,
-        },
-    ];
-    for page in pages {
+        arrivals: "page 2\n",
+        logs: "\"b\"\n\"y\"\n",
+        status: 0,
+    },
+];
+
+#[test]
+fn posted_tasks_run_by_their_priorities(rt: HostRuntime) -> Result<(), Fail> {
+    for page in POSTED {
         assert!(rt; is_met(rt.alloc(), &page)?, "{}", page.script);
     }
     Ok(())

@@ -91,6 +91,9 @@ const fn ends(script: &'static str, logs: &'static str, left: u64) -> Example {
     }
 }
 
+const RANGE_ERROR: &str = "throws RangeError(\"\")";
+const TYPE_ERROR: &str = "throws TypeError(\"\")";
+
 fn meets(outcome: &Outcome, example: &Example) -> bool {
     outcome.logs.as_slice() == example.logs.as_bytes()
         && outcome.end.as_slice() == example.end.as_bytes()
@@ -99,8 +102,6 @@ fn meets(outcome: &Outcome, example: &Example) -> bool {
 
 #[test]
 fn values_are_evaluated_from_left_to_right_by_their_kinds(rt: HostRuntime) -> Result<(), Fail> {
-    let range_error = "throws RangeError(\"\")";
-    let type_error = "throws TypeError(\"\")";
     let examples = [
         ends("log(-7 / 2); log(-7 % 2); log(7 % -2);", "-3\n-1\n1\n", 999),
         ends(
@@ -124,15 +125,15 @@ fn values_are_evaluated_from_left_to_right_by_their_kinds(rt: HostRuntime) -> Re
             999,
         ),
         Example {
-            end: range_error,
+            end: RANGE_ERROR,
             ..ends("log(\"a\" + \"b\"); log(7 / 0);", "\"ab\"\n", 999)
         },
         Example {
-            end: range_error,
+            end: RANGE_ERROR,
             ..ends("log([1][1]);", "", 999)
         },
         Example {
-            end: type_error,
+            end: TYPE_ERROR,
             ..ends("log(1 + \"a\");", "", 999)
         },
     ];
@@ -209,7 +210,7 @@ fn fuel_and_open_calls_end_where_the_rules_say(rt: HostRuntime) -> Result<(), Fa
             744,
         ),
         Example {
-            end: "throws RangeError(\"\")",
+            end: RANGE_ERROR,
             ..ends(
                 "fn r(n) { if (n == 0) { return 0; } return 1 + r(n - 1); } log(r(255));",
                 "",
