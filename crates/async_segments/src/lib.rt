@@ -15,8 +15,6 @@ mod layout;
 mod locals;
 mod marking;
 mod meaning;
-#[cfg(test)]
-mod rows;
 mod segments;
 mod statements;
 mod written;

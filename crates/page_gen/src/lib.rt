@@ -3,8 +3,6 @@
 
 mod laws;
 mod storming;
-#[cfg(test)]
-mod tests;
 
 pub use laws::storms_run;
 pub use storming::storm;

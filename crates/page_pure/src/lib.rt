@@ -6,8 +6,6 @@
 mod answers;
 mod faults;
 mod functions;
-#[cfg(test)]
-mod tests;
 mod texts;
 
 ghost use Rattle.std.specs.Prelude.{◌≡◌, length, map, IfOk, IfSome};

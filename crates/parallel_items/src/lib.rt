@@ -13,8 +13,6 @@ mod items;
 mod laws;
 mod maps;
 mod taken;
-#[cfg(test)]
-mod tests;
 
 pub use arrivals_text::Arrival;
 pub use completion::Completion;

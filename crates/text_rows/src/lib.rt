@@ -1,4 +1,5 @@
-//! Worked examples of what is read and written: values, scripts and their names, arrivals files, and traces.
+//! Worked examples of what is read and written: values, scripts and their names, async scripts and what they
+//! become, storms, arrivals files, and traces.
 //!
 //! There is nothing here but tests. They stand apart from the crates that they test, so that the proofs of those are not made a
 //! second time for their tests. The tables hold what is wanted, which was worked out by hand. Memory is ample in each.
@@ -6,6 +7,8 @@
 
 #[cfg(test)]
 mod arrivals;
+#[cfg(test)]
+mod expansions;
 #[cfg(test)]
 mod operations;
 #[cfg(test)]
@@ -16,6 +19,8 @@ mod script_names;
 mod scripts_read;
 #[cfg(test)]
 mod spellings;
+#[cfg(test)]
+mod storms;
 #[cfg(test)]
 mod tokens_read;
 #[cfg(test)]

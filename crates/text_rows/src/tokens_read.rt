@@ -10,68 +10,70 @@ fn is_wanted(token: &Token, wanted: &Wanted) -> bool {
     token.at() == at && token.end() == end && token.kind() == kind && token.content() == content
 }
 
+// Scripts with their tokens.
+const SCRIPTS: [(&'static [u8], &'static [Wanted]); 8] = [
+    (
+        b"log(1 + 2);",
+        &[
+            (0, 3, TokenKind::Name, b"log"),
+            (3, 4, TokenKind::Sign, b"("),
+            (4, 5, TokenKind::Number(1), b"1"),
+            (6, 7, TokenKind::Sign, b"+"),
+            (8, 9, TokenKind::Number(2), b"2"),
+            (9, 10, TokenKind::Sign, b")"),
+            (10, 11, TokenKind::Sign, b";"),
+        ],
+    ),
+    (
+        b"a==b",
+        &[
+            (0, 1, TokenKind::Name, b"a"),
+            (1, 3, TokenKind::Sign, b"=="),
+            (3, 4, TokenKind::Name, b"b"),
+        ],
+    ),
+    (
+        b"a\t= =\r\n_b1",
+        &[
+            (0, 1, TokenKind::Name, b"a"),
+            (2, 3, TokenKind::Sign, b"="),
+            (4, 5, TokenKind::Sign, b"="),
+            (7, 10, TokenKind::Name, b"_b1"),
+        ],
+    ),
+    (b"\"x\\\"y\\n\"", &[(0, 8, TokenKind::Text, b"x\"y\n")]),
+    (
+        b"unit units",
+        &[
+            (0, 4, TokenKind::Word, b"unit"),
+            (5, 10, TokenKind::Name, b"units"),
+        ],
+    ),
+    (
+        b"09223372036854775807",
+        &[(
+            0,
+            20,
+            TokenKind::Number(9223372036854775807),
+            b"09223372036854775807",
+        )],
+    ),
+    (
+        b"8 / 2 // \xFF\n% 3",
+        &[
+            (0, 1, TokenKind::Number(8), b"8"),
+            (2, 3, TokenKind::Sign, b"/"),
+            (4, 5, TokenKind::Number(2), b"2"),
+            (11, 12, TokenKind::Sign, b"%"),
+            (13, 14, TokenKind::Number(3), b"3"),
+        ],
+    ),
+    (b"// c", &[]),
+];
+
 #[test]
 fn scripts_have_their_tokens(rt: HostRuntime) -> Result<(), Fail> {
-    let scripts: [(&[u8], &[Wanted]); 8] = [
-        (
-            b"log(1 + 2);",
-            &[
-                (0, 3, TokenKind::Name, b"log"),
-                (3, 4, TokenKind::Sign, b"("),
-                (4, 5, TokenKind::Number(1), b"1"),
-                (6, 7, TokenKind::Sign, b"+"),
-                (8, 9, TokenKind::Number(2), b"2"),
-                (9, 10, TokenKind::Sign, b")"),
-                (10, 11, TokenKind::Sign, b";"),
-            ],
-        ),
-        (
-            b"a==b",
-            &[
-                (0, 1, TokenKind::Name, b"a"),
-                (1, 3, TokenKind::Sign, b"=="),
-                (3, 4, TokenKind::Name, b"b"),
-            ],
-        ),
-        (
-            b"a\t= =\r\n_b1",
-            &[
-                (0, 1, TokenKind::Name, b"a"),
-                (2, 3, TokenKind::Sign, b"="),
-                (4, 5, TokenKind::Sign, b"="),
-                (7, 10, TokenKind::Name, b"_b1"),
-            ],
-        ),
-        (b"\"x\\\"y\\n\"", &[(0, 8, TokenKind::Text, b"x\"y\n")]),
-        (
-            b"unit units",
-            &[
-                (0, 4, TokenKind::Word, b"unit"),
-                (5, 10, TokenKind::Name, b"units"),
-            ],
-        ),
-        (
-            b"09223372036854775807",
-            &[(
-                0,
-                20,
-                TokenKind::Number(9223372036854775807),
-                b"09223372036854775807",
-            )],
-        ),
-        (
-            b"8 / 2 // \xFF\n% 3",
-            &[
-                (0, 1, TokenKind::Number(8), b"8"),
-                (2, 3, TokenKind::Sign, b"/"),
-                (4, 5, TokenKind::Number(2), b"2"),
-                (11, 12, TokenKind::Sign, b"%"),
-                (13, 14, TokenKind::Number(3), b"3"),
-            ],
-        ),
-        (b"// c", &[]),
-    ];
-    for (script, wanted) in scripts {
+    for (script, wanted) in SCRIPTS {
         let found = tokens(rt.alloc(), script)?;
         assert_eq!(rt; found.length(), script.len());
         assert_eq!(rt; found.items().len(), wanted.len(), "in {script:?}");

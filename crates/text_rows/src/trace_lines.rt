@@ -35,7 +35,7 @@ fn expect_line(rt: &impl Abort, alloc: Global, e: &Stamped, line: &str) -> Resul
 }
 
 #[test]
-fn lines_of_turns_and_callbacks(rt: HostRuntime) -> Result<(), Fail> {
+fn lines_of_turns(rt: HostRuntime) -> Result<(), Fail> {
     let table = [
         (
             at(
@@ -53,6 +53,21 @@ fn lines_of_turns_and_callbacks(rt: HostRuntime) -> Result<(), Fail> {
         ),
         (at(0, Event::Call { r: 1 }), "0 call 1\n"),
         (at(5000, Event::Ret), "5000 ret\n"),
+        (
+            at(1500, Event::Wait { t: Micros(1000) }),
+            "1500 wait 1000\n",
+        ),
+        (at(10000, Event::End(End::Clock)), "10000 end clock\n"),
+    ];
+    for (e, line) in &table {
+        expect_line(&rt, rt.alloc(), e, line)?;
+    }
+    Ok(())
+}
+
+#[test]
+fn lines_of_registrations_and_timers(rt: HostRuntime) -> Result<(), Fail> {
+    let table = [
         (
             at(
                 8000,
@@ -88,11 +103,6 @@ fn lines_of_turns_and_callbacks(rt: HostRuntime) -> Result<(), Fail> {
         ),
         (at(10000, Event::Due { r: 2 }), "10000 due 2\n"),
         (at(20000, Event::Drop { r: 3 }), "20000 drop 3\n"),
-        (
-            at(1500, Event::Wait { t: Micros(1000) }),
-            "1500 wait 1000\n",
-        ),
-        (at(10000, Event::End(End::Clock)), "10000 end clock\n"),
     ];
     for (e, line) in &table {
         expect_line(&rt, rt.alloc(), e, line)?;
@@ -146,7 +156,7 @@ fn lines_of_jobs_frames_and_periods(rt: HostRuntime) -> Result<(), Fail> {
 }
 
 #[test]
-fn lines_of_scheduler_signals_and_hosts(rt: HostRuntime) -> Result<(), Fail> {
+fn lines_of_scheduler_tasks(rt: HostRuntime) -> Result<(), Fail> {
     let visible = QueueName::Fixed(PrioName::UserVisible);
     let table = [
         (
@@ -185,6 +195,16 @@ fn lines_of_scheduler_signals_and_hosts(rt: HostRuntime) -> Result<(), Fail> {
             ),
             "0 enq 2 s1 task 2\n",
         ),
+    ];
+    for (e, line) in &table {
+        expect_line(&rt, rt.alloc(), e, line)?;
+    }
+    Ok(())
+}
+
+#[test]
+fn lines_of_signals_and_hosts(rt: HostRuntime) -> Result<(), Fail> {
+    let table = [
         (
             at(
                 0,
@@ -226,7 +246,7 @@ fn lines_of_scheduler_signals_and_hosts(rt: HostRuntime) -> Result<(), Fail> {
 }
 
 #[test]
-fn lines_with_values(rt: HostRuntime) -> Result<(), Fail> {
+fn lines_of_logged_values(rt: HostRuntime) -> Result<(), Fail> {
     let alloc = rt.alloc();
     let table = [
         (
@@ -247,6 +267,17 @@ fn lines_with_values(rt: HostRuntime) -> Result<(), Fail> {
             ),
             "10000 log \"a\"\n",
         ),
+    ];
+    for (e, line) in &table {
+        expect_line(&rt, alloc, e, line)?;
+    }
+    Ok(())
+}
+
+#[test]
+fn lines_of_promises(rt: HostRuntime) -> Result<(), Fail> {
+    let alloc = rt.alloc();
+    let table = [
         (
             at(
                 0,

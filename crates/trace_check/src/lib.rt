@@ -5,8 +5,6 @@ mod checking;
 mod collecting;
 mod replaying;
 mod scanning;
-#[cfg(test)]
-mod tests;
 mod text_check;
 mod verdict;
 

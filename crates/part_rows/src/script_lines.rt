@@ -4,8 +4,9 @@ ghost use Rattle.std.specs.Prelude.{◌+◌, ◌^◌, ◌<◌, length};
 ghost use Rattle.promise_core.specs.Held.{IsMade};
 ghost use Rattle.page_notices.specs.Steps.{held};
 
-use crate::{
-    Kind, PageScript, PrioSource, Priority, Reaction, Registration, Role, SchedulingState,
+use page_script::{
+    Callbacks, Kind, PageScript, PrioSource, Priority, Reaction, Registration, Role,
+    SchedulingState,
 };
 use page_io::MemSink;
 use page_values::{FunNames, Func, Items, Value};
@@ -160,8 +161,7 @@ fn the_first_registration_has_the_timer_id(rt: HostRuntime) -> Result<(), Fail> 
     for _ in 0..2 {
         let registration = Registration {
             role: Role::Of(RegKind::Timeout),
-            callback: None,
-            second_callback: None,
+            callbacks: Callbacks::Absent,
             timer_id: 4,
             promise: 0,
             signal: None,

@@ -1,6 +1,6 @@
 //! The texts of some storms, letter by letter.
 
-use crate::storm;
+use page_gen::storm;
 use std::process::Abort;
 use std::test::Fail;
 

@@ -3,7 +3,6 @@
 ghost use Rattle.std.specs.Prelude.{◌≡◌, ◌≤◌, ◌<◌, ◌^◌, length};
 ghost use Rattle.host_jobs.specs.ToldTable.{closures_of};
 
-use super::*;
 use arrivals_text::{PageSetup, read_page};
 use cell_room::Steps;
 use host_jobs::{HostKind, HostOnce, HostTable, Recorded};
@@ -17,6 +16,7 @@ use std::alloc::Global;
 use std::marker::Brand;
 use std::sync::ledger::{Blank, Ledger};
 use std::test::Fail;
+use trace_check::{Verdict, check_text, check_trace, choices_of, replay};
 use trace_text::{BadLine, Events, LineCheck, TraceFault, read_trace};
 
 // A timer and a posted task. By the default rank the posted task would go first.

@@ -1,7 +1,7 @@
 ghost use Rattle.std.specs.Prelude.{◌≡◌, IfOk};
 ghost use Rattle.page_parts.specs.Timers.{no_timers};
 
-use crate::{
+use parallel_items::{
     Arrival, Completion, HostAnswer, HostTask, MemoryFault, Micros, ParallelItems, PrioSource,
     Taken,
 };
