@@ -92,6 +92,7 @@ const fn ends(script: &'static str, logs: &'static str, left: u64) -> Example {
 }
 
 const RANGE_ERROR: &str = "throws RangeError(\"\")";
+
 const TYPE_ERROR: &str = "throws TypeError(\"\")";
 
 fn meets(outcome: &Outcome, example: &Example) -> bool {

@@ -1,12 +1,12 @@
 ghost use Rattle.std.specs.Prelude.{◌≡◌, IfOk};
 ghost use Rattle.page_parts.specs.Timers.{no_timers};
 
+use page_base::Source;
+use page_values::{Str, Value};
 use parallel_items::{
     Arrival, Completion, HostAnswer, HostTask, MemoryFault, Micros, ParallelItems, PrioSource,
     Taken,
 };
-use page_base::Source;
-use page_values::{Str, Value};
 use post_task::Priority;
 use std::alloc::Global;
 use std::test::Fail;

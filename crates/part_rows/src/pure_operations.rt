@@ -7,8 +7,8 @@ ghost use Rattle.page_values.specs.Texts.{is_text};
 ghost use Rattle.lang_ast.specs.Operations.{count_of};
 ghost use Rattle.lang_ast.specs.Steps.{AllNumbered};
 
-use page_pure::pure_op;
 use lang_ast::{HostStep, Op};
+use page_pure::pure_op;
 use page_values::{FaultName, FunNames, Items, Str, Value, fault, function_value, make_list, same};
 use std::alloc::{AllocError, Global};
 use std::process::Abort;

@@ -4,11 +4,11 @@ ghost use Rattle.std.specs.Prelude.{◌+◌, ◌^◌, ◌<◌, length};
 ghost use Rattle.promise_core.specs.Held.{IsMade};
 ghost use Rattle.page_notices.specs.Steps.{held};
 
+use page_io::MemSink;
 use page_script::{
     Callbacks, Kind, PageScript, PrioSource, Priority, Reaction, Registration, Role,
     SchedulingState,
 };
-use page_io::MemSink;
 use page_values::{FunNames, Func, Items, Value};
 use std::alloc::Global;
 use std::process::Abort;
