@@ -11,8 +11,8 @@ use Rattle.page_model.specs.State.{Page, State}
 use Rattle.page_model.specs.Choosing.{Chosen, legal, is_reading, chosen_source, chosen_reading, chosen_answer}
 use Rattle.page_model.specs.Turns.{Turned, GoesOn, Ended, Stuck, perform, from_step_three}
 use Rattle.trace_text.specs.declared.lines.NoLine.{NoLine}
-use Rattle.trace_text.specs.Given.{Keeping, Seen}
-use Rattle.loop_turn.specs.Outcomes.{Outcome, Reached, Turns}
+use Rattle.trace_text.specs.Given.{Keeping}
+use Rattle.loop_turn.specs.Outcomes.{Shown, Outcome, Reached, Turns}
 use Rattle.loop_turn.specs.RunRules.{Held, by_chooser, by_clock, by_port, run_rules, no_reading, answer_chosen, answer_rules}
 use Rattle.loop_turn.proofs.Parted.{held_as, chosen_as, perform-as, from_step_three-as}
 
@@ -83,11 +83,11 @@ module _ {C K : Type 0} (clock : C → ℕ → Option (ℕ × C)) (chooser : K �
   serving-as call until h m = from_step_three-as (with_clock c) (run_rules clock chooser) (run_rules no_reading chooser) call answers-as sources-as until h m
 
 -- what a call does of turns, with more held
-pub Turns-as : {C D T : Type 0} {k : Keeping T} (whole : D → C) {before : Seen T} (t : Turned D) {why : Option NoLine} {how : Outcome} {reached : Reached D T}
-    → Turns k before t why how reached → Turns k before (held_as whole t) why how (record { state = reached.state; held = whole reached.held; seen = reached.seen })
-Turns-as whole (GoesOn m d) h = record { lines = h.lines; ends = λ w. record { outcome = (h.ends w).outcome; state = (h.ends w).state; hosts = (h.ends w).hosts; held = ap whole (h.ends w).held } }
-Turns-as whole (Ended end m d) h = record { lines = h.lines; ends = λ w. record { outcome = (h.ends w).outcome; state = (h.ends w).state; hosts = (h.ends w).hosts; held = ap whole (h.ends w).held } }
-Turns-as whole (Stuck at m d) h = record { lines = h.lines; ends = λ w. record { outcome = (h.ends w).outcome; state = (h.ends w).state; hosts = (h.ends w).hosts; held = ap whole (h.ends w).held } }
+pub Turns-as : {C D T : Type 0} {k : Keeping T} (whole : D → C) {before : Shown T} (t : Turned D) {why : Option NoLine} {how : Outcome} {reached : Reached D T}
+    → Turns k before t why how reached → Turns k before (held_as whole t) why how (record { state = reached.state; held = whole reached.held; shown = reached.shown })
+Turns-as whole (GoesOn m d) h = record { lines = h.lines; ends = λ w. record { outcome = (h.ends w).outcome; state = (h.ends w).state; hosts = (h.ends w).hosts; held = ap whole (h.ends w).held }; fires = h.fires }
+Turns-as whole (Ended end m d) h = record { lines = h.lines; ends = λ w. record { outcome = (h.ends w).outcome; state = (h.ends w).state; hosts = (h.ends w).hosts; held = ap whole (h.ends w).held }; fires = h.fires }
+Turns-as whole (Stuck at m d) h = record { lines = h.lines; ends = λ w. record { outcome = (h.ends w).outcome; state = (h.ends w).state; hosts = (h.ends w).hosts; held = ap whole (h.ends w).held }; fires = h.fires }
 
 -- ---- the chooser beside what an answer is chosen by
 

@@ -1,3 +1,4 @@
+pub mod Fired
 pub mod TurnSteps
 pub mod Parted
 pub mod PageTurns

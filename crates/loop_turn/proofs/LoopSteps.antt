@@ -18,17 +18,16 @@ use Rattle.page_model.specs.Turns.{Turned, GoesOn, Ended, Stuck, AtBound, NoRead
 use Rattle.page_model.proofs.Adding.Turns.{step_five-adds}
 use Rattle.trace_text.specs.declared.lines.NoLine.{NoLine}
 use Rattle.trace_text.specs.Given.{Keeping, Seen}
-use Rattle.trace_text.specs.Acts.{Does}
 use Rattle.page_state.specs.Standing.{Standing, page_of}
-use Rattle.page_state.specs.PageActs.{at, on_page, changed_by}
+use Rattle.page_state.specs.PageActs.{at, on_page, changed_by, Does}
 use Rattle.page_host.specs.Turning.{run_ended, turn_begun}
-use Rattle.loop_turn.specs.Outcomes.{Outcome, WentOn, Finished, AtReading, AtSource, Reached, Turns}
+use Rattle.loop_turn.specs.Outcomes.{Shown, Outcome, WentOn, Finished, AtReading, AtSource, Reached, Turns}
 use Rattle.loop_turn.specs.Waiting.{items_taken, idled, WaitFor, next_in}
 use Rattle.loop_turn.specs.RunStops.{stop_fault, stop_outcome}
 use Rattle.loop_turn.specs.declared.run_stop.RunStop.{RunStop}
 use Rattle.loop_turn.proofs.RunSteps.{Turns-stopped}
 use Rattle.loop_turn.proofs.TurnSteps.{Turns-same, Turns-then, Turns-stop, Turns-over, Turns-goes, Turns-stuck}
-use Rattle.loop_turn.proofs.PageTurns.{around, Turns-page, Turns-page_stop, Turns-finish}
+use Rattle.loop_turn.proofs.PageTurns.{around, port_at, Turns-page, Turns-page_stop, Turns-finish}
 use Rattle.loop_turn.proofs.TaskAdds.{perform-adds}
 use Rattle.loop_turn.proofs.WaitSteps.{step_one-is, step_five-is, go_next, next-is, after_step_one-adds, from_or-adds}
 
@@ -47,15 +46,15 @@ module _ {C : Type 0} (rules : Rules C) (call : Caller Page) (calls_add : (es : 
   module _ (left : ℕ) (s : Standing) (c : C) {T : Type 0} {k : Keeping T} {s' : Standing} {old new : Seen T} where
     -- where taking the items stopped
     pub items-stop : {why : NoLine} (how : Outcome) (state : State) (held : C) → Does k (at s old) (on_page items_taken) (Some why) (at s' new)
-        → Turns k old (again (suc left) (around globals fuel s) c) (Some why) how (record { state = state; held = held; seen = new })
+        → Turns k (port_at s old) (again (suc left) (around globals fuel s) c) (Some why) how (record { state = state; held = held; shown = port_at s' new })
     items-stop how state held h =
         Turns-same (ap (after_step_one rules call until (again left) c) (step_one-is (around globals fuel s)))
         (Turns-page_stop globals fuel items_taken (after_step_one rules call until (again left) c) (after-adds left c) how state held h)
 
     -- where they are taken, what comes next
     pub items-then : {why : Option NoLine} {how : Outcome} {reached : Reached C T} → Does k (at s old) (on_page items_taken) None (at s' new)
-        → Turns k new (go_next rules call until (again left) c (next_in until (page_of s')) (around globals fuel s')) why how reached
-        → Turns k old (again (suc left) (around globals fuel s) c) why how reached
+        → Turns k (port_at s' new) (go_next rules call until (again left) c (next_in until (page_of s')) (around globals fuel s')) why how reached
+        → Turns k (port_at s old) (again (suc left) (around globals fuel s) c) why how reached
     items-then h rest =
         Turns-same (ap (after_step_one rules call until (again left) c) (step_one-is (around globals fuel s)))
         (Turns-page globals fuel items_taken (after_step_one rules call until (again left) c) (after-adds left c) h
@@ -64,22 +63,22 @@ module _ {C : Type 0} (rules : Rules C) (call : Caller Page) (calls_add : (es : 
     -- where the clock gives a reading
     module _ (t r : ℕ) (d : C) (e : chosen_reading rules t c ≡ Some (record { choice = r; left = d })) where
       pub wait-stop : {why : NoLine} (how : Outcome) (state : State) (held : C) → Does k (at (changed_by (at_time r) s) old) (on_page (emit (Wait t))) (Some why) (at s' new)
-          → Turns k old (go_next rules call until (again left) c (WaitFor t) (around globals fuel s)) (Some why) how (record { state = state; held = held; seen = new })
+          → Turns k (port_at s old) (go_next rules call until (again left) c (WaitFor t) (around globals fuel s)) (Some why) how (record { state = state; held = held; shown = port_at s' new })
       wait-stop how state held h =
           Turns-same (ap (λ r. waited t r (again left) c (around globals fuel s)) e)
           (Turns-page_stop globals fuel (emit (Wait t)) (λ m. again left m d) (again-adds left d) how state held h)
 
       pub wait-then : {why : Option NoLine} {how : Outcome} {reached : Reached C T} → Does k (at (changed_by (at_time r) s) old) (on_page (emit (Wait t))) None (at s' new)
-          → Turns k new (again left (around globals fuel s') d) why how reached
-          → Turns k old (go_next rules call until (again left) c (WaitFor t) (around globals fuel s)) why how reached
+          → Turns k (port_at s' new) (again left (around globals fuel s') d) why how reached
+          → Turns k (port_at s old) (go_next rules call until (again left) c (WaitFor t) (around globals fuel s)) why how reached
       wait-then h rest =
           Turns-same (ap (λ r. waited t r (again left) c (around globals fuel s)) e)
           (Turns-page globals fuel (emit (Wait t)) (λ m. again left m d) (again-adds left d) h rest)
 
   -- where it refuses
-  pub wait-refused : (left : ℕ) (s : Standing) (c : C) {T : Type 0} {k : Keeping T} (t : ℕ) (seen : Seen T) → chosen_reading rules t c ≡ None
-      → Turns k seen (go_next rules call until (again left) c (WaitFor t) (around globals fuel s)) None AtReading (record { state = around globals fuel s; held = c; seen = seen })
-  wait-refused left s c t seen e = Turns-same (ap (λ r. waited t r (again left) c (around globals fuel s)) e) (Turns-stuck (NoReading t) (around globals fuel s) c seen)
+  pub wait-refused : (left : ℕ) (s : Standing) (c : C) {T : Type 0} {k : Keeping T} (t : ℕ) (shown : Shown T) → chosen_reading rules t c ≡ None
+      → Turns k shown (go_next rules call until (again left) c (WaitFor t) (around globals fuel s)) None AtReading (record { state = around globals fuel s; held = c; shown = shown })
+  wait-refused left s c t shown e = Turns-same (ap (λ r. waited t r (again left) c (around globals fuel s)) e) (Turns-stuck (NoReading t) (around globals fuel s) c shown)
 
   -- ---- steps 3 and 5
 
@@ -106,28 +105,28 @@ module _ {C : Type 0} (rules : Rules C) (call : Caller Page) (calls_add : (es : 
   module _ (s : Standing) (c : C) {T : Type 0} {k : Keeping T} {s' : Standing} {old new : Seen T} where
     -- the time is up
     pub clock-ends : until ≤ (page_of s).now → Does k (at s old) (on_page (run_ended until ClockEnd)) None (at s' new)
-        → Turns k old (from_step_three rules call until c (around globals fuel s)) None (Finished ClockEnd) (record { state = around globals fuel s'; held = c; seen = new })
+        → Turns k (port_at s old) (from_step_three rules call until c (around globals fuel s)) None (Finished ClockEnd) (record { state = around globals fuel s'; held = c; shown = port_at s' new })
     clock-ends le h = Turns-same (three-clock s c le) (Turns-finish globals fuel (run_ended until ClockEnd) ClockEnd c h)
 
     pub clock-stop : {why : NoLine} (how : Outcome) (state : State) (held : C) → until ≤ (page_of s).now → Does k (at s old) (on_page (run_ended until ClockEnd)) (Some why) (at s' new)
-        → Turns k old (from_step_three rules call until c (around globals fuel s)) (Some why) how (record { state = state; held = held; seen = new })
+        → Turns k (port_at s old) (from_step_three rules call until c (around globals fuel s)) (Some why) how (record { state = state; held = held; shown = port_at s' new })
     clock-stop how state held le h = Turns-same (three-clock s c le) (Turns-page_stop globals fuel (run_ended until ClockEnd) (λ m. Ended ClockEnd m c) (λ es m. refl) how state held h)
 
     -- the idle step
     pub idle-done : Does k (at s old) (on_page idled) None (at s' new)
-        → Turns k old (GoesOn (step_five (around globals fuel s)) c) None WentOn (record { state = around globals fuel s'; held = c; seen = new })
+        → Turns k (port_at s old) (GoesOn (step_five (around globals fuel s)) c) None WentOn (record { state = around globals fuel s'; held = c; shown = port_at s' new })
     idle-done h =
         Turns-same (ap (λ m. GoesOn m c) (step_five-is (around globals fuel s)))
-        (Turns-page globals fuel idled (λ m. GoesOn m c) (λ es m. refl) h (Turns-goes (around globals fuel s') c new))
+        (Turns-page globals fuel idled (λ m. GoesOn m c) (λ es m. refl) h (Turns-goes (around globals fuel s') c (port_at s' new)))
 
     pub idle-stop : {why : NoLine} (how : Outcome) (state : State) (held : C) → Does k (at s old) (on_page idled) (Some why) (at s' new)
-        → Turns k old (GoesOn (step_five (around globals fuel s)) c) (Some why) how (record { state = state; held = held; seen = new })
+        → Turns k (port_at s old) (GoesOn (step_five (around globals fuel s)) c) (Some why) how (record { state = state; held = held; shown = port_at s' new })
     idle-stop how state held h =
         Turns-same (ap (λ m. GoesOn m c) (step_five-is (around globals fuel s)))
         (Turns-page_stop globals fuel idled (λ m. GoesOn m c) (λ es m. refl) how state held h)
 
   -- what is left after the task
-  module _ (s : Standing) (c : C) (less : suc (page_of s).now ≤ until) {T : Type 0} {k : Keeping T} {old : Seen T} where
+  module _ (s : Standing) (c : C) (less : suc (page_of s).now ≤ until) {T : Type 0} {k : Keeping T} {old : Shown T} where
     pub task-stop : {why : NoLine} {how : Outcome} (how' : Outcome) {reached : Reached C T} → Turns k old (with_turn_fuel rules call fuel (around globals fuel s) c) (Some why) how reached
         → Turns k old (from_step_three rules call until c (around globals fuel s)) (Some why) how' reached
     task-stop how' h = Turns-same (in-time s c less) (Turns-stop (with_turn_fuel rules call fuel (around globals fuel s) c) (λ m c. GoesOn (step_five m) c) how' five-adds h)
@@ -142,7 +141,7 @@ module _ {C : Type 0} (rules : Rules C) (call : Caller Page) (calls_add : (es : 
     task-over over h = Turns-same (in-time s c less) (Turns-over (with_turn_fuel rules call fuel (around globals fuel s) c) (λ m c. GoesOn (step_five m) c) over h)
 
     pub task-then : {why : Option NoLine} {how : Outcome} {mid reached : Reached C T} → Turns k old (with_turn_fuel rules call fuel (around globals fuel s) c) None WentOn mid
-        → Turns k mid.seen (GoesOn (step_five mid.state) mid.held) why how reached
+        → Turns k mid.shown (GoesOn (step_five mid.state) mid.held) why how reached
         → Turns k old (from_step_three rules call until c (around globals fuel s)) why how reached
     task-then h rest = Turns-same (in-time s c less) (Turns-then (with_turn_fuel rules call fuel (around globals fuel s) c) (λ m c. GoesOn (step_five m) c) five-adds h rest)
 
@@ -174,43 +173,43 @@ module _ {C : Type 0} (rules : Rules C) (call : Caller Page) (calls_add : (es : 
   -- nothing is runnable
   module _ (e : is_empty (view (page_of s)) ≡ true) {T : Type 0} {k : Keeping T} {s' : Standing} {old new : Seen T} where
     pub none-begins : Does k (at s old) (on_page (turn_begun None)) None (at s' new)
-        → Turns k old (with_turn_fuel rules call (suc left) fueled c) None WentOn (record { state = around globals left s'; held = c; seen = new })
+        → Turns k (port_at s old) (with_turn_fuel rules call (suc left) fueled c) None WentOn (record { state = around globals left s'; held = c; shown = port_at s' new })
     none-begins h =
         Turns-same (four-is [] (no-view (view (page_of s)) e))
-        (Turns-page globals left (turn_begun None) (λ m. GoesOn m c) (λ es m. refl) h (Turns-goes (around globals left s') c new))
+        (Turns-page globals left (turn_begun None) (λ m. GoesOn m c) (λ es m. refl) h (Turns-goes (around globals left s') c (port_at s' new)))
 
     pub none-stop : {why : NoLine} (how : Outcome) (state : State) (held : C) → Does k (at s old) (on_page (turn_begun None)) (Some why) (at s' new)
-        → Turns k old (with_turn_fuel rules call (suc left) fueled c) (Some why) how (record { state = state; held = held; seen = new })
+        → Turns k (port_at s old) (with_turn_fuel rules call (suc left) fueled c) (Some why) how (record { state = state; held = held; shown = port_at s' new })
     none-stop how state held h =
         Turns-same (four-is [] (no-view (view (page_of s)) e))
         (Turns-page_stop globals left (turn_begun None) (λ m. GoesOn m c) (λ es m. refl) how state held h)
 
   -- something is, and the chooser refuses
-  pub pick-refused : {T : Type 0} {k : Keeping T} (e : is_empty (view (page_of s)) ≡ false) (seen : Seen T) → chosen_source rules (view (page_of s)) c ≡ None
-      → Turns k seen (with_turn_fuel rules call (suc left) fueled c) None AtSource (record { state = fueled; held = c; seen = seen })
-  pick-refused {k = k} e seen is =
-      let stuck = Turns-stuck {k = k} NoSource (counted_turn left fueled) c seen in
+  pub pick-refused : {T : Type 0} {k : Keeping T} (e : is_empty (view (page_of s)) ≡ false) (shown : Shown T) → chosen_source rules (view (page_of s)) c ≡ None
+      → Turns k shown (with_turn_fuel rules call (suc left) fueled c) None AtSource (record { state = fueled; held = c; shown = shown })
+  pick-refused {k = k} e shown is =
+      let stuck = Turns-stuck {k = k} NoSource (counted_turn left fueled) c shown in
       Turns-same (picked None e is)
-      (record { lines = stuck.lines; ends = λ w. record { outcome = refl; state = λ un. absurd un; hosts = refl; held = refl } })
+      (record { lines = stuck.lines; ends = λ w. record { outcome = refl; state = λ un. absurd un; hosts = refl; held = refl }; fires = stuck.fires })
 
   -- or it chooses a source
   module _ (e : is_empty (view (page_of s)) ≡ false) (source : Source) (d : C) (is : chosen_source rules (view (page_of s)) c ≡ Some (record { choice = source; left = d }))
       {T : Type 0} {k : Keeping T} {s' : Standing} {old new : Seen T} where
     pub pick-stop : {why : NoLine} (how : Outcome) (state : State) (held : C) → Does k (at s old) (on_page (turn_begun (Some source))) (Some why) (at s' new)
-        → Turns k old (with_turn_fuel rules call (suc left) fueled c) (Some why) how (record { state = state; held = held; seen = new })
+        → Turns k (port_at s old) (with_turn_fuel rules call (suc left) fueled c) (Some why) how (record { state = state; held = held; shown = port_at s' new })
     pick-stop how state held h =
         Turns-same (picked (Some (record { choice = source; left = d })) e is)
         (Turns-page_stop globals left (turn_begun (Some source)) (λ m. perform rules call source m d) (performing-adds source d) how state held h)
 
     pub pick-then : {why : Option NoLine} {how : Outcome} {reached : Reached C T} → Does k (at s old) (on_page (turn_begun (Some source))) None (at s' new)
-        → Turns k new (perform rules call source (around globals left s') d) why how reached
-        → Turns k old (with_turn_fuel rules call (suc left) fueled c) why how reached
+        → Turns k (port_at s' new) (perform rules call source (around globals left s') d) why how reached
+        → Turns k (port_at s old) (with_turn_fuel rules call (suc left) fueled c) why how reached
     pick-then h rest =
         Turns-same (picked (Some (record { choice = source; left = d })) e is)
         (Turns-page globals left (turn_begun (Some source)) (λ m. perform rules call source m d) (performing-adds source d) h rest)
 
 -- so much fuel, in other words
-pub with-fuel : {C T : Type 0} {k : Keeping T} (rules : Rules C) (call : Caller Page) (globals : List Variable) (s : Standing) (c : C) {old : Seen T} {why : Option NoLine} {how : Outcome} {reached : Reached C T}
+pub with-fuel : {C T : Type 0} {k : Keeping T} (rules : Rules C) (call : Caller Page) (globals : List Variable) (s : Standing) (c : C) {old : Shown T} {why : Option NoLine} {how : Outcome} {reached : Reached C T}
     (n left : ℕ) → left + 1 ≡ n → Turns k old (with_turn_fuel rules call (suc left) (around globals (suc left) s) c) why how reached
     → Turns k old (with_turn_fuel rules call n (around globals n s) c) why how reached
 with-fuel {k = k} rules call globals s c {old = old} {why = why} {how = how} {reached = reached} n left e h =
@@ -226,9 +225,9 @@ dry-is rules call globals s c n until e =
 
 module _ {C : Type 0} (rules : Rules C) (call : Caller Page) (globals : List Variable) (s : Standing) (c : C) {T : Type 0} {k : Keeping T} {s' : Standing} {old new : Seen T} where
   pub dry-ends : (n until : ℕ) → n ≡ 0 → Does k (at s old) (on_page (run_ended until FuelEnd)) None (at s' new)
-      → Turns k old (with_turn_fuel rules call n (around globals n s) c) None (Finished FuelEnd) (record { state = around globals n s'; held = c; seen = new })
+      → Turns k (port_at s old) (with_turn_fuel rules call n (around globals n s) c) None (Finished FuelEnd) (record { state = around globals n s'; held = c; shown = port_at s' new })
   dry-ends n until e h = Turns-same (dry-is rules call globals s c n until e) (Turns-finish globals n (run_ended until FuelEnd) FuelEnd c h)
 
   pub dry-stop : {why : NoLine} (n until : ℕ) (how : Outcome) (state : State) (held : C) → n ≡ 0 → Does k (at s old) (on_page (run_ended until FuelEnd)) (Some why) (at s' new)
-      → Turns k old (with_turn_fuel rules call n (around globals n s) c) (Some why) how (record { state = state; held = held; seen = new })
+      → Turns k (port_at s old) (with_turn_fuel rules call n (around globals n s) c) (Some why) how (record { state = state; held = held; shown = port_at s' new })
   dry-stop n until how state held e h = Turns-same (dry-is rules call globals s c n until e) (Turns-page_stop globals n (run_ended until FuelEnd) (λ m. Ended FuelEnd m c) (λ es m. refl) how state held h)

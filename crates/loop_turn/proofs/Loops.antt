@@ -7,17 +7,17 @@ use Rattle.page_model.specs.Choosing.{Rules}
 use Rattle.page_model.specs.Bounds.{from_step_one_or, turn_or, row_of}
 use Rattle.page_model.specs.Turns.{Turned, Stuck, AtBound}
 use Rattle.trace_text.specs.declared.lines.NoLine.{NoLine}
-use Rattle.trace_text.specs.Given.{Keeping, Seen}
-use Rattle.loop_turn.specs.Outcomes.{Outcome, Reached, Turns}
+use Rattle.trace_text.specs.Given.{Keeping}
+use Rattle.loop_turn.specs.Outcomes.{Shown, Outcome, Reached, Turns}
 use Rattle.loop_turn.specs.Answers.{AreKept}
 
 -- What does the rest from here does all.
-abbrev pub Leads : {C T : Type 0} → Keeping T → (start : Seen T) → Turned C → (here : Seen T) → Turned C → Type 0
+abbrev pub Leads : {C T : Type 0} → Keeping T → (start : Shown T) → Turned C → (here : Shown T) → Turned C → Type 0
 Leads {C} {T} k start all here rest = (why : Option NoLine) (how : Outcome) (reached : Reached C T) → Turns k here rest why how reached → Turns k start all why how reached
 
 -- A turn from its beginning here, with so many more waits, does the whole turn. They are enough until the run ends.
 pub record WaitsOn {C A T : Type 0} (k : Keeping T) (rules : Rules C) (call : Caller Page) (until : ℕ) (hold hold' : A → C)
-    (start : Seen T) (first : State) (here : Seen T) (now : ℕ) (m : State) : Type 0 where
+    (start : Shown T) (first : State) (here : Shown T) (now : ℕ) (m : State) : Type 0 where
   pub left : ℕ
   pub enough : until ≤ now + left
   pub leads : (answers : A) → Leads k start (turn_or (Stuck AtBound) until rules call until first (hold answers)) here
@@ -25,7 +25,7 @@ pub record WaitsOn {C A T : Type 0} (k : Keeping T) (rules : Rules C) (call : Ca
 
 -- At most so many turns from here do all turns from the start, by whatever answers are left here.
 pub record TurnsOn {C T : Type 0} (k : Keeping T) (rules : Rules C) (call : Caller Page) (until : ℕ) (hold hold' : List (Result ℤ ℤ) → C)
-    (told told' : Option (List (Result ℤ ℤ))) (start : Seen T) (first : State) (here : Seen T) (m : State) : Type 0 where
+    (told told' : Option (List (Result ℤ ℤ))) (start : Shown T) (first : State) (here : Shown T) (m : State) : Type 0 where
   pub left : ℕ
   pub enough : m.fuel ≤ left
   pub leads : (answers : List (Result ℤ ℤ)) → AreKept told' answers → (before : List (Result ℤ ℤ)) × AreKept told before ×

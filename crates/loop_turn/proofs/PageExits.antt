@@ -20,11 +20,11 @@ use Rattle.page_model.specs.View.{view}
 use Rattle.trace_text.specs.declared.lines.NoLine.{NoLine}
 use Rattle.trace_text.specs.declared.lines.NoLine.TheVariants.{Failed, Differs, OutOfMemory}
 use Rattle.trace_text.specs.Given.{Keeping, Seen, Gives as TakesLines}
-use Rattle.trace_text.specs.Acts.{At, Does}
+use Rattle.trace_text.specs.Acts.{At}
 use Rattle.trace_text.proofs.Giving.{Gives-none}
 use Rattle.page_script.specs.PageActs.{bare, lines_of}
 use Rattle.page_state.specs.Standing.{Standing, page_of, holding}
-use Rattle.page_state.specs.PageActs.{at, on_page}
+use Rattle.page_state.specs.PageActs.{at, on_page, Does}
 use Rattle.page_host.specs.PageNow.{PageNow, stop_of}
 use Rattle.page_host.specs.Stops.{PageDoes, Stops, KeepsSetting}
 use Rattle.page_host.specs.declared.stop.PageStop.{PageStop}
@@ -90,7 +90,7 @@ no-choice page.OutOfMemory e = cc
 module _ {T : Type 0} {k : Keeping T} {s s' : Standing} {old new : Seen T} (f : Page → Page) where
   state-is : Does k (at s old) (on_page f) None (at s' new) → s' ≡ holding (f (page_of s)) s
   unfolding on_page
-  state-is h = h.state refl
+  state-is h = h.acts.state refl
 
 module _ {T : Type 0} {k : Keeping T} {s s' : Standing} {old new : Seen T} (f : Page → Page) (does : Does k (at s old) (on_page f) None (at s' new)) where
   pub work-folds : s'.folds ≡ s.folds
@@ -128,8 +128,11 @@ module _ {T : Type 0} (k : Keeping T) (f : Page → Page) (s : Standing) (seen :
   nothing-does : Does k (at s seen) (on_page f) None (at s seen)
   unfolding on_page
   nothing-does = record {
-    lines = let P : Page → Type 0 = λ p. TakesLines k seen (lines_of p.events) None seen in subst P (sym same) (Gives-none k seen);
-    state = λ w. ap (λ p. holding p s) (sym same);
+    acts = record {
+      lines = let P : Page → Type 0 = λ p. TakesLines k seen (lines_of p.events) None seen in subst P (sym same) (Gives-none k seen);
+      state = λ w. ap (λ p. holding p s) (sym same);
+    };
+    port = refl;
   }
 
 pub acts-nothing : {L T X : Type 0} (k : Keeping T) (seen : L → Seen T) (p : PageNow L) (f : Page → Page) (x : X) → f (page_of p.state) ≡ page_of p.state → Acts k seen p f (Ok x) p
@@ -145,8 +148,11 @@ module _ {T : Type 0} {k : Keeping T} {s : Standing} {old : Seen T} {why : Optio
   does-same : Does k (at s old) (on_page f) why new → Does k (at s old) (on_page g) why new
   unfolding on_page
   does-same h = record {
-    lines = let P : Page → Type 0 = λ p. TakesLines k old (lines_of p.events) why new.seen in subst P (sym same) h.lines;
-    state = λ w. h.state w ∙ ap (λ p. holding p s) (sym same);
+    acts = record {
+      lines = let P : Page → Type 0 = λ p. TakesLines k old (lines_of p.events) why new.seen in subst P (sym same) h.acts.lines;
+      state = λ w. h.acts.state w ∙ ap (λ p. holding p s) (sym same);
+    };
+    port = h.port;
   }
 
 pub acts-same : {L T X : Type 0} {k : Keeping T} {seen : L → Seen T} {old new : PageNow L} {result : Result X PageStop} (f g : Page → Page) → g (page_of old.state) ≡ f (page_of old.state)

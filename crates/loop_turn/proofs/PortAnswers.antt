@@ -1,12 +1,15 @@
 -- How a task was performed by the page, as the task of the model by the answers that are held.
 use Rattle.std.specs.Result.{IsErrAnd}
 use Rattle.std.specs.Prelude.{IsTrue, cond}
-use Rattle.std.proofs.Common.{◌≡◌, ◌≤◌, ◌⊎◌, inl, inr, ℕ, ℤ, Bool, true, false, [], ◌∷◌, refl, sym, ◌∙◌, ap, subst, arith, Option, Some, None, Result, Ok, Err}
+use Rattle.std.proofs.Common.{◌≡◌, ◌≤◌, ◌⊎◌, inl, inr, ℕ, ℤ, Bool, true, false, List, [], ◌∷◌, refl, sym, ◌∙◌, ap, subst, arith, Option, Some, None, Result, Ok, Err}
 use Rattle.page_types.specs.Values.{UnitValue}
 use Rattle.page_types.specs.declared.End.{End}
 use Rattle.page_types.specs.declared.End.TheVariants.{Fuel as FuelEnd}
 use Rattle.page_types.specs.declared.Source.{Source}
-use Rattle.page_parts.specs.HostClosures.{meets}
+use Rattle.page_parts.specs.HostClosures.{HostClosure, meets}
+use Rattle.page_types.specs.Events.{Stamped}
+use Rattle.lang_meaning.specs.Following.{CallsFollow}
+use Rattle.page_model.specs.Additions.{after}
 use Rattle.page_parts.specs.WrittenChoices.{is_runnable}
 use Rattle.page_parts.specs.Words.{is_there}
 use Rattle.lang_meaning.specs.Machine.{Done, Caller, hosted}
@@ -20,28 +23,29 @@ use Rattle.page_model.proofs.Bounding.Ending.{runnable-there}
 use Rattle.trace_text.specs.declared.lines.NoLine.{NoLine}
 use Rattle.trace_text.specs.declared.lines.NoLine.TheVariants.{Failed, Differs, OutOfMemory}
 use Rattle.trace_text.specs.Given.{Keeping, Seen}
-use Rattle.trace_text.specs.Acts.{At, Does}
+use Rattle.trace_text.specs.Acts.{At}
 use Rattle.page_script.specs.PageActs.{bare}
-use Rattle.page_state.specs.Standing.{page_of}
-use Rattle.page_state.specs.PageActs.{at, on_page}
+use Rattle.page_state.specs.Standing.{PortNow, page_of}
+use Rattle.page_state.specs.PageActs.{at, on_page, Does}
 use Rattle.page_host.specs.PageNow.{PageNow}
 use Rattle.page_host.specs.StateActs.{How, Gave, RanOut, ended, Steps}
 use Rattle.page_host.specs.Moments.{state_of, moment, calling}
 use Rattle.page_host.specs.Stops.{PageDoes, Stops}
 use Rattle.page_host.specs.Turning.{run_ended}
 use Rattle.page_host.specs.Performed.{Asking, performed, first_asking}
-use Rattle.page_host.specs.Performing.{GivesAnswer, RefusesAnswer, CanPerform, ByAnswer, IsRefused, IsWanting, Performs}
+use Rattle.page_host.specs.Performing.{GivesAnswer, RefusesAnswer, CanPerform, ByAnswer, IsRefused, IsWanting, Performs, fired_for}
 use Rattle.page_host.specs.declared.stop.PageStop.{PageStop}
 use Rattle.page_host.specs.declared.stop.PageStop.TheVariants as page
-use Rattle.loop_turn.specs.Outcomes.{Outcome, WentOn, Finished, AtAnswer, AtNothing, Reached, Turns}
+use Rattle.loop_turn.specs.Outcomes.{Shown, Outcome, WentOn, Finished, AtAnswer, AtNothing, Reached, Turns}
 use Rattle.loop_turn.specs.RunRules.{answer_rules}
 use Rattle.loop_turn.specs.RunStops.{run_stop_of, stop_fault, stop_outcome, line_fault, turn_outcome}
 use Rattle.loop_turn.specs.Answers.{AreKept, LeftBy, ByAnswers}
-use Rattle.loop_turn.specs.TurnActs.{CanTurn, StillCan, PortAt, reached}
+use Rattle.loop_turn.specs.TurnActs.{CanTurn, StillCan, PortAt, reached, shown}
 use Rattle.loop_turn.specs.declared.run_stop.RunStop.{RunStop}
 use Rattle.loop_turn.proofs.ChoiceSteps.{is-true}
 use Rattle.loop_turn.proofs.RunSteps.{some-kept, Turns-memory}
-use Rattle.loop_turn.proofs.PageExits.{act-exit, work-kept}
+use Rattle.loop_turn.proofs.PageExits.{act-exit, calling-adds, work-kept}
+use Rattle.loop_turn.proofs.Fired.{task-fires}
 use Rattle.loop_turn.proofs.PageTurns.{Turns-finish, Turns-page_stop}
 use Rattle.loop_turn.proofs.TurnSteps.{Turns-goes}
 use Rattle.loop_turn.proofs.TaskTurns.{Answers, plain-turns, plain-stop, asked-turns, asked-stop, refused-turns}
@@ -76,18 +80,20 @@ then-kept (Some x) answer (Some ks) kept' gave left h =
 -- ---- a task by the answers that are held
 
 module _ {T : Type 0} {k : Keeping T} (call : Caller Page) (source : Source) (answer : Result ℤ ℤ) {old : At State T} (there : is_there (first_number (bare old.state.host) source) ≡ true) (left : Answers)
-    (kept kept' : Option Answers) where
-  by-answer : (asks : Option Asking) → first_asking source (bare old.state.host) ≡ asks → GivesAnswer asks kept answer kept' → {mid : At State T} {how : How} {why : Option NoLine} {outcome : Outcome} {new : Reached Answers T}
-      → Steps k old (performed call source answer) None how mid → Turns k mid.seen (goes_on left (ended how mid.state)) why outcome new
-      → Turns k old.seen (perform answer_rules call source (hosted bare old.state) (given_then asks answer left)) why outcome new
-  by-answer None is gave steps rest = plain-turns call source answer left there is steps rest
-  by-answer (Some x) is gave steps rest = asked-turns call source answer left x (is-true _ gave.0) is steps rest
+    (kept kept' : Option Answers) (adds : (es : List Stamped) → CallsFollow (after es) call call) {before now : List HostClosure} where
+  by-answer : (asks : Option Asking) → first_asking source (bare old.state.host) ≡ asks → GivesAnswer asks kept answer kept' → now ≡ fired_for asks before
+      → {mid : At State T} {how : How} {why : Option NoLine} {outcome : Outcome} {new : Reached Answers T}
+      → Steps k old (performed call source answer) None how mid → Turns k (record { seen = mid.seen; closures = now }) (goes_on left (ended how mid.state)) why outcome new
+      → Turns k (record { seen = old.seen; closures = before }) (perform answer_rules call source (hosted bare old.state) (given_then asks answer left)) why outcome new
+  by-answer None is gave same steps rest = plain-turns call source answer (task-fires call adds source answer (hosted bare old.state) refl None is same) left there is steps rest
+  by-answer (Some x) is gave same steps rest = asked-turns call source answer (task-fires call adds source answer (hosted bare old.state) refl (Some x) is same) left x (is-true _ gave.0) is steps rest
 
-  by-answer_stop : (asks : Option Asking) → first_asking source (bare old.state.host) ≡ asks → GivesAnswer asks kept answer kept' → {new : At State T} {how : How} {why : NoLine} (outcome : Outcome) (held : Answers)
-      → Steps k old (performed call source answer) (Some why) how new
-      → Turns k old.seen (perform answer_rules call source (hosted bare old.state) (given_then asks answer left)) (Some why) outcome (record { state = new.state; held = held; seen = new.seen })
-  by-answer_stop None is gave outcome held steps = plain-stop call source answer left there is outcome held steps
-  by-answer_stop (Some x) is gave outcome held steps = asked-stop call source answer left x (is-true _ gave.0) is outcome held steps
+  by-answer_stop : (asks : Option Asking) → first_asking source (bare old.state.host) ≡ asks → GivesAnswer asks kept answer kept' → now ≡ fired_for asks before
+      → {new : At State T} {how : How} {why : NoLine} (outcome : Outcome) (held : Answers) → Steps k old (performed call source answer) (Some why) how new
+      → Turns k (record { seen = old.seen; closures = before }) (perform answer_rules call source (hosted bare old.state) (given_then asks answer left)) (Some why) outcome
+      (record { state = new.state; held = held; shown = record { seen = new.seen; closures = now } })
+  by-answer_stop None is gave same outcome held steps = plain-stop call source answer (task-fires call adds source answer (hosted bare old.state) refl None is same) left there is outcome held steps
+  by-answer_stop (Some x) is gave same outcome held steps = asked-stop call source answer (task-fires call adds source answer (hosted bare old.state) refl (Some x) is same) left x (is-true _ gave.0) is outcome held steps
 
 -- ---- what a call of the page did, in the words of a turn
 
@@ -101,10 +107,25 @@ task_of source answer call = performed call source answer
 abbrev pub turned : {L : Type 0} → Source → MachineNow → PageNow L → Answers → Turned Answers
 turned source m p first = perform answer_rules (calling m) source (state_of m p) first
 
+-- the closures at the port, and what it keeps, behind a task
+fired-then : {L T : Type 0} {k : Keeping T} {seen : L → Seen T} {o : Option Asking} {step : Result ℤ ℤ → Caller Page → State → Done Page} {why : Option NoLine} {how : How} {m m' : MachineNow} {p p' : PageNow L}
+    → ByAnswer k seen o step why how m p m' p' → p'.state.at_port ≡ fired_for o p.state.at_port
+fired-then b = ap (λ (c : PortNow). c.closures) b.runs.left
+
+kept-then_by : {L T : Type 0} {k : Keeping T} {seen : L → Seen T} {o : Option Asking} {step : Result ℤ ℤ → Caller Page → State → Done Page} {why : Option NoLine} {how : How} {m m' : MachineNow} {p p' : PageNow L}
+    → (b : ByAnswer k seen o step why how m p m' p') → p'.state.kept ≡ b.kept
+kept-then_by b = ap (λ (c : PortNow). c.kept) b.runs.left
+
+-- the same is shown
+shown-same : {L T : Type 0} (seen : L → Seen T) (p q : PageNow L) → q.lines ≡ p.lines → q.state.at_port ≡ p.state.at_port → shown seen q ≡ shown seen p
+shown-same {L = L} {T = T} seen p q lines closures =
+    ap {A = L} {B = Shown T} (λ l. record { seen = seen l; closures = q.state.at_port }) lines
+    ∙ ap {A = List HostClosure} {B = Shown T} (λ cs. record { seen = seen p.lines; closures = cs }) closures
+
 -- a run that stops so
 abbrev pub StopsSo : {L T : Type 0} → Keeping T → (L → Seen T) → Source → MachineNow → PageNow L → MachineNow → PageNow L → RunStop → Type 0
 StopsSo k seen source m p m' p' w =
-    ByAnswers {X = Option End} p.state.kept (Err w) p'.state.kept (λ first left. Turns k (seen p.lines) (turned source m p first) (stop_fault w) (stop_outcome w) (reached seen m' p' left))
+    ByAnswers {X = Option End} p.state.kept (Err w) p'.state.kept (λ first left. Turns k (shown seen p) (turned source m p first) (stop_fault w) (stop_outcome w) (reached seen m' p' left))
 
 there-is : {L : Type 0} (source : Source) (p : PageNow L) → IsTrue (is_runnable (view (page_of p.state)) source) → is_there (first_number (page_of p.state) source) ≡ true
 there-is source p runnable = runnable-there (page_of p.state) source (is-true _ runnable)
@@ -125,41 +146,41 @@ module _ {L T : Type 0} {k : Keeping T} (seen : L → Seen T) (source : Source) 
   module _ {m1 : MachineNow} {q : PageNow L} where
     -- and all of it was done
     pub task-done : ByAnswer k seen (asks_on source p) (task_of source) None (Gave UnitValue) m p m1 q
-        → ByAnswers {X = Option End} p.state.kept (Ok None) q.state.kept (λ first left. Turns k (seen p.lines) (turned source m p first) None WentOn (reached seen m1 q left))
+        → ByAnswers {X = Option End} p.state.kept (Ok None) q.state.kept (λ first left. Turns k (shown seen p) (turned source m p first) None WentOn (reached seen m1 q left))
     task-done b = λ left h. (
       given_then (asks_on source p) b.answer left,
-      then-kept (asks_on source p) b.answer p.state.kept b.kept b.port left (subst (λ (o : Option Answers). AreKept o left) (b.runs.port refl).kept h),
-      by-answer (calling m) source b.answer {old = moment seen m p} (there-is source p runnable) left p.state.kept b.kept (asks_on source p) refl b.port b.runs.steps (Turns-goes (state_of m1 q) left (seen q.lines)),
+      then-kept (asks_on source p) b.answer p.state.kept b.kept b.port left (subst (λ (o : Option Answers). AreKept o left) (kept-then_by b) h),
+      by-answer (calling m) source b.answer {old = moment seen m p} (there-is source p runnable) left p.state.kept b.kept (calling-adds m) (asks_on source p) refl b.port (fired-then b) b.runs.steps (Turns-goes (state_of m1 q) left (shown seen q)),
     )
 
     -- fuel ended, and so does the run
     module _ (b : ByAnswer k seen (asks_on source p) (task_of source) None RanOut m p m1 q) (p' : PageNow L) (until : ℕ) (fuel : p'.fuel ≡ q.fuel) where
       pub task-dry : Does k (at q.state (seen q.lines)) (on_page (run_ended until FuelEnd)) None (at p'.state (seen p'.lines))
-          → ByAnswers p.state.kept (Ok (Some FuelEnd)) p'.state.kept (λ first left. Turns k (seen p.lines) (turned source m p first) None (Finished FuelEnd) (reached seen m1 p' left))
+          → ByAnswers p.state.kept (Ok (Some FuelEnd)) p'.state.kept (λ first left. Turns k (shown seen p) (turned source m p first) None (Finished FuelEnd) (reached seen m1 p' left))
       task-dry does = λ left h.
-          let P : ℕ → Type 0 = λ n. Turns k (seen p.lines) (turned source m p (given_then (asks_on source p) b.answer left)) None (Finished FuelEnd) (record { state = record { globals = m1.globals; open_calls = []; fuel = n; host = page_of p'.state }; held = left; seen = seen p'.lines }) in (
+          let P : ℕ → Type 0 = λ n. Turns k (shown seen p) (turned source m p (given_then (asks_on source p) b.answer left)) None (Finished FuelEnd) (record { state = record { globals = m1.globals; open_calls = []; fuel = n; host = page_of p'.state }; held = left; shown = shown seen p' }) in (
             given_then (asks_on source p) b.answer left,
             then-kept (asks_on source p) b.answer p.state.kept b.kept b.port left
-                (subst (λ (o : Option Answers). AreKept o left) (work-kept (run_ended until FuelEnd) does ∙ (b.runs.port refl).kept) h),
+                (subst (λ (o : Option Answers). AreKept o left) (work-kept (run_ended until FuelEnd) does ∙ (kept-then_by b)) h),
             subst P (sym fuel)
-                (by-answer (calling m) source b.answer {old = moment seen m p} (there-is source p runnable) left p.state.kept b.kept (asks_on source p) refl b.port b.runs.steps
+                (by-answer (calling m) source b.answer {old = moment seen m p} (there-is source p runnable) left p.state.kept b.kept (calling-adds m) (asks_on source p) refl b.port (fired-then b) b.runs.steps
                 (Turns-finish m1.globals q.fuel (run_ended until FuelEnd) FuelEnd left does)),
           )
 
       -- a line was at fault there, or memory was wanting
       pub task-dry_exit : (r : Result (Option End) RunStop) (why : PageStop) → IsErrAnd r (λ e. e ≡ run_stop_of why)
           → PageDoes {X = Unit {0}} k seen q (on_page (run_ended until FuelEnd)) (Err why) p' → Stops {X = Unit {0}} seen q (Err why) p'
-          → ByAnswers p.state.kept r p'.state.kept (λ first left. Turns k (seen p.lines) (turned source m p first) (line_fault r) (turn_outcome r) (reached seen m1 p' left))
+          → ByAnswers p.state.kept r p'.state.kept (λ first left. Turns k (shown seen p) (turned source m p first) (line_fault r) (turn_outcome r) (reached seen m1 p' left))
       task-dry_exit (Ok x) why is does stops = absurd is
       task-dry_exit (Err e) why is does stops = λ left may.
           let behind = some-kept b.kept in
           let first = given_then (asks_on source p) b.answer behind.0 in
-          let P : RunStop → Type 0 = λ w. Turns k (seen p.lines) (turned source m p first) (stop_fault w) (stop_outcome w) (reached seen m1 p' left) in (
+          let P : RunStop → Type 0 = λ w. Turns k (shown seen p) (turned source m p first) (stop_fault w) (stop_outcome w) (reached seen m1 p' left) in (
             first,
             then-kept (asks_on source p) b.answer p.state.kept b.kept b.port behind.0 behind.1,
             subst P (sym is)
-                (act-exit (run_ended until FuelEnd) (λ w. Turns k (seen p.lines) (turned source m p first) w (stop_outcome (run_stop_of why)) (reached seen m1 p' left)) why does stops
-                (λ fault h. by-answer (calling m) source b.answer {old = moment seen m p} (there-is source p runnable) behind.0 p.state.kept b.kept (asks_on source p) refl b.port b.runs.steps
+                (act-exit (run_ended until FuelEnd) (λ w. Turns k (shown seen p) (turned source m p first) w (stop_outcome (run_stop_of why)) (reached seen m1 p' left)) why does stops
+                (λ fault h. by-answer (calling m) source b.answer {old = moment seen m p} (there-is source p runnable) behind.0 p.state.kept b.kept (calling-adds m) (asks_on source p) refl b.port (fired-then b) b.runs.steps
                 (Turns-page_stop m1.globals q.fuel (run_ended until FuelEnd) (λ s. Ended FuelEnd s behind.0) (λ es s. refl) (stop_outcome (run_stop_of why)) (state_of m1 p') left h))),
           )
 
@@ -168,31 +189,34 @@ module _ {L T : Type 0} {k : Keeping T} (seen : L → Seen T) (source : Source) 
   module _ {m' : MachineNow} {p' : PageNow L} where
     -- for a fault of a line, or for want of memory behind the port's answer
     fault-stops : (why : NoLine) (outcome : Outcome) → ByAnswer k seen (asks_on source p) (task_of source) (Some why) RanOut m p m' p'
-        → (left : Answers) → (first : Answers) × AreKept p.state.kept first × Turns k (seen p.lines) (turned source m p first) (Some why) outcome (reached seen m' p' left)
+        → (left : Answers) → (first : Answers) × AreKept p.state.kept first × Turns k (shown seen p) (turned source m p first) (Some why) outcome (reached seen m' p' left)
     fault-stops why outcome b left =
         let behind = some-kept b.kept in (
           given_then (asks_on source p) b.answer behind.0,
           then-kept (asks_on source p) b.answer p.state.kept b.kept b.port behind.0 behind.1,
-          by-answer_stop (calling m) source b.answer {old = moment seen m p} (there-is source p runnable) behind.0 p.state.kept b.kept (asks_on source p) refl b.port outcome left b.runs.steps,
+          by-answer_stop (calling m) source b.answer {old = moment seen m p} (there-is source p runnable) behind.0 p.state.kept b.kept (calling-adds m) (asks_on source p) refl b.port (fired-then b) outcome left b.runs.steps,
         )
 
     -- memory was wanting before any line
-    memory-stops : (outcome : Outcome) → IsWanting m p m' p' → (left : Answers) → (first : Answers) × AreKept p.state.kept first × Turns k (seen p.lines) (turned source m p first) (Some OutOfMemory) outcome (reached seen m' p' left)
+    memory-stops : (outcome : Outcome) → IsWanting m p m' p' → (left : Answers) → (first : Answers) × AreKept p.state.kept first × Turns k (shown seen p) (turned source m p first) (Some OutOfMemory) outcome (reached seen m' p' left)
     memory-stops outcome w left =
         let some = some-kept p.state.kept in
-        let P : L → Type 0 = λ l. Turns k (seen l) (turned source m p some.0) (Some OutOfMemory) outcome (reached seen m' p' left) in
-        (some.0, some.1, subst P w.lines (Turns-memory k (turned source m p some.0) outcome (reached seen m' p' left)))
+        let P : Shown T → Type 0 = λ s. Turns k s (turned source m p some.0) (Some OutOfMemory) outcome (reached seen m' p' left) in
+        (some.0, some.1, subst P (shown-same seen p p' w.lines (ap (λ (c : PortNow). c.closures) w.port)) (Turns-memory k (turned source m p some.0) outcome (reached seen m' p' left)))
 
     -- the port refused
     refusal-stops : IsRefused (asks_on source p) m p m' p' → StopsSo k seen source m p m' p' (run_stop_of page.NoHost)
     refusal-stops h = by (asks_on source p) refl h.port
       where
+        same : shown seen p' ≡ shown seen p
+        same = shown-same seen p p' h.lines h.at_port
+
         by : (o : Option Asking) → asks_on source p ≡ o → RefusesAnswer o p.state.kept p'.state.kept → StopsSo k seen source m p m' p' (run_stop_of page.NoHost)
         by None is h = absurd h
         by (Some x) is rule = λ left may.
             let first = first-kept (meets x.closure.kind x.asked.number) rule.0 p.state.kept p'.state.kept rule.1 left may in
-            let P : L → Type 0 = λ l. Turns k (seen l) (turned source m p left) None AtAnswer (reached seen m' p' left) in
-            (left, first.0, subst P h.lines (refused-turns k (calling m) source (state_of m p) left x (seen p'.lines) (state_of m' p') first.1 is h.hosts))
+            let P : Shown T → Type 0 = λ s. Turns k s (turned source m p left) None AtAnswer (reached seen m' p' left) in
+            (left, first.0, subst P same (refused-turns k (calling m) source (state_of m p) left x (shown seen p') (state_of m' p') first.1 is h.hosts))
 
     memory-or : ByAnswer k seen (asks_on source p) (task_of source) (Some OutOfMemory) RanOut m p m' p' ⊎ IsWanting m p m' p' → StopsSo k seen source m p m' p' (run_stop_of page.OutOfMemory)
     memory-or (inl b) = λ left may. fault-stops OutOfMemory AtNothing b left
@@ -205,7 +229,7 @@ module _ {L T : Type 0} {k : Keeping T} (seen : L → Seen T) (source : Source) 
     task-stopped page.OutOfMemory h = memory-or h.does
 
     pub task-exit : (r : Result (Option End) RunStop) (why : PageStop) → IsErrAnd r (λ e. e ≡ run_stop_of why) → Performs k seen (asks_on source p) (task_of source) (Err why) m p m' p'
-        → ByAnswers p.state.kept r p'.state.kept (λ first left. Turns k (seen p.lines) (turned source m p first) (line_fault r) (turn_outcome r) (reached seen m' p' left))
+        → ByAnswers p.state.kept r p'.state.kept (λ first left. Turns k (shown seen p) (turned source m p first) (line_fault r) (turn_outcome r) (reached seen m' p' left))
     task-exit (Ok x) why is h = absurd is
     task-exit (Err e) why is h = subst (StopsSo k seen source m p m' p') (sym is) (task-stopped why h)
 
@@ -220,7 +244,7 @@ module _ {L T : Type 0} {k : Keeping T} {seen : L → Seen T} {o : Option Asking
 
   -- it did not refuse
   pub task-refusals : {how : How} → ByAnswer k seen o step None how m p m' p' → p'.state.refusals ≡ p.state.refusals
-  task-refusals b = (b.runs.port refl).refusals
+  task-refusals b = ap (λ (c : PortNow). c.refusals) b.runs.left
 
   -- ---- a turn can still be done
 

@@ -16,7 +16,8 @@ use Rattle.trace_text.specs.Line.{Line}
 use Rattle.trace_text.specs.Given.{Keeping, Seen, StopsAmong, Gives as TakesLines}
 use Rattle.trace_text.proofs.Giving.{Gives-none}
 use Rattle.page_script.specs.PageActs.{lines_of}
-use Rattle.loop_turn.specs.Outcomes.{Outcome, WentOn, Finished, events_in, Reached, Turns}
+use Rattle.loop_turn.proofs.Fired.{fires-none}
+use Rattle.loop_turn.specs.Outcomes.{Shown, Outcome, WentOn, Finished, events_in, Reached, Turns}
 use Rattle.loop_turn.specs.RunStops.{stop_fault, stop_outcome}
 use Rattle.loop_turn.specs.Answers.{AreKept, LeftBy, AreLeft, ByAnswers}
 use Rattle.loop_turn.specs.declared.run_stop.RunStop.{RunStop}
@@ -33,13 +34,18 @@ stops_at_once k told (line ∷ lines) = inl refl
 pub Gives-memory : {T : Type 0} (k : Keeping T) (s : Seen T) (lines : List Line) → TakesLines k s lines (Some OutOfMemory) s
 Gives-memory k s lines = record { told = stops_at_once k s.told lines; later = (Gives-none k s).later; failed = λ w. absurd (cc); differs = refl }
 
-pub Turns-memory : {C T : Type 0} (k : Keeping T) (t : Turned C) (how : Outcome) (reached : Reached C T) → Turns k reached.seen t (Some OutOfMemory) how reached
-Turns-memory k t how reached = record { lines = Gives-memory k reached.seen (lines_of (events_in t)); ends = λ w. absurd (cc) }
+-- the port is as it was
+pub Turns-memory : {C T : Type 0} (k : Keeping T) (t : Turned C) (how : Outcome) (reached : Reached C T) → Turns k reached.shown t (Some OutOfMemory) how reached
+Turns-memory k t how reached = record {
+  lines = Gives-memory k reached.shown.seen (lines_of (events_in t));
+  ends = λ w. absurd (cc);
+  fires = fires-none (lines_of (events_in t)) refl;
+}
 
 -- ---- a stop
 
 -- where more turns would have come
-pub Turns-stopped : {C T : Type 0} {k : Keeping T} (e : RunStop) (t : Turned C) (next : State → C → Turned C) {before : Seen T} {reached : Reached C T}
+pub Turns-stopped : {C T : Type 0} {k : Keeping T} (e : RunStop) (t : Turned C) (next : State → C → Turned C) {before : Shown T} {reached : Reached C T}
     → ((es : List Stamped) (c : C) → TurnAdds es (λ m. next m c))
     → Turns k before t (stop_fault e) (stop_outcome e) reached → Turns k before (next_turn t next) (stop_fault e) (stop_outcome e) reached
 Turns-stopped stop.WriteFault t next only h = Turns-stop t next (stop_outcome stop.WriteFault) only h
@@ -106,9 +112,9 @@ module _ {C : Type 0} (rules : Rules C) (call : Caller Page) (calls_add : (es : 
   rows-add : (n : ℕ) (es : List Stamped) (c : C) → TurnAdds es (λ m. row_of once n m c)
   rows-add n es c = row-adds rules call until es (calls_add es) more n c
 
-  module _ (n : ℕ) (m : State) (c : C) {T : Type 0} {k : Keeping T} {before : Seen T} where
+  module _ (n : ℕ) (m : State) (c : C) {T : Type 0} {k : Keeping T} {before : Shown T} where
     pub row-then : {mid reached : Reached C T} {why : Option NoLine} {how : Outcome} → Turns k before (once m c) None WentOn mid
-        → Turns k mid.seen (row_of once n mid.state mid.held) why how reached → Turns k before (row_of once (suc n) m c) why how reached
+        → Turns k mid.shown (row_of once n mid.state mid.held) why how reached → Turns k before (row_of once (suc n) m c) why how reached
     row-then h rest = Turns-then (once m c) (row_of once n) (rows-add n) h rest
 
     pub row-ended : {reached : Reached C T} {end : End} → Turns k before (once m c) None (Finished end) reached → Turns k before (row_of once (suc n) m c) None (Finished end) reached

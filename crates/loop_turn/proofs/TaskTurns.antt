@@ -17,12 +17,14 @@ use Rattle.page_model.specs.View.{first_number}
 use Rattle.page_model.specs.Turns.{Turned, Stuck, NoAnswer, goes_on, without_task, host_answered, perform_host, perform_task, perform_first, perform_first_sched, perform}
 use Rattle.page_types.specs.Events.{Stamped}
 use Rattle.trace_text.specs.declared.lines.NoLine.{NoLine}
-use Rattle.trace_text.specs.Given.{Keeping, Seen, Gives as TakesLines}
+use Rattle.trace_text.specs.Given.{Keeping, Gives as TakesLines}
 use Rattle.trace_text.specs.Acts.{At}
 use Rattle.trace_text.proofs.Giving.{Gives-none}
 use Rattle.page_script.specs.PageActs.{bare, lines_of}
-use Rattle.page_host.specs.StateActs.{How, ended, Steps}
-use Rattle.loop_turn.specs.Outcomes.{Outcome, AtAnswer, Reached, Turns}
+use Rattle.page_host.specs.StateActs.{How, ended, events_after, Steps}
+use Rattle.loop_turn.specs.Firing.{FiresAmong}
+use Rattle.loop_turn.specs.Outcomes.{Shown, Outcome, AtAnswer, Reached, Turns}
+use Rattle.loop_turn.proofs.Fired.{fires-none}
 use Rattle.loop_turn.proofs.TurnSteps.{Turns-same, Turns-steps, Turns-steps_stop}
 use Rattle.loop_turn.specs.RunRules.{answer_chosen, answer_rules}
 use Rattle.page_host.specs.Performed.{live_closure, answered, steps_with, first_with, sched_with, performed, Asking, asking, asking_of, first_asking}
@@ -142,34 +144,36 @@ module _ (call : Caller Page) where
 
 -- ---- what a call does of the task
 
-module _ {T : Type 0} {k : Keeping T} (call : Caller Page) (source : Source) (answer : Result ℤ ℤ) {old : At State T} where
+module _ {T : Type 0} {k : Keeping T} (call : Caller Page) (source : Source) (answer : Result ℤ ℤ) {old : At State T} {before after : List HostClosure}
+    (fires : FiresAmong (lines_of (events_after (performed call source answer (hosted bare old.state)))) before after) where
   -- where no closure is asked
   module _ (answers : Answers) (there : is_there (first_number (bare old.state.host) source) ≡ true) (plain : first_asking source (bare old.state.host) ≡ None) where
     pub plain-turns : {mid : At State T} {how : How} {why : Option NoLine} {outcome : Outcome} {new : Reached Answers T} → Steps k old (performed call source answer) None how mid
-        → Turns k mid.seen (goes_on answers (ended how mid.state)) why outcome new → Turns k old.seen (perform answer_rules call source (hosted bare old.state) answers) why outcome new
-    plain-turns steps rest = Turns-same (perform-plain call source (hosted bare old.state) answer answers there plain) (Turns-steps (performed call source answer) answers steps rest)
+        → Turns k (record { seen = mid.seen; closures = after }) (goes_on answers (ended how mid.state)) why outcome new → Turns k (record { seen = old.seen; closures = before }) (perform answer_rules call source (hosted bare old.state) answers) why outcome new
+    plain-turns steps rest = Turns-same (perform-plain call source (hosted bare old.state) answer answers there plain) (Turns-steps (performed call source answer) answers steps fires rest)
 
     pub plain-stop : {new : At State T} {how : How} {why : NoLine} (outcome : Outcome) (held : Answers) → Steps k old (performed call source answer) (Some why) how new
-        → Turns k old.seen (perform answer_rules call source (hosted bare old.state) answers) (Some why) outcome (record { state = new.state; held = held; seen = new.seen })
-    plain-stop outcome held steps = Turns-same (perform-plain call source (hosted bare old.state) answer answers there plain) (Turns-steps_stop (performed call source answer) answers outcome held steps)
+        → Turns k (record { seen = old.seen; closures = before }) (perform answer_rules call source (hosted bare old.state) answers) (Some why) outcome (record { state = new.state; held = held; shown = record { seen = new.seen; closures = after } })
+    plain-stop outcome held steps = Turns-same (perform-plain call source (hosted bare old.state) answer answers there plain) (Turns-steps_stop (performed call source answer) answers outcome held steps fires)
 
   -- where one is asked, and gave this answer
   module _ (left : Answers) (x : Asking) (met : meets x.closure.kind x.asked.number answer ≡ true) (asked : first_asking source (bare old.state.host) ≡ Some x) where
     pub asked-turns : {mid : At State T} {how : How} {why : Option NoLine} {outcome : Outcome} {new : Reached Answers T} → Steps k old (performed call source answer) None how mid
-        → Turns k mid.seen (goes_on left (ended how mid.state)) why outcome new → Turns k old.seen (perform answer_rules call source (hosted bare old.state) (answer ∷ left)) why outcome new
-    asked-turns steps rest = Turns-same (perform-asked call x answer left met source (hosted bare old.state) asked) (Turns-steps (performed call source answer) left steps rest)
+        → Turns k (record { seen = mid.seen; closures = after }) (goes_on left (ended how mid.state)) why outcome new → Turns k (record { seen = old.seen; closures = before }) (perform answer_rules call source (hosted bare old.state) (answer ∷ left)) why outcome new
+    asked-turns steps rest = Turns-same (perform-asked call x answer left met source (hosted bare old.state) asked) (Turns-steps (performed call source answer) left steps fires rest)
 
     pub asked-stop : {new : At State T} {how : How} {why : NoLine} (outcome : Outcome) (held : Answers) → Steps k old (performed call source answer) (Some why) how new
-        → Turns k old.seen (perform answer_rules call source (hosted bare old.state) (answer ∷ left)) (Some why) outcome (record { state = new.state; held = held; seen = new.seen })
-    asked-stop outcome held steps = Turns-same (perform-asked call x answer left met source (hosted bare old.state) asked) (Turns-steps_stop (performed call source answer) left outcome held steps)
+        → Turns k (record { seen = old.seen; closures = before }) (perform answer_rules call source (hosted bare old.state) (answer ∷ left)) (Some why) outcome (record { state = new.state; held = held; shown = record { seen = new.seen; closures = after } })
+    asked-stop outcome held steps = Turns-same (perform-asked call x answer left met source (hosted bare old.state) asked) (Turns-steps_stop (performed call source answer) left outcome held steps fires)
 
 -- where one is asked, and the port refused
-pub refused-turns : {T : Type 0} (k : Keeping T) (call : Caller Page) (source : Source) (m : State) (answers : Answers) (x : Asking) (seen : Seen T) (after : State) → next_kept (meets x.closure.kind x.asked.number) answers ≡ None
+pub refused-turns : {T : Type 0} (k : Keeping T) (call : Caller Page) (source : Source) (m : State) (answers : Answers) (x : Asking) (shown : Shown T) (after : State) → next_kept (meets x.closure.kind x.asked.number) answers ≡ None
     → first_asking source (bare m.host) ≡ Some x → after.host.hosts ≡ m.host.hosts
-    → Turns k seen (perform answer_rules call source (hosted bare m) answers) None AtAnswer (record { state = after; held = answers; seen = seen })
-refused-turns k call source m answers x seen after none asked hosts =
+    → Turns k shown (perform answer_rules call source (hosted bare m) answers) None AtAnswer (record { state = after; held = answers; shown = shown })
+refused-turns k call source m answers x shown after none asked hosts =
     let stuck = perform-refused call x answers none source (hosted bare m) asked in
     Turns-same stuck.1 (record {
-      lines = let P : List Stamped → Type 0 = λ es. TakesLines k seen (lines_of es) None seen in subst P (sym stuck.3) (Gives-none k seen);
+      lines = let P : List Stamped → Type 0 = λ es. TakesLines k shown.seen (lines_of es) None shown.seen in subst P (sym stuck.3) (Gives-none k shown.seen);
       ends = λ w. record { outcome = refl; state = λ un. absurd un; hosts = hosts ∙ sym stuck.2; held = refl };
+      fires = fires-none _ refl;
     })

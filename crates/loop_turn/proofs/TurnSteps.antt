@@ -1,5 +1,5 @@
 -- Turns of the model one after another, as calls do them.
-use Rattle.std.proofs.Common.{◌≡◌, List, ◌++◌, refl, sym, ◌∙◌, ap, subst, Option, Some, None}
+use Rattle.std.proofs.Common.{◌≡◌, List, [], ◌++◌, refl, sym, ◌∙◌, ap, subst, Option, Some, None}
 use Rattle.page_types.specs.Events.{Stamped}
 use Rattle.page_types.specs.declared.End.{End}
 use Rattle.lang_meaning.specs.Machine.{hosted, done_hosted, Done, Gives, Throws, Returns, OutOfFuel}
@@ -9,13 +9,16 @@ use Rattle.page_model.specs.Turns.{Refusal, NoSource, NoReading, NoAnswer, NoAct
 use Rattle.page_model.proofs.Adding.Turns.{next_turn-adds}
 use Rattle.trace_text.specs.declared.lines.NoLine.{NoLine}
 use Rattle.trace_text.specs.Line.{Line}
-use Rattle.trace_text.specs.Given.{Keeping, Seen, Gives as TakesLines}
+use Rattle.trace_text.specs.Given.{Keeping, Gives as TakesLines}
 use Rattle.trace_text.specs.Acts.{At}
 use Rattle.trace_text.proofs.Giving.{Gives-none, Gives-then, Gives-stop}
 use Rattle.page_script.specs.PageActs.{bare, lines_of}
 use Rattle.page_script.proofs.Lifting.{lines_of-append}
 use Rattle.page_host.specs.StateActs.{How, ended, events_after, Steps}
-use Rattle.loop_turn.specs.Outcomes.{Outcome, WentOn, Finished, stuck_at, outcome_in, held_in, events_in, Reached, EndsIn, Turns}
+use Rattle.page_parts.specs.HostClosures.{HostClosure}
+use Rattle.loop_turn.specs.Firing.{FiresAmong}
+use Rattle.loop_turn.proofs.Fired.{fires-none, fires-start, fires-then}
+use Rattle.loop_turn.specs.Outcomes.{Shown, Outcome, WentOn, Finished, stuck_at, outcome_in, held_in, events_in, Reached, EndsIn, Turns}
 
 -- ---- a turn with events before its own
 
@@ -100,10 +103,12 @@ reach t mid e =
 -- ---- lines that were given, and then the turn
 
 module _ {C T : Type 0} {k : Keeping T} where
-  pub Turns-behind : {before mid : Seen T} (es : List Stamped) (t u : Turned C) {why : Option NoLine} {how : Outcome} {reached : Reached C T}
-      → t ≡ turned_after es u → TakesLines k before (lines_of es) None mid → Turns k mid u why how reached → Turns k before t why how reached
-  Turns-behind {before = before} {mid = mid} es t u {why = why} {how = how} {reached = reached} e h rest =
-      let P : List Line → Type 0 = λ ls. TakesLines k before ls why reached.seen in
+  pub Turns-behind : {before mid : Shown T} (es : List Stamped) (t u : Turned C) {why : Option NoLine} {how : Outcome} {reached : Reached C T}
+      → t ≡ turned_after es u → TakesLines k before.seen (lines_of es) None mid.seen → FiresAmong (lines_of es) before.closures mid.closures
+      → Turns k mid u why how reached → Turns k before t why how reached
+  Turns-behind {before = before} {mid = mid} es t u {why = why} {how = how} {reached = reached} e h fires rest =
+      let P : List Line → Type 0 = λ ls. TakesLines k before.seen ls why reached.shown.seen in
+      let Q : List Line → Type 0 = λ ls. FiresAmong ls before.closures reached.shown.closures in
       record {
         lines = subst P (sym (lines-behind es t u e)) (Gives-then (lines_of (events_in u)) h rest.lines);
         ends = λ w. record {
@@ -112,19 +117,23 @@ module _ {C T : Type 0} {k : Keeping T} where
           hosts = (rest.ends w).hosts ∙ (sym (hosts-behind es u) ∙ ap (λ (x : Turned C). (state_of x).host.hosts) (sym e));
           held = (rest.ends w).held ∙ (sym (held-behind es u) ∙ ap held_in (sym e));
         };
+        fires = subst Q (sym (lines-behind es t u e)) (fires-then (lines_of es) (lines_of (events_in u)) fires rest.fires);
       }
 
-  pub Turns-behind_stop : {before : Seen T} (es : List Stamped) (t u : Turned C) {why : NoLine} (how : Outcome) (reached : Reached C T)
-      → t ≡ turned_after es u → TakesLines k before (lines_of es) (Some why) reached.seen → Turns k before t (Some why) how reached
-  Turns-behind_stop {before = before} es t u {why = why} how reached e h =
-      let P : List Line → Type 0 = λ ls. TakesLines k before ls (Some why) reached.seen in
+  pub Turns-behind_stop : {before : Shown T} (es : List Stamped) (t u : Turned C) {why : NoLine} (how : Outcome) (reached : Reached C T)
+      → t ≡ turned_after es u → TakesLines k before.seen (lines_of es) (Some why) reached.shown.seen → FiresAmong (lines_of es) before.closures reached.shown.closures
+      → Turns k before t (Some why) how reached
+  Turns-behind_stop {before = before} es t u {why = why} how reached e h fires =
+      let P : List Line → Type 0 = λ ls. TakesLines k before.seen ls (Some why) reached.shown.seen in
+      let Q : List Line → Type 0 = λ ls. FiresAmong ls before.closures reached.shown.closures in
       record {
         lines = subst P (sym (lines-behind es t u e)) (Gives-stop (lines_of (events_in u)) h);
         ends = λ w. absurd (cc);
+        fires = subst Q (sym (lines-behind es t u e)) (fires-start (lines_of es) (lines_of (events_in u)) fires);
       }
 
   -- the same turn in other words
-  pub Turns-same : {before : Seen T} {t u : Turned C} {why : Option NoLine} {how : Outcome} {reached : Reached C T} → t ≡ u → Turns k before u why how reached → Turns k before t why how reached
+  pub Turns-same : {before : Shown T} {t u : Turned C} {why : Option NoLine} {how : Outcome} {reached : Reached C T} → t ≡ u → Turns k before u why how reached → Turns k before t why how reached
   Turns-same {before = before} {why = why} {how = how} {reached = reached} e h =
       let P : Turned C → Type 0 = λ t. Turns k before t why how reached in
       subst P (sym e) h
@@ -132,51 +141,53 @@ module _ {C T : Type 0} {k : Keeping T} where
   -- ---- one turn and then more
 
   -- a turn that goes on, and then what comes next
-  pub Turns-then : (t : Turned C) (next : State → C → Turned C) {before : Seen T} {mid new : Reached C T} {why : Option NoLine} {how : Outcome}
+  pub Turns-then : (t : Turned C) (next : State → C → Turned C) {before : Shown T} {mid new : Reached C T} {why : Option NoLine} {how : Outcome}
       → ((es : List Stamped) (c : C) → TurnAdds es (λ m. next m c)) → Turns k before t None WentOn mid
-      → Turns k mid.seen (next mid.state mid.held) why how new → Turns k before (next_turn t next) why how new
+      → Turns k mid.shown (next mid.state mid.held) why how new → Turns k before (next_turn t next) why how new
   Turns-then t next {mid = mid} only h rest =
       let es = events_in t in
-      Turns-behind es (next_turn t next) (next mid.state mid.held) (ap (λ x. next_turn x next) (reach t mid (h.ends refl)) ∙ only es mid.held mid.state) h.lines rest
+      Turns-behind es (next_turn t next) (next mid.state mid.held) (ap (λ x. next_turn x next) (reach t mid (h.ends refl)) ∙ only es mid.held mid.state) h.lines h.fires rest
 
   -- a turn that stopped for its lines, where more would have come
-  pub Turns-stop : (t : Turned C) (next : State → C → Turned C) {before : Seen T} {new : Reached C T} {why : NoLine} {how : Outcome} (how' : Outcome)
+  pub Turns-stop : (t : Turned C) (next : State → C → Turned C) {before : Shown T} {new : Reached C T} {why : NoLine} {how : Outcome} (how' : Outcome)
       → ((es : List Stamped) (c : C) → TurnAdds es (λ m. next m c)) → Turns k before t (Some why) how new → Turns k before (next_turn t next) (Some why) how' new
   Turns-stop t next {new = new} how' only h =
       let es = events_in t in
-      Turns-behind_stop es (next_turn t next) (next_turn (bare_turn t) next) how' new (ap (λ x. next_turn x next) (turn-split t) ∙ next_turn-adds es next (only es) (bare_turn t)) h.lines
+      Turns-behind_stop es (next_turn t next) (next_turn (bare_turn t) next) how' new (ap (λ x. next_turn x next) (turn-split t) ∙ next_turn-adds es next (only es) (bare_turn t)) h.lines h.fires
 
   -- a turn that ended or is stuck
-  pub Turns-over : (t : Turned C) (next : State → C → Turned C) {before : Seen T} {new : Reached C T} {how : Outcome}
+  pub Turns-over : (t : Turned C) (next : State → C → Turned C) {before : Shown T} {new : Reached C T} {how : Outcome}
       → (WentOn ≡ how → ⊥) → Turns k before t None how new → Turns k before (next_turn t next) None how new
   Turns-over t next over h = Turns-same (is-over t next (λ e. over (e ∙ sym (h.ends refl).outcome))) h
 
   -- ---- where nothing more is done
 
-  pub Turns-goes : (m : State) (c : C) (seen : Seen T) → Turns k seen (GoesOn (hosted bare m) c) None WentOn (record { state = hosted bare m; held = c; seen = seen })
-  Turns-goes m c seen = record { lines = Gives-none k seen; ends = λ w. record { outcome = refl; state = λ un. refl; hosts = refl; held = refl } }
+  pub Turns-goes : (m : State) (c : C) (shown : Shown T) → Turns k shown (GoesOn (hosted bare m) c) None WentOn (record { state = hosted bare m; held = c; shown = shown })
+  Turns-goes m c shown = record { lines = Gives-none k shown.seen; ends = λ w. record { outcome = refl; state = λ un. refl; hosts = refl; held = refl }; fires = fires-none [] refl }
 
-  pub Turns-ended : (end : End) (m : State) (c : C) (seen : Seen T) → Turns k seen (Ended end (hosted bare m) c) None (Finished end) (record { state = hosted bare m; held = c; seen = seen })
-  Turns-ended end m c seen = record { lines = Gives-none k seen; ends = λ w. record { outcome = refl; state = λ un. refl; hosts = refl; held = refl } }
+  pub Turns-ended : (end : End) (m : State) (c : C) (shown : Shown T) → Turns k shown (Ended end (hosted bare m) c) None (Finished end) (record { state = hosted bare m; held = c; shown = shown })
+  Turns-ended end m c shown = record { lines = Gives-none k shown.seen; ends = λ w. record { outcome = refl; state = λ un. refl; hosts = refl; held = refl }; fires = fires-none [] refl }
 
-  pub Turns-stuck : (at : Refusal) (m : State) (c : C) (seen : Seen T) → Turns k seen (Stuck at (hosted bare m) c) None (stuck_at at) (record { state = hosted bare m; held = c; seen = seen })
-  Turns-stuck at m c seen = record { lines = Gives-none k seen; ends = λ w. record { outcome = refl; state = λ un. refl; hosts = refl; held = refl } }
+  pub Turns-stuck : (at : Refusal) (m : State) (c : C) (shown : Shown T) → Turns k shown (Stuck at (hosted bare m) c) None (stuck_at at) (record { state = hosted bare m; held = c; shown = shown })
+  Turns-stuck at m c shown = record { lines = Gives-none k shown.seen; ends = λ w. record { outcome = refl; state = λ un. refl; hosts = refl; held = refl }; fires = fires-none [] refl }
 
   -- ---- a step of the script machine, and then the turn goes on
 
-  pub Turns-steps : (step : State → Done Page) (c : C) {old mid : At State T} {new : Reached C T} {how : How} {why : Option NoLine} {outcome : Outcome}
-      → Steps k old step None how mid → Turns k mid.seen (goes_on c (ended how mid.state)) why outcome new
-      → Turns k old.seen (goes_on c (step (hosted bare old.state))) why outcome new
-  Turns-steps step c {old = old} {mid = mid} {how = how} h rest =
+  pub Turns-steps : (step : State → Done Page) (c : C) {old mid : At State T} {before after : List HostClosure} {new : Reached C T} {how : How} {why : Option NoLine} {outcome : Outcome}
+      → Steps k old step None how mid → FiresAmong (lines_of (events_after (step (hosted bare old.state)))) before after
+      → Turns k (record { seen = mid.seen; closures = after }) (goes_on c (ended how mid.state)) why outcome new
+      → Turns k (record { seen = old.seen; closures = before }) (goes_on c (step (hosted bare old.state))) why outcome new
+  Turns-steps step c {old = old} {mid = mid} {how = how} h fires rest =
       let d = step (hosted bare old.state) in
       let es = events_after d in
       Turns-behind es (goes_on c d) (goes_on c (ended how mid.state))
-      (ap (goes_on c) (done-split d ∙ ap (done_hosted (after es)) (sym (h.state refl))) ∙ goes_on-behind es c (ended how mid.state)) h.lines rest
+      (ap (goes_on c) (done-split d ∙ ap (done_hosted (after es)) (sym (h.state refl))) ∙ goes_on-behind es c (ended how mid.state)) h.lines fires rest
 
-  pub Turns-steps_stop : (step : State → Done Page) (c : C) {old new : At State T} {how : How} {why : NoLine} (outcome : Outcome) (held : C)
-      → Steps k old step (Some why) how new
-      → Turns k old.seen (goes_on c (step (hosted bare old.state))) (Some why) outcome (record { state = new.state; held = held; seen = new.seen })
-  Turns-steps_stop step c {old = old} {new = new} outcome held h =
+  pub Turns-steps_stop : (step : State → Done Page) (c : C) {old new : At State T} {before after : List HostClosure} {how : How} {why : NoLine} (outcome : Outcome) (held : C)
+      → Steps k old step (Some why) how new → FiresAmong (lines_of (events_after (step (hosted bare old.state)))) before after
+      → Turns k (record { seen = old.seen; closures = before }) (goes_on c (step (hosted bare old.state))) (Some why) outcome
+      (record { state = new.state; held = held; shown = record { seen = new.seen; closures = after } })
+  Turns-steps_stop step c {old = old} {new = new} {after = after} outcome held h fires =
       let d = step (hosted bare old.state) in
-      Turns-behind_stop (events_after d) (goes_on c d) (goes_on c (done_hosted bare d)) outcome (record { state = new.state; held = held; seen = new.seen })
-      (ap (goes_on c) (done-split d) ∙ goes_on-behind (events_after d) c (done_hosted bare d)) h.lines
+      Turns-behind_stop (events_after d) (goes_on c d) (goes_on c (done_hosted bare d)) outcome (record { state = new.state; held = held; shown = record { seen = new.seen; closures = after } })
+      (ap (goes_on c) (done-split d) ∙ goes_on-behind (events_after d) c (done_hosted bare d)) h.lines fires

@@ -1,5 +1,5 @@
 -- Whole runs, from their turns: the lines with their head, and what is known of the end.
-use Rattle.std.proofs.Common.{◌≡◌, ℕ, suc, List, [], ◌∷◌, map, refl, sym, ◌∙◌, ap, subst, Some, None, Result, Err}
+use Rattle.std.proofs.Common.{◌≡◌, true, is_some, ℕ, suc, List, [], ◌∷◌, map, refl, sym, ◌∙◌, ap, subst, Some, None, Result, Err}
 use Rattle.page_types.specs.declared.End.{End}
 use Rattle.page_types.specs.Tree.{Program}
 use Rattle.page_parts.specs.HostClosures.{HostClosure}
@@ -22,7 +22,9 @@ use Rattle.page_interp.specs.MachineNow.{MachineNow, program_in}
 use Rattle.page_host.specs.Moments.{calling, state_of as host_state}
 use Rattle.page_host.specs.Starts.{Starts}
 use Rattle.page_host.specs.PageNow.{PageNow}
-use Rattle.loop_turn.specs.Outcomes.{held_in, Turns}
+use Rattle.loop_turn.specs.Firing.{FiresAmong}
+use Rattle.loop_turn.specs.Outcomes.{Shown, held_in, Turns}
+use Rattle.loop_turn.proofs.Fired.{fires-none}
 use Rattle.loop_turn.specs.RunRules.{Held}
 use Rattle.loop_turn.specs.RunStops.{run_stop_at, stop_fault, line_fault, run_outcome, readings_at, choices_at}
 use Rattle.loop_turn.specs.Answers.{AreKept, AreLeft}
@@ -57,21 +59,24 @@ run-starts rules program setup hosts c m p same globals starts =
 
 -- ---- a run behind its head
 
-module _ {C K T L : Type 0} {k : Keeping T} (seen : L → Seen T) (run : Turned (Held C K)) (outcome : Result End RunStop) {before : Seen T} (m : MachineNow) (p : PageNow L) (held : Held C K) (port : PortThen) where
+module _ {C K T L : Type 0} {k : Keeping T} (seen : L → Seen T) (run : Turned (Held C K)) (outcome : Result End RunStop) {before : Shown T} (m : MachineNow) (p : PageNow L) (held : Held C K) (port : PortThen) where
   pub turns-run : Turns k before run (line_fault outcome) (run_outcome outcome) (reached seen m p held) → AreLeft outcome p.state.kept held.answers
-      → port.closures ≡ map unasked p.state.hosts → port.kept ≡ p.state.kept
-      → DoesRun k before (event_lines run) run outcome held.clock held.chooser port (seen p.lines)
-  turns-run h left closures kept = record {
+      → port.before ≡ before.closures → (line_fault outcome ≡ None → port.closures ≡ map unasked p.state.hosts) → (is_some (line_fault outcome) ≡ true → port.closures ≡ p.state.at_port)
+      → port.kept ≡ p.state.kept → DoesRun k before.seen (event_lines run) run outcome held.clock held.chooser port (seen p.lines)
+  turns-run h left first closures so_far kept = record {
     lines = h.lines;
     ends = λ w. let e = h.ends w in record {
       outcome = e.outcome;
       clock = ap (λ (x : Held C K). x.clock) e.held;
       chooser = ap (λ (x : Held C K). x.chooser) e.held;
-      closures = closures ∙ ap (map unasked) e.hosts;
+      closures = closures w ∙ ap (map unasked) e.hosts;
       answers =
           subst (λ o. AreKept o (held_in run).answers) (sym kept)
           (subst (λ (x : Held C K). AreKept p.state.kept x.answers) e.held (are-kept outcome p.state.kept held.answers left));
     };
+    stops = λ stopped.
+        subst (λ cs. FiresAmong (event_lines run) cs port.closures) (sym first)
+        (subst (FiresAmong (event_lines run) before.closures) (sym (so_far stopped)) h.fires);
   }
 
 -- ---- the head
@@ -89,18 +94,19 @@ no-end OutOfMemory e = cc
 module _ {C K T : Type 0} {k : Keeping T} (run : Turned (Held C K)) (form : ℕ) {before mid : Seen T} {clock : C} {chooser : K} {port : PortThen} where
   pub head-run : {outcome : Result End RunStop} {after : Seen T} → TakesLines k before (Head form ∷ []) None mid → DoesRun k mid (event_lines run) run outcome clock chooser port after
       → DoesRun k before (run_lines form run) run outcome clock chooser port after
-  head-run head h = record { lines = Gives-then (event_lines run) head h.lines; ends = h.ends }
+  head-run head h = record { lines = Gives-then (event_lines run) head h.lines; ends = h.ends; stops = h.stops }
 
   -- it was not taken
-  pub head-stop : (why : NoLine) → TakesLines k before (Head form ∷ []) (Some why) mid → DoesRun k before (run_lines form run) run (Err (run_stop_at why)) clock chooser port mid
-  head-stop why h = record {
+  pub head-stop : (why : NoLine) → port.closures ≡ port.before → TakesLines k before (Head form ∷ []) (Some why) mid → DoesRun k before (run_lines form run) run (Err (run_stop_at why)) clock chooser port mid
+  head-stop why same h = record {
     lines = subst (λ w. TakesLines k before (run_lines form run) w mid) (sym (fault-at why)) (Gives-stop (event_lines run) h);
     ends = λ w. absurd (no-end why w);
+    stops = λ w. fires-none (event_lines run) same;
   }
 
   -- it was taken, and memory was wanting then
-  pub head-memory : TakesLines k before (Head form ∷ []) None mid → DoesRun k before (run_lines form run) run (Err stop.OutOfMemory) clock chooser port mid
-  head-memory head = record { lines = Gives-then (event_lines run) head (Gives-memory k mid (event_lines run)); ends = λ w. absurd (cc) }
+  pub head-memory : port.closures ≡ port.before → TakesLines k before (Head form ∷ []) None mid → DoesRun k before (run_lines form run) run (Err stop.OutOfMemory) clock chooser port mid
+  head-memory same head = record { lines = Gives-then (event_lines run) head (Gives-memory k mid (event_lines run)); ends = λ w. absurd (cc); stops = λ w. fires-none (event_lines run) same }
 
 -- a line that was not taken is no refusal of clock, chooser or port
 pub line-reads : (why : NoLine) (n : ℕ) → n ≡ readings_at n (run_stop_at why)

@@ -1,3 +1,4 @@
+pub mod Firing
 pub mod Outcomes
 pub mod RunRules
 pub mod Waiting

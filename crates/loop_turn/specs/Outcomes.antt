@@ -2,12 +2,14 @@
 use Rattle.std.specs.Prelude.{◌≡◌, ⊤, List, Option, None}
 use Rattle.page_types.specs.declared.End.{End}
 use Rattle.page_types.specs.Events.{Stamped}
+use Rattle.page_parts.specs.HostClosures.{HostClosure}
 use Rattle.lang_meaning.specs.Machine.{hosted}
 use Rattle.page_model.specs.State.{State}
 use Rattle.page_model.specs.Turns.{Refusal, NoSource, NoReading, NoAnswer, NoAct, AtBound, Turned, GoesOn, Ended, Stuck, state_of}
 use Rattle.trace_text.specs.declared.lines.NoLine.{NoLine}
 use Rattle.trace_text.specs.Given.{Keeping, Seen, Gives as TakesLines}
 use Rattle.page_script.specs.PageActs.{bare, lines_of}
+use Rattle.loop_turn.specs.Firing.{FiresAmong}
 
 -- ---- Ours: a turn or a run, by how it ends, the state then, what is held of its rules, and its events
 
@@ -45,11 +47,16 @@ events_in t = (state_of t).host.events
 
 -- ---- Ours: what a call does of them
 
--- where a call leaves a run: the state, what is held of the rules, and what is seen of the lines
+-- what is seen of the lines, and the closures as the host port has them
+pub record Shown (T : Type 0) : Type 0 where
+  pub seen : Seen T
+  pub closures : List HostClosure
+
+-- where a call leaves a run: the state, what is held of the rules, and what lines and port show
 pub record Reached (C T : Type 0) : Type 0 where
   pub state : State
   pub held : C
-  pub seen : Seen T
+  pub shown : Shown T
 
 -- the run is stuck at no choice
 abbrev pub IsUnstuck : Outcome → Type 0
@@ -67,8 +74,10 @@ pub record EndsIn {C T : Type 0} (turn : Turned C) (how : Outcome) (after : Reac
   pub hosts : after.state.host.hosts ≡ (state_of turn).host.hosts
   pub held : after.held ≡ held_in turn
 
--- The call does these turns: all of them where no line was at fault, and else it stopped among their lines.
-pub record Turns {C T : Type 0} (k : Keeping T) (before : Seen T) (turn : Turned C) (why : Option NoLine) (how : Outcome)
+-- The call does these turns: all of them where no line was at fault, and else it stopped among their lines. The port has fired a closure
+-- only where one of these lines tells its answer.
+pub record Turns {C T : Type 0} (k : Keeping T) (before : Shown T) (turn : Turned C) (why : Option NoLine) (how : Outcome)
     (after : Reached C T) : Type 0 where
-  pub lines : TakesLines k before (lines_of (events_in turn)) why after.seen
+  pub lines : TakesLines k before.seen (lines_of (events_in turn)) why after.shown.seen
   pub ends : why ≡ None → EndsIn turn how after
+  pub fires : FiresAmong (lines_of (events_in turn)) before.closures after.shown.closures

@@ -10,7 +10,7 @@ use Rattle.page_host.specs.PageNow.{PageNow}
 use Rattle.page_host.specs.Stops.{PageDoes, Stops, KeepsSetting}
 use Rattle.page_host.specs.Moments.{state_of}
 use Rattle.page_host.specs.declared.stop.PageStop.{PageStop}
-use Rattle.loop_turn.specs.Outcomes.{Reached}
+use Rattle.loop_turn.specs.Outcomes.{Reached, Shown}
 use Rattle.loop_turn.specs.RunRules.{Held}
 use Rattle.loop_turn.specs.Waiting.{Next, Serve, EndRun, WaitFor}
 use Rattle.loop_turn.specs.RunStops.{answers_at}
@@ -37,9 +37,13 @@ next_seen (code.Wait target) = WaitFor target.0
 
 -- ---- Ours: turns in code
 
+-- what a page's lines and its port show
+abbrev pub shown : {L T : Type 0} → (seen : L → Seen T) → PageNow L → Shown T
+shown seen p = record { seen = seen p.lines; closures = p.state.at_port }
+
 -- where a call leaves a run
 abbrev pub reached : {L T C : Type 0} → (seen : L → Seen T) → MachineNow → PageNow L → C → Reached C T
-reached seen m p held = record { state = state_of m p; held = held; seen = seen p.lines }
+reached seen m p held = record { state = state_of m p; held = held; shown = shown seen p }
 
 -- what the objects handed in hold, and the answers that are to come
 abbrev pub holding : {X Y C K : Type 0} → (X → C) → (Y → K) → X → Y → List (Result ℤ ℤ) → Held C K

@@ -1,11 +1,11 @@
 //! Whole runs of a page.
 
-ghost use Rattle.std.specs.Prelude.{◌≡◌, ◌≤◌, ◌^◌, ℤ, List, Result, suc, length, IsTrue};
+ghost use Rattle.std.specs.Prelude.{◌≡◌, ◌≤◌, ◌^◌, ℤ, List, None, Result, true, is_some, suc, length, map, IsTrue};
 ghost use Rattle.std.specs.List.{list_all};
 ghost use Rattle.lang_ast.specs.SeenProgram.{seen_program};
 ghost use Rattle.arrivals_text.specs.Seen.{settings_of};
 ghost use Rattle.page_interp.specs.MachineNow.{MachineNow};
-ghost use Rattle.page_hosts.specs.Hosts.{is_unqueued};
+ghost use Rattle.page_hosts.specs.Hosts.{is_unqueued, unasked};
 ghost use Rattle.page_model.specs.Bounds.{row_of, turn_or};
 ghost use Rattle.page_model.specs.Turns.{run_by, Stuck, AtBound};
 ghost use Rattle.page_host.specs.Starts.{Starts};
@@ -16,7 +16,7 @@ ghost use Rattle.loop_turn.specs.Answers.{AreKept, ByAnswers};
 ghost use Rattle.loop_turn.specs.RunStops.{line_fault, run_outcome, readings_refused, choices_refused};
 ghost use Rattle.loop_turn.specs.Lawful.{KeepsLaws};
 ghost use Rattle.loop_turn.specs.Runs.{DoesRun, event_lines, run_lines, port_then};
-ghost use Rattle.loop_turn.specs.TurnActs.{CanTurn, PortRefuses, holding, reached};
+ghost use Rattle.loop_turn.specs.TurnActs.{CanTurn, PortRefuses, holding, reached, shown};
 
 use crate::run_stop::RunStop;
 use crate::turn::turn;
@@ -46,7 +46,8 @@ pub struct Ended<P: HostPort, L: Lines> {
 ///
 /// The lines are the head and the events of the model's run by the rules of clock and chooser and by the port's answers: all of them with
 /// an end, and where the clock, the chooser or the port refused, which leaves the run stuck there. With any other stop they are a start of
-/// them, up to the line that was not taken, or to where memory was wanting. Whatever the answers are, the run keeps the ten laws of every
+/// them, up to the line that was not taken, or to where memory was wanting; the port has fired a closure then only where a line of the run
+/// tells its answer, and has dropped none. Whatever the answers are, the run keeps the ten laws of every
 /// run, as far as the values that arrive carry no numbers of promises, signals or the like.
 pub fn run_page<C: Clock, K: Chooser, P: HostPort, L: Lines, M: Ledger>(
     alloc: Global,
@@ -64,7 +65,7 @@ pub fn run_page<C: Clock, K: Chooser, P: HostPort, L: Lines, M: Ledger>(
         (let run = run_by (run_rules C.rule K.rule) (seen_program program.now) (settings_of setup.now).setup (P.closures port)
         (holding C.held K.held clock.old chooser.old answers)
         in DoesRun L.keeping (L.seen lines) (run_lines setup.now.trace run) run result.outcome (C.held clock.new) (K.held chooser.new)
-        (port_then P.closures P.kept result.port) (L.seen result.lines)) }
+        (port_then P.closures P.kept (P.closures port) result.port) (L.seen result.lines)) }
     ensures laws { (answers : List (Result ℤ ℤ)) → KeepsLaws (settings_of setup.now).setup
         (run_by (run_rules C.rule K.rule) (seen_program program.now) (settings_of setup.now).setup (P.closures port)
         (holding C.held K.held clock.old chooser.old answers)) }
@@ -104,18 +105,38 @@ fn run_made<C: Clock, K: Chooser, P: HostPort, L: Lines, M: Ledger>(
         (let run = run_by (run_rules C.rule K.rule) (seen_program program.now) (settings_of setup.now).setup page.state.hosts
         (holding C.held K.held clock.old chooser.old answers)
         in DoesRun L.keeping (L.seen page.lines) (event_lines run) run result.outcome (C.held clock.new) (K.held chooser.new)
-        (port_then P.closures P.kept result.port) (L.seen result.lines)) }
+        (port_then P.closures P.kept page.state.at_port result.port) (L.seen result.lines)) }
     ensures readings { C.refusals clock.new ≡ readings_refused (C.refusals clock.old) result.outcome }
     ensures choices { K.refusals chooser.new ≡ choices_refused (K.refusals chooser.old) result.outcome }
     ensures answers { PortRefuses result.outcome page.state.refusals (P.refusals result.port) }
 {
     let mut page = page;
     let outcome = run_turns(alloc, program, setup, &mut page, clock, chooser);
-    let (port, lines) = page.into_parts();
+    let (port, lines) = parts_of(page, &outcome);
     Ended {
         outcome,
         port,
         lines,
+    }
+}
+
+/// The port and the lines of a page. After a stop for a line or for want of memory the port has dropped no closure: the run's further
+/// steps are not known then.
+fn parts_of<P: HostPort, L: Lines, M: Ledger>(
+    page: Page<P, L, M>,
+    outcome: &Result<End, RunStop>,
+) -> (P, L)
+    ensures closures { line_fault outcome.now ≡ None → P.closures result.0 ≡ map unasked page.state.hosts }
+    ensures so_far { is_some (line_fault outcome.now) ≡ true → P.closures result.0 ≡ page.state.at_port }
+    ensures kept { P.kept result.0 ≡ page.state.kept }
+    ensures refusals { P.refusals result.0 ≡ page.state.refusals }
+    ensures lines { result.1 ≡ page.lines }
+{
+    match outcome {
+        Ok(_) | Err(RunStop::NoReading | RunStop::NoChoice | RunStop::NoHost) => page.into_parts(),
+        Err(RunStop::WriteFault | RunStop::Differs | RunStop::OutOfMemory) => {
+            page.into_parts_so_far()
+        }
     }
 }
 
@@ -130,7 +151,7 @@ fn run_turns<C: Clock, K: Chooser, P: HostPort, L: Lines, M: Ledger>(
 ) -> Result<End, RunStop>
     requires { Starts (seen_program program.now) (settings_of setup.now).setup page.old.state.hosts page.old }
     ensures does { ByAnswers page.old.state.kept result page.new.state.kept (λ first left. (machine : MachineNow) ×
-        Turns L.keeping (L.seen page.old.lines)
+        Turns L.keeping (shown L.seen page.old)
         (run_by (run_rules C.rule K.rule) (seen_program program.now) (settings_of setup.now).setup page.old.state.hosts
         (holding C.held K.held clock.old chooser.old first))
         (line_fault result) (run_outcome result)
@@ -155,7 +176,7 @@ fn turns<C: Clock, K: Chooser, P: HostPort, L: Lines, M: Ledger>(
 ) -> Result<End, RunStop>
     requires { CanTurn machine.old page.old until.0 }
     ensures does { ByAnswers page.old.state.kept result page.new.state.kept (λ first left.
-        Turns L.keeping (L.seen page.old.lines)
+        Turns L.keeping (shown L.seen page.old)
         (row_of (turn_or (Stuck AtBound) until.0 (run_rules C.rule K.rule) (calling machine.old) until.0) (suc page.old.fuel)
         (state_of machine.old page.old) (holding C.held K.held clock.old chooser.old first))
         (line_fault result) (run_outcome result)

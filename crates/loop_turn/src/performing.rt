@@ -11,7 +11,7 @@ ghost use Rattle.loop_turn.specs.RunRules.{answer_rules};
 ghost use Rattle.loop_turn.specs.Answers.{ByAnswers};
 ghost use Rattle.loop_turn.specs.RunStops.{line_fault, turn_outcome};
 ghost use Rattle.loop_turn.specs.declared.run_stop.RunStop.TheVariants.{NoReading, NoChoice};
-ghost use Rattle.loop_turn.specs.TurnActs.{CanTurn, IfGoesOn, PortRefuses, StillCan, reached};
+ghost use Rattle.loop_turn.specs.TurnActs.{CanTurn, IfGoesOn, PortRefuses, StillCan, reached, shown};
 
 use crate::run_stop::RunStop;
 use page_base::{End, Source};
@@ -34,7 +34,7 @@ pub(crate) fn perform<P: HostPort, L: Lines, M: Ledger>(
     requires ready { CanTurn machine.old page.old page.old.until }
     requires in_time { read_by (λ p. p.now) page.old.state ≤ page.old.until }
     requires runnable { IsTrue (is_runnable (read_by seeing.view page.old.state) source) }
-    ensures does { ByAnswers page.old.state.kept result page.new.state.kept (λ first left. Turns L.keeping (L.seen page.old.lines)
+    ensures does { ByAnswers page.old.state.kept result page.new.state.kept (λ first left. Turns L.keeping (shown L.seen page.old)
         (model.perform answer_rules (calling machine.old) source (state_of machine.old page.old) first)
         (line_fault result) (turn_outcome result) (reached L.seen machine.new page.new left)) }
     ensures reads_nothing { IfErr result (λ why. why ≢ NoReading) }

@@ -10,7 +10,7 @@ ghost use Rattle.loop_turn.specs.RunRules.{run_rules, no_reading};
 ghost use Rattle.loop_turn.specs.Answers.{ByAnswers};
 ghost use Rattle.loop_turn.specs.RunStops.{line_fault, turn_outcome, readings_refused, choices_refused};
 ghost use Rattle.loop_turn.specs.declared.run_stop.RunStop.TheVariants.{NoReading};
-ghost use Rattle.loop_turn.specs.TurnActs.{CanTurn, IfGoesOn, PortRefuses, holding, reached, serving, TurnTaken};
+ghost use Rattle.loop_turn.specs.TurnActs.{CanTurn, IfGoesOn, PortRefuses, holding, reached, serving, TurnTaken, shown};
 
 use crate::finding::{NextStep, find_next, idle, is_dry, is_over, take_items};
 use crate::performing::perform;
@@ -33,7 +33,7 @@ pub(crate) fn turn<C: Clock, K: Chooser, P: HostPort, L: Lines, M: Ledger>(
 ) -> Result<Option<End>, RunStop>
     requires { CanTurn machine.old page.old until.0 }
     ensures does { ByAnswers page.old.state.kept result page.new.state.kept (λ first left.
-        Turns L.keeping (L.seen page.old.lines)
+        Turns L.keeping (shown L.seen page.old)
         (turn_or (Stuck AtBound) until.0 (run_rules C.rule K.rule) (calling machine.old) until.0 (state_of machine.old page.old)
         (holding C.held K.held clock.old chooser.old first))
         (line_fault result) (turn_outcome result)
@@ -70,7 +70,7 @@ fn serve<K: Chooser, P: HostPort, L: Lines, M: Ledger>(
 ) -> Result<Option<End>, RunStop>
     requires { CanTurn machine.old page.old until.0 }
     ensures does { ByAnswers page.old.state.kept result page.new.state.kept (λ first left.
-        Turns L.keeping (L.seen page.old.lines)
+        Turns L.keeping (shown L.seen page.old)
         (from_step_three (run_rules no_reading K.rule) (calling machine.old) until.0 (serving K.held chooser.old first)
         (state_of machine.old page.old))
         (line_fault result) (turn_outcome result)
@@ -108,7 +108,7 @@ fn perform_next<K: Chooser, P: HostPort, L: Lines, M: Ledger>(
     requires in_time { read_by (λ p. p.now) page.old.state < page.old.until }
     requires fuel { 1 ≤ page.old.fuel }
     ensures does { ByAnswers page.old.state.kept result page.new.state.kept (λ first left.
-        Turns L.keeping (L.seen page.old.lines)
+        Turns L.keeping (shown L.seen page.old)
         (with_turn_fuel (run_rules no_reading K.rule) (calling machine.old) page.old.fuel (state_of machine.old page.old)
         (serving K.held chooser.old first))
         (line_fault result) (turn_outcome result)

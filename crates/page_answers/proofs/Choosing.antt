@@ -17,10 +17,10 @@ use Rattle.page_model.specs.Operations.{does, answers, answers_first, where_left
 use Rattle.trace_text.specs.declared.lines.NoLine.{NoLine}
 use Rattle.trace_text.specs.declared.lines.NoLine.TheVariants.{OutOfMemory}
 use Rattle.trace_text.specs.Given.{Keeping, Seen}
-use Rattle.trace_text.specs.Acts.{At, Does}
+use Rattle.trace_text.specs.Acts.{At}
 use Rattle.trace_text.proofs.Giving.{Gives-none}
-use Rattle.page_state.specs.Standing.{Standing, page_of, holding}
-use Rattle.page_state.specs.PageActs.{on_page, at}
+use Rattle.page_state.specs.Standing.{Standing, page_of}
+use Rattle.page_state.specs.PageActs.{on_page, at, Does, IsWanted}
 use Rattle.page_answers.specs.Answers.{Answers, done_by, page_then}
 use Rattle.page_answers.proofs.Answering.{Answers-stops, Answers-is, Answers-wants}
 
@@ -30,39 +30,39 @@ use Rattle.page_answers.proofs.Answering.{Answers-stops, Answers-is, Answers-wan
 pub Answers-fault : {T : Type 0} (k : Keeping T) (name : FaultName) (old : At Standing T) (st : HostStep) → seen_step st ≡ StepThrow (FaultValue name [])
     → Answers k old (throw_fault name) (Ok st) old
 unfolding done_by
-Answers-fault k name old st step = record { lines = Gives-none k old.seen; state = refl; step = step }
+Answers-fault k name old st step = record { lines = Gives-none k old.seen; state = refl; step = step; port = refl }
 
 -- a value is given, and nothing is done
 pub Answers-same : {T : Type 0} (k : Keeping T) (v : model.Value) (old : At Standing T) (st : HostStep) → seen_step st ≡ StepValue v
     → Answers k old (λ m. GivesValue v m) (Ok st) old
 unfolding done_by
-Answers-same k v old st step = record { lines = Gives-none k old.seen; state = refl; step = step }
+Answers-same k v old st step = record { lines = Gives-none k old.seen; state = refl; step = step; port = refl }
 
 -- a change of the page was done, and unit is given
 pub Answers-does : {T : Type 0} {k : Keeping T} (F : Page → Page) (old : At Standing T) {new : At Standing T} (st : HostStep) → seen_step st ≡ StepValue UnitValue
     → Does k old (on_page F) None new → Answers k old (does F) (Ok st) new
 unfolding on_page done_by
-Answers-does F old st step h = record { lines = h.lines; state = h.state refl; step = step }
+Answers-does F old st step h = record { lines = h.acts.lines; state = h.acts.state refl; step = step; port = h.port }
 
 -- a change of the page was done, and a value is given that the page tells then
 pub Answers-tells : {T : Type 0} {k : Keeping T} (v : Page → model.Value) (F : Page → Page) (old : At Standing T) {new : At Standing T} (st : HostStep) → seen_step st ≡ StepValue (v (F (page_of old.state)))
     → Does k old (on_page F) None new → Answers k old (answers v F) (Ok st) new
 unfolding on_page done_by
-Answers-tells v F old st step h = record { lines = h.lines; state = h.state refl; step = step }
+Answers-tells v F old st step h = record { lines = h.acts.lines; state = h.acts.state refl; step = step; port = h.port }
 
 -- a change of the page was done, and the last promise is given
 pub Answers-last : {T : Type 0} {k : Keeping T} (F : Page → Page) (old : At Standing T) {new : At Standing T} (n : ℕ) (st : HostStep) → n ≡ last_promise (page_of new.state)
     → seen_step st ≡ StepValue (PromiseValue n) → Does k old (on_page F) None new → Answers k old (answers (λ p. PromiseValue (last_promise p)) F) (Ok st) new
 unfolding on_page done_by
 Answers-last F old {new = new} n st last step h =
-    let is : n ≡ last_promise (F (page_of old.state)) = last ∙ ap (λ (s : Standing). last_promise (page_of s)) (h.state refl) in
-    record { lines = h.lines; state = h.state refl; step = step ∙ ap (λ n. StepValue (PromiseValue n)) is }
+    let is : n ≡ last_promise (F (page_of old.state)) = last ∙ ap (λ (s : Standing). last_promise (page_of s)) (h.acts.state refl) in
+    record { lines = h.acts.lines; state = h.acts.state refl; step = step ∙ ap (λ n. StepValue (PromiseValue n)) is; port = h.port }
 
 -- a change of the page was done, and the promise is given that it made first
 pub Answers-first : {T : Type 0} {k : Keeping T} (F : Page → Page) (old : At Standing T) {new : At Standing T} (n : ℕ) (st : HostStep) → n ≡ suc (last_promise (page_of old.state))
     → seen_step st ≡ StepValue (PromiseValue n) → Does k old (on_page F) None new → Answers k old (answers_first F) (Ok st) new
 unfolding on_page done_by
-Answers-first F old n st first step h = record { lines = h.lines; state = h.state refl; step = step ∙ ap (λ n. StepValue (PromiseValue n)) first }
+Answers-first F old n st first step h = record { lines = h.acts.lines; state = h.acts.state refl; step = step ∙ ap (λ n. StepValue (PromiseValue n)) first; port = h.port }
 
 -- the exit of a `?` behind the change that the operation does
 pub Answers-exit : {T : Type 0} {k : Keeping T} (f : State → Done Page) (F : Page → Page) (old : At Standing T) {new : At Standing T} (r : Result HostStep NoLine) {why : NoLine}
@@ -74,11 +74,16 @@ Answers-exit {k = k} f F old {new = new} (Err e) page is h =
 
 -- the exit of a `?` for want of memory, before any line
 pub Answers-wanted : {T : Type 0} (k : Keeping T) (f : State → Done Page) (s mid : Standing) (seen : Seen T) (r : Result HostStep NoLine) {why : NoLine}
-    → IsErrAnd r (λ e. e ≡ why) → why ≡ OutOfMemory → Answers k (at s seen) f r (at mid seen)
+    → IsErrAnd r (λ e. e ≡ why) → IsWanted why s mid → Answers k (at s seen) f r (at mid seen)
 Answers-wanted k f s mid seen (Ok st) is memory = absurd is
 Answers-wanted k f s mid seen (Err e) is memory =
     let P : NoLine → Type 0 = λ w. Answers k (at s seen) f (Err w) (at mid seen) in
-    subst P (sym (is ∙ memory)) (Answers-wants k f s mid seen)
+    subst P (sym (is ∙ memory.memory)) (Answers-wants k f s mid seen memory.port)
+
+-- the same where the page stays
+pub Answers-wanting : {T : Type 0} (k : Keeping T) (f : State → Done Page) (s : Standing) (seen : Seen T) (r : Result HostStep NoLine) {why : NoLine}
+    → IsErrAnd r (λ e. e ≡ why) → why ≡ OutOfMemory → Answers k (at s seen) f r (at s seen)
+Answers-wanting k f s seen r is memory = Answers-wanted k f s s seen r is (record { memory = memory; port = refl })
 
 -- ---- What it tests
 

@@ -12,7 +12,7 @@ use Rattle.trace_text.specs.declared.lines.NoLine.{NoLine}
 use Rattle.trace_text.specs.Given.{Keeping, Gives}
 use Rattle.trace_text.specs.Acts.{At}
 use Rattle.page_script.specs.PageActs.{lines_of}
-use Rattle.page_state.specs.Standing.{Standing, page_of, holding}
+use Rattle.page_state.specs.Standing.{Standing, page_of, port_of, holding}
 
 -- the page after a step of the script machine around it, and the step as a host answers it
 abbrev pub page_then : Done Page → Page
@@ -32,9 +32,10 @@ unfoldable pub done_by : (State → Done Page) → Standing → Done Page
 done_by f s = f (bare (page_of s))
 
 -- The call does what the operation does, all of it with its answer where there is no fault of the lines; else it stopped among the
--- operation's lines.
+-- operation's lines. The host port is left alone.
 pub record Answers {T : Type 0} (k : Keeping T) (old : At Standing T) (f : State → Done Page) (result : Result code.HostStep NoLine)
     (new : At Standing T) : Type 0 where
   pub lines : Gives k old.seen (lines_of (page_then (done_by f old.state)).events) (result_err result) new.seen
   pub state : IfOk result (λ step. new.state ≡ holding (page_then (done_by f old.state)) old.state)
   pub step : IfOk result (λ step. seen_step step ≡ step_then (done_by f old.state))
+  pub port : port_of new.state ≡ port_of old.state

@@ -90,8 +90,8 @@ module _ (script arrivals : List ℕ) (hosts left : List HostClosure) (old new :
     laws = h.laws (holds-no-numbers arrivals settings sets);
     marks = closures-follow program settings.setup hosts h.answers (holds-no-numbers arrivals settings sets);
   }
-  files-answers WriteFault program settings has fits sets h = record { program = program; settings = settings; is_run = record { has_program = has; fits = fits; sets_up = sets }; wrote = h }
-  files-answers OutOfMemory program settings has fits sets h = inr (record { program = program; settings = settings; is_run = record { has_program = has; fits = fits; sets_up = sets }; wrote = h })
+  files-answers WriteFault program settings has fits sets h = record { program = program; settings = settings; is_run = record { has_program = has; fits = fits; sets_up = sets }; wrote = h; marks = h.marks (holds-no-numbers arrivals settings sets) }
+  files-answers OutOfMemory program settings has fits sets h = inr (record { program = program; settings = settings; is_run = record { has_program = has; fits = fits; sets_up = sets }; wrote = h; marks = h.marks (holds-no-numbers arrivals settings sets) })
   files-answers answer program settings has fits sets h = absurd h
 
 -- the answer to a script that has no program
@@ -101,45 +101,45 @@ refusal-refuses (script.Name fault) script arrivals h = h
 refusal-refuses script.OutOfMemory script arrivals h = tt
 
 -- the answer to files that are not run
-pub refused-answers : (answer : Answer) (script arrivals : List ℕ) (hosts left : List HostClosure) (told : Option (List ℕ)) → Fits script → Fits arrivals → RefusesFiles answer script arrivals
-    → AnswersFiles answer script arrivals hosts left told told
-refused-answers (NoParse at) script arrivals hosts left told fits also h = (fits, also, h, refl)
-refused-answers (BadName fault) script arrivals hosts left told fits also h = (fits, also, h, refl)
-refused-answers (BadArrivals line) script arrivals hosts left told fits also h = (fits, also, h, refl)
-refused-answers OutOfMemory script arrivals hosts left told fits also h = inl refl
-refused-answers answer script arrivals hosts left told fits also h = absurd h
+pub refused-answers : (answer : Answer) (script arrivals : List ℕ) (hosts : List HostClosure) (told : Option (List ℕ)) → Fits script → Fits arrivals → RefusesFiles answer script arrivals
+    → AnswersFiles answer script arrivals hosts hosts told told
+refused-answers (NoParse at) script arrivals hosts told fits also h = (fits, also, h, refl)
+refused-answers (BadName fault) script arrivals hosts told fits also h = (fits, also, h, refl)
+refused-answers (BadArrivals line) script arrivals hosts told fits also h = (fits, also, h, refl)
+refused-answers OutOfMemory script arrivals hosts told fits also h = inl (refl, refl)
+refused-answers answer script arrivals hosts told fits also h = absurd h
 
 -- ---- the files as they are told
 
-module _ (hosts left : List HostClosure) where
+module _ (hosts : List HostClosure) where
   script-unread : (fault : FileFault) (script arrivals : List ℕ) (out : Option (List ℕ)) → GivesFile 1048576 script (Err fault)
-      → AnswersFiles (answer_to_file fault Script) script arrivals hosts left out out
+      → AnswersFiles (answer_to_file fault Script) script arrivals hosts hosts out out
   script-unread file.Failed script arrivals out h = (tt, refl)
   script-unread file.TooLong script arrivals out h = (h, refl)
-  script-unread file.OutOfMemory script arrivals out h = inl refl
+  script-unread file.OutOfMemory script arrivals out h = inl (refl, refl)
 
   -- the script was not read
   pub told-script : (fault : FileFault) (told_script told_arrivals : Option (List ℕ)) (out : Option (List ℕ)) → OfFile told_script (λ content. GivesFile 1048576 content (Err fault))
-      → AnswersTold (answer_to_file fault Script) told_script told_arrivals hosts left out out
+      → AnswersTold (answer_to_file fault Script) told_script told_arrivals hosts hosts out out
   told-script fault told_script told_arrivals out s =
       let a = some-file told_arrivals in
       (s.0, s.1, (a.0, a.1, script-unread fault s.0 a.0 out s.2))
 
   arrivals-unread : (fault : FileFault) (script arrivals : List ℕ) (out : Option (List ℕ)) → Fits script → GivesFile 1048576 arrivals (Err fault)
-      → AnswersFiles (answer_to_file fault Arrivals) script arrivals hosts left out out
+      → AnswersFiles (answer_to_file fault Arrivals) script arrivals hosts hosts out out
   arrivals-unread file.Failed script arrivals out size h = (size, refl)
   arrivals-unread file.TooLong script arrivals out size h = ((size, h), refl)
-  arrivals-unread file.OutOfMemory script arrivals out size h = inl refl
+  arrivals-unread file.OutOfMemory script arrivals out size h = inl (refl, refl)
 
   -- the arrivals were not read
   pub told-arrivals : (fault : FileFault) (script : Vec ℕ Global) (told_script told_arrivals : Option (List ℕ)) (out : Option (List ℕ)) → length script.items ≤ 1048576 → OfFile told_script (λ content. GivesFile 1048576 content (Ok script)) →
-      OfFile told_arrivals (λ content. GivesFile 1048576 content (Err fault)) → AnswersTold (answer_to_file fault Arrivals) told_script told_arrivals hosts left out out
+      OfFile told_arrivals (λ content. GivesFile 1048576 content (Err fault)) → AnswersTold (answer_to_file fault Arrivals) told_script told_arrivals hosts hosts out out
   told-arrivals fault script told_script told_arrivals out size s a =
       (script.items, read-holds 1048576 told_script script s, (a.0, a.1, arrivals-unread fault script.items a.0 out size a.2))
 
-  pub told-answers : (answer : Answer) (told_script told_arrivals : Option (List ℕ)) (script arrivals : Vec ℕ Global) (old new : Option (List ℕ)) → OfFile told_script (λ content. GivesFile 1048576 content (Ok script)) → OfFile told_arrivals (λ content. GivesFile 1048576 content (Ok arrivals)) →
+  pub told-answers : (left : List HostClosure) (answer : Answer) (told_script told_arrivals : Option (List ℕ)) (script arrivals : Vec ℕ Global) (old new : Option (List ℕ)) → OfFile told_script (λ content. GivesFile 1048576 content (Ok script)) → OfFile told_arrivals (λ content. GivesFile 1048576 content (Ok arrivals)) →
       AnswersFiles answer script.items arrivals.items hosts left old new → AnswersTold answer told_script told_arrivals hosts left old new
-  told-answers answer told_script told_arrivals script arrivals old new s a h =
+  told-answers left answer told_script told_arrivals script arrivals old new s a h =
       (script.items, read-holds 1048576 told_script script s, (arrivals.items, read-holds 1048576 told_arrivals arrivals a, h))
 
 -- ---- the whole, by its status

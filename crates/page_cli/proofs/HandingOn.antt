@@ -16,18 +16,20 @@ use Rattle.page_cli.specs.Pictures.{AnswersTrace}
 use Rattle.page_cli.specs.Expanding.{AnswersExpand}
 use Rattle.page_cli.specs.FormAnswers.{AnswersForm}
 use Rattle.page_cli.specs.HandedOn.{answer_unless_whole, HandsOn}
+use Rattle.page_cli.proofs.Closures.{end-marks}
 use Rattle.page_cli.proofs.RunLemmas.{whole-start}
 use Rattle.page_cli.proofs.ToldLemmas.{of-each}
 
 -- ---- what is whole is a start of itself
 
 module _ (old new : Option (List ℕ)) where
-  start-of-trace : (end : End) (hosts left : List HostClosure) (script arrivals : List ℕ) → WroteTrace end script arrivals hosts left old new → WroteStart script arrivals hosts old new
+  start-of-trace : (end : End) (hosts left : List HostClosure) (script arrivals : List ℕ) → WroteTrace end script arrivals hosts left old new → WroteStart script arrivals hosts left old new
   start-of-trace end hosts left script arrivals h = record {
     program = h.program;
     settings = h.settings;
     is_run = h.is_run;
-    wrote = record { answers = h.wrote.answers; start = whole-start old new _ h.wrote.trace };
+    wrote = record { answers = h.wrote.answers; start = whole-start old new _ h.wrote.trace; marks = λ n. end-marks hosts _ left h.wrote.closures };
+    marks = end-marks hosts _ left h.wrote.closures;
   }
 
   start-of-legal : (hosts : List HostClosure) (script arrivals trace : List ℕ) → WroteLegal script arrivals trace hosts old new → WroteLegalStart script arrivals trace hosts old new

@@ -1,8 +1,7 @@
 -- From a legal trace to its second form, and to what the top call answers.
-use Rattle.std.proofs.Common.{◌≡◌, ◌≤◌, ℕ, List, length, map, Option, Some, None, Result, Ok, Err, [], append-nil, refl, sym, ap, ◌∙◌, subst, inl, inr, arith}
+use Rattle.std.proofs.Common.{◌≡◌, ◌≤◌, ℕ, List, length, map, Option, Result, Ok, Err, refl, sym, ap, ◌∙◌, subst, inl, inr, arith}
 use Rattle.page_types.specs.Tree.{Program}
 use Rattle.page_types.specs.Counts.{Rose}
-use Rattle.page_types.specs.Told.{AppendsStartOf}
 use Rattle.page_types.specs.Events.{Stamped}
 use Rattle.page_types.specs.declared.End.{End}
 use Rattle.page_parts.specs.Setup.{Setup}
@@ -36,7 +35,7 @@ use Rattle.page_cli.specs.Answering.{IsRun, IsRefusal}
 use Rattle.page_cli.specs.Checked.{AllFit, IsNotRead, IsUnread, RefusesTrace}
 use Rattle.page_cli.specs.Migrated.{IsMigration, AnswersMigrate, AnswersMigration, AnswersRetold, HasLegalChoices, RetellsText, retold_to}
 use Rattle.page_cli.specs.ToldFiles.{CanHold}
-use Rattle.page_cli.proofs.RunLemmas.{whole-start}
+use Rattle.page_cli.proofs.RunLemmas.{whole-start, nothing-written}
 
 -- ---- the second form of a legal trace
 
@@ -90,11 +89,6 @@ module _ (script arrivals trace : List ℕ) (hosts : List HostClosure) where
 
 -- ---- the bytes of a legal trace
 
--- nothing is written
-none-written : (old : Option (List ℕ)) (text : List ℕ) → AppendsStartOf old old text
-none-written None text = ([], (text, refl), refl)
-none-written (Some bytes) text = ([], (text, refl), ap Some (sym (append-nil bytes)))
-
 module _ (program : Program) (setup : Setup) (hosts : List HostClosure) (trace : List ℕ) (legal : HasVerdictOn program setup hosts trace found.Yes) where
   same-legal : (es : List Stamped) → events_of legal.seen ≡ es → IsLegal program setup hosts es
   same-legal es same = subst (IsLegal program setup hosts) same legal.is_verdict.1
@@ -124,7 +118,7 @@ module _ (program : Program) (setup : Setup) (hosts : List HostClosure) (trace :
 
   -- nothing is told of it for want of memory
   pub none-retold : (old : Option (List ℕ)) → RetellsText program setup hosts trace OutOfMemory old old
-  none-retold old = record { seen = legal.seen; is_trace = legal.is_trace; is_legal = legal.is_verdict; retold = none-written old _ }
+  none-retold old = record { seen = legal.seen; is_trace = legal.is_trace; is_legal = legal.is_verdict; retold = nothing-written old _ }
 
 -- ---- what is not said
 

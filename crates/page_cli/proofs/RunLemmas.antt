@@ -1,5 +1,5 @@
 -- From what a run does to what is written of it.
-use Rattle.std.proofs.Common.{◌≡◌, ℕ, List, [], map, Option, Result, Ok, Err, ℤ, refl, sym, ◌∙◌, ap, subst, arith, append-nil}
+use Rattle.std.proofs.Common.{◌≡◌, true, is_some, ℕ, List, [], map, Option, Some, None, Result, Ok, Err, ℤ, refl, sym, ◌∙◌, ap, subst, arith, append-nil}
 use Rattle.page_types.specs.Tree.{Program}
 use Rattle.page_types.specs.Counts.{Rose}
 use Rattle.page_types.specs.Told.{appended, AppendsStartOf}
@@ -10,6 +10,7 @@ use Rattle.page_parts.specs.TraceText.{text_of}
 use Rattle.page_parts.specs.WrittenChoices.{Choices, written}
 use Rattle.page_model.specs.State.{State}
 use Rattle.page_model.specs.Turns.{Turned, GoesOn, Ended, Stuck, NoSource, NoReading, NoAnswer, NoAct, AtBound, run, run_by, state_of, events_of_run}
+use Rattle.page_model.specs.Numbers.{HoldsNoNumbers}
 use Rattle.page_model.specs.Choosing.{choice_rules}
 use Rattle.page_model.specs.PageTrace.{page_trace}
 use Rattle.page_model.specs.Likeness.{EndAlike}
@@ -23,11 +24,13 @@ use Rattle.loop_turn.specs.Lawful.{KeepsLaws}
 use Rattle.loop_turn.proofs.LawfulRuns.{runs-lawful}
 use Rattle.loop_turn.specs.Outcomes.{Finished, outcome_in}
 use Rattle.loop_turn.specs.RunStops.{line_fault, readings_refused, choices_refused}
-use Rattle.loop_turn.specs.Runs.{run_lines, PortThen, DoesRun}
+use Rattle.loop_turn.specs.Firing.{FiresAmong}
+use Rattle.loop_turn.specs.Runs.{event_lines, run_lines, PortThen, DoesRun}
 use Rattle.loop_turn.specs.TurnActs.{PortRefuses}
 use Rattle.loop_turn.specs.declared.run_stop.RunStop.{RunStop}
 use Rattle.loop_turn.specs.declared.run_stop.RunStop.TheVariants as stop
-use Rattle.page_cli.specs.Running.{EndsAs, CanStop, Wrote, closures_after}
+use Rattle.page_cli.specs.Running.{EndsAs, CanStop, GoNoFurther, Wrote, WroteRunStart, closures_after}
+use Rattle.page_cli.proofs.Closures.{stop-marks, end-marks, same-marks}
 use Rattle.page_cli.specs.Running as spec
 use Rattle.page_cli.proofs.WrittenRuns.{WrittenHeld, Together, written_rules, first_held, written-run}
 
@@ -59,6 +62,19 @@ ends-as end (Stuck AtBound m c) e = absurd (cc)
 pub whole-start : (old new : Option (List ℕ)) (text : List ℕ) → new ≡ appended old text → AppendsStartOf old new text
 whole-start old new text e = (text, ([], sym (append-nil text)), e)
 
+-- nothing is written
+pub nothing-written : (old : Option (List ℕ)) (text : List ℕ) → AppendsStartOf old old text
+nothing-written None text = ([], (text, refl), refl)
+nothing-written (Some bytes) text = ([], (text, refl), ap Some (sym (append-nil bytes)))
+
+-- nothing was run
+pub none-run : (program : Program) (setup : Setup) (hosts : List HostClosure) (old : Option (List ℕ)) → WroteRunStart program setup hosts old hosts old
+none-run program setup hosts old = record {
+  answers = [];
+  start = nothing-written old (page_trace program setup hosts []);
+  marks = λ n. same-marks hosts (closures_after (spec.written_run program setup hosts []));
+}
+
 module _ (program : Program) (setup : Setup) (hosts : List HostClosure) (answers : List (Result ℤ ℤ)) where
   abbrev by_rules : Turned WrittenHeld
   by_rules = run_by written_rules program setup hosts (first_held setup answers)
@@ -81,25 +97,38 @@ module _ (program : Program) (setup : Setup) (hosts : List HostClosure) (answers
   lawful = runs-lawful choice_rules program setup hosts (written setup answers)
 
   starts : (why : RunStop) (left : List HostClosure) (old new : Option (List ℕ)) → AppendsStartOf old new (text_of setup.trace (events_of_run by_rules))
-      → Wrote program setup hosts old (Err why) left new
-  starts why left old new h = record { answers = answers; start = let P : List ℕ → Type 0 = λ text. AppendsStartOf old new text in subst P trace-is h }
+      → (HoldsNoNumbers setup → GoNoFurther hosts (closures_after by_choices) left) → Wrote program setup hosts old (Err why) left new
+  starts why left old new h marks = record { answers = answers; start = let P : List ℕ → Type 0 = λ text. AppendsStartOf old new text in subst P trace-is h; marks = marks }
+
+  -- where it stopped among its lines
+  among : (left : List HostClosure) → FiresAmong (event_lines by_rules) hosts left → HoldsNoNumbers setup → GoNoFurther hosts (closures_after by_choices) left
+  among left f n = stop-marks program setup hosts answers n (events_of_run by_rules) left (alike-events Together by_rules by_choices (written-run program setup hosts answers)) f
 
   module _ {before after : Seen (List ℕ)} {clock : List ℕ} {chooser : PolicyState} {port : PortThen} where
-    pub run-wrote : (outcome : Result End RunStop) → DoesRun sink_keeping before (run_lines setup.trace by_rules) by_rules outcome clock chooser port after
+    -- what is known of the closures at a stop
+    stopped : (outcome : Result End RunStop) → port.before ≡ hosts → DoesRun sink_keeping before (run_lines setup.trace by_rules) by_rules outcome clock chooser port after
+        → is_some (line_fault outcome) ≡ true → HoldsNoNumbers setup → GoNoFurther hosts (closures_after by_choices) port.closures
+    stopped outcome same h fault = among port.closures (subst (λ cs. FiresAmong (event_lines by_rules) cs port.closures) same (h.stops fault))
+
+    stuck : (outcome : Result End RunStop) → DoesRun sink_keeping before (run_lines setup.trace by_rules) by_rules outcome clock chooser port after
+        → line_fault outcome ≡ None → HoldsNoNumbers setup → GoNoFurther hosts (closures_after by_choices) port.closures
+    stuck outcome h none n = end-marks hosts (closures_after by_choices) port.closures (closures-are port.closures (h.ends none).closures)
+
+    pub run-wrote : (outcome : Result End RunStop) → port.before ≡ hosts → DoesRun sink_keeping before (run_lines setup.trace by_rules) by_rules outcome clock chooser port after
         → Wrote program setup hosts before.told outcome port.closures after.told
-    run-wrote (Ok end) h = record {
+    run-wrote (Ok end) same h = record {
       answers = answers;
       ended = has-ended end (h.ends refl).outcome;
       trace = Gives-sink_trace setup.trace (events_of_run by_rules) h.lines ∙ ap (appended before.told) trace-is;
       closures = closures-are port.closures (h.ends refl).closures;
       laws = lawful;
     }
-    run-wrote (Err stop.WriteFault) h = starts stop.WriteFault port.closures before.told after.told (Gives-sink_trace_stop setup.trace (events_of_run by_rules) h.lines)
-    run-wrote (Err stop.Differs) h = starts stop.Differs port.closures before.told after.told (Gives-sink_trace_stop setup.trace (events_of_run by_rules) h.lines)
-    run-wrote (Err stop.OutOfMemory) h = starts stop.OutOfMemory port.closures before.told after.told (Gives-sink_trace_stop setup.trace (events_of_run by_rules) h.lines)
-    run-wrote (Err stop.NoReading) h = starts stop.NoReading port.closures before.told after.told (whole-start before.told after.told _ (Gives-sink_trace setup.trace (events_of_run by_rules) h.lines))
-    run-wrote (Err stop.NoChoice) h = starts stop.NoChoice port.closures before.told after.told (whole-start before.told after.told _ (Gives-sink_trace setup.trace (events_of_run by_rules) h.lines))
-    run-wrote (Err stop.NoHost) h = starts stop.NoHost port.closures before.told after.told (whole-start before.told after.told _ (Gives-sink_trace setup.trace (events_of_run by_rules) h.lines))
+    run-wrote (Err stop.WriteFault) same h = starts stop.WriteFault port.closures before.told after.told (Gives-sink_trace_stop setup.trace (events_of_run by_rules) h.lines) (stopped (Err stop.WriteFault) same h refl)
+    run-wrote (Err stop.Differs) same h = starts stop.Differs port.closures before.told after.told (Gives-sink_trace_stop setup.trace (events_of_run by_rules) h.lines) (stopped (Err stop.Differs) same h refl)
+    run-wrote (Err stop.OutOfMemory) same h = starts stop.OutOfMemory port.closures before.told after.told (Gives-sink_trace_stop setup.trace (events_of_run by_rules) h.lines) (stopped (Err stop.OutOfMemory) same h refl)
+    run-wrote (Err stop.NoReading) same h = starts stop.NoReading port.closures before.told after.told (whole-start before.told after.told _ (Gives-sink_trace setup.trace (events_of_run by_rules) h.lines)) (stuck (Err stop.NoReading) h refl)
+    run-wrote (Err stop.NoChoice) same h = starts stop.NoChoice port.closures before.told after.told (whole-start before.told after.told _ (Gives-sink_trace setup.trace (events_of_run by_rules) h.lines)) (stuck (Err stop.NoChoice) h refl)
+    run-wrote (Err stop.NoHost) same h = starts stop.NoHost port.closures before.told after.told (whole-start before.told after.told _ (Gives-sink_trace setup.trace (events_of_run by_rules) h.lines)) (stuck (Err stop.NoHost) h refl)
 
     -- a put has failed
     pub run-failed : (outcome : Result End RunStop) → DoesRun sink_keeping before (run_lines setup.trace by_rules) by_rules outcome clock chooser port after

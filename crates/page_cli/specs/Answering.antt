@@ -16,7 +16,7 @@ use Rattle.page_cli.specs.declared.answer.Answer.TheVariants.{BadTrace, Differs,
 use Rattle.page_cli.specs.Forms.{Form, RunForm, CheckForm, MigrateForm, StormForm, PictureForm, ExpandForm}
 use Rattle.page_cli.specs.ToldFiles.{OfFile}
 use Rattle.page_cli.specs.Scripts.{HasProgram, HasSomeProgram, IsSyntaxError, HasBadName}
-use Rattle.page_cli.specs.Running.{WroteRun, WroteRunStart, written_run}
+use Rattle.page_cli.specs.Running.{GoNoFurther, WroteRun, WroteRunStart, closures_after, written_run}
 
 -- a file within its limit
 abbrev pub Fits : List ℕ → Type 0
@@ -39,12 +39,13 @@ pub record WroteTrace (end : End) (script arrivals : List ℕ) (hosts left : Lis
   pub marks :
       ClosuresFollow (first_page program settings.setup hosts) (state_of (written_run program settings.setup hosts wrote.answers)).host
 
--- a start of that trace was written
-pub record WroteStart (script arrivals : List ℕ) (hosts : List HostClosure) (old new : Option (List ℕ)) : Type 0 where
+-- A start of that trace was written. A closure is fired, or dropped, only where it was so before or where that run leaves it so.
+pub record WroteStart (script arrivals : List ℕ) (hosts left : List HostClosure) (old new : Option (List ℕ)) : Type 0 where
   pub program : Program
   pub settings : Settings
   pub is_run : IsRun script arrivals program settings
-  pub wrote : WroteRunStart program settings.setup hosts old new
+  pub wrote : WroteRunStart program settings.setup hosts old left new
+  pub marks : GoNoFurther hosts (closures_after (written_run program settings.setup hosts wrote.answers)) left
 
 -- the first of the two files that is longer than its limit
 abbrev pub IsTooLong : WhichFile → (script arrivals : List ℕ) → Type 0
@@ -72,8 +73,9 @@ abbrev pub AnswersFiles : Answer → (script arrivals : List ℕ) → (hosts lef
 AnswersFiles (Ended end) script arrivals hosts left old new = WroteTrace end script arrivals hosts left old new
 AnswersFiles (TooLong file) script arrivals hosts left old new = IsTooLong file script arrivals × (new ≡ old)
 AnswersFiles (ReadFault file) script arrivals hosts left old new = CanFail file script × (new ≡ old)
-AnswersFiles WriteFault script arrivals hosts left old new = WroteStart script arrivals hosts old new
-AnswersFiles OutOfMemory script arrivals hosts left old new = (new ≡ old) ⊎ WroteStart script arrivals hosts old new
+AnswersFiles WriteFault script arrivals hosts left old new = WroteStart script arrivals hosts left old new
+AnswersFiles OutOfMemory script arrivals hosts left old new =
+    ((new ≡ old) × (left ≡ hosts)) ⊎ WroteStart script arrivals hosts left old new
 AnswersFiles answer script arrivals hosts left old new =
     Fits script × Fits arrivals × RefusesFiles answer script arrivals × (new ≡ old)
 
@@ -113,6 +115,6 @@ RunsNothing answer (Some (ExpandForm script)) = ⊤
 -- what an answer says of a program, a setup and the closures
 abbrev pub AnswersRun : Answer → Program → Setup → (hosts left : List HostClosure) → (old new : Option (List ℕ)) → Type 0
 AnswersRun (Ended end) program setup hosts left old new = WroteRun program setup hosts old end left new
-AnswersRun WriteFault program setup hosts left old new = WroteRunStart program setup hosts old new
-AnswersRun OutOfMemory program setup hosts left old new = WroteRunStart program setup hosts old new
+AnswersRun WriteFault program setup hosts left old new = WroteRunStart program setup hosts old left new
+AnswersRun OutOfMemory program setup hosts left old new = WroteRunStart program setup hosts old left new
 AnswersRun answer program setup hosts left old new = ⊥

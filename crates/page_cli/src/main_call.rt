@@ -159,8 +159,9 @@ fn carry_out<F: Folder, O: Sink>(
 /// a write fault. The line of the answer goes to `err` then, which hands it on; its faults change no answer. Want of memory may come at
 /// any point; a table with more closures than a script has numbers for is one.
 ///
-/// The closures of `hosts` answer what a script that `run` runs asks them, each at most once; no other command calls one. A run owns the
-/// table and the sink, so both are taken by value, and handed back with every answer.
+/// The closures of `hosts` answer what a script that `run` runs asks them, each at most once; no other command calls one. One that the run
+/// drops is dropped when it has ended, and not where it stopped before. A run owns the table and the sink, so both are taken by value, and
+/// handed back with every answer.
 pub fn page_main<F: Folder, O: Sink, E: Sink>(
     alloc: Global,
     words: &Vec<String>,
@@ -181,8 +182,9 @@ pub fn page_main<F: Folder, O: Sink, E: Sink>(
     // And all that was put was handed on.
     ensures whole { IsWhole result.answer → O.IsHandedOn result.out }
 
-    // Each other answer comes only where its cause stands, with what it leaves. All this holds of each file that the folder tells, whatever
-    // it tells of the others: of a file that it does not tell, it holds of some content.
+    // Each other answer comes only where its cause stands, with what it leaves: where a run stopped for a write fault or for want of memory,
+    // a closure is fired, or dropped, only where it was so before or where that run leaves it so. All this holds of each file that the
+    // folder tells, whatever it tells of the others: of a file that it does not tell, it holds of some content.
     ensures answers { IfSome (form_of (map string_bytes words.now.items)) (λ form. AnswersForm result.answer form (F.file folder.old)
         (closures_of hosts) (closures_of result.hosts) (O.bytes out) (O.bytes result.out)) }
     ensures usage { (result.answer ≡ Answer.Usage) ↔ (form_of (map string_bytes words.now.items) ≡ None) }

@@ -32,7 +32,7 @@ use Rattle.page_rules.specs.Lined.{Lined, lined, lined_rules}
 use Rattle.page_rules.specs.Ends.{EndsLined}
 use Rattle.page_rules.proofs.Ending.{call-lined}
 use Rattle.page_rules.proofs.Stopping.{refused-among, passed-among}
-use Rattle.page_state.specs.Standing.{page_of}
+use Rattle.page_state.specs.Standing.{page_of, port_of}
 use Rattle.page_host.specs.Marked.{Mark, Marked, marked_rules, LeavesMarked, IsSince}
 use Rattle.page_host.specs.PageNow.{PageNow, told_at, mark_of, host_now, room_of, stop_of}
 use Rattle.page_host.specs.Pieces.{WantsMemory}
@@ -127,8 +127,8 @@ module _ {L T : Type 0} (k : Keeping T) (seen : L → Seen T) (m : MachineNow) (
   abbrev does : Done (Marked T)
   does = call_does (marked_rules k) (program_in m) fun args (machines.state_of m p.fuel (host_now seen p))
 
-  around : does ≡ done_hosted (with_mark k mark p.state.kept p.state.refusals) (handed_from now)
-  around = calls-marked k mark p.state.kept p.state.refusals (program_in m) fun.function (bound_args fun args) (machine_with m.globals p.fuel now)
+  around : does ≡ done_hosted (with_mark k mark (port_of p.state)) (handed_from now)
+  around = calls-marked k mark (port_of p.state) (program_in m) fun.function (bound_args fun args) (machine_with m.globals p.fuel now)
 
   -- ---- an end
 
@@ -137,8 +137,7 @@ module _ {L T : Type 0} (k : Keeping T) (seen : L → Seen T) (m : MachineNow) (
     pub steps : Steps k (moment seen m p) model None how (moment seen m' (record p' { fuel = fuel }))
     pub running : p'.stopped ≡ None
     pub until : p'.until ≡ p.until
-    pub kept : p'.state.kept ≡ p.state.kept
-    pub refusals : p'.state.refusals ≡ p.state.refusals
+    pub port : port_of p'.state ≡ port_of p.state
 
   module _ (m' : MachineNow) (fuel : ℕ) (p' : PageNow L) (counts : IsSince (seen p'.since) p'.stopped (seen p'.lines)) where
     abbrev left : Machine (Marked T)
@@ -153,21 +152,20 @@ module _ {L T : Type 0} (k : Keeping T) (seen : L → Seen T) (m : MachineNow) (
     left-so : (how : How) (x : Done (Marked T)) → does ≡ x → host_after x ≡ left.host
         → Ended k told None [] (model (state_of m p)) how left_lined → IsLeft how m' fuel p'
     left-so how x e at ended =
-        let same = sym at ∙ marked-end k mark p.state.kept p.state.refusals (handed_from now) x (sym e ∙ around) in
+        let same = sym at ∙ marked-end k mark (port_of p.state) (handed_from now) x (sym e ∙ around) in
         let running : p'.stopped ≡ None = ap (λ (y : Marked T). y.lined.stopped) same ∙ ends-stopped k told None [] (model (state_of m p)) (handed_from now) ends in
         record {
           steps = Steps-ended None [] model (moment seen m p) how left_lined (seen p'.lines) ended refl
               (unharmed (seen p.lines) p'.stopped (seen p'.lines) (counts-of (ap (λ (y : Marked T). y.mark) same)) running);
           running = running;
           until = ap (λ (y : Marked T). y.mark.until) same;
-          kept = ap (λ (y : Marked T). y.kept) same;
-          refusals = ap (λ (y : Marked T). y.port_refusals) same;
+          port = ap (λ (y : Marked T). y.port) same;
         }
 
     lined-so : (x : Done (Marked T)) → does ≡ x → EndsLined k told None [] (model (state_of m p)) (done_hosted (λ (y : Marked T). y.lined) x)
     lined-so x e =
         subst (λ (d : Done (Lined T)). EndsLined k told None [] (model (state_of m p)) d)
-        (lined-end k mark p.state.kept p.state.refusals (handed_from now) x (sym e ∙ around)) ends
+        (lined-end k mark (port_of p.state) (handed_from now) x (sym e ∙ around)) ends
 
     pub given-left : (v : Value) → does ≡ Gives v left → IsLeft (Gave v) m' fuel p'
     given-left v e = left-so (Gave v) (Gives v left) e refl (ended-gives k told None [] v left_lined (model (state_of m p)) (lined-so (Gives v left) e))
@@ -190,7 +188,7 @@ module _ {L T : Type 0} (k : Keeping T) (seen : L → Seen T) (m : MachineNow) (
     hosting = machine_with m.globals p.fuel at_rest
 
     abbrev asks_from : Lined T → Machine (Marked T)
-    asks_from l = machine_with m.globals p.fuel (with_mark k mark p.state.kept p.state.refusals l)
+    asks_from l = machine_with m.globals p.fuel (with_mark k mark (port_of p.state) l)
 
     abbrev whole : List Line
     whole = lines_of (host_after (call_from_outside (program_in m) (host_operations page_rules) fun.function (bound_args fun args) hosting)).page.events
@@ -205,17 +203,19 @@ module _ {L T : Type 0} (k : Keeping T) (seen : L → Seen T) (m : MachineNow) (
     pub record IsHalted : Type 0 where
       pub why : NoLine
       pub stopped : p'.stopped ≡ Some why
+      pub port : port_of p'.state ≡ port_of p.state
       pub steps : Steps k (moment seen m p) model (Some why) RanOut (moment seen m' (record p' { fuel = fuel }))
 
     pub refused-left : IsRefused (LeavesMarked k) (call_asks (marked_rules k) (program_in m) fun args) (asks_from now) left.host → IsHalted
     refused-left r =
         let r' = subst (λ (l : Lined T). IsRefused (LeavesMarked k) (call_asks (marked_rules k) (program_in m) fun args) (asks_from l) left.host) start r in
-        let h = refused-too k told mark p.state.kept p.state.refusals (program_in m) fun.function (bound_args fun args) hosting left.host r' in
+        let h = refused-too k told mark (port_of p.state) (program_in m) fun.function (bound_args fun args) hosting left.host r' in
         let w = refused-among k told None (program_in m) fun.function (bound_args fun args) hosting left.host.lined h.lined in
         let counted = harmed (seen p.lines) p'.stopped (seen p'.lines) w.why (counts-of h.mark_is) w.stopped in
         record {
           why = w.why;
           stopped = w.stopped;
+          port = h.port_is;
           steps = Steps-stopped model (moment seen m p) w.why RanOut (moment seen m' (record p' { fuel = fuel })) whole whole-of w.among counted;
         }
 
@@ -223,27 +223,29 @@ module _ {L T : Type 0} (k : Keeping T) (seen : L → Seen T) (m : MachineNow) (
     stays (AskOp op args) l = refl
     stays (AskResume ticket end) l = refl
 
-    passed-running : (l : Lined T) → IsPassed (lined_rules k) (lined_asks k mark p.state.kept p.state.refusals (program_in m) fun.function (bound_args fun args) (hosted (lined k told None) hosting)) (hosted (lined k told None) hosting) l → l.stopped ≡ None
+    passed-running : (l : Lined T) → IsPassed (lined_rules k) (lined_asks k mark (port_of p.state) (program_in m) fun.function (bound_args fun args) (hosted (lined k told None) hosting)) (hosted (lined k told None) hosting) l → l.stopped ≡ None
     passed-running l (unasked e) = ap (λ (x : Lined T). x.stopped) e
     passed-running l (after_ask n ask before r e) =
         ap (λ (x : Lined T). x.stopped) e
-        ∙ (stays ask before ∙ unstopped k told mark p.state.kept p.state.refusals (program_in m) fun.function (bound_args fun args) hosting n ask before r)
+        ∙ (stays ask before ∙ unstopped k told mark (port_of p.state) (program_in m) fun.function (bound_args fun args) hosting n ask before r)
 
     -- memory was wanting
     pub record IsWanting : Type 0 where
       pub steps : Steps k (moment seen m p) model (Some OutOfMemory) RanOut (moment seen m' (record p' { fuel = fuel }))
       pub running : p'.stopped ≡ None
+      pub port : port_of p'.state ≡ port_of p.state
 
     pub wanting-left : IsPassed (marked_rules k) (call_asks (marked_rules k) (program_in m) fun args) (asks_from now) left.host → IsWanting
     wanting-left r =
         let r' = subst (λ (l : Lined T). IsPassed (marked_rules k) (call_asks (marked_rules k) (program_in m) fun args) (asks_from l) left.host) start r in
-        let h = passed-too k mark p.state.kept p.state.refusals (program_in m) fun.function (bound_args fun args) (hosted (lined k told None) hosting) left.host r' in
+        let h = passed-too k mark (port_of p.state) (program_in m) fun.function (bound_args fun args) (hosted (lined k told None) hosting) left.host r' in
         let among = passed-among k told None (program_in m) fun.function (bound_args fun args) hosting left.host.lined h.lined refl in
         let running = passed-running left.host.lined h.lined in
         let counted = wanting (seen p.lines) (seen p'.lines) (unharmed (seen p.lines) p'.stopped (seen p'.lines) (counts-of h.mark_is) running) in
         record {
           steps = Steps-stopped model (moment seen m p) OutOfMemory RanOut (moment seen m' (record p' { fuel = fuel })) whole whole-of among counted;
           running = running;
+          port = h.port_is;
         }
 
     -- ---- as runs of the page
@@ -259,7 +261,8 @@ module _ {L T : Type 0} (k : Keeping T) (seen : L → Seen T) (m : MachineNow) (
           functions = ap (λ s. count_of_functions (seen_program s)) script ∙ (ready.functions ∙ sym functions);
           room = subst (λ (o : Option NoLine). fuel ≤ room_of o p'.state.script.now) l.running room;
         };
-        port = λ w. record { functions = functions; until = l.until; kept = l.kept; refusals = l.refusals };
+        port = λ w. record { functions = functions; until = l.until; port = l.port };
+        left = l.port;
         stopped = l.running;
         program = script;
         fuel = less;
@@ -274,6 +277,7 @@ module _ {L T : Type 0} (k : Keeping T) (seen : L → Seen T) (m : MachineNow) (
             steps = Steps-fault how (state_of m' (record p' { fuel = fuel })) (subst (λ (w : NoLine). Steps k (moment seen m p) model (Some w) RanOut (moment seen m' (record p' { fuel = fuel }))) same h.steps);
             ready = λ w o. absurd (cc);
             port = λ w. absurd (cc);
+            left = h.port;
             stopped = h.stopped ∙ ap {A = NoLine} Some same;
             program = script;
             fuel = less;
@@ -290,6 +294,7 @@ module _ {L T : Type 0} (k : Keeping T) (seen : L → Seen T) (m : MachineNow) (
                 (subst (λ (l : L). Steps k (moment seen m p) model (Some OutOfMemory) how (record { state = state_of m' p3; seen = seen l })) lines steps);
             ready = λ w o. absurd (cc);
             port = λ w. absurd (cc);
+            left = ap (λ (x : PageNow L). port_of x.state) w.rest ∙ h.port;
             stopped = w.stopped ∙ ap {A = NoLine} Some (sym is);
             program = script;
             fuel = let e = ap (λ (x : PageNow L). x.fuel) w.rest in omega (arith, e, less);

@@ -45,7 +45,8 @@ module _ {L T : Type 0} {k : Keeping T} {seen : L → Seen T} where
   runs-marked since r = record {
     steps = r.steps;
     ready = r.ready;
-    port = λ w. let s = r.port w in record { functions = s.functions; until = s.until; kept = s.kept; refusals = s.refusals };
+    port = λ w. let s = r.port w in record { functions = s.functions; until = s.until; port = s.port };
+    left = r.left;
     stopped = r.stopped;
     program = r.program;
     fuel = r.fuel;

@@ -15,8 +15,7 @@ use Rattle.trace_text.specs.declared.lines.NoLine.{NoLine}
 use Rattle.trace_text.specs.Given.{Keeping, Seen}
 use Rattle.page_signals.specs.Laws.{as_fold}
 use Rattle.page_state.specs.Standing.{page_of}
-use Rattle.trace_text.specs.Acts.{Does}
-use Rattle.page_state.specs.PageActs.{at, on_page}
+use Rattle.page_state.specs.PageActs.{at, on_page, Does}
 use Rattle.page_state.specs.FoldActs.{hosting_of}
 use Rattle.page_operations.specs.Asked.{functions_of}
 use Rattle.page_host.specs.PageNow.{PageNow, IsWhole}
@@ -95,16 +94,16 @@ calm-whole {seen = seen} {f = f} {why = why} {p = p} {p' = p'} calm whole runnin
     let folds : List Fold = map as_fold p.state.folds in
     record {
       bounded = λ e.
-          let s = h.state (sym is ∙ e) in
+          let s = h.acts.state (sym is ∙ e) in
           let b = whole.bounded running in
           let c = calm x in
           subst (λ s. HostIsBounded (hosting_of s)) (sym s)
           (bounded-near 0 (counted x) (counted (f x)) c.near (let r = b.0.registrations in omega (arith, r)) b.0, subst (λ ps. FoldsAreBounded ps folds) (sym c.near.prios) b.1);
-      functions = λ e. ap functions_of (h.state (sym is ∙ e)) ∙ (ap length (calm x).names ∙ (whole.functions running ∙ sym functions));
+      functions = λ e. ap functions_of (h.acts.state (sym is ∙ e)) ∙ (ap length (calm x).names ∙ (whole.functions running ∙ sym functions));
       fuel = let few = whole.fuel in omega (arith, fuel, few);
       stops = subst (λ (n : ℕ). n < 2 ^ 64) (sym stops) (counted-below why p.stops whole.stops);
       since =
           let before = subst (λ (o : Option NoLine). IsSince (seen p.since) o (seen p.lines)) running whole.since in
           subst (λ (o : Option NoLine). IsSince (seen p'.since) o (seen p'.lines)) (sym is)
-          (subst (λ l. IsSince (seen l) why (seen p'.lines)) (sym since) (since-given why before h.lines));
+          (subst (λ l. IsSince (seen l) why (seen p'.lines)) (sym since) (since-given why before h.acts.lines));
     }

@@ -16,11 +16,11 @@ use Rattle.trace_text.specs.declared.lines.NoLine.{NoLine}
 use Rattle.trace_text.specs.declared.lines.NoLine.TheVariants.{OutOfMemory}
 use Rattle.trace_text.specs.Line.{Line}
 use Rattle.trace_text.specs.Given.{Keeping, Seen, Gives as TakesLines}
-use Rattle.trace_text.specs.Acts.{At, Does}
+use Rattle.trace_text.specs.Acts.{At, Does as ActDoes}
 use Rattle.trace_text.proofs.Giving.{Gives-none}
 use Rattle.page_script.specs.PageActs.{bare, act, lines_of}
-use Rattle.page_state.specs.Standing.{Standing, page_of}
-use Rattle.page_state.specs.PageActs.{at, on_page, changed_by}
+use Rattle.page_state.specs.Standing.{Standing, page_of, port_of}
+use Rattle.page_state.specs.PageActs.{at, on_page, changed_by, Does}
 use Rattle.page_state.specs.FoldActs.{hosting_of}
 use Rattle.page_state.proofs.Acting.{Does-silent}
 use Rattle.page_notices.proofs.Timing.{Does-memory}
@@ -39,9 +39,9 @@ use Rattle.page_host.proofs.Quiet.{Quiet}
 
 -- what was done to all that a page keeps was done to the model's page
 page-does : {T : Type 0} {k : Keeping T} (f : Page → Page) {s s' : Standing} {before after : Seen T} {why : Option NoLine} → Does k (at s before) (on_page f) why (at s' after)
-    → Does k (record { state = page_of s; seen = before }) (act f) why (record { state = page_of s'; seen = after })
+    → ActDoes k (record { state = page_of s; seen = before }) (act f) why (record { state = page_of s'; seen = after })
 unfolding on_page act
-page-does f h = record { lines = h.lines; state = λ w. ap page_of (h.state w) }
+page-does f h = record { lines = h.acts.lines; state = λ w. ap page_of (h.acts.state w) }
 
 ended-events : (how : How) (m : State) → events_after (ended how m) ≡ m.host.events
 ended-events (Gave v) m = refl
@@ -54,7 +54,7 @@ wanting-gives : {T : Type 0} {k : Keeping T} (lines : List Line) (seen : Seen T)
 wanting-gives {k = k} lines seen = (Does-memory k (λ (s : ℕ). record { state = s; lines = lines }) 0 0 seen).lines
 
 -- where a call on the page is done, a step ends so
-Steps-page_ended : {T : Type 0} {k : Keeping T} (how : How) (m : State) (f : Page → Page) {old new : At Page T} {why : Option NoLine} → Does k old (act f) why new → Steps k (with_page m old) (λ m. ended how (on_state f m)) why how (with_page m new)
+Steps-page_ended : {T : Type 0} {k : Keeping T} (how : How) (m : State) (f : Page → Page) {old new : At Page T} {why : Option NoLine} → ActDoes k old (act f) why new → Steps k (with_page m old) (λ m. ended how (on_state f m)) why how (with_page m new)
 unfolding act
 Steps-page_ended {k = k} how m f {old = old} {new = new} {why = why} h = record {
   lines =
@@ -88,14 +88,13 @@ Steps-fault how' state h = record { lines = h.lines; state = λ w. absurd (cc) }
 -- ---- one page
 
 pub same-port : {L : Type 0} (p : PageNow L) → SamePort p p
-same-port p = record { functions = refl; until = refl; kept = refl; refusals = refl }
+same-port p = record { functions = refl; until = refl; port = refl }
 
 port-then : {L : Type 0} {p q r : PageNow L} → SamePort p q → SamePort q r → SamePort p r
 port-then a b = record {
   functions = b.functions ∙ a.functions;
   until = b.until ∙ a.until;
-  kept = b.kept ∙ a.kept;
-  refusals = b.refusals ∙ a.refusals;
+  port = b.port ∙ a.port;
 }
 
 calling-same : (m m1 : MachineNow) → m1.script ≡ m.script → calling m1 ≡ calling m
@@ -133,11 +132,11 @@ module _ {L T : Type 0} {k : Keeping T} {seen : L → Seen T} where
   unfolding on_page
   acted-ready {f = f} {p = p} {p' = p'} m quiet a r = record {
     running = a.stopped;
-    at_rest = ap (λ (s : Standing). s.folds) (a.does.state refl) ∙ r.at_rest;
+    at_rest = ap (λ (s : Standing). s.folds) (a.does.acts.state refl) ∙ r.at_rest;
     functions = r.functions ∙ sym (ap (λ (x : PageNow L). x.functions) a.rest);
     room =
         let fuel = fuel-of a in
-        let now : p'.state.script.now ≡ p.state.script.now = ap (λ (s : Standing). s.script.now) (a.does.state refl) ∙ (quiet (page_of p.state)).now in
+        let now : p'.state.script.now ≡ p.state.script.now = ap (λ (s : Standing). s.script.now) (a.does.acts.state refl) ∙ (quiet (page_of p.state)).now in
         let room = r.room in
         omega (arith, room, fuel, ap room_at now);
   }
@@ -147,8 +146,7 @@ module _ {L T : Type 0} {k : Keeping T} {seen : L → Seen T} where
   acted-port a = record {
     functions = ap (λ (x : PageNow L). x.functions) a.rest;
     until = ap (λ (x : PageNow L). x.until) a.rest;
-    kept = ap (λ (s : Standing). s.kept) (a.does.state refl);
-    refusals = ap (λ (s : Standing). s.refusals) (a.does.state refl);
+    port = a.does.port;
   }
 
   -- ---- runs
@@ -160,6 +158,7 @@ module _ {L T : Type 0} {k : Keeping T} {seen : L → Seen T} where
     steps = subst (λ (x : At State T). Steps k (moment seen m p) (λ s. ended how (on_state f s)) why how x) (acted-moment m a) (Steps-page_ended how (state_of m p) f (page-does f a.does));
     ready = λ w o. acted-ready m quiet (subst (λ (o : Option NoLine). Acts k seen f o p p') w a) r;
     port = λ w. acted-port (subst (λ (o : Option NoLine). Acts k seen f o p p') w a);
+    left = a.does.port;
     stopped = a.stopped;
     program = refl;
     fuel = let e = fuel-of a in omega (arith, e);
@@ -176,6 +175,7 @@ module _ {L T : Type 0} {k : Keeping T} {seen : L → Seen T} where
         (subst (λ (x : At State T). Steps k x (next (calling m)) why how (moment seen m2 p2)) (sym (acted-moment m a)) r.steps);
     ready = r.ready;
     port = λ w. port-then (acted-port a) (r.port w);
+    left = r.left ∙ a.does.port;
     stopped = r.stopped;
     program = r.program;
     fuel = let e = fuel-of a in let h = r.fuel in omega (arith, e, h);
@@ -193,6 +193,7 @@ module _ {L T : Type 0} {k : Keeping T} {seen : L → Seen T} where
         (Steps-page (state_of m p) f (page-does f a.does)));
     ready = λ w o. absurd (cc);
     port = λ w. absurd (cc);
+    left = a.does.port;
     stopped = a.stopped;
     program = refl;
     fuel = let e = fuel-of a in omega (arith, e);
@@ -206,6 +207,7 @@ module _ {L T : Type 0} {k : Keeping T} {seen : L → Seen T} where
     steps = Steps-none k how (moment seen m p) refl;
     ready = λ w o. ready o;
     port = λ w. same-port p;
+    left = refl;
     stopped = running;
     program = refl;
     fuel = omega arith;
@@ -222,6 +224,7 @@ module _ {L T : Type 0} {k : Keeping T} {seen : L → Seen T} where
         (subst (λ (call : Caller Page). Steps k (moment seen m1 p1) (λ s. c call (ended how s)) why how' (moment seen m2 p2)) (calling-same m m1 a.program) r.steps);
     ready = r.ready;
     port = λ w. port-then (a.port refl) (r.port w);
+    left = r.left ∙ a.left;
     stopped = r.stopped;
     program = r.program ∙ a.program;
     fuel = let x = a.fuel in let y = r.fuel in omega (arith, x, y);
@@ -235,6 +238,7 @@ module _ {L T : Type 0} {k : Keeping T} {seen : L → Seen T} where
     steps = Steps-stop (step (calling m)) (c (calling m)) how' through a.steps;
     ready = λ w o. absurd (cc);
     port = λ w. absurd (cc);
+    left = a.left;
     stopped = a.stopped;
     program = a.program;
     fuel = a.fuel;
@@ -248,6 +252,7 @@ module _ {L T : Type 0} {k : Keeping T} {seen : L → Seen T} where
     steps = Steps-asked (choose (calling m)) (moment seen m p) r.steps;
     ready = r.ready;
     port = r.port;
+    left = r.left;
     stopped = r.stopped;
     program = r.program;
     fuel = r.fuel;
@@ -261,6 +266,7 @@ module _ {L T : Type 0} {k : Keeping T} {seen : L → Seen T} where
     steps = Steps-is (step (calling m)) (other (calling m)) (e (calling m)) r.steps;
     ready = r.ready;
     port = r.port;
+    left = r.left;
     stopped = r.stopped;
     program = r.program;
     fuel = r.fuel;
@@ -279,6 +285,7 @@ module _ {L T : Type 0} {k : Keeping T} {seen : L → Seen T} where
     };
     ready = λ e o. absurd (cc);
     port = λ e. absurd (cc);
+    left = ap (λ (x : PageNow L). port_of x.state) w.rest;
     stopped = w.stopped;
     program = refl;
     fuel = let e = ap (λ (x : PageNow L). x.fuel) w.rest in omega (arith, e);
@@ -303,6 +310,7 @@ module _ {L T : Type 0} {k : Keeping T} {seen : L → Seen T} where
         steps = Steps-fault (how (Err e)) (state_of m' p') a'.steps;
         ready = λ w o. absurd (cc);
         port = λ w. absurd (cc);
+        left = a'.left;
         stopped = a'.stopped;
         program = a'.program;
         fuel = a'.fuel;
@@ -321,7 +329,8 @@ module _ {L T : Type 0} {k : Keeping T} {seen : L → Seen T} where
           record {
             steps = record { lines = r'.steps.lines; state = r'.steps.state };
             ready = r'.ready;
-            port = λ w. let s = r'.port w in record { functions = s.functions; until = s.until; kept = s.kept; refusals = s.refusals };
+            port = λ w. let s = r'.port w in record { functions = s.functions; until = s.until; port = s.port };
+            left = r'.left;
             stopped = r'.stopped;
             program = r'.program;
             fuel = let f = r'.fuel in omega (arith, f);
@@ -360,15 +369,15 @@ module _ {L T : Type 0} {k : Keeping T} {seen : L → Seen T} where
       let q = page_of p.state in
       record {
         bounded = λ e.
-            let s = h.state (sym is ∙ e) in
+            let s = h.acts.state (sym is ∙ e) in
             subst (λ (x : Standing). HostIsBounded (hosting_of x)) (sym s)
             (bounded-along (map as_fold p.state.folds) (counted q) (counted (f q)) (quiet q).counted (whole.bounded running));
         functions = λ e.
-            ap (λ (x : Standing). length x.script.names) (h.state (sym is ∙ e)) ∙ (ap length (quiet q).names ∙ (whole.functions running ∙ sym functions));
+            ap (λ (x : Standing). length x.script.names) (h.acts.state (sym is ∙ e)) ∙ (ap length (quiet q).names ∙ (whole.functions running ∙ sym functions));
         fuel = let x = whole.fuel in omega (arith, x, fuel);
         stops = subst (λ (n : ℕ). n < 2 ^ 64) (sym stops) (counted-below why p.stops whole.stops);
         since =
             let before = subst (λ (o : Option NoLine). IsSince (seen p.since) o (seen p.lines)) running whole.since in
             subst (λ (o : Option NoLine). IsSince (seen p'.since) o (seen p'.lines)) (sym is)
-            (subst (λ (l : L). IsSince (seen l) why (seen p'.lines)) (sym since) (since-given why before h.lines));
+            (subst (λ (l : L). IsSince (seen l) why (seen p'.lines)) (sym since) (since-given why before h.acts.lines));
       }

@@ -10,7 +10,7 @@ use Rattle.page_types.specs.declared.HostMark.TheVariants.{Live, Queued as Queue
 use Rattle.page_parts.specs.HostClosures.{HostClosure, meets}
 use Rattle.page_parts.specs.Promises.{Settled}
 use Rattle.lang_meaning.specs.Machine.{Done, Caller, finish, afterwards}
-use Rattle.host_jobs.specs.Closures.{meets_at}
+use Rattle.host_jobs.specs.Closures.{fired_at, meets_at}
 use Rattle.host_jobs.specs.KeptAnswers.{FollowsKept}
 use Rattle.host_jobs.specs.declared.answer.NoHost.{NoHost}
 use Rattle.page_interp.specs.MachineNow.{MachineNow}
@@ -25,9 +25,9 @@ use Rattle.page_model.proofs.Adding.Lines.{finish-adds, settle-adds, unwatch-add
 use Rattle.trace_text.specs.declared.lines.NoLine.{NoLine}
 use Rattle.trace_text.specs.declared.lines.NoLine.TheVariants.{Failed, Differs, OutOfMemory}
 use Rattle.trace_text.specs.Given.{Keeping, Seen}
-use Rattle.trace_text.specs.Acts.{At, Does}
-use Rattle.page_state.specs.Standing.{Standing, page_of}
-use Rattle.page_state.specs.PageActs.{at, changed_by, on_page}
+use Rattle.trace_text.specs.Acts.{At}
+use Rattle.page_state.specs.Standing.{Standing, page_of, port_of}
+use Rattle.page_state.specs.PageActs.{at, changed_by, on_page, Does}
 use Rattle.page_state.specs.FoldActs.{hosting_of}
 use Rattle.page_state.proofs.Acting.{Does-next, Does-leave, Does-silent}
 use Rattle.page_state.proofs.Handled.{Does-read}
@@ -39,7 +39,7 @@ use Rattle.page_host.specs.Doing.{Acts, Runs}
 use Rattle.page_host.specs.Pieces.{WantsMemory}
 use Rattle.page_host.specs.Tasking.{answer_settles, answer_told, regardless}
 use Rattle.page_host.specs.Performed.{Asking, live_closure, answered, asking}
-use Rattle.page_host.specs.Performing.{GivesAnswer, RefusesAnswer, with_kept, ByAnswer, Performs}
+use Rattle.page_host.specs.Performing.{GivesAnswer, RefusesAnswer, with_answer, ByAnswer, Performs}
 use Rattle.page_host.specs.declared.did.Did.TheVariants as did
 use Rattle.page_host.specs.declared.stop.PageStop.{PageStop}
 use Rattle.page_host.specs.declared.stop.PageStop.TheVariants as stop
@@ -118,6 +118,10 @@ answering t answer call = regardless (λ s. answered (live_closure s.host t) t a
 abbrev asked_on : {L : Type 0} → HostTask → PageNow L → Option Asking
 asked_on t p = asking t (live_closure (page_of p.state) t)
 
+-- the page behind the answer of its port
+abbrev behind_answer : {L : Type 0} → HostTask → (kept : Option (List (Result ℤ ℤ))) → PageNow L → PageNow L
+behind_answer t kept p = record p { state = record p.state { at_port = fired_at p.state.at_port t.closure; kept = kept } }
+
 -- the port's answers by what is kept, for the closure that is there
 follows-there : (t : HostTask) (hosts : List HostClosure) (c : HostClosure) → slice_get hosts t.closure ≡ Some c → (result : Result (Result ℤ ℤ) NoHost) (kept kept' : Option (List (Result ℤ ℤ)))
     → FollowsKept (meets_at hosts t.closure t.number) kept result kept' → FollowsKept (meets c.kind t.number) kept result kept'
@@ -157,8 +161,7 @@ module _ {L T : Type 0} {k : Keeping T} {seen : L → Seen T} (t : HostTask) {m 
       subst P (sym (stop ∙ ap stop_of is))
       (record {
         does = inr (record {
-          kept = ap (λ (x : PageNow L). x.state.kept) w.rest;
-          refusals = ap (λ (x : PageNow L). x.state.refusals) w.rest;
+          port = ap (λ (x : PageNow L). port_of x.state) w.rest;
           lines = ap (λ (x : PageNow L). x.lines) w.rest;
           stopped = w.stopped;
           program = refl;
@@ -186,6 +189,7 @@ module _ {L T : Type 0} {k : Keeping T} {seen : L → Seen T} (t : HostTask) {m 
         port = port-refused t p.state.hosts undropped refusal p.state.kept p'.state.kept kept;
         refusals = ap (λ (x : PageNow L). x.state.refusals) is;
         hosts = ap (λ (x : PageNow L). x.state.hosts) is;
+        at_port = ap (λ (x : PageNow L). x.state.at_port) is;
         lines = ap (λ (x : PageNow L). x.lines) is;
         stopped = ap (λ (x : PageNow L). x.stopped) is;
         program = refl;
@@ -195,26 +199,28 @@ module _ {L T : Type 0} {k : Keeping T} {seen : L → Seen T} (t : HostTask) {m 
 
     module _ (ready : CanCall m p) (answer : Result ℤ ℤ) (met : IsTrue (meets_at p.state.hosts t.closure t.number answer)) {q : PageNow L}
         (kept : FollowsKept (meets_at p.state.hosts t.closure t.number) p.state.kept (Ok answer) q.state.kept)
-        (fired : q ≡ record p { state = record (changed_by (firing t.closure) p.state) { kept = q.state.kept } }) where
-      fires : Acts k seen (firing t.closure) None (with_kept q.state.kept p) q
+        (fired : q ≡ record p { state = record (changed_by (firing t.closure) p.state) { at_port = fired_at p.state.at_port t.closure; kept = q.state.kept } }) where
+      fires : Acts k seen (firing t.closure) None (behind_answer t q.state.kept p) q
       fires =
-          let P : PageNow L → Type 0 = λ x. Acts k seen (firing t.closure) None (with_kept q.state.kept p) x in
+          let P : PageNow L → Type 0 = λ x. Acts k seen (firing t.closure) None (behind_answer t q.state.kept p) x in
           subst P (sym fired)
-          (acted-silently {p = with_kept q.state.kept p} {p' = record p { state = record (changed_by (firing t.closure) p.state) { kept = q.state.kept } }} refl ready.running refl refl refl
+          (acted-silently {p = behind_answer t q.state.kept p} {p' = record p { state = record (changed_by (firing t.closure) p.state) { at_port = fired_at p.state.at_port t.closure; kept = q.state.kept } }} refl ready.running refl refl refl
           (fire-silent t.closure (slice_get p.state.hosts t.closure) (page_of p.state)) refl)
 
       told_there : {why : Option NoLine} {how : How} {p' : PageNow L} → Runs k seen (λ call s. finish (on_state (answer_told t answer) s)) why how m q m p' → ByAnswer k seen (asked_on t p) (answering t) why how m p m p'
-      told_there r = record {
+      told_there {why = why} {how = how} {p' = p'} r = record {
         answer = answer;
         kept = q.state.kept;
         port = port-gave t p.state.hosts undropped answer p.state.kept q.state.kept met kept;
         runs =
-            let s = state_of m (with_kept q.state.kept p) in
-            runs-is (λ call s. finish (on_state (answer_told t answer) (on_state (firing t.closure) s))) (answering t answer)
+            let s = state_of m (behind_answer t q.state.kept p) in
+            subst (λ (x : PageNow L). Runs k seen (answering t answer) why how m x m p')
+            (sym (ap (λ o. with_answer (asking t o) q.state.kept p) (there (slice_get p.state.hosts t.closure) undropped).live))
+            (runs-is (λ call s. finish (on_state (answer_told t answer) (on_state (firing t.closure) s))) (answering t answer)
             (λ call.
             ap (λ x. finish (record s { host = x })) (told-answers t answer s.host)
             ∙ sym (ap (λ o. afterwards (answered o t answer s) finish) (there (slice_get p.state.hosts t.closure) undropped).live))
-            (runs-act_then (firing t.closure) (λ call s. finish (on_state (answer_told t answer) s)) (λ es. finish-adds es (answer_told t answer) (told-adds t answer es)) fires r);
+            (runs-act_then (firing t.closure) (λ call s. finish (on_state (answer_told t answer) s)) (λ es. finish-adds es (answer_told t answer) (told-adds t answer es)) fires r));
       }
 
       -- it answered, and that was told
@@ -281,7 +287,7 @@ module _ {T : Type 0} {k : Keeping T} (t : HostTask) (answer : Result ℤ ℤ) (
 
 -- ---- a page whose closure was fired is whole
 
-pub fired-whole : {L T : Type 0} {seen : L → Seen T} {p : PageNow L} (k : ℕ) (s : Standing) → IsWhole seen p → s ≡ record (changed_by (firing k) p.state) { kept = s.kept; refusals = s.refusals } → IsWhole seen (record p { state = s })
+pub fired-whole : {L T : Type 0} {seen : L → Seen T} {p : PageNow L} (k : ℕ) (s : Standing) {closures : List HostClosure} → IsWhole seen p → s ≡ record (changed_by (firing k) p.state) { at_port = closures; kept = s.kept; refusals = s.refusals } → IsWhole seen (record p { state = s })
 fired-whole {seen = seen} {p = p} k s whole is = record {
   bounded = λ e.
       let P : Standing → Type 0 = λ x. HostIsBounded (hosting_of x) in

@@ -1,5 +1,5 @@
 -- What a page tells as a host where it is asked, from what it does.
-use Rattle.std.proofs.Common.{◌≡◌, inl, inr, ℕ, ℤ, ◌+◌, ◌^◌, ◌≤◌, Bool, true, false, List, [], ◌∷◌, map, refl, sym, ◌∙◌, ap, subst, arith, Option, Some, None, is_some, Result, Ok, Err}
+use Rattle.std.proofs.Common.{◌≡◌, inl, inr, ℕ, ℤ, ◌+◌, ◌^◌, ◌≤◌, Bool, true, false, List, [], ◌∷◌, map, refl, sym, ◌∙◌, ap, subst, arith, Option, Some, None, is_some, Ok, Err}
 use Rattle.page_types.specs.Values.{Value}
 use Rattle.page_types.specs.declared.Op.{Op}
 use Rattle.page_types.specs.Tree.{Program}
@@ -21,7 +21,7 @@ use Rattle.trace_text.specs.Given.{Keeping, Seen, after_all}
 use Rattle.page_rules.specs.Lined.{bare_hosting, lines_in, handed_on, lined_rules}
 use Rattle.page_rules.specs.Steady.{asks_busy, asked_page}
 use Rattle.page_rules.proofs.KeepingFolds.{ask-steady, ask-soon}
-use Rattle.page_state.specs.Standing.{Standing, page_of}
+use Rattle.page_state.specs.Standing.{Standing, PortNow, page_of}
 use Rattle.page_state.specs.PageActs.{at}
 use Rattle.page_state.specs.FoldActs.{hosting_of}
 use Rattle.page_operations.specs.Asked.{Asked, asked_of}
@@ -51,8 +51,7 @@ module _ {T : Type 0} (k : Keeping T) (old s : Standing) (before after : Seen T)
       ≡ record { step = seen_step step; host = marked_at mark s after.told stopped }
   same-port mark ask a =
       let lined = told_at s after.told stopped in
-      ap {A = Option (List (Result ℤ ℤ))} {B = Stepped (Marked T)} (λ kept. record { step = seen_step step; host = marked mark kept old.refusals lined }) (sym a.kept)
-      ∙ ap {A = ℕ} {B = Stepped (Marked T)} (λ n. record { step = seen_step step; host = marked mark s.kept n lined }) (sym a.refusals)
+      ap {A = PortNow} {B = Stepped (Marked T)} (λ port. record { step = seen_step step; host = marked mark port lined }) (sym a.port)
 
   -- the rule of the host
   pub rule : (mark : Mark T) (ask : Ask) → Asked k (at old before) ask (Ok step) (at s after)
@@ -187,13 +186,13 @@ pub stop-leaves : {T : Type 0} (k : Keeping T) (mark : Mark T) (ask : Ask) (old 
     → Asked k (at old before) ask (Err why) (at s after)
     → LeavesMarked k ask (marked_at mark old before.told stopped) (marked_at mark s after.told (Some why))
 unfolding asked_of
-stop-leaves k mark (AskOp op args) old s before after stopped why a = record { mark = refl; lines = inr (record { why = why; stopped = refl; among = a.lines.told }) }
-stop-leaves k mark (AskResume ticket end) old s before after stopped why a = record { mark = refl; lines = inr (record { why = why; stopped = refl; among = a.lines.told }) }
+stop-leaves k mark (AskOp op args) old s before after stopped why a = record { mark = refl; port = a.port; lines = inr (record { why = why; stopped = refl; among = a.lines.told }) }
+stop-leaves k mark (AskResume ticket end) old s before after stopped why a = record { mark = refl; port = a.port; lines = inr (record { why = why; stopped = refl; among = a.lines.told }) }
 
 -- where it was stopped before
 pub stopped-leaves : {T : Type 0} (k : Keeping T) (mark : Mark T) (ask : Ask) (s : Standing) (told : Option T) (stopped : Option NoLine) (why : NoLine) → stopped ≡ Some why
     → LeavesMarked k ask (marked_at mark s told stopped) (marked_at mark s told (Some why))
-stopped-leaves k mark ask s told stopped why e = record { mark = refl; lines = inl (record { why = why; stopped = e; same = ap (told_at s told) (sym e) }) }
+stopped-leaves k mark ask s told stopped why e = record { mark = refl; port = refl; lines = inl (record { why = why; stopped = e; same = ap (told_at s told) (sym e) }) }
 
 -- ---- before the first turn
 

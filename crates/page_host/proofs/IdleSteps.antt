@@ -24,9 +24,9 @@ use Rattle.page_model.proofs.Adding.Runs.{WaysAdd, invoke-adds}
 use Rattle.lang_meaning.specs.Machine.{Caller}
 use Rattle.trace_text.specs.declared.lines.NoLine.{NoLine}
 use Rattle.trace_text.specs.Given.{Keeping, Seen}
-use Rattle.trace_text.specs.Acts.{At, Does}
+use Rattle.trace_text.specs.Acts.{At}
 use Rattle.page_state.specs.Standing.{Standing, page_of, holding}
-use Rattle.page_state.specs.PageActs.{at, changed_by}
+use Rattle.page_state.specs.PageActs.{at, changed_by, Does}
 use Rattle.page_state.specs.PageActs as standing
 use Rattle.page_state.proofs.Acting.{Does-next, Does-is, Does-idle, Does-silent}
 use Rattle.page_interp.specs.MachineNow.{MachineNow}

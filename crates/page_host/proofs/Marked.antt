@@ -1,5 +1,5 @@
 -- A script around the page with its mark does what it does around the page that hands its lines on.
-use Rattle.std.proofs.Common.{◌≡◌, ◌⊎◌, inl, inr, ℕ, ℤ, List, Option, Some, None, Result, refl, sym, ap, ◌∙◌, subst}
+use Rattle.std.proofs.Common.{◌≡◌, ◌⊎◌, inl, inr, ℕ, List, Option, Some, None, refl, sym, ap, ◌∙◌, subst}
 use Rattle.page_types.specs.Values.{Value}
 use Rattle.page_types.specs.Tree.{Program}
 use Rattle.lang_meaning.specs.Machine.{Machine, Done, Gives, Throws, Returns, OutOfFuel, hosted, done_hosted}
@@ -12,6 +12,7 @@ use Rattle.trace_text.specs.Given.{Keeping}
 use Rattle.page_rules.specs.Lined.{Lined, lined, lined_rules, LeavesLines, RulesFollow}
 use Rattle.page_rules.proofs.FollowingRules.{calls-follow-rules, limited_by, limited_calls-follow}
 use Rattle.page_rules.proofs.Lining.{lined-follows}
+use Rattle.page_state.specs.Standing.{PortNow}
 use Rattle.page_host.specs.Marked.{Mark, Marked, marked, marked_rules, StaysStopped, LeavesMarked}
 
 -- ---- Asks around one host are those around another whose rules follow
@@ -58,9 +59,9 @@ module _ {H K : Type 0} (φ : H → K) (rules : HostRules H) (rules' : HostRules
 
 -- ---- The page with its mark
 
-module _ {T : Type 0} (k : Keeping T) (mark : Mark T) (kept : Option (List (Result ℤ ℤ))) (refusals : ℕ) where
+module _ {T : Type 0} (k : Keeping T) (mark : Mark T) (port : PortNow) where
   abbrev pub with_mark : Lined T → Marked T
-  with_mark = marked mark kept refusals
+  with_mark = marked mark port
 
   pub marked-follows : RulesFollow with_mark (lined_rules k) (marked_rules k)
   marked-follows (AskOp op args) l = refl
@@ -105,23 +106,24 @@ module _ {T : Type 0} (k : Keeping T) (mark : Mark T) (kept : Option (List (Resu
     pub record Passed (told : Marked T) : Type 0 where
       pub lined : IsPassed (lined_rules k) lined_asks m told.lined
       pub mark_is : told.mark ≡ mark
+      pub port_is : told.port ≡ port
 
     pub passed-too : (told : Marked T) → IsPassed (marked_rules k) marked_asks (hosted with_mark m) told → Passed told
-    passed-too told (unasked e) = record { lined = unasked (ap (λ x. x.lined) e); mark_is = ap (λ x. x.mark) e }
+    passed-too told (unasked e) = record { lined = unasked (ap (λ x. x.lined) e); mark_is = ap (λ x. x.mark) e; port_is = ap (λ x. x.port) e }
     passed-too told (after_ask n ask before r e) =
         let t = reached n ask before r in
         let is : told ≡ with_mark (on_ask (lined_rules k) ask t.host).host = e ∙ (ap (λ h. (on_ask (marked_rules k) ask h).host) t.seen ∙ ap (λ s. s.host) (marked-follows ask t.host)) in
-        record { lined = after_ask n ask t.host t.reached (ap (λ x. x.lined) is); mark_is = ap (λ x. x.mark) is }
+        record { lined = after_ask n ask t.host t.reached (ap (λ x. x.lined) is); mark_is = ap (λ x. x.mark) is; port_is = ap (λ x. x.port) is }
 
 -- ---- a call of a page that has not stopped, which keeps its events or hands them on
 
-module _ {T : Type 0} (k : Keeping T) (told : Option T) (mark : Mark T) (kept : Option (List (Result ℤ ℤ))) (refusals : ℕ)
+module _ {T : Type 0} (k : Keeping T) (told : Option T) (mark : Mark T) (port : PortNow)
     (program : Program) (f : ℕ) (args : List Value) (m : Machine Hosting) where
   abbrev pub φ : Hosting → Lined T
   φ = lined k told None
 
   -- an ask around it finds it unstopped
-  pub unstopped : (n : ℕ) (ask : Ask) (before : Lined T) → Reaches (lined_asks k mark kept refusals program f args (hosted φ m)) (hosted φ m) n ask before → before.stopped ≡ None
+  pub unstopped : (n : ℕ) (ask : Ask) (before : Lined T) → Reaches (lined_asks k mark port program f args (hosted φ m)) (hosted φ m) n ask before → before.stopped ≡ None
   unstopped n ask before r = ap (λ (l : Lined T). l.stopped) (reaches-too φ page_rules (lined_rules k) (lined-follows k told None) program f args m n ask before r).seen
 
   -- so a refused ask stops among its lines
@@ -130,12 +132,13 @@ module _ {T : Type 0} (k : Keeping T) (told : Option T) (mark : Mark T) (kept : 
   stops ask before after e (inr h) = h
 
   pub record Refused (after : Marked T) : Type 0 where
-    pub lined : IsRefused (LeavesLines k) (lined_asks k mark kept refusals program f args (hosted φ m)) (hosted φ m) after.lined
+    pub lined : IsRefused (LeavesLines k) (lined_asks k mark port program f args (hosted φ m)) (hosted φ m) after.lined
     pub mark_is : after.mark ≡ mark
+    pub port_is : after.port ≡ port
 
-  pub refused-too : (after : Marked T) → IsRefused (LeavesMarked k) (marked_asks k mark kept refusals program f args (hosted φ m)) (hosted (with_mark k mark kept refusals) (hosted φ m)) after → Refused after
+  pub refused-too : (after : Marked T) → IsRefused (LeavesMarked k) (marked_asks k mark port program f args (hosted φ m)) (hosted (with_mark k mark port) (hosted φ m)) after → Refused after
   refused-too after r =
-      let t = reached k mark kept refusals program f args (hosted φ m) r.n r.ask r.before r.reached in
+      let t = reached k mark port program f args (hosted φ m) r.n r.ask r.before r.reached in
       let lines = subst (λ (x : Marked T). StaysStopped x.lined after.lined ⊎ LeavesLines k r.ask x.lined after.lined) t.seen r.left.lines in
       record {
         lined = record {
@@ -146,4 +149,5 @@ module _ {T : Type 0} (k : Keeping T) (told : Option T) (mark : Mark T) (kept : 
           left = stops r.ask t.host after.lined (unstopped r.n r.ask t.host t.reached) lines;
         };
         mark_is = r.left.mark ∙ ap (λ x. x.mark) t.seen;
+        port_is = r.left.port ∙ ap (λ x. x.port) t.seen;
       }

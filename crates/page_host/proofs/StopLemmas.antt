@@ -7,9 +7,9 @@ use Rattle.page_model.specs.FoldBounds.{HostIsBounded}
 use Rattle.trace_text.specs.declared.lines.NoLine.{NoLine}
 use Rattle.trace_text.specs.declared.lines.NoLine.TheVariants.{Failed, Differs, OutOfMemory}
 use Rattle.trace_text.specs.Given.{Keeping, Seen}
-use Rattle.trace_text.specs.Acts.{Act, At, Does}
+use Rattle.trace_text.specs.Acts.{Act, At}
 use Rattle.page_state.specs.Standing.{Standing}
-use Rattle.page_state.specs.PageActs.{at, on_page, changed_by}
+use Rattle.page_state.specs.PageActs.{at, on_page, changed_by, Does}
 use Rattle.page_state.specs.FoldActs.{hosting_of}
 use Rattle.page_operations.specs.Asked.{functions_of}
 use Rattle.page_host.specs.PageNow.{PageNow, IsWhole}
@@ -26,7 +26,7 @@ fault-is (Err Differs) = refl
 fault-is (Err OutOfMemory) = refl
 
 -- the fault that a call answers is the one that it met
-pub does-stopped : {S T X : Type 0} {k : Keeping T} {act : Act S} {old new : At S T} (done : Result X NoLine) (result : Result X PageStop)
+pub does-stopped : {T X : Type 0} {k : Keeping T} {act : Act Standing} {old new : At Standing T} (done : Result X NoLine) (result : Result X PageStop)
     → result ≡ stop_result done → Does k old act (result_err done) new → Does k old act (fault_of result) new
 does-stopped {X = X} {k = k} {act = act} {old = old} {new = new} done result answer h =
     subst (λ (why : Option NoLine). Does k old act why new) (sym (ap (λ (r : Result X PageStop). fault_of r) answer ∙ fault-is done)) h
@@ -44,7 +44,7 @@ module _ {T X : Type 0} {k : Keeping T} (f : Page → Page) (P : Standing → Ty
   still : (done : Result X NoLine) → (P old → P (changed_by f old)) → stopped' ≡ stopped_after stopped done
       → Does k (at old before) (on_page f) (result_err done) (at s after) → (stopped ≡ None → P old) → stopped' ≡ None → P s
   unfolding on_page
-  still (Ok x) keeps told does was none = subst P (sym (does.state refl)) (keeps (was (sym told ∙ none)))
+  still (Ok x) keeps told does was none = subst P (sym (does.acts.state refl)) (keeps (was (sym told ∙ none)))
   still (Err why) keeps told does was none = absurd (cc)
 
 -- a page stays whole, where no fuel came
@@ -63,5 +63,5 @@ stays-whole {L = L} {k = k} f leaves seen {old = old} {new = new} whole running 
           let P : L → Type 0 = λ l. IsSince (seen l) new.stopped (seen new.lines) in
           let Q : Option NoLine → Type 0 = λ why. IsSince (seen old.since) why (seen old.lines) in
           let R : Option NoLine → Type 0 = λ why. IsSince (seen old.since) why (seen new.lines) in
-          subst P (sym same.since) (subst R (sym (told ∙ after-is done running)) (since-given {k = k} (result_err done) (subst Q running whole.since) does.lines));
+          subst P (sym same.since) (subst R (sym (told ∙ after-is done running)) (since-given {k = k} (result_err done) (subst Q running whole.since) does.acts.lines));
     }

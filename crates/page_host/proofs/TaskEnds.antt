@@ -18,10 +18,10 @@ use Rattle.page_model.proofs.Adding.Runs.{invoke-adds, settle_derived-adds, chec
 use Rattle.lang_meaning.specs.Machine.{Caller}
 use Rattle.trace_text.specs.declared.lines.NoLine.{NoLine}
 use Rattle.trace_text.specs.Given.{Keeping, Seen}
-use Rattle.trace_text.specs.Acts.{At, Does}
+use Rattle.trace_text.specs.Acts.{At}
 use Rattle.page_script.specs.PageActs.{OnlyAdds}
 use Rattle.page_state.specs.Standing.{Standing, page_of}
-use Rattle.page_state.specs.PageActs.{at, changed_by}
+use Rattle.page_state.specs.PageActs.{at, changed_by, Does}
 use Rattle.page_state.specs.PageActs as standing
 use Rattle.page_state.proofs.Acting.{Does-next, Does-leave, Does-silent}
 use Rattle.page_state.proofs.Handled.{Does-read, OnlyAdds-then}
@@ -162,6 +162,7 @@ module _ {L T : Type 0} {k : Keeping T} {seen : L → Seen T} {m : MachineNow} (
       steps = Steps-dry _ (invoke (in_task (calling m)) t.registration false []) (posted_rest t.registration n) (λ n. refl) h.steps;
       ready = h.ready;
       port = h.port;
+      left = h.left;
       stopped = h.stopped;
       program = h.program;
       fuel = h.fuel;

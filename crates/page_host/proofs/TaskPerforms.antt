@@ -33,7 +33,7 @@ use Rattle.page_host.specs.Doing.{Acts, Runs, did_how, IfFinished, IsDried}
 use Rattle.page_host.specs.Stops.{stop_result}
 use Rattle.page_host.specs.Tasking.{no_task, regardless}
 use Rattle.page_host.specs.Performed.{Asking, asking, live_closure, answered, steps_with, first_with, sched_with, source_with, steps_asking, asking_of, first_asking}
-use Rattle.page_host.specs.Performing.{GivesAnswer, with_kept, CanPerform, ByAnswer, IsRefused, IsWanting, PerformsBy, Performs, stopped_by}
+use Rattle.page_host.specs.Performing.{GivesAnswer, with_answer, CanPerform, ByAnswer, IsRefused, IsWanting, PerformsBy, Performs, stopped_by}
 use Rattle.page_host.specs.declared.did.Did.{Did}
 use Rattle.page_host.specs.declared.did.Did.TheVariants as did
 use Rattle.page_host.specs.declared.stop.PageStop.{PageStop}
@@ -78,6 +78,7 @@ refused-queued n p h = record {
   port = h.port;
   refusals = h.refusals;
   hosts = h.hosts;
+  at_port = h.at_port;
   lines = h.lines;
   stopped = h.stopped;
   program = h.program;
@@ -85,7 +86,7 @@ refused-queued n p h = record {
 }
 
 wanting-queued : {L : Type 0} {m m' : MachineNow} (n : ℕ) (p : PageNow L) {p' : PageNow L} → IsWanting m (behind n p) m' p' → IsWanting m p m' p'
-wanting-queued n p h = record { kept = h.kept; refusals = h.refusals; lines = h.lines; stopped = h.stopped; program = h.program; fuel = h.fuel }
+wanting-queued n p h = record { port = h.port; lines = h.lines; stopped = h.stopped; program = h.program; fuel = h.fuel }
 
 -- a step, whatever it gives or throws
 abbrev pub whatever : (Result ℤ ℤ → Caller Page → State → Done Page) → Result ℤ ℤ → Caller Page → State → Done Page
@@ -110,11 +111,11 @@ module _ {L : Type 0} where
 module _ {L T : Type 0} {k : Keeping T} {seen : L → Seen T} where
   module _ {asks : Option Asking} (step : Result ℤ ℤ → Caller Page → State → Done Page) {m m' : MachineNow} {p p' : PageNow L} (none : asks ≡ None) where
     plain : {why : Option NoLine} {how : How} → Runs k seen (step any) why how m p m' p' → ByAnswer k seen asks step why how m p m' p'
-    plain r = record {
+    plain {why = why} {how = how} r = record {
       answer = any;
       kept = p.state.kept;
       port = let P : Option Asking → Type 0 = λ a. GivesAnswer a p.state.kept any p.state.kept in subst P (sym none) refl;
-      runs = r;
+      runs = subst (λ (a : Option Asking). Runs k seen (step any) why how m (with_answer a p.state.kept p) m' p') (sym none) r;
     }
 
     plainly : (done : Result Did NoLine) → Runs k seen (step any) (result_err done) (did_how done) m p m' p' → Performs k seen asks step (stop_result done) m p m' p'
@@ -138,13 +139,13 @@ module _ {L T : Type 0} {k : Keeping T} {seen : L → Seen T} where
   -- ---- in other words
 
   module _ {asks other : Option Asking} (step step' : Result ℤ ℤ → Caller Page → State → Done Page) {m m' : MachineNow} {p p' : PageNow L} (same : asks ≡ other)
-      (is : (answer : Result ℤ ℤ) (kept : Option (List (Result ℤ ℤ))) (call : Caller Page) → step answer call (state_of m (with_kept kept p)) ≡ step' answer call (state_of m (with_kept kept p))) where
+      (is : (answer : Result ℤ ℤ) (kept : Option (List (Result ℤ ℤ))) (call : Caller Page) → step answer call (state_of m (with_answer asks kept p)) ≡ step' answer call (state_of m (with_answer asks kept p))) where
     answer-is : {why : Option NoLine} {how : How} → ByAnswer k seen asks step why how m p m' p' → ByAnswer k seen other step' why how m p m' p'
-    answer-is b = record {
+    answer-is {why = why} {how = how} b = record {
       answer = b.answer;
       kept = b.kept;
       port = subst (λ (a : Option Asking). GivesAnswer a p.state.kept b.answer b.kept) same b.port;
-      runs = runs-is (step b.answer) (step' b.answer) (is b.answer b.kept) b.runs;
+      runs = subst (λ (a : Option Asking). Runs k seen (step' b.answer) why how m (with_answer a b.kept p) m' p') same (runs-is (step b.answer) (step' b.answer) (is b.answer b.kept) b.runs);
     }
 
     pub performs-is : (result : Result Did PageStop) → Performs k seen asks step result m p m' p' → Performs k seen other step' result m p m' p'
@@ -167,7 +168,7 @@ module _ {L T : Type 0} {k : Keeping T} {seen : L → Seen T} where
       answer = b.answer;
       kept = b.kept;
       port = b.port;
-      runs = runs-act_then (without_task n) (step b.answer) (adds b.answer) (acted-silently {p = with_kept b.kept p} {p' = with_kept b.kept (behind n p)} refl running refl refl refl refl refl) b.runs;
+      runs = runs-act_then (without_task n) (step b.answer) (adds b.answer) (acted-silently {p = with_answer asks b.kept p} {p' = with_answer asks b.kept (behind n p)} refl running refl refl refl refl refl) b.runs;
     }
 
     pub performs-queued : (result : Result Did PageStop) → Performs k seen asks step result m (behind n p) m' p' → Performs k seen asks (queued n step) result m p m' p'
@@ -410,7 +411,7 @@ module _ {L T : Type 0} {k : Keeping T} {seen : L → Seen T} {m : MachineNow} {
     first-done n steps running first {q = q} {p' = p'} {m' = m'} gone result h =
         let P : PageNow L → Type 0 = λ q. Performs k seen (steps_asking (page_of q.state) steps) (done_with steps) result m q m' p' in
         let task : Task = record { number = n; source = source; steps = steps } in
-        performs-is (queued n (done_with steps)) (source_done source) (asked-first source other (page_of p.state) (Some task) first) (λ answer kept call. done-first source other (state_of m (with_kept kept p)) (Some task) first answer call)
+        performs-is (queued n (done_with steps)) (source_done source) (asked-first source other (page_of p.state) (Some task) first) (λ answer kept call. done-first source other (state_of m (with_answer (asking_of (page_of p.state) (Some task)) kept p)) (Some task) first answer call)
         result (performs-queued (done_with steps) n running (done-adds m steps) result (subst P gone h))
 
 -- ---- the steps of a task by what it asks
@@ -422,7 +423,7 @@ module _ {L T : Type 0} {k : Keeping T} {seen : L → Seen T} {m m' : MachineNow
       → Performs k seen (steps_asking (page_of p.state) steps) (λ answer call. regardless (steps_with call steps (host_task_of steps) answer)) result m p m' p'
   steps-asked t is result h =
       performs-is (λ answer call. regardless (λ s. answered (live_closure s.host t) t answer s)) (done_with steps) (ap (λ o. option_and_then (λ h. asking h (live_closure (page_of p.state) h)) o) is)
-      (λ answer kept call. ap (λ o. afterwards (steps_with call steps o answer (state_of m (with_kept kept p))) finish) is) result h
+      (λ answer kept call. ap (λ o. afterwards (steps_with call steps o answer (state_of m (with_answer (asking t (live_closure (page_of p.state) t)) kept p))) finish) is) result h
 
   -- any other task
   pub steps-plain : None ≡ host_task_of steps → (done : Result Did NoLine) {result : Result Did PageStop} → result ≡ stop_result done

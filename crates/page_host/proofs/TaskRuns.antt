@@ -72,11 +72,11 @@ module _ {L T : Type 0} {k : Keeping T} {seen : L → Seen T} where
   unfolding standing.on_page
   ready-after {p = p} {p' = p'} m same a r = record {
     running = a.stopped;
-    at_rest = ap (λ (s : Standing). s.folds) (a.does.state refl) ∙ r.at_rest;
+    at_rest = ap (λ (s : Standing). s.folds) (a.does.acts.state refl) ∙ r.at_rest;
     functions = r.functions ∙ sym (ap (λ (x : PageNow L). x.functions) a.rest);
     room =
         let fuel : p'.fuel ≡ p.fuel = ap (λ (x : PageNow L). x.fuel) a.rest in
-        let now : p'.state.script.now ≡ p.state.script.now = ap (λ (s : Standing). s.script.now) (a.does.state refl) ∙ same (page_of p.state) in
+        let now : p'.state.script.now ≡ p.state.script.now = ap (λ (s : Standing). s.script.now) (a.does.acts.state refl) ∙ same (page_of p.state) in
         let room = r.room in
         omega (arith, room, fuel, ap room_at now);
   }
@@ -112,6 +112,7 @@ module _ {L T : Type 0} {k : Keeping T} {seen : L → Seen T} where
       steps = Steps-dry _ (regardless (step (calling m))) (λ d. afterwards d (next (calling m))) (λ n. refl) r.steps;
       ready = r.ready;
       port = r.port;
+      left = r.left;
       stopped = r.stopped;
       program = r.program;
       fuel = r.fuel;
@@ -126,6 +127,7 @@ module _ {L T : Type 0} {k : Keeping T} {seen : L → Seen T} where
     steps = Steps-dry _ (step (calling m)) (λ d. afterwards d finish) (λ n. refl) r.steps;
     ready = r.ready;
     port = r.port;
+    left = r.left;
     stopped = r.stopped;
     program = r.program;
     fuel = r.fuel;
@@ -141,6 +143,7 @@ module _ {L T : Type 0} {k : Keeping T} {seen : L → Seen T} where
     steps = Steps-dry _ (step (calling m)) (λ d. afterwards d finish) (λ n. refl) r.steps;
     ready = r.ready;
     port = r.port;
+    left = r.left;
     stopped = r.stopped;
     program = r.program;
     fuel = r.fuel;

@@ -13,9 +13,9 @@ use Rattle.page_model.specs.Invoke.{WhenReported, call_begun, call_ended, report
 use Rattle.page_model.specs.Invoke.{settle_by, resolve_derived, handler_arguments, with_scheduling, run_job, checkpoint}
 use Rattle.trace_text.specs.declared.lines.NoLine.{NoLine}
 use Rattle.trace_text.specs.Given.{Keeping, Seen}
-use Rattle.trace_text.specs.Acts.{Does}
 use Rattle.page_script.specs.Jobs.{oldest_begun}
-use Rattle.page_state.specs.PageActs.{at, on_page}
+use Rattle.page_state.specs.Standing.{port_of}
+use Rattle.page_state.specs.PageActs.{at, on_page, Does}
 use Rattle.page_host.specs.PageNow.{PageNow}
 use Rattle.page_host.specs.StateActs.{How, Gave, Threw, Returned, RanOut, Steps}
 use Rattle.page_host.specs.Moments.{moment, calling, CanCall, SamePort}
@@ -40,12 +40,13 @@ IsOn (Returned v) = ⊤
 IsOn RanOut = ⊥
 
 -- The call does this step, from one moment to the other, and the page stopped where a line was at fault or memory was wanting. Where there
--- is fuel left to go on, functions can be called again.
+-- is fuel left to go on, functions can be called again. The host port is left alone, also where the page stopped.
 pub record Runs {L T : Type 0} (k : Keeping T) (seen : L → Seen T) (step : Caller Page → State → Done Page)
     (why : Option NoLine) (how : How) (m : MachineNow) (p : PageNow L) (m' : MachineNow) (p' : PageNow L) : Type 0 where
   pub steps : Steps k (moment seen m p) (step (calling m)) why how (moment seen m' p')
   pub ready : why ≡ None → IsOn how → CanCall m' p'
   pub port : why ≡ None → SamePort p p'
+  pub left : port_of p'.state ≡ port_of p.state
   pub stopped : p'.stopped ≡ why
   pub program : m'.script ≡ m.script
   pub fuel : p'.fuel ≤ p.fuel

@@ -1,10 +1,11 @@
 -- What a page tells the script machine besides its page and its lines: what must be known of the lines and of the run when a call ends.
-use Rattle.std.specs.Prelude.{◌≡◌, ◌≤◌, ◌⊎◌, ℕ, ℤ, List, Option, Some, None, Result, is_some}
+use Rattle.std.specs.Prelude.{◌≡◌, ◌≤◌, ◌⊎◌, ℕ, Option, Some, None, is_some}
 use Rattle.lang_meaning.specs.HostSteps.{Stepped, HostRules, Ask}
 use Rattle.page_types.specs.Counts.{Rose}
 use Rattle.trace_text.specs.declared.lines.NoLine.{NoLine}
 use Rattle.trace_text.specs.declared.lines.NoLine.TheVariants.{Failed}
 use Rattle.trace_text.specs.Given.{Keeping, Seen, line_refusals}
+use Rattle.page_state.specs.Standing.{PortNow}
 use Rattle.page_rules.specs.Lined.{Lined, lined_rules, LeavesLines}
 
 -- ---- Ours: what a call of the script machine leaves as it is
@@ -14,15 +15,14 @@ pub record Mark (T : Type 0) : Type 0 where
   pub since : Seen T
   pub until : ℕ
 
--- the page that hands its lines on, its mark, and what its host port tells: the answers that it keeps and how often it refused
+-- the page that hands its lines on, its mark, and what its host port tells
 pub record Marked (T : Type 0) : Type 0 where
   pub lined : Lined T
   pub mark : Mark T
-  pub kept : Option (List (Result ℤ ℤ))
-  pub port_refusals : ℕ
+  pub port : PortNow
 
-abbrev pub marked : {T : Type 0} → Mark T → Option (List (Result ℤ ℤ)) → ℕ → Lined T → Marked T
-marked mark kept refusals l = record { lined = l; mark = mark; kept = kept; port_refusals = refusals }
+abbrev pub marked : {T : Type 0} → Mark T → PortNow → Lined T → Marked T
+marked mark port l = record { lined = l; mark = mark; port = port }
 
 -- a step of the page leaves the rest
 abbrev pub marked_step : {T : Type 0} → Marked T → Stepped (Lined T) → Stepped (Marked T)
@@ -41,9 +41,10 @@ pub record StaysStopped {T : Type 0} (before after : Lined T) : Type 0 where
   pub stopped : before.stopped ≡ Some why
   pub same : after ≡ before
 
--- what a refused ask may leave: the mark stays; the page had stopped before, or it stops among its lines
+-- what a refused ask may leave: the mark and the host port stay; the page had stopped before, or it stops among its lines
 pub record LeavesMarked {T : Type 0} (k : Keeping T) (ask : Ask) (before after : Marked T) : Type 0 where
   pub mark : after.mark ≡ before.mark
+  pub port : after.port ≡ before.port
   pub lines : StaysStopped before.lined after.lined ⊎ LeavesLines k ask before.lined after.lined
 
 -- ---- Ours: the counts of the lines

@@ -11,7 +11,7 @@ use Rattle.page_model.specs.Operations.{page_operations}
 use Rattle.page_model.specs.State.{Page, State}
 use Rattle.trace_text.specs.Given.{Seen}
 use Rattle.trace_text.specs.Acts.{At}
-use Rattle.page_state.specs.Standing.{page_of}
+use Rattle.page_state.specs.Standing.{page_of, port_of}
 use Rattle.page_host.specs.PageNow.{PageNow, room_at}
 use Rattle.page_host.specs.StateActs.{How, Gave, Threw, RanOut}
 use Rattle.page_host.specs.declared.stop.PageStop.{PageStop}
@@ -54,5 +54,4 @@ pub record CanCall {L : Type 0} (m : MachineNow) (p : PageNow L) : Type 0 where
 pub record SamePort {L : Type 0} (before after : PageNow L) : Type 0 where
   pub functions : after.functions ≡ before.functions
   pub until : after.until ≡ before.until
-  pub kept : after.state.kept ≡ before.state.kept
-  pub refusals : after.state.refusals ≡ before.state.refusals
+  pub port : port_of after.state ≡ port_of before.state

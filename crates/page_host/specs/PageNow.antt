@@ -8,7 +8,7 @@ use Rattle.trace_text.specs.declared.lines.NoLine.{NoLine}
 use Rattle.trace_text.specs.declared.lines.NoLine.TheVariants as no_line
 use Rattle.trace_text.specs.Given.{Seen}
 use Rattle.page_rules.specs.Lined.{Lined}
-use Rattle.page_state.specs.Standing.{Standing}
+use Rattle.page_state.specs.Standing.{Standing, port_of}
 use Rattle.page_state.specs.FoldActs.{hosting_of}
 use Rattle.page_operations.specs.Asked.{functions_of}
 use Rattle.page_host.specs.Marked.{Mark, Marked, IsSince}
@@ -54,7 +54,7 @@ room_of (Some why) now = 2 ^ 64
 -- the same with its mark, and with what its host port tells
 abbrev pub marked_at : {T : Type 0} → Mark T → Standing → (lines : Option T) → (stopped : Option NoLine) → Marked T
 marked_at mark s lines stopped =
-    record { lined = told_at s lines stopped; mark = mark; kept = s.kept; port_refusals = s.refusals }
+    record { lined = told_at s lines stopped; mark = mark; port = port_of s }
 
 -- its mark, where so much is seen of its lines
 abbrev pub mark_of : {L T : Type 0} → (seen : L → Seen T) → PageNow L → Mark T

@@ -1,8 +1,9 @@
 -- What a call does that performs the task of a source, whose host port may be asked.
 use Rattle.std.specs.Prelude.{◌≡◌, ◌≤◌, ◌⊎◌, ℤ, IsTrue, List, [], Option, Some, None, Result, Ok, Err}
 use Rattle.page_types.specs.Counts.{raised}
-use Rattle.page_parts.specs.HostClosures.{meets}
+use Rattle.page_parts.specs.HostClosures.{HostClosure, meets}
 use Rattle.lang_meaning.specs.Machine.{Done, Caller}
+use Rattle.host_jobs.specs.Closures.{fired_at}
 use Rattle.host_jobs.specs.KeptAnswers.{FollowsKept}
 use Rattle.host_jobs.specs.declared.answer.NoHost.{NoHost}
 use Rattle.page_interp.specs.MachineNow.{MachineNow}
@@ -11,6 +12,7 @@ use Rattle.page_model.specs.State.{Page, State}
 use Rattle.trace_text.specs.declared.lines.NoLine.{NoLine}
 use Rattle.trace_text.specs.declared.lines.NoLine.TheVariants as no_line
 use Rattle.trace_text.specs.Given.{Keeping, Seen}
+use Rattle.page_state.specs.Standing.{port_of}
 use Rattle.page_host.specs.PageNow.{PageNow}
 use Rattle.page_host.specs.StateActs.{How, RanOut}
 use Rattle.page_host.specs.Doing.{Runs, did_how}
@@ -36,9 +38,14 @@ RefusesAnswer None kept kept_then = ⊥
 RefusesAnswer (Some x) kept kept_then =
     (refusal : NoHost) × FollowsKept (meets x.closure.kind x.asked.number) kept (Err refusal) kept_then
 
--- the page, whose port keeps these answers
-abbrev pub with_kept : {L : Type 0} → Option (List (Result ℤ ℤ)) → PageNow L → PageNow L
-with_kept kept p = record p { state = record p.state { kept = kept } }
+-- the closures at the port, of which what was asked is fired
+abbrev pub fired_for : Option Asking → List HostClosure → List HostClosure
+fired_for None closures = closures
+fired_for (Some x) closures = fired_at closures x.asked.closure
+
+-- the page, whose port was asked this and keeps these answers
+abbrev pub with_answer : {L : Type 0} → Option Asking → (kept : Option (List (Result ℤ ℤ))) → PageNow L → PageNow L
+with_answer asks kept p = record p { state = record p.state { at_port = fired_for asks p.state.at_port; kept = kept } }
 
 -- ---- Ours: what performing a task does
 
@@ -50,20 +57,21 @@ pub record CanPerform {L : Type 0} (m : MachineNow) (p : PageNow L) : Type 0 whe
   pub functions : functions_in m ≡ p.functions
   pub in_time : p.state.script.now ≤ 1000000000000
 
--- By an answer of the port, any where none is asked, the call does this step, and behind it the port keeps what it kept behind its answer.
+-- By an answer of the port, any where none is asked, the call does this step, and behind it the port is as it was behind its answer.
 pub record ByAnswer {L T : Type 0} (k : Keeping T) (seen : L → Seen T) (asks : Option Asking)
     (step : Result ℤ ℤ → Caller Page → State → Done Page) (why : Option NoLine) (how : How)
     (m : MachineNow) (p : PageNow L) (m' : MachineNow) (p' : PageNow L) : Type 0 where
   pub answer : Result ℤ ℤ
   pub kept : Option (List (Result ℤ ℤ))
   pub port : GivesAnswer asks p.state.kept answer kept
-  pub runs : Runs k seen (step answer) why how m (with_kept kept p) m' p'
+  pub runs : Runs k seen (step answer) why how m (with_answer asks kept p) m' p'
 
 -- The port refused: no line was given, and the closures are as they were. The page stopped.
 pub record IsRefused {L : Type 0} (asks : Option Asking) (m : MachineNow) (p : PageNow L) (m' : MachineNow) (p' : PageNow L) : Type 0 where
   pub port : RefusesAnswer asks p.state.kept p'.state.kept
   pub refusals : p'.state.refusals ≡ raised p.state.refusals
   pub hosts : p'.state.hosts ≡ p.state.hosts
+  pub at_port : p'.state.at_port ≡ p.state.at_port
   pub lines : p'.lines ≡ p.lines
   pub stopped : p'.stopped ≡ Some no_line.OutOfMemory
   pub program : m'.script ≡ m.script
@@ -71,8 +79,7 @@ pub record IsRefused {L : Type 0} (asks : Option Asking) (m : MachineNow) (p : P
 
 -- memory was wanting before the port was asked and before any line
 pub record IsWanting {L : Type 0} (m : MachineNow) (p : PageNow L) (m' : MachineNow) (p' : PageNow L) : Type 0 where
-  pub kept : p'.state.kept ≡ p.state.kept
-  pub refusals : p'.state.refusals ≡ p.state.refusals
+  pub port : port_of p'.state ≡ port_of p.state
   pub lines : p'.lines ≡ p.lines
   pub stopped : p'.stopped ≡ Some no_line.OutOfMemory
   pub program : m'.script ≡ m.script

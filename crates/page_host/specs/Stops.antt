@@ -6,9 +6,9 @@ use Rattle.page_types.specs.Counts.{raised, Rose}
 use Rattle.trace_text.specs.declared.lines.NoLine.{NoLine}
 use Rattle.trace_text.specs.declared.lines.NoLine.TheVariants as no_line
 use Rattle.trace_text.specs.Given.{Keeping, Seen, line_refusals}
-use Rattle.trace_text.specs.Acts.{Act, Does}
+use Rattle.trace_text.specs.Acts.{Act}
 use Rattle.page_state.specs.Standing.{Standing}
-use Rattle.page_state.specs.PageActs.{at}
+use Rattle.page_state.specs.PageActs.{at, Does}
 use Rattle.page_host.specs.PageNow.{PageNow, stop_of}
 use Rattle.page_host.specs.declared.stop.PageStop.{PageStop}
 use Rattle.page_host.specs.declared.stop.PageStop.TheVariants as stop

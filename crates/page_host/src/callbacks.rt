@@ -12,6 +12,7 @@ ghost use Rattle.page_model.specs.Invoke as model;
 ghost use Rattle.page_script.specs.Seen.{function_seen};
 ghost use Rattle.page_script.specs.Reports.{when_seen};
 ghost use Rattle.page_state.specs.PageActs.{read_by};
+ghost use Rattle.page_state.specs.Standing.{port_of};
 ghost use Rattle.page_host.specs.StateActs.{Steps};
 ghost use Rattle.page_host.specs.Moments.{calling, how_of, moment, CanCall, IfEnded, SamePort};
 ghost use Rattle.page_host.specs.Doing.{Runs, called, did_how, ended_in_task, threw_in_task, IsDry};
@@ -50,6 +51,7 @@ impl<P: HostPort, L: Lines, M: Ledger> Page<P, L, M> {
             (moment L.seen machine.new self.new) }
         ensures ready { IfEnded result (CanCall machine.new self.new) }
         ensures port { IfOk result (λ ran. SamePort self.old self.new) }
+        ensures left { port_of self.new.state ≡ port_of self.old.state }
         ensures program { machine.new.script ≡ machine.old.script }
         ensures fuel { self.new.fuel ≤ self.old.fuel }
         ensures dry { IfOk result (λ ran. IsDry ran self.new.fuel) }

@@ -3,6 +3,7 @@
 ghost use Rattle.std.specs.Prelude.{◌≡◌, ◌≢◌, ◌<◌, ◌≤◌, ◌-◌, suc, IfErr, IfOk};
 ghost use Rattle.std.specs.Result.{result_err};
 ghost use Rattle.page_model.specs.Invoke as model;
+ghost use Rattle.page_state.specs.Standing.{port_of};
 ghost use Rattle.page_host.specs.StateActs.{Steps};
 ghost use Rattle.page_host.specs.Moments.{calling, how_of, moment, CanCall, SamePort};
 ghost use Rattle.page_host.specs.Doing.{Runs, did_how, run_next, IfFinished, IsDried};
@@ -31,6 +32,7 @@ impl<P: HostPort, L: Lines, M: Ledger> Page<P, L, M> {
             (fault_of result) (did_how result) (moment L.seen machine.new self.new) }
         ensures ready { IfFinished result (CanCall machine.new self.new) }
         ensures port { IfOk result (λ did. SamePort self.old self.new) }
+        ensures left { port_of self.new.state ≡ port_of self.old.state }
         ensures program { machine.new.script ≡ machine.old.script }
         ensures fuel { self.new.fuel ≤ self.old.fuel }
         ensures dry { IfOk result (λ did. IsDried did self.new.fuel) }

@@ -4,7 +4,7 @@ ghost use Rattle.std.specs.Prelude.{◌≡◌, None, Some, is_some, slice_get, I
 ghost use Rattle.std.specs.Result.{result_err};
 ghost use Rattle.page_types.specs.Counts.{raised};
 ghost use Rattle.promise_core.specs.Seen.{settled_seen};
-ghost use Rattle.host_jobs.specs.Closures.{meets_at};
+ghost use Rattle.host_jobs.specs.Closures.{fired_at, meets_at};
 ghost use Rattle.host_jobs.specs.KeptAnswers.{FollowsKept};
 ghost use Rattle.page_hosts.specs.Hosts.{IsUnfired};
 ghost use Rattle.page_tasks.specs.Seen.{host_task};
@@ -14,8 +14,7 @@ ghost use Rattle.page_model.specs.Operations.{fitting};
 ghost use Rattle.page_model.specs.Tasks.{fire_closure};
 ghost use Rattle.page_model.specs.Turns.{not_dropped};
 ghost use Rattle.trace_text.specs.declared.lines.NoLine.TheVariants.{OutOfMemory};
-ghost use Rattle.trace_text.specs.Acts.{Does};
-ghost use Rattle.page_state.specs.PageActs.{at, changed_by, on_page, read_by};
+ghost use Rattle.page_state.specs.PageActs.{at, changed_by, on_page, read_by, Does};
 ghost use Rattle.page_host.specs.Moments.{CanCall};
 ghost use Rattle.page_host.specs.Doing.{Acts};
 ghost use Rattle.page_host.specs.Performed.{answered, asking, live_closure};
@@ -70,7 +69,10 @@ impl<P: HostPort, L: Lines, M: Ledger> Page<P, L, M> {
         ensures met { IfOk result (λ answer. IsTrue (meets_at self.old.state.hosts k x answer)) }
         ensures kept { FollowsKept (meets_at self.old.state.hosts k x) self.old.state.kept result self.new.state.kept }
         ensures fired { OnOk result (self.new ≡ record self.old {
-          state = record (changed_by (λ p. fire_closure k (slice_get p.hosts k) p) self.old.state) { kept = self.new.state.kept };
+          state = record (changed_by (λ p. fire_closure k (slice_get p.hosts k) p) self.old.state) {
+            at_port = fired_at self.old.state.at_port k;
+            kept = self.new.state.kept;
+          };
         }) }
         ensures refused { OnErr result (self.new ≡ record self.old {
           state = record self.old.state { kept = self.new.state.kept; refusals = raised self.old.state.refusals };

@@ -8,9 +8,7 @@ ghost use Rattle.page_model.specs.Invoke.{in_task};
 ghost use Rattle.page_model.specs.Tasks as model;
 ghost use Rattle.page_frames.specs.Steps.{idle_registration};
 ghost use Rattle.page_script.specs.Seen.{state_seen};
-ghost use Rattle.trace_text.specs.declared.lines.NoLine.TheVariants.{OutOfMemory};
-ghost use Rattle.trace_text.specs.Acts.{Does};
-ghost use Rattle.page_state.specs.PageActs.{at, on_page, changed_by, read_by};
+ghost use Rattle.page_state.specs.PageActs.{at, on_page, changed_by, read_by, Does, IsWanted};
 ghost use Rattle.page_host.specs.Moments.{CanCall};
 ghost use Rattle.page_host.specs.Doing.{Acts, Runs, did_how};
 ghost use Rattle.page_host.specs.Tasking.{idle_begun, idle_next, regardless, timeout_begun, timeout_task};
@@ -129,7 +127,7 @@ fn timeout_begun_in<P: HostPort, M: Ledger>(
 ) -> Result<Option<u32>, NoLine>
     ensures begun { OnOk result (state.new ≡ changed_by (timeout_begun handle) state.old) }
     ensures taken { IfOk result (λ r. r ≡ idle_registration handle state.old.frames) }
-    ensures memory { IfErr result (λ why. why ≡ OutOfMemory) }
+    ensures memory { IfErr result (λ why. IsWanted why state.old state.new) }
 {
     let Some(r) = state.take_idle(handle) else {
         return Ok(None);

@@ -6,6 +6,7 @@ ghost use Rattle.lang_ast.specs.SeenProgram.{seen_program};
 ghost use Rattle.arrivals_text.specs.Seen.{settings_of};
 ghost use Rattle.page_hosts.specs.Hosts.{is_unqueued};
 ghost use Rattle.page_state.specs.Pooled.{spare_of};
+ghost use Rattle.page_state.specs.Standing.{port_of};
 ghost use Rattle.page_host.specs.Starts.{Starts};
 
 use crate::Page;
@@ -31,8 +32,8 @@ impl<P: HostPort, L: Lines, M: Ledger> Page<P, L, M> {
     /// The page before the first turn of a run of a program under a setup: the script is its one task, on the DOM source, the time is
     /// 0, and no line is written. It has the setup's fuel, and so many more tasks as the setup tells are sure to find memory in its pool.
     ///
-    /// Want of memory is the one error, and hands back the port and the lines. It costs what the program's names, the setup's arrivals
-    /// and its hosts cost.
+    /// Want of memory is the one error, and hands back the port and the lines. It costs what the program's names, the setup's arrivals,
+    /// its hosts and the port's closures cost.
     pub fn new(
         alloc: Global,
         program: &Program,
@@ -45,8 +46,11 @@ impl<P: HostPort, L: Lines, M: Ledger> Page<P, L, M> {
         requires unqueued { IsTrue (list_all is_unqueued (P.closures port)) }
         ensures first { IfOk result (Starts (seen_program program.now) (settings_of setup.now).setup (P.closures port)) }
         ensures lines { IfOk result (λ page. page.lines ≡ lines) }
-        ensures kept { IfOk result (λ page. page.state.kept ≡ P.kept port) }
-        ensures refused { IfOk result (λ page. page.state.refusals ≡ P.refusals port) }
+        ensures at_port { IfOk result (λ page. port_of page.state ≡ record {
+          closures = P.closures port;
+          kept = P.kept port;
+          refusals = P.refusals port;
+        }) }
         ensures room { IfOk result (λ page. setup.now.room ≤ spare_of page.state) }
         ensures port { IfErr result (λ back. back.port ≡ port) }
         ensures back { IfErr result (λ back. back.lines ≡ lines) }

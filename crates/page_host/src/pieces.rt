@@ -14,8 +14,7 @@ ghost use Rattle.page_model.specs.PageCombinators.{lead_into};
 ghost use Rattle.page_script.specs.Jobs.{oldest_begun};
 ghost use Rattle.page_script.specs.Reports.{when_seen};
 ghost use Rattle.trace_text.specs.declared.lines.NoLine.TheVariants.{OutOfMemory};
-ghost use Rattle.trace_text.specs.Acts.{Does};
-ghost use Rattle.page_state.specs.PageActs.{at, on_page};
+ghost use Rattle.page_state.specs.PageActs.{at, on_page, Does};
 ghost use Rattle.page_host.specs.Doing.{Acts};
 ghost use Rattle.page_host.specs.Pieces.{threw, derived, stop_kept, stops_counted, WantsMemory};
 

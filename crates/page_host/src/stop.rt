@@ -6,7 +6,7 @@ ghost use Rattle.page_host.specs.PageNow.{stop_of};
 
 use trace_text::NoLine;
 
-/// Why a page stopped. After a stop only [`crate::Page::into_parts`] is called.
+/// Why a page stopped. After a stop only [`crate::Page::into_parts`] and [`crate::Page::into_parts_so_far`] are called.
 #[derive(Clone, Copy, Debug, PartialEq, Eq)]
 pub enum PageStop {
     /// A line could not be written.

@@ -12,10 +12,10 @@ use std::sync::ledger::Ledger;
 use trace_text::{Lines, NoLine};
 
 impl<P: HostPort, L: Lines, M: Ledger> Page<P, L, M> {
-    /// The host port and the lines as they stand, also after a stop: a closure that was asked and neither fired nor dropped is live at
-    /// the port.
+    /// The host port and the lines as they stand. The port drops the closures that the page dropped; one that was asked and neither fired
+    /// nor dropped is live at the port.
     ///
-    /// Takes no memory. It costs what dropping all that the page kept costs.
+    /// Takes no memory. It costs what dropping all that the page kept costs, and a look at each closure.
     pub fn into_parts(self) -> (P, L)
         ensures closures { P.closures result.0 ≡ map unasked self.state.hosts }
         ensures kept { P.kept result.0 ≡ self.state.kept }
@@ -24,6 +24,19 @@ impl<P: HostPort, L: Lines, M: Ledger> Page<P, L, M> {
     {
         let Page { state, lines, .. } = self;
         (state.into_port(), lines)
+    }
+
+    /// The same after a stop for a line or for want of memory: the port has fired the closures that the page fired, and has dropped none.
+    ///
+    /// Takes no memory. It costs what dropping all that the page kept costs.
+    pub fn into_parts_so_far(self) -> (P, L)
+        ensures closures { P.closures result.0 ≡ self.state.at_port }
+        ensures kept { P.kept result.0 ≡ self.state.kept }
+        ensures refusals { P.refusals result.0 ≡ self.state.refusals }
+        ensures lines { result.1 ≡ self.lines }
+    {
+        let Page { state, lines, .. } = self;
+        (state.into_port_so_far(), lines)
     }
 }
 

@@ -262,7 +262,7 @@ get_set_other (e ∷ cs) (suc k) zero d other = refl
 get_set_other (e ∷ cs) (suc k) (suc j) d other = get_set_other cs k j d (grind (arith, nat_tests, other))
 
 -- a change of closure k, where it is there
-changed_same : (change : HostClosure → HostClosure) (cs : List HostClosure) (k : ℕ) (c : HostClosure) → slice_get (changed_at change cs k) k ≡ Some c
+pub changed_same : (change : HostClosure → HostClosure) (cs : List HostClosure) (k : ℕ) (c : HostClosure) → slice_get (changed_at change cs k) k ≡ Some c
     → (d : HostClosure) × (slice_get cs k ≡ Some d) × (c ≡ change d)
 changed_same change cs k c there = by (slice_get cs k) refl there
   where
@@ -271,7 +271,7 @@ changed_same change cs k c there = by (slice_get cs k) refl there
     by None e there = absurd (let never : ⊥ = cc in never)
     by (Some d) e there = (d, e, get_set_same cs k c (change d) there)
 
-changed_other : (change : HostClosure → HostClosure) (cs : List HostClosure) (k j : ℕ) → eqb k j ≡ false → slice_get (changed_at change cs k) j ≡ slice_get cs j
+pub changed_other : (change : HostClosure → HostClosure) (cs : List HostClosure) (k j : ℕ) → eqb k j ≡ false → slice_get (changed_at change cs k) j ≡ slice_get cs j
 changed_other change cs k j other = by (slice_get cs k)
   where
     by : (o : Option HostClosure) → slice_get (option_map_or (λ d. slice_set cs k (change d)) o cs) j ≡ slice_get cs j

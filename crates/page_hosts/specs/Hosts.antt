@@ -9,9 +9,11 @@ use Rattle.page_parts.specs.HostClosures.{HostClosure, fired}
 use Rattle.host_jobs.specs.Overlay.{IsLiveOrDropped}
 use Rattle.page_model.specs.Operations.{is_fresh, queued_mark}
 
--- the closures in the order of their numbers, the answers that are still kept, where they are told, and how often an answer was refused
+-- the closures in the order of their numbers, the same as the port has them so far, which drops none before it is handed back, the answers
+-- that are still kept, where they are told, and how often an answer was refused
 pub record Hosts : Type 0 where
   pub closures : List HostClosure
+  pub at_port : List HostClosure
   pub kept : Option (List (Result ℤ ℤ))
   pub refusals : ℕ
 

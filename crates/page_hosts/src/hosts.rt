@@ -1,13 +1,14 @@
-ghost use Rattle.std.specs.Prelude.{◌≡◌, ◌≤◌, ◌^◌, length, map, is_some, is_none, slice_get, IsTrue, IfOk, OnOk, OnErr};
+ghost use Rattle.std.specs.Prelude.{◌≡◌, ◌≤◌, ◌^◌, length, map, is_some, is_none, slice_get, IsTrue, IfErr, IfOk, OnOk, OnErr};
 ghost use Rattle.std.specs.List.{list_all};
 ghost use Rattle.page_types.specs.Counts.{refusals_after};
-ghost use Rattle.host_jobs.specs.Closures.{meets_at};
+ghost use Rattle.host_jobs.specs.Closures.{meets_at, fired_at};
 ghost use Rattle.host_jobs.specs.KeptAnswers.{FollowsKept};
 ghost use Rattle.page_model.specs.Operations.{fitting};
 ghost use Rattle.page_model.specs.PageSignals.{drop_at};
 ghost use Rattle.page_model.specs.Turns.{not_dropped};
 ghost use Rattle.page_hosts.specs.Hosts.{closure_in, is_fresh_at, ask_at, fire_at, IsUnfired, IsQueued, is_unqueued, unasked};
 
+use crate::deferred::DeferredPort;
 use crate::{HostPort, MemoryFault, NoHost};
 use std::alloc::Global;
 use std::collections::BTreeSet;
@@ -16,11 +17,12 @@ use std::marker::Model;
 /// The host closures of a page, around the port that answers for them.
 ///
 /// It is seen as the closures in the order of their numbers, each with its mark (Live, Queued once the page asked it, Fired or
-/// Dropped), the answers that the port still keeps where it tells them, and how often the port has refused. A call costs what
-/// its port's costs, and a logarithm of the number of closures that were asked.
+/// Dropped), the same as the port has them so far, the answers that the port still keeps where it tells them, and how often the
+/// port has refused. The port drops a closure when it is handed back, and not before. A call costs what its port's costs, and a
+/// logarithm of the number of closures that were asked.
 #[derive(Drop)]
 pub struct PageHosts<P: HostPort> {
-    port: P,
+    port: DeferredPort<P>,
     // Those that were asked and have not answered.
     asked: BTreeSet<u32>,
 }
@@ -34,28 +36,35 @@ impl<P: HostPort> Model for PageHosts<P> {
     ghost Value = { Hosts };
 
     ghost view = { λ hosts. record {
-      closures = overlaid (contains nat_cmp hosts.asked) (P.closures hosts.port);
-      kept = P.kept hosts.port;
-      refusals = P.refusals hosts.port;
+      closures = overlaid (contains nat_cmp hosts.asked) hosts.port.closures;
+      at_port = hosts.port.at_port;
+      kept = hosts.port.kept;
+      refusals = hosts.port.refusals;
     } };
 
-    ghost invariant = { λ hosts. AreHeld (contains nat_cmp hosts.asked) (P.closures hosts.port) };
+    ghost invariant = { λ hosts. AreHeld (contains nat_cmp hosts.asked) hosts.port.closures };
 }
 
 impl<P: HostPort> PageHosts<P> {
     /// The closures of a port, none of them asked so far. The port has a number of a `u32` for each, and tells none as queued,
-    /// which is for the page alone. Takes no memory.
-    pub fn new(alloc: Global, port: P) -> PageHosts<P>
+    /// which is for the page alone.
+    ///
+    /// Want of memory is the one error, and hands the port back as it was. It costs what asking the port of each closure costs.
+    pub fn new(alloc: Global, port: P) -> Result<PageHosts<P>, P>
         requires count { length (P.closures port) ≤ 2 ^ 32 }
         requires unqueued { IsTrue (list_all is_unqueued (P.closures port)) }
-        ensures closures { result.closures ≡ P.closures port }
-        ensures kept { result.kept ≡ P.kept port }
-        ensures refused { result.refusals ≡ P.refusals port }
+        ensures first { IfOk result (λ hosts. hosts ≡ record {
+          closures = P.closures port;
+          at_port = P.closures port;
+          kept = P.kept port;
+          refusals = P.refusals port;
+        }) }
+        ensures err { IfErr result (λ back. back ≡ port) }
     {
-        PageHosts {
-            port,
+        Ok(PageHosts {
+            port: DeferredPort::new(alloc, port)?,
             asked: BTreeSet::new(alloc),
-        }
+        })
     }
 
     /// Whether there is a closure of the number `k` that a script gives, with `x` in its range. Takes no memory.
@@ -116,7 +125,9 @@ impl<P: HostPort> PageHosts<P> {
         ensures met { IfOk result (λ answer. IsTrue (meets_at self.old.closures k x answer)) }
         ensures marks { OnOk result (self.new.closures
             ≡ fire_at k (slice_get self.old.closures k) self.old.closures) }
+        ensures at_port { OnOk result (self.new.at_port ≡ fired_at self.old.at_port k) }
         ensures same { OnErr result (self.new.closures ≡ self.old.closures) }
+        ensures port_same { OnErr result (self.new.at_port ≡ self.old.at_port) }
         ensures kept { FollowsKept (meets_at self.old.closures k x) self.old.kept result self.new.kept }
         ensures refused { self.new.refusals ≡ refusals_after self.old.refusals result }
     {
@@ -129,7 +140,7 @@ impl<P: HostPort> PageHosts<P> {
         }
     }
 
-    /// Drops closure `k` uncalled, where it is there; it was not fired. Takes no memory.
+    /// Drops closure `k` uncalled, where it is there; it was not fired. Its port does so when it is handed back. Takes no memory.
     pub fn drop_closure(&mut self, k: u32)
         requires { IsUnfired self.old.closures k }
         ensures { self.new ≡ record self.old {
@@ -139,13 +150,25 @@ impl<P: HostPort> PageHosts<P> {
         self.port.give_up(k);
     }
 
-    /// The port, as it stands: a closure that was asked and neither fired nor dropped is live there. Takes no memory.
+    /// The port, which drops the closures that were dropped here. One that was asked and neither fired nor dropped is live there.
+    ///
+    /// Takes no memory, and costs a look at each closure.
     pub fn into_port(self) -> P
         ensures closures { P.closures result ≡ map unasked self.closures }
         ensures kept { P.kept result ≡ self.kept }
         ensures refused { P.refusals result ≡ self.refusals }
     {
         let PageHosts { port, asked: _ } = self;
-        port
+        port.into_port()
+    }
+
+    /// The port as it is so far, which has fired what was fired here, and has dropped nothing. Takes no memory.
+    pub fn into_port_so_far(self) -> P
+        ensures closures { P.closures result ≡ self.at_port }
+        ensures kept { P.kept result ≡ self.kept }
+        ensures refused { P.refusals result ≡ self.refusals }
+    {
+        let PageHosts { port, asked: _ } = self;
+        port.into_port_so_far()
     }
 }

@@ -1,6 +1,7 @@
 //! The host closures of a page: which it has asked, and what its port tells of each.
 #![tactic(auto)]
 
+mod deferred;
 mod hosts;
 mod laws;
 #[cfg(test)]

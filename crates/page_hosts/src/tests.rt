@@ -8,13 +8,19 @@ use std::alloc::Global;
 use std::process::Abort;
 use std::test::Fail;
 
-// Asks both closures of a port, fires the first and drops the second, and gives the port back.
-fn ask_both<P: HostPort + Drop>(rt: &impl Abort, alloc: Global, port: P) -> Result<P, Fail>
+// Asks both closures of a port, fires the first and drops the second.
+fn ask_both<P: HostPort + Drop>(
+    rt: &impl Abort,
+    alloc: Global,
+    port: P,
+) -> Result<PageHosts<P>, Fail>
     requires { P.closures port ≡ record { kind = Double; low = negsuc 99; high = pos 100; mark = Live }
         ∷ record { kind = Any; low = pos 0; high = pos 9; mark = Live }
         ∷ [] }
 {
-    let mut hosts = PageHosts::new(alloc, port);
+    let Ok(mut hosts) = PageHosts::new(alloc, port) else {
+        return Err(Fail::new("out of memory"));
+    };
     assert!(rt; hosts.takes(0, 100) && !hosts.takes(0, 101));
     assert!(rt; !hosts.takes(2, 0) && !hosts.takes(-1, 0));
     assert!(rt; hosts.is_fresh(1) && !hosts.is_fresh(2));
@@ -26,7 +32,25 @@ fn ask_both<P: HostPort + Drop>(rt: &impl Abort, alloc: Global, port: P) -> Resu
     assert!(rt; !hosts.is_asked(0));
     hosts.drop_closure(1);
     assert!(rt; hosts.is_dropped(1) && !hosts.is_fresh(1));
-    Ok(hosts.into_port())
+    Ok(hosts)
+}
+
+// The port of a run that came to its end.
+fn ask_to_the_end<P: HostPort + Drop>(rt: &impl Abort, alloc: Global, port: P) -> Result<P, Fail>
+    requires { P.closures port ≡ record { kind = Double; low = negsuc 99; high = pos 100; mark = Live }
+        ∷ record { kind = Any; low = pos 0; high = pos 9; mark = Live }
+        ∷ [] }
+{
+    Ok(ask_both(rt, alloc, port)?.into_port())
+}
+
+// The port of a run that stopped there.
+fn ask_so_far<P: HostPort + Drop>(rt: &impl Abort, alloc: Global, port: P) -> Result<P, Fail>
+    requires { P.closures port ≡ record { kind = Double; low = negsuc 99; high = pos 100; mark = Live }
+        ∷ record { kind = Any; low = pos 0; high = pos 9; mark = Live }
+        ∷ [] }
+{
+    Ok(ask_both(rt, alloc, port)?.into_port_so_far())
 }
 
 #[test]
@@ -36,8 +60,21 @@ fn a_closure_is_asked_and_then_fired_or_dropped(rt: HostRuntime) -> Result<(), F
     let mut table = HostTable::new(rt.alloc());
     table.push(HostOnce::new(HostKind::Double, -100, 100, double))?;
     table.push(HostOnce::new(HostKind::Any, 0, 9, any))?;
-    let mut table = ask_both(&rt, rt.alloc(), table)?;
+    let mut table = ask_to_the_end(&rt, rt.alloc(), table)?;
     assert_eq!(rt; table.fire(0, 21), Fired::Used);
     assert_eq!(rt; table.fire(1, 5), Fired::Used);
+    Ok(())
+}
+
+#[test]
+fn a_port_so_far_has_dropped_nothing(rt: HostRuntime) -> Result<(), Fail> {
+    let double = Box::new(rt.alloc(), |x: i64| x.checked_add(x).ok_or(x))?;
+    let any = Box::new(rt.alloc(), |_x: i64| Ok(7))?;
+    let mut table = HostTable::new(rt.alloc());
+    table.push(HostOnce::new(HostKind::Double, -100, 100, double))?;
+    table.push(HostOnce::new(HostKind::Any, 0, 9, any))?;
+    let mut table = ask_so_far(&rt, rt.alloc(), table)?;
+    assert_eq!(rt; table.fire(0, 21), Fired::Used);
+    assert_eq!(rt; table.fire(1, 5), Fired::Answer(Ok(7)));
     Ok(())
 }

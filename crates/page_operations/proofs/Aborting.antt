@@ -1,7 +1,6 @@
 -- Aborts and priority changes that a script asks for, and what comes after their callbacks, as the page as a host answers them.
-use Rattle.std.proofs.Common.{◌≡◌, ℕ, Bool, true, false, cond, List, [], ◌++◌, length, map, refl, sym, ◌∙◌, ap, subst, Option, Some, None, Result, Ok, Err}
-use Rattle.std.specs.Prelude.{IfOk, IfErr, is_some}
-use Rattle.std.specs.Result.{IsErrAnd}
+use Rattle.std.proofs.Common.{◌≡◌, ℕ, Bool, true, false, cond, List, [], ◌++◌, length, refl, sym, ◌∙◌, ap, subst, Option, Some, None, Result, Ok, Err}
+use Rattle.std.specs.Prelude.{is_some}
 use Rattle.page_types.specs.Values.{Value, FaultValue}
 use Rattle.page_types.specs.declared.FaultName.{FaultName}
 use Rattle.page_types.specs.declared.FaultName.TheVariants.{TypeError, NotAllowedError}
@@ -13,24 +12,18 @@ use Rattle.page_parts.specs.TaskSignals.{priority_of, is_changing}
 use Rattle.lang_meaning.specs.HostSteps.{Ask, AskOp, Stepped, StepThrow, on_ask}
 use Rattle.lang_meaning.specs.PureOperations.{argument}
 use Rattle.lang_ast.specs.declared.host.HostStep as code
-use Rattle.lang_ast.specs.Steps.{seen_step, StepIsNumbered}
+use Rattle.lang_ast.specs.Steps.{seen_step}
 use Rattle.page_model.specs.Operations.{may_operate, priority_in, reason_given}
 use Rattle.page_model.specs.Folds.{begin_abort, begin_change}
 use Rattle.page_model.specs.PageHost.{Hosting, page_rules, step_op, step_fault, step_given, step_change_by, reached_step}
-use Rattle.trace_text.specs.Line.{Line}
 use Rattle.trace_text.specs.declared.lines.NoLine.{NoLine}
-use Rattle.trace_text.specs.declared.lines.NoLine.TheVariants.{OutOfMemory}
-use Rattle.trace_text.specs.Given.{Keeping, Seen, Gives}
-use Rattle.trace_text.specs.Acts.{At, skip}
-use Rattle.trace_text.proofs.Giving.{Gives-none, Gives-then}
-use Rattle.page_notices.proofs.Timing.{Does-memory}
-use Rattle.page_script.proofs.Lifting.{append_none}
-use Rattle.page_rules.specs.Lined.{bare_hosting, lines_in}
-use Rattle.page_rules.proofs.KeepingFolds.{ask-soon}
+use Rattle.trace_text.specs.Given.{Keeping, Seen}
+use Rattle.trace_text.specs.Acts.{At}
+use Rattle.trace_text.proofs.Giving.{Gives-none}
 use Rattle.page_state.specs.Standing.{Standing, page_of}
 use Rattle.page_state.specs.PageActs.{at}
-use Rattle.page_state.specs.FoldActs.{Hosted, Reaches, stepping, hosting_of, abort_step, change_step}
-use Rattle.page_operations.specs.Asked.{Asked, asked_of, functions_of}
+use Rattle.page_state.specs.FoldActs.{Reaches, stepping, hosting_of, abort_step, change_step}
+use Rattle.page_operations.specs.Asked.{Asked, asked_of}
 use Rattle.page_operations.specs.Folding.{abort_asked, change_asked}
 
 -- ---- what is asked, by what is there
@@ -71,15 +64,8 @@ module _ {T : Type 0} {k : Keeping T} where
       → Reaches k old (on_ask page_rules ask (hosting_of old.state)) r new → Asked k old ask r new
   unfolding asked_of stepping
   Asked-reaches ask old (Ok step) h =
-      let e = h.does.state refl in
-      record {
-        lines = h.does.lines;
-        host = ap (λ (x : Hosted). x.hosting) e;
-        step = h.answer;
-        kept = ap (λ (x : Hosted). x.kept) e;
-        refusals = ap (λ (x : Hosted). x.refusals) e;
-      }
-  Asked-reaches ask old (Err why) h = record { lines = h.does.lines; host = tt; step = tt; kept = tt; refusals = tt }
+      record { lines = h.does.lines; host = h.does.state refl; step = h.answer; port = h.port }
+  Asked-reaches ask old (Err why) h = record { lines = h.does.lines; host = tt; step = tt; port = h.port }
 
   -- `abort` and `setPriority`, whose arguments hold no number that was not given out
   pub Asked-abort : (args : List Value) (old : At Standing T) {new : At Standing T} (r : Result code.HostStep NoLine)
@@ -107,7 +93,7 @@ module _ {T : Type 0} {k : Keeping T} where
   unfolding stepping
   fault-thrown s seen name step x is answer =
       let P : Stepped Hosting → Type 0 = λ x. Reaches k (at s seen) x (Ok step) (at s seen) in
-      subst P (sym is) (record { does = record { lines = Gives-none k seen; state = λ _. refl }; answer = answer })
+      subst P (sym is) (record { does = record { lines = Gives-none k seen; state = λ _. refl }; port = refl; answer = answer })
 
   -- ---- `abort`
 

@@ -1,11 +1,11 @@
 -- The answer of an operation that calls nothing back, as that of the page as a host.
-use Rattle.std.proofs.Common.{◌≡◌, inr, IfOk, length, Bool, true, false, cond, List, [], ◌∷◌, map, refl, sym, ◌∙◌, ap, subst, Option, Some, None, Result, Ok, Err}
+use Rattle.std.proofs.Common.{◌≡◌, inr, IfOk, length, true, false, cond, List, [], ◌∷◌, map, refl, sym, ◌∙◌, ap, subst, Option, Some, None, Result, Ok, Err}
 use Rattle.page_types.specs.Values.{Value, FaultValue}
 use Rattle.page_types.specs.declared.FaultName.TheVariants.{TypeError}
 use Rattle.page_types.specs.declared.Op.{Op}
 use Rattle.page_types.specs.declared.Op.TheVariants.{Log, TextOf, KindOf, Len, Push, Bind, MakeFault, FaultNameOf, FaultTextOf, NowOp, Busy, QueueMicrotask, MakePromise, ResolveOp, RejectOp, Resolved, Rejected, Then, SetTimeout, SetInterval, ClearTimeout, ClearInterval, RequestFrame, CancelFrame, RequestIdle, CancelIdle, DidTimeout, TimeRemaining, PostTask, YieldTask, MakeController, MakeTaskController, SignalOf, AbortOp, SetPriority, AbortedSignal, AnySignal, TaskAny, TimeoutSignal, Aborted, ReasonOf, PriorityOf, Listen, Unlisten, HostOp, PostMessage, AllOp, RaceOp, AnyOp, AllSettled, FinallyOp}
 use Rattle.lang_meaning.specs.Machine.{Done, Gives as GivesValue, Throws, Returns, OutOfFuel}
-use Rattle.lang_meaning.specs.HostSteps.{HostStep, StepThrow, Stepped, Ask, AskOp}
+use Rattle.lang_meaning.specs.HostSteps.{StepThrow, Stepped, Ask, AskOp}
 use Rattle.lang_ast.specs.declared.host.HostStep as code
 use Rattle.lang_ast.specs.Steps.{seen_step, StepIsNumbered}
 use Rattle.page_model.specs.State.{Page}
@@ -21,7 +21,7 @@ use Rattle.trace_text.proofs.Giving.{Gives-none}
 use Rattle.page_signals.specs.Laws.{as_fold}
 use Rattle.page_rules.specs.Lined.{bare_hosting, lines_in}
 use Rattle.page_rules.proofs.KeepingFolds.{ask-soon}
-use Rattle.page_state.specs.Standing.{Standing, page_of, holding}
+use Rattle.page_state.specs.Standing.{Standing, page_of}
 use Rattle.page_state.specs.PageActs.{at}
 use Rattle.page_answers.specs.Answers.{Answers, done_by, page_then, step_then}
 use Rattle.page_state.specs.FoldActs.{hosting_of}
@@ -111,16 +111,14 @@ Asked-answers {k = k} op args old {new = new} (Ok step) plain known h =
       lines = subst (λ (x : Stepped Hosting). Gives k old.seen (lines_in x) None new.seen) (sym is) h.lines;
       host = ap hosting_of h.state ∙ ap (λ (x : Stepped Hosting). bare_hosting x.host) (sym is);
       step = h.step ∙ ap (λ (x : Stepped Hosting). x.step) (sym is);
-      kept = ap (λ (s : Standing). s.kept) h.state;
-      refusals = ap (λ (s : Standing). s.refusals) h.state;
+      port = h.port;
     }
 Asked-answers {k = k} op args old {new = new} (Err why) plain known h =
     record {
       lines = subst (λ (x : Stepped Hosting). Gives k old.seen (lines_in x) (Some why) new.seen) (sym (asked-is op args old.state plain known)) h.lines;
       host = tt;
       step = tt;
-      kept = tt;
-      refusals = tt;
+      port = h.port;
     }
 
 -- where an argument holds a number that was not given out
@@ -135,8 +133,7 @@ Asked-unknown k op args old step unknown is =
       lines = subst (λ (x : Stepped Hosting). Gives k old.seen (lines_in x) None old.seen) (sym e) (Gives-none k old.seen);
       host = ap (λ (x : Stepped Hosting). bare_hosting x.host) (sym e);
       step = is ∙ ap (λ (x : Stepped Hosting). x.step) (sym e);
-      kept = refl;
-      refusals = refl;
+      port = refl;
     }
 
 -- ---- where memory is wanting behind the answer
@@ -157,8 +154,7 @@ wanting {k = k} {old = old} {new = new} ask step a =
       };
       host = tt;
       step = tt;
-      kept = tt;
-      refusals = tt;
+      port = a.port;
     }
 
 pub Asked-same : {T : Type 0} {k : Keeping T} {old new : At Standing T} (ask : Ask) (done result : Result code.HostStep NoLine) → IsSameOrWants done result

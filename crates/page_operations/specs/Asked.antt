@@ -1,15 +1,15 @@
 -- What a page as a host answers when it is asked, and what it does then.
-use Rattle.std.specs.Prelude.{◌≡◌, ℕ, List, length, Result, IfOk}
+use Rattle.std.specs.Prelude.{◌≡◌, ℕ, length, Result, IfOk}
 use Rattle.std.specs.Result.{result_err}
 use Rattle.lang_meaning.specs.HostSteps.{Ask, Stepped, on_ask}
 use Rattle.lang_ast.specs.declared.host.HostStep as code
-use Rattle.lang_ast.specs.Steps.{seen_step, StepIsNumbered}
+use Rattle.lang_ast.specs.Steps.{seen_step}
 use Rattle.page_model.specs.PageHost.{Hosting, page_rules}
 use Rattle.trace_text.specs.declared.lines.NoLine.{NoLine}
 use Rattle.trace_text.specs.Given.{Keeping, Gives}
 use Rattle.trace_text.specs.Acts.{At}
 use Rattle.page_rules.specs.Lined.{bare_hosting, lines_in}
-use Rattle.page_state.specs.Standing.{Standing}
+use Rattle.page_state.specs.Standing.{Standing, port_of}
 use Rattle.page_state.specs.FoldActs.{hosting_of}
 
 -- ---- Ours
@@ -29,5 +29,4 @@ pub record Asked {T : Type 0} (k : Keeping T) (old : At Standing T) (ask : Ask) 
   pub lines : Gives k old.seen (lines_in (asked_of ask old.state)) (result_err result) new.seen
   pub host : IfOk result (λ step. hosting_of new.state ≡ bare_hosting (asked_of ask old.state).host)
   pub step : IfOk result (λ step. seen_step step ≡ (asked_of ask old.state).step)
-  pub kept : IfOk result (λ step. new.state.kept ≡ old.state.kept)
-  pub refusals : IfOk result (λ step. new.state.refusals ≡ old.state.refusals)
+  pub port : port_of new.state ≡ port_of old.state

@@ -1,5 +1,5 @@
 -- A number has no more digits than it tells.
-use Rattle.std.proofs.Common.{ℕ, zero, suc, ◌+◌, ◌*◌, ◌^◌, ◌<◌, ◌≡◌, ap, sym, ◌∙◌, arith, add-one}
+use Rattle.std.proofs.Common.{ℕ, zero, suc, ◌+◌, ◌*◌, ◌^◌, ◌<◌, ◌≡◌, ap, ◌∙◌, arith, add-one}
 use Rattle.std.proofs.Math.Nat.{pow-succ'}
 
 -- n digits are enough for n, but for 0

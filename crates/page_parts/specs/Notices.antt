@@ -1,7 +1,7 @@
 -- All promises, the queue of jobs and the lists of rejected promises, with the lines that a call writes.
 use Rattle.std.specs.Prelude.{ℕ, suc, Bool, true, false, if◌then◌else◌, List, [], ◌∷◌, ◌++◌, Option, Some, None, ◌==◌}
 use Rattle.page_types.specs.Events.{Queued, MicroJob, ReactJob, AdoptJob, Event, Job, Settle}
-use Rattle.page_parts.specs.Words.{and_last, without, has_number, numbered, with_numbered}
+use Rattle.page_parts.specs.Words.{and_last, without, has_number, with_numbered}
 use Rattle.page_parts.specs.Spelling.{spelled}
 use Rattle.page_parts.specs.Promises.{Settled, Fulfilled, Failed, Reaction, PromiseRecord, PromiseJob, React, Adopt, Change, pending_promise, the_promise, resolve, reject, follow, subscribe}
 

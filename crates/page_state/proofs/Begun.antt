@@ -10,7 +10,7 @@ use Rattle.page_model.specs.Invoke.{WhenReported}
 use Rattle.page_model.specs.PageHost.{Hosting, reached_step, resume_innermost}
 use Rattle.trace_text.specs.declared.lines.NoLine.{NoLine}
 use Rattle.trace_text.specs.Given.{Keeping, Seen}
-use Rattle.trace_text.specs.Acts.{At, Does}
+use Rattle.trace_text.specs.Acts.{At}
 use Rattle.page_types.specs.Events.{Abort}
 use Rattle.page_types.specs.declared.Priority.{Priority}
 use Rattle.page_parts.specs.AbortGraph.{marked}
@@ -28,8 +28,8 @@ use Rattle.page_signals.specs.Signalling.{Open, parts_of}
 use Rattle.page_signals.specs.Steps.{opened, abort_opened, change_opened, change_opened_from, is_calling_in, when_in}
 use Rattle.page_signals.specs.Laws.{as_fold, innermost_meaning}
 use Rattle.page_signals.proofs.LawLemmas.{page-change}
-use Rattle.page_state.specs.Standing.{Standing, page_of}
-use Rattle.page_state.specs.PageActs.{on_page, at}
+use Rattle.page_state.specs.Standing.{Standing, page_of, port_of}
+use Rattle.page_state.specs.PageActs.{on_page, at, Does}
 use Rattle.page_state.specs.FoldActs.{signalling_in, having, around, hosting_of, Reaches, rest_step, change_step, resume_step}
 use Rattle.page_state.proofs.Acting.{Does-idle}
 use Rattle.page_state.proofs.Reaching.{Reaches-more, Reaches-stop, Reaches-end}
@@ -148,7 +148,7 @@ module _ {T : Type 0} {k : Keeping T} where
       let none = no-folds s.folds empty in
       let Q : Stepped Hosting → Type 0 = λ step. Reaches k (at s seen) step (Ok (code.Value code_values.Unit)) (at s seen) in
       subst Q (sym (ap (λ os. resume_innermost (map as_fold os) end (page_of s)) none))
-      (Reaches-end (Finished (page_of s)) [] s s seen refl (ap (map as_fold) none) refl refl)
+      (Reaches-end (Finished (page_of s)) [] s s seen refl (ap (map as_fold) none) refl)
 
   -- a callback's end, and then what is left
   pub resume-more : (s : Standing) (end : CallbackEnd) (when : WhenReported) {old seen : Seen T} {last : Standing} {new : At Standing T} (r : Result HostStep NoLine)
@@ -159,7 +159,7 @@ module _ {T : Type 0} {k : Keeping T} where
       let Q : Stepped Hosting → Type 0 = λ step. Reaches k (at s old) step r new in
       subst Q (sym (resume-is s end is))
       (Reaches-more (innermost_meaning s.folds (callback_ended (when_in s.folds) end (page_of s))) (map as_fold (around s.folds)) (callback_ended when end) s s r
-      (ap (λ w. innermost_meaning s.folds (callback_ended w end (page_of s))) (sym same)) refl refl refl done h)
+      (ap (λ w. innermost_meaning s.folds (callback_ended w end (page_of s))) (sym same)) refl refl done h)
 
   -- it stopped among the lines of the callback's end
   pub resume-stop : (s : Standing) (end : CallbackEnd) (when : WhenReported) {old : Seen T} {new : At Standing T} (e : Result HostStep NoLine) {why : NoLine}
@@ -169,7 +169,7 @@ module _ {T : Type 0} {k : Keeping T} where
       let Q : Stepped Hosting → Type 0 = λ step. Reaches k (at s old) step e new in
       subst Q (sym (resume-is s end is))
       (Reaches-stop (innermost_meaning s.folds (callback_ended (when_in s.folds) end (page_of s))) (map as_fold (around s.folds)) (callback_ended when end) s s e
-      (ap (λ w. innermost_meaning s.folds (callback_ended w end (page_of s))) (sym same)) err h)
+      (ap (λ w. innermost_meaning s.folds (callback_ended w end (page_of s))) (sym same)) err refl h)
 
   -- a change that is opened, and then what is left
   pub change-more : (s mid : Standing) (n : ℕ) (priority : Priority) {old : Seen T} {new : At Standing T} (r : Result HostStep NoLine)
@@ -180,7 +180,7 @@ module _ {T : Type 0} {k : Keeping T} where
       Reaches-more (begin_change priority (length s.signals.prios) n (page_of s)) (map as_fold s.folds) (λ p. p) s mid r
       (change-begins s mid n priority has still other is)
       (ap (λ (t : Standing). map as_fold (around t.folds)) is ∙ ap (map as_fold) (change-around s n priority has other))
-      (ap (λ (t : Standing). t.kept) is) (ap (λ (t : Standing). t.refusals) is)
+      (ap port_of is)
       (Does-idle k mid old) h
 
   -- one that is none
@@ -192,4 +192,4 @@ module _ {T : Type 0} {k : Keeping T} where
       let stays : mid ≡ s = is ∙ ap (λ st. having st s) (change-same s n priority same) in
       Reaches-end (begin_change priority (length s.signals.prios) n (page_of s)) (map as_fold s.folds) s mid seen
       (change-none s n priority has still same ∙ ap (λ t. Finished (page_of t)) (sym stays))
-      (ap (λ (t : Standing). map as_fold t.folds) stays) (ap (λ (t : Standing). t.kept) stays) (ap (λ (t : Standing). t.refusals) stays)
+      (ap (λ (t : Standing). map as_fold t.folds) stays) (ap port_of stays)

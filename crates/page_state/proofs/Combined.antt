@@ -19,7 +19,7 @@ use Rattle.page_model.specs.PageCombinators.{settle_result, last_combinator, wit
 use Rattle.page_model.proofs.Adding.Lines.{subscribe-adds, resolve-adds}
 use Rattle.trace_text.specs.declared.lines.NoLine.{NoLine}
 use Rattle.trace_text.specs.Given.{Keeping, Seen}
-use Rattle.trace_text.specs.Acts.{Act, At, Does}
+use Rattle.trace_text.specs.Acts.{Act, At, Does as ScriptDoes}
 use Rattle.page_script.specs.declared.parts.Combined.{Combined}
 use Rattle.page_script.specs.Script.{Script}
 use Rattle.page_script.specs.Script as parts
@@ -30,7 +30,7 @@ use Rattle.page_script.proofs.Lengths.{combinator_made-made}
 use Rattle.page_script.proofs.Lifting.{OnlyScript-adds}
 use Rattle.page_script.proofs.Touching.{combinator_made-only, item_made-only}
 use Rattle.page_state.specs.Standing.{Standing, page_of}
-use Rattle.page_state.specs.PageActs.{on_page, changed_by, at}
+use Rattle.page_state.specs.PageActs.{on_page, changed_by, at, Does}
 use Rattle.page_state.specs.Handling.{item_taken, passed_through, passed_item}
 use Rattle.page_state.proofs.Acting.{Does-next, Does-leave, Does-idle, Does-silent}
 use Rattle.page_state.proofs.Handled.{OnlyAdds-then, Does-read}
@@ -224,7 +224,7 @@ settle_result-combinators (Some how) n p =
 
 -- the number of a combinator that was made
 pub combined-number : {T : Type 0} {k : Keeping T} (kind : CombinatorKind) (count : ℕ) (s t : Script) (r : Result Combined NoLine) {old new : Seen T}
-    → Does k (on s old) (on_script (combinator_made kind count)) (result_err r) (on t new) → IfOk r (λ made. made.combinator ≡ length s.combinators + 1) → IfOk r (λ made. made.combinator ≡ length t.combinators)
+    → ScriptDoes k (on s old) (on_script (combinator_made kind count)) (result_err r) (on t new) → IfOk r (λ made. made.combinator ≡ length s.combinators + 1) → IfOk r (λ made. made.combinator ≡ length t.combinators)
 unfolding on_script
 combined-number kind count s t (Ok made) h is =
     let q = with_combinator (combine kind count) (new_promise (parts.holding s)) in
@@ -234,7 +234,7 @@ combined-number kind count s t (Err why) h is = tt
 
 -- the promise of a combinator that was made is the last one
 pub combined-last : {T : Type 0} {k : Keeping T} (kind : CombinatorKind) (count : ℕ) (s t : Script) (r : Result Combined NoLine) {old new : Seen T}
-    → Does k (on s old) (on_script (combinator_made kind count)) (result_err r) (on t new) → IfOk r (λ made. made.result ≡ length s.notices.promises + 1) → IfOk r (λ made. made.result ≡ length t.notices.promises)
+    → ScriptDoes k (on s old) (on_script (combinator_made kind count)) (result_err r) (on t new) → IfOk r (λ made. made.result ≡ length s.notices.promises + 1) → IfOk r (λ made. made.result ≡ length t.notices.promises)
 unfolding on_script
 combined-last kind count s t (Ok made) h is = is ∙ sym (combinator_made-made kind count s) ∙ sym (ap (λ u. length u.notices.promises) (h.state refl))
 combined-last kind count s t (Err why) h is = tt

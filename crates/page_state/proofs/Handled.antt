@@ -15,9 +15,8 @@ use Rattle.page_model.specs.PageCombinators.{with_element, element_made}
 use Rattle.page_model.specs.Operations.{micro_registered}
 use Rattle.page_model.proofs.Adding.Lines.{subscribe-adds}
 use Rattle.trace_text.specs.declared.lines.NoLine.{NoLine}
-use Rattle.trace_text.specs.declared.lines.NoLine.TheVariants.{OutOfMemory}
 use Rattle.trace_text.specs.Given.{Keeping, Seen}
-use Rattle.trace_text.specs.Acts.{Piece, At, Does}
+use Rattle.trace_text.specs.Acts.{Piece, At, Does as ScriptDoes}
 use Rattle.page_script.specs.Script.{Script, script_of}
 use Rattle.page_script.specs.Script as parts
 use Rattle.page_script.specs.Marks.{settled_at_once}
@@ -29,7 +28,7 @@ use Rattle.page_script.proofs.Promising.{emit_each-script}
 use Rattle.page_script.proofs.Lifting.{OnlyScript-then, OnlyScript-adds, Does-same}
 use Rattle.page_script.proofs.Touching.{settle-only, on_notices-only, new_promise-only, register_as-only, queue_micro-only}
 use Rattle.page_state.specs.Standing.{Standing, page_of}
-use Rattle.page_state.specs.PageActs.{on_page, changed_by, at}
+use Rattle.page_state.specs.PageActs.{on_page, changed_by, at, Does, IsWanted}
 use Rattle.page_state.specs.Handling.{told_if, reacted, element_reacted, last_reaction, handlers_made, then_with}
 use Rattle.page_state.proofs.Acting.{Does-next, Does-leave, Does-asked, Does-is, Does-silent}
 use Rattle.page_state.proofs.Telling.{Does-quiet}
@@ -69,13 +68,13 @@ told_if-quiet true n s = refl
 told_if-quiet false n s = refl
 
 pub Does-reacted : {T : Type 0} {k : Keeping T} (n : ℕ) (x : Reaction) (s : Script) {old : Seen T} {new : At Script T} {why : Option NoLine}
-    → Does k (on s old) (on_script (subscribe n x)) why new → Does k (on s old) (on_script (reacted n x)) why new
+    → ScriptDoes k (on s old) (on_script (subscribe n x)) why new → ScriptDoes k (on s old) (on_script (reacted n x)) why new
 unfolding on_script
 Does-reacted n x s h =
     Does-same (on_script (subscribe n x)) (on_script (reacted n x)) (told_if-script (is_outstanding n s.notices) n (reacted n x (parts.holding s))) h
 
 pub Does-element_reacted : {T : Type 0} {k : Keeping T} (combinator place n : ℕ) (s : Script) {old : Seen T} {new : At Script T} {why : Option NoLine}
-    → Does k (on s old) (on_script (element_made combinator place n)) why new → Does k (on s old) (on_script (element_reacted combinator place n)) why new
+    → ScriptDoes k (on s old) (on_script (element_made combinator place n)) why new → ScriptDoes k (on s old) (on_script (element_reacted combinator place n)) why new
 unfolding on_script
 Does-element_reacted combinator place n s h =
     Does-same (on_script (element_made combinator place n)) (on_script (element_reacted combinator place n))
@@ -84,7 +83,7 @@ Does-element_reacted combinator place n s h =
 -- a promise got a handler by f, and then comes the task
 pub Does-handled : {T X : Type 0} {k : Keeping T} (f : Page → Page) (n : ℕ) (was : Bool) (s mid : Standing) (r : Result X NoLine) {old seen : Seen T} {new : Standing}
     → was ≡ is_outstanding n s.script.notices → Does k (at s old) (on_page f) None (at mid seen)
-    → OnOk r (new ≡ changed_by (told_if was n) mid) → IfErr r (λ why. why ≡ OutOfMemory)
+    → OnOk r (new ≡ changed_by (told_if was n) mid) → IfErr r (λ why. IsWanted why mid new)
     → Does k (at s old) (on_page (λ p. told_if (is_outstanding n p.notices) n (f p))) (result_err r) (at new seen)
 Does-handled {k = k} f n was s mid r {old = old} {seen = seen} {new = new} is h done memory =
     let P : Bool → Type 0 = λ b. Does k (at mid seen) (on_page (told_if b n)) (result_err r) (at new seen) in
@@ -131,7 +130,7 @@ pub Does-handling : {T : Type 0} {k : Keeping T} (n : ℕ) (x : Registration) (r
     → Does k (at s old) (on_page (λ p. subscribe n (last_reaction (register_as ThenKind x p)) (register_as ThenKind x p))) why new
 unfolding on_page
 Does-handling n x r into state s mid {seen = seen} last number current registered h =
-    let kept : into ≡ length mid.script.notices.promises = last ∙ sym (ap (λ t. length t.script.notices.promises) (registered.state refl)) in
+    let kept : into ≡ length mid.script.notices.promises = last ∙ sym (ap (λ t. length t.script.notices.promises) (registered.acts.state refl)) in
     Does-next (register_as ThenKind x) (λ p. subscribe n (last_reaction p) p) (handling-adds n) registered
     (Does-read (subscribe n) last_reaction (record { registration = Some r; into = into; state = state }) mid (cc) h)
 
@@ -168,7 +167,7 @@ pub handled-last : {T X : Type 0} {k : Keeping T} (n into : ℕ) (x : Registrati
     → Does k (at mid seen) (on_page (subscribe n y)) (result_err r) (at new last) → IfOk r (λ _. into ≡ length new.script.notices.promises)
 unfolding on_page
 handled-last n into x y s mid new (Ok u) is registered h =
-    is ∙ sym (ap (λ t. length t.script.notices.promises) (registered.state refl)) ∙ sym (subscribe-promises n y (page_of mid)) ∙ sym (ap (λ t. length t.script.notices.promises) (h.state refl))
+    is ∙ sym (ap (λ t. length t.script.notices.promises) (registered.acts.state refl)) ∙ sym (subscribe-promises n y (page_of mid)) ∙ sym (ap (λ t. length t.script.notices.promises) (h.acts.state refl))
 handled-last n into x y s mid new (Err why) is registered h = tt
 
 -- the same handlers

@@ -16,16 +16,15 @@ use Rattle.page_model.proofs.Holding.Evaluation.{IfThere}
 use Rattle.page_model.proofs.Bounding.Items.{items_waiting, items-within, Known, due-known, taken-items, take_due-agree}
 use Rattle.trace_text.specs.declared.lines.NoLine.{NoLine}
 use Rattle.trace_text.specs.Given.{Keeping, Seen}
-use Rattle.trace_text.specs.Acts.{At, Does}
-use Rattle.trace_text.proofs.Doing.{Does-last}
+use Rattle.trace_text.specs.Acts.{At}
 use Rattle.page_script.specs.PageActs.{OnlyAdds}
 use Rattle.parallel_items.specs.InParallel.{waiting_of, with_waiting}
 use Rattle.parallel_items.specs.Items.{first_waiting, due_of, earlier, Taken, TakenArrival, TakenAnswer, TakenCompletion, TakenIdleTimeout, taken_by, left_by, taken_of, left_of}
 use Rattle.parallel_items.specs.Laws.{done_with, is_before, FirstIs, FrameIsFirst}
 use Rattle.page_state.specs.Standing.{Standing, page_of, holding}
-use Rattle.page_state.specs.PageActs.{on_page, changed_by, at}
+use Rattle.page_state.specs.PageActs.{on_page, changed_by, at, Does}
 use Rattle.page_state.specs.ItemActs.{item_taken, post_completed, before_due}
-use Rattle.page_state.proofs.Acting.{Does-next, Does-leave, Does-is, Does-silent}
+use Rattle.page_state.proofs.Acting.{Does-last, Does-next, Does-leave, Does-is, Does-silent}
 
 -- ---- a delayed `postTask`
 
@@ -163,7 +162,7 @@ module _ {T : Type 0} {k : Keeping T} (s : Standing) {old : Seen T} where
   unfolding on_page
   fewer there h =
       let P : Standing → Type 0 = λ t. items_waiting (page_of t) < items_waiting (page_of s) in
-      subst P (sym (h.state refl)) (fewer_taken (page_of s) _ refl (sym there))
+      subst P (sym (h.acts.state refl)) (fewer_taken (page_of s) _ refl (sym there))
 
 -- ---- the rendering opportunity
 

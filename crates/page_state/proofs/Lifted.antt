@@ -14,26 +14,26 @@ use Rattle.page_model.specs.Operations.{script_promise}
 use Rattle.promise_core.proofs.Records.{length-and_last}
 use Rattle.trace_text.specs.declared.lines.NoLine.{NoLine}
 use Rattle.trace_text.specs.Given.{Keeping, Seen}
-use Rattle.trace_text.specs.Acts.{Does}
+use Rattle.trace_text.specs.Acts.{Does as ScriptDoes}
 use Rattle.page_script.specs.Script.{Script, script_of}
 use Rattle.page_script.specs.Script as parts
 use Rattle.page_script.specs.PageActs.{OnlyScript}
 use Rattle.page_script.specs.ScriptActs.{on_script, on}
 use Rattle.page_script.specs.ScriptActs as script
 use Rattle.page_state.specs.Standing.{Standing, page_of, holding}
-use Rattle.page_state.specs.PageActs.{on_page, changed_by, at}
+use Rattle.page_state.specs.PageActs.{on_page, changed_by, at, Does}
 use Rattle.page_state.proofs.Acting.{Does-script}
 
 -- a call of the script's part that was done to the page, which is seen as s'
 pub Does-lifted : {T : Type 0} {k : Keeping T} (f : Page → Page) {s s' : Standing} {t : Script} {old new : Seen T} {why : Option NoLine} → OnlyScript f → s ≡ s'
-    → Does k (on s.script old) (on_script f) why (on t new) → Does k (at s' old) (on_page f) why (at (record s { script = t }) new)
+    → ScriptDoes k (on s.script old) (on_script f) why (on t new) → Does k (at s' old) (on_page f) why (at (record s { script = t }) new)
 Does-lifted {k = k} f {s = s} {t = t} {old = old} {new = new} {why = why} only is h =
     let P : Standing → Type 0 = λ u. Does k (at u old) (on_page f) why (at (record s { script = t }) new) in
     subst P is (Does-script f s only h)
 
 -- one that changes nothing
 pub Does-kept : {T : Type 0} {k : Keeping T} (f : Page → Page) {s s' : Standing} {old new : Seen T} {why : Option NoLine} → OnlyScript f → s ≡ s'
-    → Does k (on s.script old) (on_script f) why (on s.script new) → Does k (at s' old) (on_page f) why (at s' new)
+    → ScriptDoes k (on s.script old) (on_script f) why (on s.script new) → Does k (at s' old) (on_page f) why (at s' new)
 Does-kept {k = k} f {s = s} {old = old} {new = new} {why = why} only is h =
     let P : Standing → Type 0 = λ u. Does k (at u old) (on_page f) why (at u new) in
     subst P is (Does-script f s only h)
@@ -42,7 +42,7 @@ Does-kept {k = k} f {s = s} {old = old} {new = new} {why = why} only is h =
 
 -- the number of a registration that was made
 pub registered-number : {T : Type 0} {k : Keeping T} (kind : RegKind) (x : Registration) (s t : Script) (r : Result ℕ NoLine) {old new : Seen T}
-    → Does k (on s old) (on_script (register_as kind x)) (result_err r) (on t new) → IfOk r (λ n. n ≡ length s.registrations + 1) → IfOk r (λ n. n ≡ length t.registrations)
+    → ScriptDoes k (on s old) (on_script (register_as kind x)) (result_err r) (on t new) → IfOk r (λ n. n ≡ length s.registrations + 1) → IfOk r (λ n. n ≡ length t.registrations)
 unfolding on_script
 registered-number kind x s t (Ok n) h is =
     is ∙ add-one (length s.registrations) ∙ sym (length-and_last s.registrations x) ∙ sym (ap (λ u. length u.registrations) (h.state refl))

@@ -9,9 +9,9 @@ use Rattle.page_model.specs.PageSignals.{abort_registration, abort_registrations
 use Rattle.page_model.proofs.Adding.Lines.{emit_each-adds, abort_registrations-adds}
 use Rattle.trace_text.specs.declared.lines.NoLine.{NoLine}
 use Rattle.trace_text.specs.Given.{Keeping, Seen}
-use Rattle.trace_text.specs.Acts.{Act, At, Does}
+use Rattle.trace_text.specs.Acts.{Act, At}
 use Rattle.page_state.specs.Standing.{Standing}
-use Rattle.page_state.specs.PageActs.{on_page, at}
+use Rattle.page_state.specs.PageActs.{on_page, at, Does}
 use Rattle.page_state.proofs.Acting.{Does-next, Does-leave, Does-idle}
 
 -- ---- lines

@@ -1,5 +1,5 @@
 -- Calls that begin a fold or go on with one, as steps of the page as a host.
-use Rattle.std.proofs.Common.{◌≡◌, ℕ, ◌-◌, List, [], ◌∷◌, ◌++◌, length, map, refl, sym, ◌∙◌, ap, subst, arith, Option, Some, None, Result, Ok, Err}
+use Rattle.std.proofs.Common.{◌≡◌, ℕ, ◌-◌, List, [], ◌∷◌, length, map, refl, sym, ◌∙◌, ap, subst, arith, Option, Some, None, Result, Ok, Err}
 use Rattle.std.specs.Result.{IsErrAnd}
 use Rattle.std.proofs.lemmas.List.{length-map}
 use Rattle.page_types.specs.Values.{Value, FunValue}
@@ -17,9 +17,8 @@ use Rattle.page_model.specs.Folds.{Fold, Reached, Finished, Calls, begin_listene
 use Rattle.page_model.specs.PageHost.{Hosting, with_folds, reached_step}
 use Rattle.trace_text.specs.Line.{Line}
 use Rattle.trace_text.specs.declared.lines.NoLine.{NoLine}
-use Rattle.trace_text.specs.declared.lines.NoLine.TheVariants.{OutOfMemory}
 use Rattle.trace_text.specs.Given.{Keeping, Seen, Gives}
-use Rattle.trace_text.specs.Acts.{Act, At, Does, seq}
+use Rattle.trace_text.specs.Acts.{Act, At, seq, Does as HostDoes}
 use Rattle.trace_text.proofs.Giving.{Gives-none}
 use Rattle.trace_text.proofs.Doing.{Does-then, Does-stop}
 use Rattle.page_notices.proofs.Timing.{Does-memory}
@@ -32,9 +31,9 @@ use Rattle.page_signals.specs.Steps.{Visit, Listener, stepped, reported_in}
 use Rattle.page_signals.specs.Kept.{AreFitting}
 use Rattle.page_signals.specs.Laws.{as_fold, innermost_meaning, listener_meaning, visit_meaning, CallsWith, IsCalling}
 use Rattle.page_signals.proofs.LawLemmas.{page-step, page-calling}
-use Rattle.page_state.specs.Standing.{Standing, page_of, holding}
-use Rattle.page_state.specs.PageActs.{on_page, at}
-use Rattle.page_state.specs.FoldActs.{Hosted, hosted, host_at, stepping, Reaches, rest_step, around, signalling_in, Called, called_with, called_by, called_or_ended, listener_called}
+use Rattle.page_state.specs.Standing.{Standing, page_of, port_of, holding}
+use Rattle.page_state.specs.PageActs.{on_page, at, Does, IsWanted}
+use Rattle.page_state.specs.FoldActs.{hosting_of, host_at, stepping, Reaches, rest_step, around, signalling_in, Called, called_with, called_by, called_or_ended, listener_called}
 use Rattle.page_state.proofs.FoldAdding.{innermost-adds}
 use Rattle.page_state.proofs.Listened.{no-callback}
 
@@ -47,37 +46,34 @@ reached-after es folds (Finished p) = refl
 reached-after es folds (Calls f fold p) = refl
 
 -- these lines, and this state
-abbrev giving : List Line → Hosted → Act Hosted
+abbrev giving : List Line → Hosting → Act Hosting
 giving lines to h = record { state = to; lines = lines }
 
-stepping-after : (es : List Stamped) (step : Stepped Hosting) (h to : Hosted) → to.kept ≡ h.kept → to.refusals ≡ h.refusals
-    → stepping (step_after es step) h ≡ seq (giving (lines_of es) to) (stepping step) h
+stepping-after : (es : List Stamped) (step : Stepped Hosting) (h to : Hosting) → stepping (step_after es step) h ≡ seq (giving (lines_of es) to) (stepping step) h
 unfolding stepping seq
-stepping-after es step h to kept refusals =
-    let hosting = with_folds step.host.folds (bare step.host.page) in
-    ap (λ ls. record { state = record h { hosting = hosting }; lines = ls }) (lines_of-append step.host.page.events es)
-    ∙ ap (λ x. record { state = record { hosting = hosting; kept = x; refusals = h.refusals }; lines = lines_of es ++ lines_of step.host.page.events }) (sym kept)
-    ∙ ap (λ n. record { state = record { hosting = hosting; kept = to.kept; refusals = n }; lines = lines_of es ++ lines_of step.host.page.events }) (sym refusals)
+stepping-after es step h to =
+    ap (λ ls. record { state = with_folds step.host.folds (bare step.host.page); lines = ls }) (lines_of-append step.host.page.events es)
 
 module _ {T : Type 0} {k : Keeping T} where
   -- lines that were given, and then a step
   reaches-after : (es : List Stamped) (step : Stepped Hosting) (s mid : Standing) {old seen : Seen T} {new : At Standing T} (r : Result HostStep NoLine)
-      → mid.kept ≡ s.kept → mid.refusals ≡ s.refusals → Gives k old (lines_of es) None seen
+      → port_of mid ≡ port_of s → Gives k old (lines_of es) None seen
       → Reaches k (at mid seen) step r new → Reaches k (at s old) (step_after es step) r new
-  reaches-after es step s mid {seen = seen} r kept refusals given h =
+  reaches-after es step s mid {seen = seen} r port given h =
       record {
         does =
-            Does-same (seq (giving (lines_of es) (hosted mid)) (stepping step)) (stepping (step_after es step)) (sym (stepping-after es step (hosted s) (hosted mid) kept refusals))
+            Does-same (seq (giving (lines_of es) (hosting_of mid)) (stepping step)) (stepping (step_after es step)) (sym (stepping-after es step (hosting_of s) (hosting_of mid)))
             (Does-then (record { lines = given; state = λ _. refl }) h.does);
+        port = h.port ∙ port;
         answer = h.answer;
       }
 
   -- the page did g, which is the start of what is left, and the rest comes behind it
   pub Reaches-more : (X : Reached) (folds : List Fold) (g : Page → Page) (s mid : Standing) {old seen : Seen T} {last : Standing} {new : At Standing T} (r : Result HostStep NoLine)
-      → X ≡ innermost_meaning mid.folds (g (page_of mid)) → map as_fold (around mid.folds) ≡ folds → mid.kept ≡ s.kept → mid.refusals ≡ s.refusals
+      → X ≡ innermost_meaning mid.folds (g (page_of mid)) → map as_fold (around mid.folds) ≡ folds → port_of mid ≡ port_of s
       → Does k (at mid old) (on_page g) None (at last seen) → Reaches k (at last seen) (rest_step last) r new → Reaches k (at s old) (reached_step folds X) r new
   unfolding on_page
-  Reaches-more X folds g s mid {old = old} {seen = seen} {last = last} {new = new} r is outside kept refusals done h =
+  Reaches-more X folds g s mid {old = old} {seen = seen} {last = last} {new = new} r is outside port done h =
       let q = g (page_of mid) in
       let es = q.events in
       let end = holding q mid in
@@ -89,60 +85,55 @@ module _ {T : Type 0} {k : Keeping T} where
       ∙ ap (λ fs. reached_step fs (innermost_meaning mid.folds q)) outside
       ∙ ap (reached_step folds) (sym is)
       in
-      subst Q same (reaches-after es (rest_step end) s end r kept refusals done.lines (subst P (done.state refl) h))
+      subst Q same (reaches-after es (rest_step end) s end r port done.acts.lines (subst P (done.acts.state refl) h))
 
   -- the exit of a `?`
   pub Reaches-err : (step : Stepped Hosting) (s : Standing) {old : Seen T} {new : At Standing T} (e : Result HostStep NoLine) {why : NoLine} → IsErrAnd e (λ x. x ≡ why)
-      → Does k (host_at (at s old)) (stepping step) (Some why) (host_at new) → Reaches k (at s old) step e new
-  Reaches-err step s (Ok x) err h = absurd err
-  Reaches-err step s {old = old} {new = new} (Err x) err h =
-      let P : NoLine → Type 0 = λ w. Does k (host_at (at s old)) (stepping step) (Some w) (host_at new) in
-      record { does = subst P (sym err) h; answer = tt }
+      → HostDoes k (host_at (at s old)) (stepping step) (Some why) (host_at new) → port_of new.state ≡ port_of s → Reaches k (at s old) step e new
+  Reaches-err step s (Ok x) err h port = absurd err
+  Reaches-err step s {old = old} {new = new} (Err x) err h port =
+      let P : NoLine → Type 0 = λ w. HostDoes k (host_at (at s old)) (stepping step) (Some w) (host_at new) in
+      record { does = subst P (sym err) h; port = port; answer = tt }
 
   -- one that wants memory, before any line
-  pub Reaches-wants : (step : Stepped Hosting) (s mid : Standing) (seen : Seen T) (e : Result HostStep NoLine) {why : NoLine} → IsErrAnd e (λ x. x ≡ why) → why ≡ OutOfMemory
+  pub Reaches-wants : (step : Stepped Hosting) (s mid : Standing) (seen : Seen T) (e : Result HostStep NoLine) {why : NoLine} → IsErrAnd e (λ x. x ≡ why) → IsWanted why s mid
       → Reaches k (at s seen) step e (at mid seen)
   Reaches-wants step s mid seen e {why = why} err memory =
-      let P : NoLine → Type 0 = λ w. Does k (host_at (at s seen)) (stepping step) (Some w) (host_at (at mid seen)) in
-      Reaches-err step s e err (subst P (sym memory) (Does-memory k (stepping step) (hosted s) (hosted mid) seen))
+      let P : NoLine → Type 0 = λ w. HostDoes k (host_at (at s seen)) (stepping step) (Some w) (host_at (at mid seen)) in
+      Reaches-err step s e err (subst P (sym memory.memory) (Does-memory k (stepping step) (hosting_of s) (hosting_of mid) seen)) memory.port
 
   -- one among the lines of g, with which X begins
   pub Reaches-stops : (X X' : Reached) (folds : List Fold) (g : Page → Page) (s mid : Standing) {old : Seen T} {new : At Standing T} (e : Result HostStep NoLine) {why : NoLine}
-      → X ≡ reached_after (g (page_of mid)).events X' → IsErrAnd e (λ x. x ≡ why)
+      → X ≡ reached_after (g (page_of mid)).events X' → IsErrAnd e (λ x. x ≡ why) → port_of mid ≡ port_of s
       → Does k (at mid old) (on_page g) (Some why) new → Reaches k (at s old) (reached_step folds X) e new
   unfolding on_page
-  Reaches-stops X X' folds g s mid {old = old} {new = new} e {why = why} is err h =
+  Reaches-stops X X' folds g s mid {old = old} {new = new} e {why = why} is err port h =
       let es = (g (page_of mid)).events in
       let R = reached_step folds X' in
       let same : step_after es R ≡ reached_step folds X = sym (reached-after es folds X') ∙ ap (reached_step folds) (sym is) in
-      let Q : Stepped Hosting → Type 0 = λ step. Does k (host_at (at s old)) (stepping step) (Some why) (host_at new) in
+      let Q : Stepped Hosting → Type 0 = λ step. HostDoes k (host_at (at s old)) (stepping step) (Some why) (host_at new) in
       Reaches-err (reached_step folds X) s e err (subst Q same
-      (Does-same (seq (giving (lines_of es) (hosted s)) (stepping R)) (stepping (step_after es R)) (sym (stepping-after es R (hosted s) (hosted s) refl refl))
-      (Does-stop (stepping R) (record { lines = h.lines; state = λ w. absurd (let never : ⊥ = Prim.cc in never) }))))
+      (Does-same (seq (giving (lines_of es) (hosting_of s)) (stepping R)) (stepping (step_after es R)) (sym (stepping-after es R (hosting_of s) (hosting_of s)))
+      (Does-stop (stepping R) (record { lines = h.acts.lines; state = λ w. absurd (let never : ⊥ = Prim.cc in never) })))) (h.port ∙ port)
 
   -- where g is the start of what is left
   pub Reaches-stop : (X : Reached) (folds : List Fold) (g : Page → Page) (s mid : Standing) {old : Seen T} {new : At Standing T} (e : Result HostStep NoLine) {why : NoLine}
-      → X ≡ innermost_meaning mid.folds (g (page_of mid)) → IsErrAnd e (λ x. x ≡ why)
+      → X ≡ innermost_meaning mid.folds (g (page_of mid)) → IsErrAnd e (λ x. x ≡ why) → port_of mid ≡ port_of s
       → Does k (at mid old) (on_page g) (Some why) new → Reaches k (at s old) (reached_step folds X) e new
-  Reaches-stop X folds g s mid e is err h =
+  Reaches-stop X folds g s mid e is err port h =
       let p = page_of (holding (g (page_of mid)) mid) in
-      Reaches-stops X (innermost_meaning mid.folds p) folds g s mid e (is ∙ innermost-adds (g (page_of mid)).events mid.folds p) err h
+      Reaches-stops X (innermost_meaning mid.folds p) folds g s mid e (is ∙ innermost-adds (g (page_of mid)).events mid.folds p) err port h
 
   -- the end: nothing is left
   pub Reaches-end : (X : Reached) (folds : List Fold) (s mid : Standing) (seen : Seen T) → X ≡ Finished (page_of mid) → map as_fold mid.folds ≡ folds
-      → mid.kept ≡ s.kept → mid.refusals ≡ s.refusals → Reaches k (at s seen) (reached_step folds X) (Ok (code.Value code_values.Unit)) (at mid seen)
+      → port_of mid ≡ port_of s → Reaches k (at s seen) (reached_step folds X) (Ok (code.Value code_values.Unit)) (at mid seen)
   unfolding stepping
-  Reaches-end X folds s mid seen is outside kept refusals =
+  Reaches-end X folds s mid seen is outside port =
       let done : Stepped Hosting = reached_step folds (Finished (page_of mid)) in
       let Q : Reached → Type 0 = λ x. Reaches k (at s seen) (reached_step folds x) (Ok (code.Value code_values.Unit)) (at mid seen) in
       subst Q (sym is) (record {
-        does = record {
-          lines = Gives-none k seen;
-          state = λ _.
-              ap (λ fs. record { hosting = with_folds fs (page_of mid); kept = mid.kept; refusals = mid.refusals }) outside
-              ∙ ap (λ x. record { hosting = with_folds folds (page_of mid); kept = x; refusals = mid.refusals }) kept
-              ∙ ap (λ n. record { hosting = with_folds folds (page_of mid); kept = s.kept; refusals = n }) refusals;
-        };
+        does = record { lines = Gives-none k seen; state = λ _. ap (λ fs. with_folds fs (page_of mid)) outside };
+        port = port;
         answer = refl;
       })
 
@@ -206,19 +197,19 @@ listener-call (o ∷ os) r args p c calls some = by (the_registration p r).callb
 module _ {T : Type 0} {k : Keeping T} (s mid : Standing) (r : ℕ) (args : List Value) (c : Called) (call : IsCall mid.folds r args (page_of mid) c)
     (is : innermost_meaning s.folds (page_of s) ≡ listener_meaning mid.folds r args (page_of mid)) where
   -- its line was not taken
-  pub Reaches-uncalled : {old : Seen T} {new : At Standing T} (e : Result HostStep NoLine) {why : NoLine} → IsErrAnd e (λ x. x ≡ why)
+  pub Reaches-uncalled : {old : Seen T} {new : At Standing T} (e : Result HostStep NoLine) {why : NoLine} → IsErrAnd e (λ x. x ≡ why) → port_of mid ≡ port_of s
       → Does k (at mid old) (on_page (listener_called r)) (Some why) new → Reaches k (at s old) (rest_step s) e new
-  Reaches-uncalled e err h =
+  Reaches-uncalled e err port h =
       let p = page_of mid in
       Reaches-stops (innermost_meaning s.folds (page_of s)) (Calls call.callback call.fold (page_of (holding (listener_called r p) mid))) (map as_fold (around s.folds)) (listener_called r) s mid e
-      (is ∙ call.is ∙ ap (Calls call.callback call.fold) (sym call.called)) err h
+      (is ∙ call.is ∙ ap (Calls call.callback call.fold) (sym call.called)) err port h
 
   -- it is called
-  pub Reaches-called : {old seen' : Seen T} {last : Standing} (next : HostStep) → around mid.folds ≡ around s.folds → mid.kept ≡ s.kept → mid.refusals ≡ s.refusals
+  pub Reaches-called : {old seen' : Seen T} {last : Standing} (next : HostStep) → around mid.folds ≡ around s.folds → port_of mid ≡ port_of s
       → Does k (at mid old) (on_page (listener_called r)) None (at last seen') → seen_step next ≡ StepInvoke c.callback args (length last.folds - 1)
       → Reaches k (at s old) (rest_step s) (Ok next) (at (record last { folds = reported_in c.when last.folds }) seen')
   unfolding on_page stepping
-  Reaches-called {old = old} {seen' = seen'} {last = last} next outside kept refusals h answer =
+  Reaches-called {old = old} {seen' = seen'} {last = last} next outside port h answer =
       let folds = map as_fold (around s.folds) in
       let p = page_of mid in
       let end = holding (call_begun r p) mid in
@@ -226,17 +217,16 @@ module _ {T : Type 0} {k : Keeping T} (s mid : Standing) (r : ℕ) (args : List 
       let x : X ≡ Calls call.callback call.fold (call_begun r p) = is ∙ call.is in
       let Q : Reached → Type 0 = λ x. Reaches k (at s old) (reached_step folds x) (Ok next) (at (record last { folds = reported_in c.when last.folds }) seen') in
       let L : Page → Type 0 = λ q. Gives k old (lines_of q.events) None seen' in
-      let ends : last ≡ end = h.state refl ∙ ap (λ q. holding q mid) call.called in
+      let ends : last ≡ end = h.acts.state refl ∙ ap (λ q. holding q mid) call.called in
       let around_is : map as_fold (around mid.folds) ≡ folds = ap (map as_fold) outside in
       subst Q (sym x) (record {
         does = record {
-          lines = subst L call.called h.lines;
+          lines = subst L call.called h.acts.lines;
           state = λ _.
-              ap (λ t. hosted (record t { folds = reported_in c.when t.folds })) ends
-              ∙ ap (λ fs. record { hosting = with_folds fs (page_of end); kept = mid.kept; refusals = mid.refusals }) (call.opened ∙ ap (λ fs. call.fold ∷ fs) around_is)
-              ∙ ap (λ x. record { hosting = with_folds (call.fold ∷ folds) (page_of end); kept = x; refusals = mid.refusals }) kept
-              ∙ ap (λ n. record { hosting = with_folds (call.fold ∷ folds) (page_of end); kept = s.kept; refusals = n }) refusals;
+              ap (λ t. hosting_of (record t { folds = reported_in c.when t.folds })) ends
+              ∙ ap (λ fs. with_folds fs (page_of end)) (call.opened ∙ ap (λ fs. call.fold ∷ fs) around_is);
         };
+        port = h.port ∙ port;
         answer =
             answer ∙ ap (λ v. StepInvoke v args (length last.folds - 1)) (sym call.value)
             ∙ ap (λ xs. StepInvoke (FunValue call.callback.function call.callback.bound) xs (length last.folds - 1)) (sym call.gets)

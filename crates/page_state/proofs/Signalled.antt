@@ -10,12 +10,11 @@ use Rattle.page_model.specs.PagePromises.{last_promise}
 use Rattle.page_model.specs.Operations.{with_signals, last_signal, any_made}
 use Rattle.page_model.specs.PageSignals.{give_priority, watch, drop_registration}
 use Rattle.trace_text.specs.Given.{Keeping, Seen}
-use Rattle.trace_text.specs.Acts.{Does}
 use Rattle.page_script.specs.PageActs.{OnlyAdds}
 use Rattle.page_script.proofs.Lifting.{OnlyScript-adds}
 use Rattle.page_script.proofs.Touching.{register_as-only}
 use Rattle.page_state.specs.Standing.{Standing, page_of}
-use Rattle.page_state.specs.PageActs.{on_page, changed_by, read_by, at}
+use Rattle.page_state.specs.PageActs.{on_page, changed_by, read_by, at, Does}
 use Rattle.page_state.specs.SignalActs.{depending}
 use Rattle.page_state.proofs.Handled.{OnlyAdds-then}
 
@@ -49,7 +48,7 @@ any_made-is of priority (Some on) p = refl
 pub same-signals : {T : Type 0} {k : Keeping T} (f : Page → Page) {mid new : Standing} {old end : Seen T} → ((p : Page) → last_signal (f p) ≡ last_signal p)
     → Does k (at mid old) (on_page f) None (at new end) → read_by last_signal new ≡ read_by last_signal mid
 unfolding on_page
-same-signals f {mid = mid} same h = ap (read_by last_signal) (h.state refl) ∙ same (page_of mid)
+same-signals f {mid = mid} same h = ap (read_by last_signal) (h.acts.state refl) ∙ same (page_of mid)
 
 pub depending-signals : (n : ℕ) (follows : Option ℕ) (s : Standing) → read_by last_signal (changed_by (depending n follows) s) ≡ read_by last_signal s
 depending-signals n None s = refl

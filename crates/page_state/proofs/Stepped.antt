@@ -9,13 +9,12 @@ use Rattle.page_model.specs.PageSignals.{abort_registration, drop_registration, 
 use Rattle.page_model.specs.PagePromises.{reject}
 use Rattle.page_script.proofs.Touching.{reject-only}
 use Rattle.trace_text.specs.Given.{Keeping, Seen}
-use Rattle.trace_text.specs.Acts.{Does}
 use Rattle.page_signals.specs.Steps.{Algorithm, Listener, Changed, Finished, stepped, to_visit}
 use Rattle.page_signals.specs.Kept.{AreFitting}
 use Rattle.page_model.specs.Folds.{Finished as Done}
 use Rattle.page_signals.specs.Laws.{innermost_meaning, listener_meaning}
 use Rattle.page_state.specs.Standing.{Standing, page_of, signals_of, SignalFields}
-use Rattle.page_state.specs.PageActs.{on_page, at}
+use Rattle.page_state.specs.PageActs.{on_page, at, Does}
 use Rattle.page_state.specs.FoldActs.{signalling_in, having, called_or_ended, listener_called}
 use Rattle.page_state.proofs.Reaching.{visit-is}
 
@@ -67,4 +66,4 @@ unfolding on_page
 falls-then g s mid last keeps less done =
     let P : Standing → Type 0 = λ t. to_visit (signalling_in t) < to_visit (signalling_in s) in
     let Q : SignalFields → Type 0 = λ f. to_visit (record { signals = f.signals; prios = f.prios; listeners = f.listeners; folds = mid.folds }) < to_visit (signalling_in s) in
-    subst P (sym (done.state refl)) (subst Q (sym (keeps (page_of mid))) less)
+    subst P (sym (done.acts.state refl)) (subst Q (sym (keeps (page_of mid))) less)

@@ -8,13 +8,13 @@ use Rattle.page_model.specs.State.{Page, emit}
 use Rattle.page_model.specs.PageTime as model
 use Rattle.trace_text.specs.declared.lines.NoLine.{NoLine}
 use Rattle.trace_text.specs.Given.{Keeping, Seen}
-use Rattle.trace_text.specs.Acts.{At, Does}
+use Rattle.trace_text.specs.Acts.{At}
 use Rattle.page_frames.specs.Fields.{fields_of, with_fields}
 use Rattle.page_frames.specs.Steps.{frame_registration, frame_gone, idle_registration, idle_gone, period_to_start}
 use Rattle.page_frames.specs.Laws.{dropped_by, started_by}
 use Rattle.page_frames.proofs.PageLemmas.{cancels_frame, cancels_idle, starts_period}
 use Rattle.page_state.specs.Standing.{Standing, page_of}
-use Rattle.page_state.specs.PageActs.{on_page, changed_by, at}
+use Rattle.page_state.specs.PageActs.{on_page, changed_by, at, Does}
 use Rattle.page_state.proofs.Acting.{Does-is, Does-idle, Does-silent}
 use Rattle.page_state.proofs.Telling.{Does-told}
 

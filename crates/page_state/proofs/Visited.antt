@@ -14,12 +14,12 @@ use Rattle.page_model.specs.Folds.{Reached}
 use Rattle.page_model.specs.PageSignals.{abort_registration}
 use Rattle.trace_text.specs.declared.lines.NoLine.{NoLine}
 use Rattle.trace_text.specs.Given.{Keeping, Seen}
-use Rattle.trace_text.specs.Acts.{At, Does}
+use Rattle.trace_text.specs.Acts.{At}
 use Rattle.page_signals.specs.Steps.{Algorithm, Listener, Changed, Finished, stepped, reported_in}
 use Rattle.page_signals.specs.Kept.{AreFitting}
 use Rattle.page_signals.specs.Laws.{as_fold, innermost_meaning, CallsWith}
-use Rattle.page_state.specs.Standing.{Standing, page_of}
-use Rattle.page_state.specs.PageActs.{on_page, at}
+use Rattle.page_state.specs.Standing.{Standing, page_of, port_of}
+use Rattle.page_state.specs.PageActs.{on_page, at, Does}
 use Rattle.page_state.specs.FoldActs.{signalling_in, having, around, Reaches, rest_step, Called, called_by, listener_called}
 use Rattle.page_state.proofs.FoldStepping.{step-folds}
 use Rattle.page_state.proofs.Reaching.{Reaches-more, Reaches-stop, Reaches-end, Reaches-called, Reaches-uncalled, listener-ended, listener-call, visit-calls}
@@ -30,11 +30,8 @@ abbrev left_of : Standing → Reached
 left_of s = innermost_meaning s.folds (page_of s)
 
 module _ (s mid : Standing) (others : mid ≡ having (signalling_in mid) s) where
-  same-kept : mid.kept ≡ s.kept
-  same-kept = ap (λ (t : Standing). t.kept) others
-
-  same-refusals : mid.refusals ≡ s.refusals
-  same-refusals = ap (λ (t : Standing). t.refusals) others
+  same-port : port_of mid ≡ port_of s
+  same-port = ap port_of others
 
 module _ {T : Type 0} {k : Keeping T} (s mid : Standing) (before : AreFitting (signalling_in s)) (after : AreFitting (signalling_in mid)) (others : mid ≡ having (signalling_in mid) s) where
   -- an algorithm was run
@@ -44,14 +41,14 @@ module _ {T : Type 0} {k : Keeping T} (s mid : Standing) (before : AreFitting (s
       → Reaches k (at s old) (rest_step s) e new
   algorithm-more r reason e is done h =
       Reaches-more (left_of s) (map as_fold (around s.folds)) (abort_registration reason r) s mid e (algorithm-is s mid before after others r reason is)
-      (ap (map as_fold) (step-folds (Algorithm r reason) (signalling_in s) (signalling_in mid) is)) (same-kept s mid others) (same-refusals s mid others) done h
+      (ap (map as_fold) (step-folds (Algorithm r reason) (signalling_in s) (signalling_in mid) is)) (same-port s mid others) done h
 
   -- it stopped among its lines
   pub algorithm-stop : (r : ℕ) (reason : Value) {old : Seen T} {new : At Standing T} (e : Result HostStep NoLine) {why : NoLine}
       → (Algorithm r reason, signalling_in mid) ≡ stepped (signalling_in s) → IsErrAnd e (λ x. x ≡ why)
       → Does k (at mid old) (on_page (abort_registration reason r)) (Some why) new → Reaches k (at s old) (rest_step s) e new
   algorithm-stop r reason e is err h =
-      Reaches-stop (left_of s) (map as_fold (around s.folds)) (abort_registration reason r) s mid e (algorithm-is s mid before after others r reason is) err h
+      Reaches-stop (left_of s) (map as_fold (around s.folds)) (abort_registration reason r) s mid e (algorithm-is s mid before after others r reason is) err (same-port s mid others) h
 
   -- a priority was told
   pub changed-more : (n : ℕ) (own priority : Priority) {old seen : Seen T} {last : Standing} {new : At Standing T} (e : Result HostStep NoLine)
@@ -60,14 +57,14 @@ module _ {T : Type 0} {k : Keeping T} (s mid : Standing) (before : AreFitting (s
       → Reaches k (at s old) (rest_step s) e new
   changed-more n own priority e is done h =
       Reaches-more (left_of s) (map as_fold (around s.folds)) (emit (Prio n priority)) s mid e (changed-is s mid before after others n own priority is)
-      (ap (map as_fold) (step-folds (Changed n own priority) (signalling_in s) (signalling_in mid) is)) (same-kept s mid others) (same-refusals s mid others) done h
+      (ap (map as_fold) (step-folds (Changed n own priority) (signalling_in s) (signalling_in mid) is)) (same-port s mid others) done h
 
   -- its line was not taken
   pub changed-stop : (n : ℕ) (own priority : Priority) {old : Seen T} {new : At Standing T} (e : Result HostStep NoLine) {why : NoLine}
       → (Changed n own priority, signalling_in mid) ≡ stepped (signalling_in s) → IsErrAnd e (λ x. x ≡ why)
       → Does k (at mid old) (on_page (emit (Prio n priority))) (Some why) new → Reaches k (at s old) (rest_step s) e new
   changed-stop n own priority e is err h =
-      Reaches-stop (left_of s) (map as_fold (around s.folds)) (emit (Prio n priority)) s mid e (changed-is s mid before after others n own priority is) err h
+      Reaches-stop (left_of s) (map as_fold (around s.folds)) (emit (Prio n priority)) s mid e (changed-is s mid before after others n own priority is) err (same-port s mid others) h
 
   -- a listener with no callback
   pub ended-more : (r : ℕ) (args : List Value) {old seen : Seen T} {last : Standing} {new : At Standing T} (e : Result HostStep NoLine)
@@ -77,7 +74,7 @@ module _ {T : Type 0} {k : Keeping T} (s mid : Standing) (before : AreFitting (s
   ended-more r args e is none done h =
       Reaches-more (left_of s) (map as_fold (around s.folds)) (listener_called r) s mid e
       (listener-is s mid before after others r args is ∙ listener-ended mid.folds r args (page_of mid) (visit-calls s r args (signalling_in mid) is) none)
-      (ap (map as_fold) (step-folds (Listener r args) (signalling_in s) (signalling_in mid) is)) (same-kept s mid others) (same-refusals s mid others) done h
+      (ap (map as_fold) (step-folds (Listener r args) (signalling_in s) (signalling_in mid) is)) (same-port s mid others) done h
 
   -- one whose lines were not taken
   pub listener-stop : (r : ℕ) (args : List Value) {old : Seen T} {new : At Standing T} (e : Result HostStep NoLine) {why : NoLine}
@@ -91,9 +88,9 @@ module _ {T : Type 0} {k : Keeping T} (s mid : Standing) (before : AreFitting (s
       by : (o : Option Called) → o ≡ called_by (page_of mid) r → Reaches k (at s old) (rest_step s) e new
       by None none =
           Reaches-stop (left_of s) (map as_fold (around s.folds)) (listener_called r) s mid e
-          (listener-is s mid before after others r args is ∙ listener-ended mid.folds r args (page_of mid) calls none) err h
+          (listener-is s mid before after others r args is ∙ listener-ended mid.folds r args (page_of mid) calls none) err (same-port s mid others) h
       by (Some c) some =
-          Reaches-uncalled s mid r args c (listener-call mid.folds r args (page_of mid) c calls some) (listener-is s mid before after others r args is) e err h
+          Reaches-uncalled s mid r args c (listener-call mid.folds r args (page_of mid) c calls some) (listener-is s mid before after others r args is) e err (same-port s mid others) h
 
   -- one that has a callback
   pub called-last : (r : ℕ) (args : List Value) (c : Called) {old seen : Seen T} {last end : Standing} (next : HostStep)
@@ -105,11 +102,11 @@ module _ {T : Type 0} {k : Keeping T} (s mid : Standing) (before : AreFitting (s
       let P : Standing → Type 0 = λ t. Reaches k (at s old) (rest_step s) (Ok next) (at t seen) in
       subst P (sym ends)
       (Reaches-called s mid r args c (listener-call mid.folds r args (page_of mid) c calls some) (listener-is s mid before after others r args is) next
-      (step-folds (Listener r args) (signalling_in s) (signalling_in mid) is) (same-kept s mid others) (same-refusals s mid others) done answer)
+      (step-folds (Listener r args) (signalling_in s) (signalling_in mid) is) (same-port s mid others) done answer)
 
   -- the end
   pub finished-end : (seen : Seen T) → (Finished, signalling_in mid) ≡ stepped (signalling_in s)
       → Reaches k (at s seen) (rest_step s) (Ok (code.Value code_values.Unit)) (at mid seen)
   finished-end seen is =
       Reaches-end (left_of s) (map as_fold (around s.folds)) s mid seen (finished-is s mid before after others is)
-      (ap (map as_fold) (step-folds Finished (signalling_in s) (signalling_in mid) is)) (same-kept s mid others) (same-refusals s mid others)
+      (ap (map as_fold) (step-folds Finished (signalling_in s) (signalling_in mid) is)) (same-port s mid others)

@@ -143,11 +143,35 @@ abbrev pub coded_standing : Coded Standing
 coded_standing =
     code_by
     (Script × (TaskFields × (Waiting × (FrameFields × (SignalFields × (List HostClosure × (List Latency × (List Open
-    × (Option (List (Result ℤ ℤ)) × (ℕ × ℕ))))))))))
+    × (List HostClosure × (Option (List (Result ℤ ℤ)) × (ℕ × ℕ)))))))))))
     (coded× coded_script (coded× coded_tasks (coded× coded_waiting (coded× coded_frames (coded× coded_signals
     (coded× (coded_list coded_host) (coded× (coded_list coded_latency) (coded× (coded_list coded_open)
-    (coded× (coded_option (coded_list (coded_result coded_ℤ coded_ℤ))) coded_pair)))))))))
-    (λ s. (s.script, (s.tasks, (s.waiting, (s.frames, (s.signals, (s.hosts, (s.latencies, (s.folds, (s.kept, (s.refusals, s.room)))))))))))
+    (coded× (coded_list coded_host) (coded× (coded_option (coded_list (coded_result coded_ℤ coded_ℤ))) coded_pair))))))))))
+    (λ s. (
+      s.script,
+      (
+        s.tasks,
+        (
+          s.waiting,
+          (
+            s.frames,
+            (
+              s.signals,
+              (
+                s.hosts,
+                (
+                  s.latencies,
+                  (
+                    s.folds,
+                    (s.at_port, (s.kept, (s.refusals, s.room))),
+                  ),
+                ),
+              ),
+            ),
+          ),
+        ),
+      ),
+    ))
     (λ t. record {
       script = t.0;
       tasks = t.1.0;
@@ -157,8 +181,9 @@ coded_standing =
       hosts = t.1.1.1.1.1.0;
       latencies = t.1.1.1.1.1.1.0;
       folds = t.1.1.1.1.1.1.1.0;
-      kept = t.1.1.1.1.1.1.1.1.0;
-      refusals = t.1.1.1.1.1.1.1.1.1.0;
-      room = t.1.1.1.1.1.1.1.1.1.1;
+      at_port = t.1.1.1.1.1.1.1.1.0;
+      kept = t.1.1.1.1.1.1.1.1.1.0;
+      refusals = t.1.1.1.1.1.1.1.1.1.1.0;
+      room = t.1.1.1.1.1.1.1.1.1.1.1;
     })
     (λ _. refl)

@@ -1,6 +1,6 @@
 -- A page's open folds as those of the model's page, and what a call does that begins a fold or goes on with one. DOM, "Interface
 -- AbortSignal" and "Dispatching events"; Prioritized Task Scheduling, "The TaskSignal Interface"
-use Rattle.std.specs.Prelude.{◌≡◌, ℕ, List, [], ◌∷◌, length, map, Option, None, Some, Result, IfOk, ℤ}
+use Rattle.std.specs.Prelude.{◌≡◌, ℕ, List, [], ◌∷◌, length, map, Option, None, Some, Result, IfOk}
 use Rattle.std.specs.Result.{result_err}
 use Rattle.page_types.specs.Values.{Value, FunValue}
 use Rattle.page_types.specs.declared.Priority.{Priority}
@@ -16,13 +16,13 @@ use Rattle.page_model.specs.Folds.{begin_abort, begin_change}
 use Rattle.page_model.specs.PageHost.{Hosting, with_folds, reached_step, resume_innermost}
 use Rattle.trace_text.specs.declared.lines.NoLine.{NoLine}
 use Rattle.trace_text.specs.Given.{Keeping}
-use Rattle.trace_text.specs.Acts.{Act, At, Does}
+use Rattle.trace_text.specs.Acts.{Act, At, Does as HostDoes}
 use Rattle.page_script.specs.PageActs.{bare, lines_of}
 use Rattle.page_folds.specs.AtRest.{ChangedAlone}
 use Rattle.page_signals.specs.Signalling.{Open, Signalling}
 use Rattle.page_signals.specs.Steps.{Visit, Algorithm, Listener, Changed, Finished}
 use Rattle.page_signals.specs.Laws.{as_fold, innermost_meaning}
-use Rattle.page_state.specs.Standing.{Standing, page_of}
+use Rattle.page_state.specs.Standing.{Standing, page_of, port_of}
 
 -- ---- signals, priorities, listeners and open folds
 
@@ -57,30 +57,19 @@ AllBut (Some s) before after = ChangedAlone s before after
 abbrev pub hosting_of : Standing → Hosting
 hosting_of s = with_folds (map as_fold s.folds) (page_of s)
 
--- the same, and what is no field of the page
-pub record Hosted : Type 0 where
-  pub hosting : Hosting
-  pub kept : Option (List (Result ℤ ℤ))
-  pub refusals : ℕ
-
-abbrev pub hosted : Standing → Hosted
-hosted s = record { hosting = hosting_of s; kept = s.kept; refusals = s.refusals }
-
-abbrev pub host_at : {T : Type 0} → At Standing T → At Hosted T
-host_at old = record { state = hosted old.state; seen = old.seen }
+abbrev pub host_at : {T : Type 0} → At Standing T → At Hosting T
+host_at old = record { state = hosting_of old.state; seen = old.seen }
 
 -- the page and the folds after a step, without the events, whose lines are given
-unfoldable pub stepping : Stepped Hosting → Act Hosted
-stepping step h =
-    record {
-      state = record h { hosting = with_folds step.host.folds (bare step.host.page) };
-      lines = lines_of step.host.page.events;
-    }
+unfoldable pub stepping : Stepped Hosting → Act Hosting
+stepping step h = record { state = with_folds step.host.folds (bare step.host.page); lines = lines_of step.host.page.events }
 
--- The call does this step of the page as a host and answers what it answers, or it stopped among the lines of its events.
+-- The call does this step of the page as a host and answers what it answers, or it stopped among the lines of its events. The host port is
+-- left alone.
 pub record Reaches {T : Type 0} (k : Keeping T) (old : At Standing T) (step : Stepped Hosting) (result : Result HostStep NoLine)
     (new : At Standing T) : Type 0 where
-  pub does : Does k (host_at old) (stepping step) (result_err result) (host_at new)
+  pub does : HostDoes k (host_at old) (stepping step) (result_err result) (host_at new)
+  pub port : port_of new.state ≡ port_of old.state
   pub answer : IfOk result (λ next. seen_step next ≡ step.step)
 
 -- a signal is aborted

@@ -24,9 +24,15 @@ pub record SignalFields : Type 0 where
   pub prios : Prios
   pub listeners : List Listener
 
+-- what a host port tells: its closures, the answers that it still keeps, where it tells them, and how often it refused
+pub record PortNow : Type 0 where
+  pub closures : List HostClosure
+  pub kept : Option (List (Result ℤ ℤ))
+  pub refusals : ℕ
+
 -- all that a page keeps: the fields of the model's page but its events; the folds that are open while their callbacks run, the innermost
--- first; what its host port tells besides: the answers that it still keeps, where it tells them, and how often it refused; and how many
--- tasks in all, from the first number on, are sure to find memory in the pool
+-- first; what its host port tells besides: the closures as they are there, the answers that it still keeps, where it tells them, and how
+-- often it refused; and how many tasks in all, from the first number on, are sure to find memory in the pool
 pub record Standing : Type 0 where
   pub script : Script
   pub tasks : TaskFields
@@ -36,9 +42,14 @@ pub record Standing : Type 0 where
   pub hosts : List HostClosure
   pub latencies : List Latency
   pub folds : List Open
+  pub at_port : List HostClosure
   pub kept : Option (List (Result ℤ ℤ))
   pub refusals : ℕ
   pub room : ℕ
+
+-- the host port of a page
+abbrev pub port_of : Standing → PortNow
+port_of s = record { closures = s.at_port; kept = s.kept; refusals = s.refusals }
 
 -- the model's page of these fields, with no event
 abbrev pub page_of : Standing → Page

@@ -3,12 +3,10 @@ ghost use Rattle.std.specs.Result.{result_err};
 ghost use Rattle.page_model.specs.State as model;
 ghost use Rattle.page_model.specs.PageTime as model_time;
 ghost use Rattle.page_model.specs.Invoke as model_invoke;
-ghost use Rattle.trace_text.specs.declared.lines.NoLine.TheVariants.{OutOfMemory};
-ghost use Rattle.trace_text.specs.Acts.{Does};
 ghost use Rattle.trace_text.specs.EventSeen.{event_seen};
 ghost use Rattle.page_tasks.specs.Seen.{steps_of};
 ghost use Rattle.parallel_items.specs.Seen.{completion_seen};
-ghost use Rattle.page_state.specs.PageActs.{at, on_page, changed_by, read_by};
+ghost use Rattle.page_state.specs.PageActs.{at, on_page, changed_by, read_by, Does, IsWanted};
 ghost use Rattle.page_types.specs.declared.Source.TheVariants.{Sched};
 ghost use Rattle.std.specs.Prelude.{◌≢◌};
 
@@ -81,6 +79,7 @@ impl<P: HostPort, M: Ledger> Model for PageState<P, M> {
       hosts = a.hosts.closures;
       latencies = map latency_seen a.latencies.entries;
       folds = a.signals.folds;
+      at_port = a.hosts.at_port;
       kept = a.hosts.kept;
       refusals = a.hosts.refusals;
       room = a.room;
@@ -125,7 +124,7 @@ impl<P: HostPort, M: Ledger> PageState<P, M> {
     pub fn queue(&mut self, source: Source, steps: TaskSteps) -> Result<(), NoLine>
         requires { source ≢ Sched }
         ensures queued { OnOk result (self.new ≡ changed_by (model.queue_task source (steps_of steps)) self.old) }
-        ensures memory { IfErr result (λ why. why ≡ OutOfMemory) }
+        ensures memory { IfErr result (λ why. IsWanted why self.old self.new) }
     {
         if self.tasks.made() == u64::MAX {
             return Err(NoLine::OutOfMemory);

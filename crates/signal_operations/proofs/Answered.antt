@@ -8,9 +8,9 @@ use Rattle.lang_ast.specs.Steps.{seen_step}
 use Rattle.page_model.specs.State.{Page}
 use Rattle.page_model.specs.Operations.{answers}
 use Rattle.trace_text.specs.Given.{Keeping}
-use Rattle.trace_text.specs.Acts.{At, Does}
+use Rattle.trace_text.specs.Acts.{At}
 use Rattle.page_state.specs.Standing.{Standing, page_of, holding}
-use Rattle.page_state.specs.PageActs.{on_page}
+use Rattle.page_state.specs.PageActs.{on_page, Does}
 use Rattle.trace_text.proofs.Giving.{Gives-none}
 use Rattle.page_answers.specs.Answers.{Answers, done_by}
 use Rattle.page_answers.proofs.Choosing.{Answers-tells}
@@ -21,10 +21,10 @@ pub Answers-made : {T : Type 0} {k : Keeping T} (value : Page → model.Value) (
     → Answers k old (answers value F) (Ok step) new
 unfolding on_page
 Answers-made value F old {new = new} step same is h =
-    Answers-tells value F old step (is ∙ ap (λ (s : Standing). StepValue (value (page_of s))) (h.state refl) ∙ ap StepValue (same (F (page_of old.state)))) h
+    Answers-tells value F old step (is ∙ ap (λ (s : Standing). StepValue (value (page_of s))) (h.acts.state refl) ∙ ap StepValue (same (F (page_of old.state)))) h
 
 -- nothing is done, and the value is given that the page tells
 pub Answers-read : {T : Type 0} (k : Keeping T) (read : Page → model.Value) (old : At Standing T) (step : HostStep) → seen_step step ≡ StepValue (read (page_of old.state))
     → Answers k old (λ m. GivesValue (read m.host) m) (Ok step) old
 unfolding done_by
-Answers-read k read old step is = record { lines = Gives-none k old.seen; state = refl; step = is }
+Answers-read k read old step is = record { lines = Gives-none k old.seen; state = refl; step = is; port = refl }

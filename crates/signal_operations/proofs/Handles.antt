@@ -12,9 +12,9 @@ use Rattle.page_model.specs.PageHost.{bare}
 use Rattle.page_model.specs.Operations.{does}
 use Rattle.trace_text.specs.declared.lines.NoLine.{NoLine}
 use Rattle.trace_text.specs.Given.{Keeping}
-use Rattle.trace_text.specs.Acts.{At, Does}
+use Rattle.trace_text.specs.Acts.{At}
 use Rattle.page_state.specs.Standing.{Standing, page_of}
-use Rattle.page_state.specs.PageActs.{on_page}
+use Rattle.page_state.specs.PageActs.{on_page, Does}
 use Rattle.page_answers.specs.Answers.{Answers}
 use Rattle.page_answers.proofs.Answering.{Answers-is}
 use Rattle.page_answers.proofs.Choosing.{Answers-does, Answers-exit, Answers-same}

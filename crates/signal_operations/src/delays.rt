@@ -6,8 +6,7 @@ ghost use Rattle.page_types.specs.Events.{Arm};
 ghost use Rattle.page_model.specs.State.{emit};
 ghost use Rattle.page_model.specs.Operations as model;
 ghost use Rattle.parallel_items.specs.Seen.{completion_seen};
-ghost use Rattle.trace_text.specs.Acts.{Does};
-ghost use Rattle.page_state.specs.PageActs.{at, on_page};
+ghost use Rattle.page_state.specs.PageActs.{at, on_page, Does};
 ghost use Rattle.signal_operations.specs.Delays.{started_after};
 
 use page_base::Micros;

@@ -7,8 +7,7 @@ ghost use Rattle.page_parts.specs.HostClosures.{HostClosure};
 ghost use Rattle.page_model.specs.Operations as model;
 ghost use Rattle.page_script.specs.Seen.{function_seen, state_seen};
 ghost use Rattle.page_tasks.specs.Seen.{prio_source};
-ghost use Rattle.trace_text.specs.Acts.{Does};
-ghost use Rattle.page_state.specs.PageActs.{at, on_page};
+ghost use Rattle.page_state.specs.PageActs.{at, on_page, Does};
 
 use crate::delays::start_after;
 use page_hosts::HostPort;

@@ -12,10 +12,10 @@ use Rattle.page_model.specs.PageHost.{bare}
 use Rattle.page_model.specs.Operations.{does, answers}
 use Rattle.trace_text.specs.declared.lines.NoLine.{NoLine}
 use Rattle.trace_text.specs.Given.{Keeping, Gives}
-use Rattle.trace_text.specs.Acts.{At, Does}
+use Rattle.trace_text.specs.Acts.{At}
 use Rattle.page_script.specs.PageActs.{lines_of}
 use Rattle.page_state.specs.Standing.{Standing, page_of, holding}
-use Rattle.page_state.specs.PageActs.{on_page}
+use Rattle.page_state.specs.PageActs.{on_page, Does}
 use Rattle.page_answers.specs.Answers.{Answers, done_by, page_then, step_then}
 use Rattle.page_answers.proofs.Answering.{Answers-is}
 use Rattle.page_answers.proofs.Choosing.{Answers-does, Answers-exit, Answers-same, Answers-tells}
@@ -29,7 +29,7 @@ unfolding done_by
 Answers-alike {k = k} f g old {new = new} {r = r} page step h =
     let P : Page → Type 0 = λ p. Gives k old.seen (lines_of p.events) (result_err r) new.seen in
     let Q : Page → Type 0 = λ p. IfOk r (λ step. new.state ≡ holding p old.state) in
-    record { lines = subst P page h.lines; state = subst Q page h.state; step = subst (λ st. IfOk r (λ step. seen_step step ≡ st)) step h.step }
+    record { lines = subst P page h.lines; state = subst Q page h.state; step = subst (λ st. IfOk r (λ step. seen_step step ≡ st)) step h.step; port = h.port }
 
 -- nothing is done, and a value is given that the page tells
 pub Answers-holds : {T : Type 0} (k : Keeping T) (v : Page → model.Value) (old : At Standing T) (st : HostStep) → seen_step st ≡ StepValue (v (page_of old.state))
@@ -43,7 +43,7 @@ pub Answers-reads : {T : Type 0} {k : Keeping T} (v : Page → model.Value) (F :
     → Does k old (on_page F) None new → Answers k old (answers v F) (Ok st) new
 unfolding on_page
 Answers-reads v F old st reads step h =
-    Answers-tells v F old st (step ∙ ap (λ (s : Standing). StepValue (v (page_of s))) (h.state refl) ∙ ap StepValue reads) h
+    Answers-tells v F old st (step ∙ ap (λ (s : Standing). StepValue (v (page_of s))) (h.acts.state refl) ∙ ap StepValue reads) h
 
 -- ---- a handle
 

@@ -11,10 +11,10 @@ use Rattle.page_model.specs.Operations.{timer_registered, timer_set, frame_reque
 use Rattle.page_model.proofs.Adding.Lines.{cond_of-adds}
 use Rattle.trace_text.specs.declared.lines.NoLine.{NoLine}
 use Rattle.trace_text.specs.Given.{Keeping, Seen}
-use Rattle.trace_text.specs.Acts.{At, Does}
+use Rattle.trace_text.specs.Acts.{At}
 use Rattle.page_script.specs.PageActs.{OnlyAdds}
 use Rattle.page_state.specs.Standing.{Standing, page_of}
-use Rattle.page_state.specs.PageActs.{on_page, at}
+use Rattle.page_state.specs.PageActs.{on_page, at, Does}
 use Rattle.page_state.specs.TimeActs.{idle_asked}
 use Rattle.time_operations.specs.Rows.{callback_of_kind}
 use Rattle.page_state.proofs.Acting.{Does-is, Does-next, Does-leave}

@@ -5,8 +5,7 @@ ghost use Rattle.std.specs.Prelude.{◌≡◌, ◌^◌, ◌<◌};
 ghost use Rattle.std.specs.Result.{result_err};
 ghost use Rattle.page_model.specs.Operations as model;
 ghost use Rattle.page_script.specs.Seen.{function_seen, registration_seen};
-ghost use Rattle.trace_text.specs.Acts.{Does};
-ghost use Rattle.page_state.specs.PageActs.{at, on_page};
+ghost use Rattle.page_state.specs.PageActs.{at, on_page, Does};
 ghost use Rattle.time_operations.specs.Rows.{callback_of_kind};
 
 use page_hosts::HostPort;

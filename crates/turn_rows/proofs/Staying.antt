@@ -12,9 +12,8 @@ use Rattle.page_model.specs.State.{Page}
 use Rattle.page_interp.specs.MachineNow.{MachineNow}
 use Rattle.page_interp.specs.Runs.{count_of_functions}
 use Rattle.trace_text.specs.Given.{Keeping, Seen}
-use Rattle.trace_text.specs.Acts.{Does}
 use Rattle.page_state.specs.Standing.{Standing, page_of, holding}
-use Rattle.page_state.specs.PageActs.{at, on_page, changed_by}
+use Rattle.page_state.specs.PageActs.{at, on_page, changed_by, Does}
 use Rattle.page_host.specs.PageNow.{PageNow, room_at}
 use Rattle.page_host.specs.Moments.{CanCall}
 use Rattle.page_host.specs.Doing.{IfFinished}
@@ -31,7 +30,7 @@ use Rattle.turn_rows.specs.Ready.{IsReady, StaysReady}
 module _ {T : Type 0} {k : Keeping T} {s s' : Standing} {old new : Seen T} (f : Page → Page) where
   state-is : Does k (at s old) (on_page f) None (at s' new) → s' ≡ holding (f (page_of s)) s
   unfolding on_page
-  state-is h = h.state refl
+  state-is h = h.acts.state refl
 
 -- work that takes fuel, or none
 pub work-stays : {L T X : Type 0} {k : Keeping T} {seen : L → Seen T} {old new : PageNow L} (f : Page → Page) → Does k (at old.state (seen old.lines)) (on_page f) None (at new.state (seen new.lines))

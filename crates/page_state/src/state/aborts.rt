@@ -9,9 +9,7 @@ ghost use Rattle.page_model.specs.PagePromises.{reject};
 ghost use Rattle.page_model.specs.PageSignals as model;
 ghost use Rattle.page_script.specs.Seen.{function_seen};
 ghost use Rattle.std.specs.Option.{option_map};
-ghost use Rattle.trace_text.specs.declared.lines.NoLine.TheVariants.{OutOfMemory};
-ghost use Rattle.trace_text.specs.Acts.{Does};
-ghost use Rattle.page_state.specs.PageActs.{at, on_page, changed_by, read_by};
+ghost use Rattle.page_state.specs.PageActs.{at, on_page, changed_by, read_by, Does, IsWanted};
 
 use super::PageState;
 use page_hosts::HostPort;
@@ -24,7 +22,7 @@ impl<P: HostPort, M: Ledger> PageState<P, M> {
     /// The abort steps of a registration are added to its signal, where it has one. The one error is want of memory.
     pub fn watch(&mut self, signal: Option<u32>, r: u32) -> Result<(), NoLine>
         ensures watched { OnOk result (self.new ≡ changed_by (model.watch signal r) self.old) }
-        ensures memory { IfErr result (λ why. why ≡ OutOfMemory) }
+        ensures memory { IfErr result (λ why. IsWanted why self.old self.new) }
     {
         let Some(s) = signal else {
             return Ok(());

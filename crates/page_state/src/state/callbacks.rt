@@ -9,8 +9,7 @@ ghost use Rattle.page_model.specs.State.{the_registration, last_registration};
 ghost use Rattle.page_model.specs.Invoke as model;
 ghost use Rattle.page_script.specs.Seen.{registration_seen, function_seen};
 ghost use Rattle.page_script.specs.Reports.{when_seen, logged};
-ghost use Rattle.trace_text.specs.Acts.{Does};
-ghost use Rattle.page_state.specs.PageActs.{at, on_page, read_by};
+ghost use Rattle.page_state.specs.PageActs.{at, on_page, read_by, Does};
 
 use super::PageState;
 use page_hosts::HostPort;

@@ -12,8 +12,7 @@ ghost use Rattle.promise_combine.specs.Reports.{HasCount};
 ghost use Rattle.page_model.specs.PagePromises.{last_promise};
 ghost use Rattle.page_model.specs.PageCombinators as model;
 ghost use Rattle.page_script.specs.Leading.{IsItem};
-ghost use Rattle.trace_text.specs.Acts.{Does};
-ghost use Rattle.page_state.specs.PageActs.{at, on_page, read_by};
+ghost use Rattle.page_state.specs.PageActs.{at, on_page, read_by, Does};
 ghost use Rattle.page_state.specs.Handling.{element_reacted, item_taken};
 
 use super::PageState;

@@ -8,6 +8,7 @@ ghost use Rattle.arrivals_text.specs.SeenParts.{arrival_of};
 ghost use Rattle.page_hosts.specs.Hosts.{is_unqueued};
 ghost use Rattle.page_state.specs.First.{IsFirst, AreFirst, HasScriptTask};
 ghost use Rattle.page_state.specs.Pooled.{spare_of};
+ghost use Rattle.page_state.specs.Standing.{port_of};
 
 use super::PageState;
 use crate::latencies::latencies_given;
@@ -38,7 +39,7 @@ impl<P: HostPort, M: Ledger> PageState<P, M> {
     /// The page before the first turn: the script, whose functions have these names, is its one task, on the DOM source, and the
     /// time is 0. So many more tasks as the setup tells are sure to find memory in the pool.
     ///
-    /// Want of memory is the one error, and hands the port back as it was. It costs what the setup's arrivals and hosts cost.
+    /// Want of memory is the one error, and hands the port back as it was. It costs what the setup's arrivals and hosts and the port's closures cost.
     pub fn new(
         alloc: Global,
         names: FunNames,
@@ -50,14 +51,18 @@ impl<P: HostPort, M: Ledger> PageState<P, M> {
         requires count { length (P.closures port) ≤ 2 ^ 32 }
         requires unqueued { IsTrue (list_all is_unqueued (P.closures port)) }
         ensures first { IfOk result (IsFirst names (settings_of setup.now).setup (P.closures port)) }
-        ensures kept { IfOk result (λ page. page.kept ≡ P.kept port) }
-        ensures refused { IfOk result (λ page. page.refusals ≡ P.refusals port) }
+        ensures port { IfOk result (λ page. port_of page ≡ record {
+          closures = P.closures port;
+          kept = P.kept port;
+          refusals = P.refusals port;
+        }) }
         ensures room { IfOk result (λ page. setup.now.room ≤ spare_of page) }
         ensures err { IfErr result (λ back. back ≡ port) }
     {
         let Ok(parts) = first_parts(alloc, names, setup, accesses) else {
             return Err(port);
         };
+        let hosts = PageHosts::new(alloc, port)?;
         Ok(PageState {
             alloc,
             script: parts.script,
@@ -65,7 +70,7 @@ impl<P: HostPort, M: Ledger> PageState<P, M> {
             items: parts.items,
             frames: PageFrames::new(alloc, period(setup)),
             signals: PageSignals::new(alloc),
-            hosts: PageHosts::new(alloc, port),
+            hosts,
             latencies: parts.latencies,
             room: setup.room + 1,
         })

@@ -16,8 +16,7 @@ ghost use Rattle.page_signals.specs.Seen as fold;
 ghost use Rattle.page_signals.specs.Seen.{visit_seen};
 ghost use Rattle.page_signals.specs.Kept.{AreFitting};
 ghost use Rattle.trace_text.specs.declared.lines.NoLine.TheVariants.{OutOfMemory};
-ghost use Rattle.trace_text.specs.Acts.{Does};
-ghost use Rattle.page_state.specs.PageActs.{at, on_page, read_by};
+ghost use Rattle.page_state.specs.PageActs.{at, on_page, read_by, Does, IsWanted};
 ghost use Rattle.page_state.specs.CodeFolds.{called_seen};
 ghost use Rattle.page_state.specs.FoldActs.{signalling_in, having, hosting_of, Reaches, abort_step, change_step, resume_step, rest_step};
 ghost use Rattle.page_state.specs.FoldActs.{called_by, listener_called, thrown_and_reported};
@@ -143,7 +142,7 @@ impl<P: HostPort, M: Ledger> PageState<P, M> {
         ensures before { AreFitting (signalling_in self.old) }
         ensures after { AreFitting (signalling_in self.new) }
         ensures others { self.new ≡ having (signalling_in self.new) self.old }
-        ensures memory { IfErr result (λ why. why ≡ OutOfMemory) }
+        ensures memory { IfErr result (λ why. IsWanted why self.old self.new) }
     {
         next_step(&mut self.signals, &mut self.tasks)
     }
@@ -234,7 +233,7 @@ impl<P: HostPort, M: Ledger> PageState<P, M> {
         ensures signals { IfOk result (λ ss. ss.items ≡ read_by (λ p. marked s p.signals) self.old) }
         ensures made { OnOk result (IsMade s self.old.signals.signals) }
         ensures opened { OnOk result (self.new ≡ having (abort_opened s (seen reason) (signalling_in self.old)) self.old) }
-        ensures memory { IfErr result (λ why. why ≡ OutOfMemory) }
+        ensures memory { IfErr result (λ why. IsWanted why self.old self.new) }
     {
         if s == 0 || s > self.signals.made() {
             return Err(NoLine::OutOfMemory);
@@ -251,7 +250,7 @@ impl<P: HostPort, M: Ledger> PageState<P, M> {
         ensures given { OnOk result (HasPriority s self.old.signals.prios) }
         ensures still { OnOk result (IsStill s self.old.signals.prios) }
         ensures opened { OnOk result (self.new ≡ having (change_opened s priority (signalling_in self.old)) self.old) }
-        ensures memory { IfErr result (λ why. why ≡ OutOfMemory) }
+        ensures memory { IfErr result (λ why. IsWanted why self.old self.new) }
     {
         open_change(&mut self.signals, &mut self.tasks, s, priority)
     }

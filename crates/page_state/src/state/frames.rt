@@ -5,8 +5,7 @@ ghost use Rattle.std.specs.Result.{result_err};
 ghost use Rattle.page_parts.specs.Frames.{callback_in, keys};
 ghost use Rattle.page_model.specs.PageTime as model;
 ghost use Rattle.trace_text.specs.declared.lines.NoLine.TheVariants.{OutOfMemory};
-ghost use Rattle.trace_text.specs.Acts.{Does};
-ghost use Rattle.page_state.specs.PageActs.{at, on_page, changed_by, read_by};
+ghost use Rattle.page_state.specs.PageActs.{at, on_page, changed_by, read_by, Does, IsWanted};
 
 use super::PageState;
 use page_base::Micros;
@@ -27,7 +26,7 @@ impl<P: HostPort, M: Ledger> PageState<P, M> {
     /// The one error is want of memory, also where no handle is left.
     pub fn request_frame(&mut self, registration: u32) -> Result<(), NoLine>
         ensures requested { OnOk result (self.new ≡ changed_by (model.request_frame registration) self.old) }
-        ensures memory { IfErr result (λ why. why ≡ OutOfMemory) }
+        ensures memory { IfErr result (λ why. IsWanted why self.old self.new) }
     {
         let now = self.script.now();
         if self.frames.frames_made() == u32::MAX || now.0 >= 1 << 63 {

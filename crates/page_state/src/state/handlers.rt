@@ -12,8 +12,7 @@ ghost use Rattle.page_model.specs.Invoke.{register_as};
 ghost use Rattle.page_model.specs.Operations.{then_made, finally_made};
 ghost use Rattle.page_script.specs.Seen.{function_seen, registration_seen};
 ghost use Rattle.trace_text.specs.declared.lines.NoLine.TheVariants.{OutOfMemory};
-ghost use Rattle.trace_text.specs.Acts.{Does};
-ghost use Rattle.page_state.specs.PageActs.{at, on_page, read_by};
+ghost use Rattle.page_state.specs.PageActs.{at, on_page, read_by, Does};
 ghost use Rattle.page_state.specs.Handling.{handlers_made, last_reaction, then_with};
 
 use super::PageState;

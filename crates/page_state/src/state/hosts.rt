@@ -3,7 +3,7 @@ ghost use Rattle.std.specs.Prelude.{◌≡◌, ◌+◌, is_some, is_none, map, S
 ghost use Rattle.std.specs.Option.{option_map};
 ghost use Rattle.std.specs.Result.{result_err};
 ghost use Rattle.page_types.specs.Counts.{refusals_after};
-ghost use Rattle.host_jobs.specs.Closures.{meets_at};
+ghost use Rattle.host_jobs.specs.Closures.{fired_at, meets_at};
 ghost use Rattle.host_jobs.specs.KeptAnswers.{FollowsKept};
 ghost use Rattle.page_model.specs.Operations.{closure_at, fitting, latency_of as latency};
 ghost use Rattle.page_model.specs.PageSignals as model;
@@ -11,9 +11,7 @@ ghost use Rattle.page_model.specs.Tasks.{fire_closure};
 ghost use Rattle.page_model.specs.Turns.{not_dropped};
 ghost use Rattle.page_hosts.specs.Hosts.{ask_at, is_fresh_at, unasked, IsUnfired, IsQueued};
 ghost use Rattle.page_tasks.specs.Seen.{host_task};
-ghost use Rattle.trace_text.specs.declared.lines.NoLine.TheVariants.{OutOfMemory};
-ghost use Rattle.trace_text.specs.Acts.{Does};
-ghost use Rattle.page_state.specs.PageActs.{at, on_page, changed_by, read_by};
+ghost use Rattle.page_state.specs.PageActs.{at, on_page, changed_by, read_by, Does, IsWanted};
 ghost use Rattle.page_state.specs.HostActs.{answer_awaited, answer_set, net_task_dropped, answer_dropped, enqueued_for, host_task_for};
 
 use super::PageState;
@@ -26,13 +24,24 @@ use std::sync::ledger::Ledger;
 use trace_text::{Event, Lines, NoLine};
 
 impl<P: HostPort, M: Ledger> PageState<P, M> {
-    /// The host port, as it stands: a closure that was asked and neither fired nor dropped is live there. Takes no memory.
+    /// The host port, which drops the closures that were dropped here. One that was asked and neither fired nor dropped is live there.
+    ///
+    /// Takes no memory, and costs a look at each closure.
     pub fn into_port(self) -> P
         ensures closures { P.closures result ≡ map unasked self.hosts }
         ensures kept { P.kept result ≡ self.kept }
         ensures refused { P.refusals result ≡ self.refusals }
     {
         self.hosts.into_port()
+    }
+
+    /// The host port as it is so far: it has fired what was fired here, and has dropped nothing. Takes no memory.
+    pub fn into_port_so_far(self) -> P
+        ensures closures { P.closures result ≡ self.at_port }
+        ensures kept { P.kept result ≡ self.kept }
+        ensures refused { P.refusals result ≡ self.refusals }
+    {
+        self.hosts.into_port_so_far()
     }
 
     /// Whether there is a closure of the number `k` that a script gives, with `x` in its range. Takes no memory.
@@ -74,6 +83,7 @@ impl<P: HostPort, M: Ledger> PageState<P, M> {
         requires fits { IsTrue (is_some (fitting (slice_get self.old.hosts k) x)) }
         ensures met { IfOk result (λ answer. IsTrue (meets_at self.old.hosts k x answer)) }
         ensures fired { OnOk result (self.new ≡ record (changed_by (λ p. fire_closure k (slice_get p.hosts k) p) self.old) {
+          at_port = fired_at self.old.at_port k;
           kept = self.new.kept;
           refusals = self.new.refusals;
         }) }
@@ -156,7 +166,7 @@ impl<P: HostPort, M: Ledger> PageState<P, M> {
     // The closure that a registration's net task asks is dropped, where it has one.
     fn drop_net_task(&mut self, registration: u32) -> Result<(), NoLine>
         ensures dropped { OnOk result (self.new ≡ changed_by (net_task_dropped registration) self.old) }
-        ensures memory { IfErr result (λ why. why ≡ OutOfMemory) }
+        ensures memory { IfErr result (λ why. IsWanted why self.old self.new) }
     {
         match self.tasks.net_task_of(registration) {
             Some(task) => self.drop_closure(task),
@@ -167,7 +177,7 @@ impl<P: HostPort, M: Ledger> PageState<P, M> {
     // A registration's answer is no longer pending, and the closure that it asks is dropped, where it has one.
     fn drop_answer(&mut self, registration: u32) -> Result<(), NoLine>
         ensures dropped { OnOk result (self.new ≡ changed_by (answer_dropped registration) self.old) }
-        ensures memory { IfErr result (λ why. why ≡ OutOfMemory) }
+        ensures memory { IfErr result (λ why. IsWanted why self.old self.new) }
     {
         if let Some(task) = self.items.pending_answer(registration) {
             self.drop_closure(task)?;
@@ -180,7 +190,7 @@ impl<P: HostPort, M: Ledger> PageState<P, M> {
     fn drop_closure(&mut self, task: HostTask) -> Result<(), NoLine>
         ensures dropped { OnOk result
             (self.new ≡ record self.old { hosts = model.drop_closure (Some (host_task task)) self.old.hosts }) }
-        ensures memory { IfErr result (λ why. why ≡ OutOfMemory) }
+        ensures memory { IfErr result (λ why. IsWanted why self.old self.new) }
     {
         if !self.hosts.is_asked(task.closure) {
             return Err(NoLine::OutOfMemory);
@@ -193,7 +203,7 @@ impl<P: HostPort, M: Ledger> PageState<P, M> {
     fn set_answer(&mut self, k: u32, x: i64, registration: u32) -> Result<Micros, NoLine>
         ensures due { IfOk result (λ due. due.0 ≡ self.old.script.now + latency self.old.latencies k) }
         ensures set { OnOk result (self.new ≡ changed_by (answer_set k x registration) self.old) }
-        ensures memory { IfErr result (λ why. why ≡ OutOfMemory) }
+        ensures memory { IfErr result (λ why. IsWanted why self.old self.new) }
     {
         let Some(due) = self.due_of(k) else {
             return Err(NoLine::OutOfMemory);
@@ -223,7 +233,7 @@ impl<P: HostPort, M: Ledger> PageState<P, M> {
     fn ask(&mut self, k: u32) -> Result<(), NoLine>
         ensures asked { OnOk result
             (self.new ≡ record self.old { hosts = ask_at k (slice_get self.old.hosts k) self.old.hosts }) }
-        ensures memory { IfErr result (λ why. why ≡ OutOfMemory) }
+        ensures memory { IfErr result (λ why. IsWanted why self.old self.new) }
     {
         if !self.hosts.is_fresh(k) {
             return Err(NoLine::OutOfMemory);

@@ -8,8 +8,7 @@ ghost use Rattle.page_frames.specs.Fields.{fields_of, with_fields};
 ghost use Rattle.page_model.specs.PageTime as model;
 ghost use Rattle.page_model.specs.Tasks.{invoke_idle_again as invoked_again};
 ghost use Rattle.trace_text.specs.declared.lines.NoLine.TheVariants.{OutOfMemory};
-ghost use Rattle.trace_text.specs.Acts.{Does};
-ghost use Rattle.page_state.specs.PageActs.{at, on_page, changed_by, read_by};
+ghost use Rattle.page_state.specs.PageActs.{at, on_page, changed_by, read_by, Does, IsWanted};
 ghost use Rattle.page_state.specs.TimeActs.{idle_asked, idle_timeout_set, period_set};
 
 use super::PageState;
@@ -164,7 +163,7 @@ impl<P: HostPort, M: Ledger> PageState<P, M> {
     /// The one error is want of memory.
     pub fn invoke_idle_again(&mut self) -> Result<(), NoLine>
         ensures queued { OnOk result (self.new ≡ changed_by invoked_again self.old) }
-        ensures memory { IfErr result (λ why. why ≡ OutOfMemory) }
+        ensures memory { IfErr result (λ why. IsWanted why self.old self.new) }
     {
         if !self.frames.has_runnable() {
             return Ok(());
@@ -185,7 +184,7 @@ impl<P: HostPort, M: Ledger> PageState<P, M> {
     // Requests an idle callback, without its timeout.
     fn ask_idle(&mut self, registration: u32) -> Result<(), NoLine>
         ensures asked { OnOk result (self.new ≡ changed_by (idle_asked registration) self.old) }
-        ensures memory { IfErr result (λ why. why ≡ OutOfMemory) }
+        ensures memory { IfErr result (λ why. IsWanted why self.old self.new) }
     {
         if self.frames.idle_made() == u32::MAX {
             return Err(NoLine::OutOfMemory);
@@ -223,7 +222,7 @@ impl<P: HostPort, M: Ledger> PageState<P, M> {
         requires { ms < 2 ^ 32 }
         ensures due { IfOk result (λ due. due.0 ≡ self.old.script.now + ms * 1000) }
         ensures set { OnOk result (self.new ≡ changed_by (idle_timeout_set ms registration) self.old) }
-        ensures memory { IfErr result (λ why. why ≡ OutOfMemory) }
+        ensures memory { IfErr result (λ why. IsWanted why self.old self.new) }
     {
         let handle = self.frames.idle_made();
         let now = self.script.now();

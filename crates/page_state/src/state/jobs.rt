@@ -14,9 +14,7 @@ ghost use Rattle.page_model.specs.Tasks.{outstanding_if_unhandled};
 ghost use Rattle.page_script.specs.Jobs.{oldest_begun};
 ghost use Rattle.page_script.specs.Seen.{function_seen};
 ghost use Rattle.page_script.specs.ScriptActs as script_acts;
-ghost use Rattle.trace_text.specs.declared.lines.NoLine.TheVariants.{OutOfMemory};
-ghost use Rattle.trace_text.specs.Acts.{Does};
-ghost use Rattle.page_state.specs.PageActs.{at, on_page, changed_by, read_by};
+ghost use Rattle.page_state.specs.PageActs.{at, on_page, changed_by, read_by, Does, IsWanted};
 
 use super::PageState;
 use page_base::Source;
@@ -99,7 +97,7 @@ impl<P: HostPort, M: Ledger> PageState<P, M> {
     pub fn checkpoint_ended(&mut self, level: u32, state: Option<u32>) -> Result<(), NoLine>
         ensures ended { OnOk result
             (self.new ≡ changed_by (λ p. model.checkpoint_ended (model.under (current level state) p) p) self.old) }
-        ensures memory { IfErr result (λ why. why ≡ OutOfMemory) }
+        ensures memory { IfErr result (λ why. IsWanted why self.old self.new) }
     {
         let rejected = self.end_checkpoint(level, state);
         if rejected.is_empty() {
@@ -112,7 +110,7 @@ impl<P: HostPort, M: Ledger> PageState<P, M> {
     /// promises). The one error is want of memory.
     pub fn outstanding_if_unhandled(&mut self, p: u32) -> Result<(), NoLine>
         ensures noted { OnOk result (self.new ≡ changed_by (outstanding_if_unhandled p) self.old) }
-        ensures memory { IfErr result (λ why. why ≡ OutOfMemory) }
+        ensures memory { IfErr result (λ why. IsWanted why self.old self.new) }
     {
         if !self.script.is_promise(p) {
             return Err(NoLine::OutOfMemory);

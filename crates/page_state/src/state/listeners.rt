@@ -8,8 +8,7 @@ ghost use Rattle.page_events.specs.Dispatching.{next_listening, behind_next};
 ghost use Rattle.page_events.specs.Seen.{seen_target};
 ghost use Rattle.page_script.specs.Seen.{function_seen};
 ghost use Rattle.trace_text.specs.declared.lines.NoLine.TheVariants.{OutOfMemory};
-ghost use Rattle.trace_text.specs.Acts.{Does};
-ghost use Rattle.page_state.specs.PageActs.{at, on_page, changed_by, read_by};
+ghost use Rattle.page_state.specs.PageActs.{at, on_page, changed_by, read_by, Does, IsWanted};
 ghost use Rattle.page_state.specs.SignalActs.{listening, unlistened, listener_dropped};
 
 use super::PageState;
@@ -96,7 +95,7 @@ impl<P: HostPort, M: Ledger> PageState<P, M> {
     // A registration listens from now on.
     fn listen(&mut self, target: Target, name: &Str, r: u32) -> Result<(), NoLine>
         ensures added { OnOk result (self.new ≡ changed_by (listening (seen_target target) name.now r) self.old) }
-        ensures memory { IfErr result (λ why. why ≡ OutOfMemory) }
+        ensures memory { IfErr result (λ why. IsWanted why self.old self.new) }
     {
         match self.signals.listen(target, name, r) {
             Ok(()) => Ok(()),

@@ -6,9 +6,7 @@ ghost use Rattle.page_parts.specs.AbortGraph.{marked, the_signal};
 ghost use Rattle.page_values.specs.Seen.{seen};
 ghost use Rattle.page_model.specs.State.{emit_each};
 ghost use Rattle.page_model.specs.PageSignals as model;
-ghost use Rattle.trace_text.specs.declared.lines.NoLine.TheVariants.{OutOfMemory};
-ghost use Rattle.trace_text.specs.Acts.{Does};
-ghost use Rattle.page_state.specs.PageActs.{at, on_page, changed_by, read_by};
+ghost use Rattle.page_state.specs.PageActs.{at, on_page, changed_by, read_by, Does, IsWanted};
 ghost use Rattle.page_state.specs.AbortActs.{reason_marked, reason_silent, algorithms_taken};
 
 use super::PageState;
@@ -53,7 +51,7 @@ impl<P: HostPort, M: Ledger> PageState<P, M> {
     fn set_reason(&mut self, s: u32, reason: Value) -> Result<Vec<u32>, NoLine>
         ensures signals { IfOk result (λ ss. ss.items ≡ read_by (λ p. marked s p.signals) self.old) }
         ensures set { OnOk result (self.new ≡ changed_by (reason_silent s (seen reason)) self.old) }
-        ensures memory { IfErr result (λ why. why ≡ OutOfMemory) }
+        ensures memory { IfErr result (λ why. IsWanted why self.old self.new) }
     {
         match self.signals.abort_mark(s, reason) {
             Ok(signals) => Ok(signals),

@@ -16,8 +16,7 @@ ghost use Rattle.parallel_items.specs.Items.{TakenArrival, first_waiting, left_o
 ghost use Rattle.parallel_items.specs.Laws.{done_with};
 ghost use Rattle.parallel_items.specs.Seen.{completion_seen, taken_seen};
 ghost use Rattle.trace_text.specs.declared.lines.NoLine.TheVariants.{OutOfMemory};
-ghost use Rattle.trace_text.specs.Acts.{Does};
-ghost use Rattle.page_state.specs.PageActs.{at, on_page, changed_by, read_by};
+ghost use Rattle.page_state.specs.PageActs.{at, on_page, changed_by, read_by, Does, IsWanted};
 ghost use Rattle.page_state.specs.ItemActs.{item_taken, post_completed};
 
 use super::PageState;
@@ -35,7 +34,7 @@ impl<P: HostPort, M: Ledger> PageState<P, M> {
     /// The one error is want of memory, also where no number is left for it.
     pub fn arrive(&mut self, arrival: Arrival) -> Result<(), NoLine>
         ensures to_come { OnOk result (self.new ≡ changed_by (model.arrive (arrival_of arrival)) self.old) }
-        ensures memory { IfErr result (λ why. why ≡ OutOfMemory) }
+        ensures memory { IfErr result (λ why. IsWanted why self.old self.new) }
     {
         if self.items.arrivals_made() == u64::MAX {
             return Err(NoLine::OutOfMemory);
@@ -136,7 +135,7 @@ impl<P: HostPort, M: Ledger> PageState<P, M> {
         requires { read_by model.first_item self.old ≡ Some (record { due = frame.0; what = FrameItem }) }
         ensures taken { OnOk result (self.new ≡ changed_by item_taken self.old) }
         ensures due { IfOk result (λ was_due. was_due ≡ read_by (λ p. is_there (model.due_item p.now (model.first_item p))) self.old) }
-        ensures memory { IfErr result (λ why. why ≡ OutOfMemory) }
+        ensures memory { IfErr result (λ why. IsWanted why self.old self.new) }
     {
         if self.script.now() < frame {
             return Ok(false);
@@ -224,7 +223,7 @@ impl<P: HostPort, M: Ledger> PageState<P, M> {
     // The task of an arrival. An arrival is never one of the scheduler's.
     fn queue_arrival(&mut self, arrival: Arrival) -> Result<(), NoLine>
         ensures queued { OnOk result (self.new ≡ changed_by (done_with (Some (TakenArrival (arrival_of arrival)))) self.old) }
-        ensures memory { IfErr result (λ why. why ≡ OutOfMemory) }
+        ensures memory { IfErr result (λ why. IsWanted why self.old self.new) }
     {
         if arrival.source == Source::Sched {
             return Err(NoLine::OutOfMemory);
@@ -278,7 +277,7 @@ impl<P: HostPort, M: Ledger> PageState<P, M> {
     // A rendering opportunity is taken: the last one is now, and the task of a frame is queued.
     fn take_opportunity(&mut self) -> Result<(), NoLine>
         ensures taken { OnOk result (self.new ≡ changed_by (model.take_item FrameItem) self.old) }
-        ensures memory { IfErr result (λ why. why ≡ OutOfMemory) }
+        ensures memory { IfErr result (λ why. IsWanted why self.old self.new) }
     {
         let now = self.script.now();
         if now.0 >= 1 << 63 {

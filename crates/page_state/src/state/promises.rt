@@ -14,9 +14,7 @@ ghost use Rattle.page_notices.specs.Steps.{held};
 ghost use Rattle.page_model.specs.PagePromises as model;
 ghost use Rattle.page_model.specs.Operations.{script_promise, then_made, finally_made};
 ghost use Rattle.page_script.specs.Marks.{settled_at_once};
-ghost use Rattle.trace_text.specs.declared.lines.NoLine.TheVariants.{OutOfMemory};
-ghost use Rattle.trace_text.specs.Acts.{Does};
-ghost use Rattle.page_state.specs.PageActs.{at, on_page, changed_by, read_by};
+ghost use Rattle.page_state.specs.PageActs.{at, on_page, changed_by, read_by, Does, IsWanted};
 ghost use Rattle.page_state.specs.Handling.{told_if, reacted};
 
 use super::PageState;
@@ -33,7 +31,7 @@ impl<P: HostPort, M: Ledger> PageState<P, M> {
     pub fn new_promise(&mut self) -> Result<u32, NoLine>
         ensures made { OnOk result (self.new ≡ changed_by model.new_promise self.old) }
         ensures number { IfOk result (λ p. p ≡ read_by model.last_promise self.new) }
-        ensures memory { IfErr result (λ why. why ≡ OutOfMemory) }
+        ensures memory { IfErr result (λ why. IsWanted why self.old self.new) }
     {
         if self.script.promises_made() == u32::MAX {
             return Err(NoLine::OutOfMemory);
@@ -48,7 +46,7 @@ impl<P: HostPort, M: Ledger> PageState<P, M> {
     pub fn script_promise(&mut self) -> Result<u32, NoLine>
         ensures made { OnOk result (self.new ≡ changed_by script_promise self.old) }
         ensures number { IfOk result (λ p. p ≡ read_by model.last_promise self.new) }
-        ensures memory { IfErr result (λ why. why ≡ OutOfMemory) }
+        ensures memory { IfErr result (λ why. IsWanted why self.old self.new) }
     {
         if self.script.promises_made() == u32::MAX {
             return Err(NoLine::OutOfMemory);
@@ -155,7 +153,7 @@ impl<P: HostPort, M: Ledger> PageState<P, M> {
     // Where a promise was outstanding, a task is queued that tells `rejectionhandled`.
     pub(super) fn tell_handled(&mut self, was: bool, p: u32) -> Result<(), NoLine>
         ensures queued { OnOk result (self.new ≡ changed_by (told_if was p) self.old) }
-        ensures memory { IfErr result (λ why. why ≡ OutOfMemory) }
+        ensures memory { IfErr result (λ why. IsWanted why self.old self.new) }
     {
         if !was {
             return Ok(());

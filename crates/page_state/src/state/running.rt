@@ -11,9 +11,7 @@ ghost use Rattle.page_model.specs.Operations.{posted, posts_taken};
 ghost use Rattle.page_model.specs.Turns.{at_time};
 ghost use Rattle.page_model.specs.Invoke.{under};
 ghost use Rattle.page_script.specs.Seen.{state_seen, post_seen};
-ghost use Rattle.trace_text.specs.declared.lines.NoLine.TheVariants.{OutOfMemory};
-ghost use Rattle.trace_text.specs.Acts.{Does};
-ghost use Rattle.page_state.specs.PageActs.{at, on_page, changed_by, read_by};
+ghost use Rattle.page_state.specs.PageActs.{at, on_page, changed_by, read_by, Does, IsWanted};
 
 use super::PageState;
 use page_base::{End, Micros, Source};
@@ -128,7 +126,7 @@ impl<P: HostPort, M: Ledger> PageState<P, M> {
     /// Makes a scheduling state, which is the current one. Their numbers are below 2^32. The one error is want of memory.
     pub fn with_state(&mut self, state: SchedulingState) -> Result<(), NoLine>
         ensures made { OnOk result (self.new ≡ changed_by (scheduler.with_state (state_seen state)) self.old) }
-        ensures memory { IfErr result (λ why. why ≡ OutOfMemory) }
+        ensures memory { IfErr result (λ why. IsWanted why self.old self.new) }
     {
         if self.script.states_made() >= u32::MAX as usize {
             return Err(NoLine::OutOfMemory);

@@ -7,8 +7,7 @@ ghost use Rattle.page_model.specs.Operations as model;
 ghost use Rattle.page_model.specs.PageSignals.{is_aborted, is_aborted_source, give_priority, reason_value};
 ghost use Rattle.page_values.specs.Seen.{seen};
 ghost use Rattle.trace_text.specs.declared.lines.NoLine.TheVariants.{OutOfMemory};
-ghost use Rattle.trace_text.specs.Acts.{Does};
-ghost use Rattle.page_state.specs.PageActs.{at, on_page, changed_by, read_by};
+ghost use Rattle.page_state.specs.PageActs.{at, on_page, changed_by, read_by, Does, IsWanted};
 ghost use Rattle.page_state.specs.SignalActs.{priority_given, depending};
 
 use super::PageState;
@@ -32,7 +31,7 @@ impl<P: HostPort, M: Ledger> PageState<P, M> {
     pub fn make_signal(&mut self) -> Result<u32, NoLine>
         ensures made { OnOk result (self.new ≡ changed_by (model.with_signals graph.make) self.old) }
         ensures number { IfOk result (λ s. s ≡ read_by model.last_signal self.new) }
-        ensures memory { IfErr result (λ why. why ≡ OutOfMemory) }
+        ensures memory { IfErr result (λ why. IsWanted why self.old self.new) }
     {
         if self.signals.made() == u32::MAX {
             return Err(NoLine::OutOfMemory);
@@ -48,7 +47,7 @@ impl<P: HostPort, M: Ledger> PageState<P, M> {
         ensures made { OnOk result
             (self.new ≡ changed_by (model.with_signals (graph.make_aborted (seen reason))) self.old) }
         ensures number { IfOk result (λ s. s ≡ read_by model.last_signal self.new) }
-        ensures memory { IfErr result (λ why. why ≡ OutOfMemory) }
+        ensures memory { IfErr result (λ why. IsWanted why self.old self.new) }
     {
         if self.signals.made() == u32::MAX {
             return Err(NoLine::OutOfMemory);
@@ -64,7 +63,7 @@ impl<P: HostPort, M: Ledger> PageState<P, M> {
     pub fn any(&mut self, of: &[u32]) -> Result<u32, NoLine>
         ensures made { OnOk result (self.new ≡ changed_by (model.with_signals (graph.any of.now)) self.old) }
         ensures number { IfOk result (λ s. s ≡ read_by model.last_signal self.new) }
-        ensures memory { IfErr result (λ why. why ≡ OutOfMemory) }
+        ensures memory { IfErr result (λ why. IsWanted why self.old self.new) }
     {
         if self.signals.made() == u32::MAX {
             return Err(NoLine::OutOfMemory);
@@ -189,7 +188,7 @@ impl<P: HostPort, M: Ledger> PageState<P, M> {
     // Gives a signal its first priority, without its line.
     fn give(&mut self, s: u32, priority: Priority) -> Result<(), NoLine>
         ensures given { OnOk result (self.new ≡ changed_by (priority_given s priority) self.old) }
-        ensures memory { IfErr result (λ why. why ≡ OutOfMemory) }
+        ensures memory { IfErr result (λ why. IsWanted why self.old self.new) }
     {
         if self.signals.has_priority(s) {
             return Err(NoLine::OutOfMemory);
@@ -203,7 +202,7 @@ impl<P: HostPort, M: Ledger> PageState<P, M> {
     // The signal follows this one from now on, where there is one.
     fn depend(&mut self, s: u32, follows: Option<u32>) -> Result<(), NoLine>
         ensures follows { OnOk result (self.new ≡ changed_by (depending s follows) self.old) }
-        ensures memory { IfErr result (λ why. why ≡ OutOfMemory) }
+        ensures memory { IfErr result (λ why. IsWanted why self.old self.new) }
     {
         let Some(on) = follows else {
             return Ok(());

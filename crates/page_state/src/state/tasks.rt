@@ -13,10 +13,8 @@ ghost use Rattle.page_model.specs.View.{first_number, view as view_of};
 ghost use Rattle.post_task.specs.declared.level.PrioSource.TheVariants.{Signal};
 ghost use Rattle.page_tasks.specs.Queued.{runnables, taken};
 ghost use Rattle.page_tasks.specs.Seen.{prio_source, sched_task};
-ghost use Rattle.trace_text.specs.declared.lines.NoLine.TheVariants.{OutOfMemory};
-ghost use Rattle.trace_text.specs.Acts.{Does};
 ghost use Rattle.trace_text.specs.EventSeen.{queue_seen};
-ghost use Rattle.page_state.specs.PageActs.{at, on_page, changed_by, read_by};
+ghost use Rattle.page_state.specs.PageActs.{at, on_page, changed_by, read_by, Does, IsWanted};
 ghost use Rattle.page_state.specs.Pooled.{HoldsTasks, spare_of};
 ghost use Rattle.page_state.specs.Selecting.{sched_put};
 
@@ -114,7 +112,7 @@ impl<P: HostPort, M: Ledger> PageState<P, M> {
     ) -> Result<u64, NoLine>
         ensures order { IfOk result (λ n. n ≡ suc self.old.tasks.tasks_made) }
         ensures put { OnOk result (self.new ≡ changed_by (sched_put registration (prio_source source) continuation) self.old) }
-        ensures memory { IfErr result (λ why. why ≡ OutOfMemory) }
+        ensures memory { IfErr result (λ why. IsWanted why self.old self.new) }
     {
         if self.tasks.made() == u64::MAX || self.tasks.has_sched(registration) {
             return Err(NoLine::OutOfMemory);

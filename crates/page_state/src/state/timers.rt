@@ -6,9 +6,7 @@ ghost use Rattle.page_parts.specs.Timers as parts;
 ghost use Rattle.page_model.specs.PageTime as model;
 ghost use Rattle.timer_map.specs.Seen.{seen_armed};
 ghost use Rattle.parallel_items.specs.Seen.{completion_seen};
-ghost use Rattle.trace_text.specs.declared.lines.NoLine.TheVariants.{OutOfMemory};
-ghost use Rattle.trace_text.specs.Acts.{Does};
-ghost use Rattle.page_state.specs.PageActs.{at, on_page, changed_by, read_by};
+ghost use Rattle.page_state.specs.PageActs.{at, on_page, changed_by, read_by, Does, IsWanted};
 ghost use Rattle.page_state.specs.TimeActs.{timer_set, timer_dropped, MayArm, MayStart};
 
 use super::PageState;
@@ -54,7 +52,7 @@ impl<P: HostPort, M: Ledger> PageState<P, M> {
     pub fn run_after(&mut self, ms: u64, completion: Completion) -> Result<(), NoLine>
         requires { ms < 2 ^ 32 }
         ensures started { OnOk result (self.new ≡ changed_by (model.run_after ms (completion_seen completion)) self.old) }
-        ensures memory { IfErr result (λ why. why ≡ OutOfMemory) }
+        ensures memory { IfErr result (λ why. IsWanted why self.old self.new) }
     {
         if !self.may_start(completion) {
             return Err(NoLine::OutOfMemory);
@@ -144,7 +142,7 @@ impl<P: HostPort, M: Ledger> PageState<P, M> {
         ensures armed { IfOk result
             (λ armed. seen_armed armed ≡ read_by (λ p. parts.armed again timeout p.level p.now p.timers) self.old) }
         ensures set { OnOk result (self.new ≡ changed_by (timer_set again registration repeats timeout) self.old) }
-        ensures memory { IfErr result (λ why. why ≡ OutOfMemory) }
+        ensures memory { IfErr result (λ why. IsWanted why self.old self.new) }
     {
         if !self.may_arm(again) {
             return Err(NoLine::OutOfMemory);

@@ -1,3 +1,4 @@
+use Rattle.std.proofs.Common.{refl}
 use Rattle.loop_turn.specs.TurnActs.{holding}
 use Rattle.loop_turn.specs.Runs.{port_then}
 use Rattle.loop_turn.proofs.RunSteps.{are-left}
@@ -10,9 +11,9 @@ returns-clause-run g c =
     let does = c.run_turns-outcome.ensures.does left.0 left.1 in (
       does.0,
       does.1,
-      rw c.into_parts-port.ensures.lines
+      rw c.parts_of-port.ensures.lines
           (turns-run g.L.Lines.seen _ c.run_turns-outcome.result does.2.0 c.run_turns-outcome.new.page
           (holding g.C.Clock.held g.K.Chooser.held c.run_turns-outcome.new.clock c.run_turns-outcome.new.chooser left.0)
-          (port_then g.P.HostPort.closures g.P.HostPort.kept c.into_parts-port.result.0)
-          does.2.1 left.1 c.into_parts-port.ensures.closures c.into_parts-port.ensures.kept),
+          (port_then g.P.HostPort.closures g.P.HostPort.kept c.args.page.state.at_port c.parts_of-port.result.0)
+          does.2.1 left.1 refl c.parts_of-port.ensures.closures c.parts_of-port.ensures.so_far c.parts_of-port.ensures.kept),
     )

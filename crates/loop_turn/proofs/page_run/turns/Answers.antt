@@ -1,7 +1,7 @@
 use Rattle.std.proofs.Common.{◌∙◌, refl, le_refl}
 use Rattle.page_host.specs.Moments.{state_of, calling}
 use Rattle.loop_turn.specs.RunRules.{run_rules}
-use Rattle.loop_turn.specs.TurnActs.{holding, reached}
+use Rattle.loop_turn.specs.TurnActs.{holding, reached, shown}
 use Rattle.loop_turn.proofs.PageExits.{calling-adds, port-exit}
 use Rattle.loop_turn.proofs.TurnLoops.{run-exit, run-ends, run-goes}
 use Rattle.loop_turn.proofs.page_run.turns.Goals as goal
@@ -41,7 +41,7 @@ turns-preserved g c =
       readings = c.in_ok-end.ensures.readings ∙ c.turns.invariant.readings;
       choices = c.in_ok-end.ensures.choices ∙ c.turns.invariant.choices;
       turns = run-goes (run_rules g.C.Clock.rule g.K.Chooser.rule) (calling c.args.machine.now) (calling-adds c.args.machine.now) c.args.until.0 c.turns.invariant.turns c.turn.new.page.state.kept
-          (g.L.Lines.seen c.turn.new.page.lines) (state_of c.turn.new.machine c.turn.new.page) (holding g.C.Clock.held g.K.Chooser.held c.turn.new.clock c.turn.new.chooser)
+          (shown g.L.Lines.seen c.turn.new.page) (state_of c.turn.new.machine c.turn.new.page) (holding g.C.Clock.held g.K.Chooser.held c.turn.new.clock c.turn.new.chooser)
           goes.fuel (rw (c.in_default.is, c.turns.invariant.program) at c.in_ok-end.ensures.does);
     }
 

@@ -1,7 +1,7 @@
 use Rattle.std.proofs.Common.{◌≡◌}
 use Rattle.page_host.specs.Moments.{state_of, calling}
 use Rattle.loop_turn.specs.RunRules.{run_rules}
-use Rattle.loop_turn.specs.TurnActs.{CanTurn, holding}
+use Rattle.loop_turn.specs.TurnActs.{CanTurn, holding, shown}
 use Rattle.loop_turn.proofs.Loops.{TurnsOn}
 use Rattle.loop_turn.proofs.page_run.turns.Given as goal
 
@@ -16,8 +16,8 @@ invariant-turns g l = record {
   turns : TurnsOn g.L.Lines.keeping (run_rules g.C.Clock.rule g.K.Chooser.rule) (calling l.initial.machine) l.until.0
       (holding g.C.Clock.held g.K.Chooser.held l.initial.clock l.initial.chooser) (holding g.C.Clock.held g.K.Chooser.held l.clock l.chooser)
       l.initial.page.state.kept l.page.state.kept
-      (g.L.Lines.seen l.initial.page.lines) (state_of l.initial.machine l.initial.page)
-      (g.L.Lines.seen l.page.lines) (state_of l.machine l.page);
+      (shown g.L.Lines.seen l.initial.page) (state_of l.initial.machine l.initial.page)
+      (shown g.L.Lines.seen l.page) (state_of l.machine l.page);
 }
 
 abbrev pub decreases-turns : goal.decreases-turns

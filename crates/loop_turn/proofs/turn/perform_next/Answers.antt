@@ -10,7 +10,7 @@ use Rattle.page_host.specs.Turning.{turn_begun}
 use Rattle.loop_turn.specs.Outcomes.{Turns}
 use Rattle.loop_turn.specs.RunRules.{run_rules, no_reading}
 use Rattle.loop_turn.specs.RunStops.{run_stop_of, stop_outcome}
-use Rattle.loop_turn.specs.TurnActs.{serving, reached}
+use Rattle.loop_turn.specs.TurnActs.{serving, reached, shown}
 use Rattle.loop_turn.proofs.ChoiceSteps.{is-true, source-given, with_chooser, task-as, Turns-as}
 use Rattle.loop_turn.proofs.TurnSteps.{Turns-same}
 use Rattle.loop_turn.proofs.PageTurns.{around}
@@ -32,7 +32,7 @@ returns-in_err-begin_turn-clause-does g c =
     c.from_residual.result (run_stop_of why) c.from_residual.ensures.1
     (λ first left. with-fuel rules (calling m) m.globals p.state (serving g.K.Chooser.held c.args.chooser.now first) p.fuel q.fuel c.in_err-begin_turn.ensures.fuel
     (act-exit (turn_begun None)
-    (λ w. Turns g.L.Lines.keeping (g.L.Lines.seen p.lines) (with_turn_fuel rules (calling m) (suc q.fuel) (around m.globals (suc q.fuel) p.state) (serving g.K.Chooser.held c.args.chooser.now first)) w (stop_outcome (run_stop_of why)) (reached g.L.Lines.seen m q (serving g.K.Chooser.held c.args.chooser.now left)))
+    (λ w. Turns g.L.Lines.keeping (shown g.L.Lines.seen p) (with_turn_fuel rules (calling m) (suc q.fuel) (around m.globals (suc q.fuel) p.state) (serving g.K.Chooser.held c.args.chooser.now first)) w (stop_outcome (run_stop_of why)) (reached g.L.Lines.seen m q (serving g.K.Chooser.held c.args.chooser.now left)))
     why c.in_err-begin_turn.ensures.does c.in_err-begin_turn.ensures.stops
     (λ fault h. none-stop rules (calling m) (calling-adds m) m.globals q.fuel p.state (serving g.K.Chooser.held c.args.chooser.now first) (sym c.has_no_task.ensures ∙ c.if-has_no_task.true)
     (stop_outcome (run_stop_of why)) (state_of m q) (serving g.K.Chooser.held c.args.chooser.now left) h)))
@@ -75,7 +75,7 @@ returns-in_err-begin_turn-2-clause-does g c =
     c.from_residual-in_err-begin_turn-2.result (run_stop_of why) c.from_residual-in_err-begin_turn-2.ensures.1
     (λ first left. with-fuel rules (calling m) m.globals p.state (serving g.K.Chooser.held c.args.chooser.now first) p.fuel q.fuel c.in_err-begin_turn-2.ensures.fuel
     (act-exit (turn_begun (Some source))
-    (λ w. Turns g.L.Lines.keeping (g.L.Lines.seen p.lines) (with_turn_fuel rules (calling m) (suc q.fuel) (around m.globals (suc q.fuel) p.state) (serving g.K.Chooser.held c.args.chooser.now first)) w (stop_outcome (run_stop_of why)) (reached g.L.Lines.seen m q (serving g.K.Chooser.held c.choose.new.self left)))
+    (λ w. Turns g.L.Lines.keeping (shown g.L.Lines.seen p) (with_turn_fuel rules (calling m) (suc q.fuel) (around m.globals (suc q.fuel) p.state) (serving g.K.Chooser.held c.args.chooser.now first)) w (stop_outcome (run_stop_of why)) (reached g.L.Lines.seen m q (serving g.K.Chooser.held c.choose.new.self left)))
     why c.in_err-begin_turn-2.ensures.does c.in_err-begin_turn-2.ensures.stops
     (λ fault h. pick-stop rules (calling m) (calling-adds m) m.globals q.fuel p.state (serving g.K.Chooser.held c.args.chooser.now first) (sym c.has_no_task.ensures ∙ c.if-has_no_task.false)
     source (serving g.K.Chooser.held c.choose.new.self first)

@@ -10,7 +10,7 @@ use Rattle.loop_turn.specs.Outcomes.{WentOn, Finished, Turns}
 use Rattle.loop_turn.specs.RunRules.{run_rules, no_reading}
 use Rattle.loop_turn.specs.RunStops.{run_stop_of, stop_outcome, line_fault, turn_outcome}
 use Rattle.loop_turn.specs.Waiting.{idled}
-use Rattle.loop_turn.specs.TurnActs.{serving, reached}
+use Rattle.loop_turn.specs.TurnActs.{serving, reached, shown}
 use Rattle.loop_turn.specs.declared.run_stop.RunStop.{RunStop}
 use Rattle.loop_turn.proofs.RunSteps.{is-err, some-kept}
 use Rattle.loop_turn.proofs.PageTurns.{around}
@@ -33,7 +33,7 @@ returns-in_err-finish-clause-does g c =
     (λ left. reached g.L.Lines.seen m q (serving g.K.Chooser.held c.args.chooser.now left))
     c.from_residual.result (run_stop_of why) c.from_residual.ensures.1
     (λ first left. act-exit (run_ended until Clock)
-    (λ w. Turns g.L.Lines.keeping (g.L.Lines.seen p.lines) (from_step_three rules (calling m) until (serving g.K.Chooser.held c.args.chooser.now first) (state_of m p)) w (stop_outcome (run_stop_of why)) (reached g.L.Lines.seen m q (serving g.K.Chooser.held c.args.chooser.now left)))
+    (λ w. Turns g.L.Lines.keeping (shown g.L.Lines.seen p) (from_step_three rules (calling m) until (serving g.K.Chooser.held c.args.chooser.now first) (state_of m p)) w (stop_outcome (run_stop_of why)) (reached g.L.Lines.seen m q (serving g.K.Chooser.held c.args.chooser.now left)))
     why does c.in_err-finish.ensures.stops
     (λ fault h. clock-stop rules (calling m) (calling-adds m) until m.globals p.fuel p.state (serving g.K.Chooser.held c.args.chooser.now first)
     (stop_outcome (run_stop_of why)) (state_of m q) (serving g.K.Chooser.held c.args.chooser.now left)
@@ -50,8 +50,8 @@ returns-then-is_over-clause-does g c =
     λ left h. (
       left,
       kept-then p.state.kept q.state.kept (work-kept (run_ended until Clock) does) left h,
-      (let P : ℕ → Type 0 = λ n. Turns g.L.Lines.keeping (g.L.Lines.seen p.lines) (from_step_three rules (calling m) until (serving g.K.Chooser.held c.args.chooser.now left) (state_of m p)) None (Finished Clock)
-          (record { state = around m.globals n q.state; held = serving g.K.Chooser.held c.args.chooser.now left; seen = g.L.Lines.seen q.lines }) in
+      (let P : ℕ → Type 0 = λ n. Turns g.L.Lines.keeping (shown g.L.Lines.seen p) (from_step_three rules (calling m) until (serving g.K.Chooser.held c.args.chooser.now left) (state_of m p)) None (Finished Clock)
+          (record { state = around m.globals n q.state; held = serving g.K.Chooser.held c.args.chooser.now left; shown = shown g.L.Lines.seen q }) in
           subst P (sym c.in_ok-finish.ensures.fuel)
           (clock-ends rules (calling m) (calling-adds m) until m.globals p.fuel p.state (serving g.K.Chooser.held c.args.chooser.now left) (leb-true until (page_of p.state).now (sym c.is_over.ensures ∙ c.if-is_over.true)) does)),
     )
@@ -72,7 +72,7 @@ returns-in_err-finish-2-clause-does g c =
     (λ left. reached g.L.Lines.seen m q (serving g.K.Chooser.held c.args.chooser.now left))
     c.from_residual-in_err-finish-2.result (run_stop_of why) c.from_residual-in_err-finish-2.ensures.1
     (λ first left. act-exit (run_ended p.until Fuel)
-    (λ w. Turns g.L.Lines.keeping (g.L.Lines.seen p.lines) (from_step_three rules (calling m) until (serving g.K.Chooser.held c.args.chooser.now first) (state_of m p)) w (stop_outcome (run_stop_of why)) (reached g.L.Lines.seen m q (serving g.K.Chooser.held c.args.chooser.now left)))
+    (λ w. Turns g.L.Lines.keeping (shown g.L.Lines.seen p) (from_step_three rules (calling m) until (serving g.K.Chooser.held c.args.chooser.now first) (state_of m p)) w (stop_outcome (run_stop_of why)) (reached g.L.Lines.seen m q (serving g.K.Chooser.held c.args.chooser.now left)))
     why c.in_err-finish-2.ensures.does c.in_err-finish-2.ensures.stops
     (λ fault h. task-stop rules (calling m) (calling-adds m) until m.globals p.fuel p.state (serving g.K.Chooser.held c.args.chooser.now first)
     (leb-false until (page_of p.state).now (sym c.is_over.ensures ∙ c.if-is_over.false)) (stop_outcome (run_stop_of why))
@@ -89,8 +89,8 @@ returns-then-is_dry-clause-does g c =
     λ left h. (
       left,
       kept-then p.state.kept q.state.kept (work-kept (run_ended p.until Fuel) c.in_ok-finish-2.ensures.does) left h,
-      (let P : ℕ → Type 0 = λ n. Turns g.L.Lines.keeping (g.L.Lines.seen p.lines) (from_step_three rules (calling m) until (serving g.K.Chooser.held c.args.chooser.now left) (state_of m p)) None (Finished Fuel)
-          (record { state = around m.globals n q.state; held = serving g.K.Chooser.held c.args.chooser.now left; seen = g.L.Lines.seen q.lines }) in
+      (let P : ℕ → Type 0 = λ n. Turns g.L.Lines.keeping (shown g.L.Lines.seen p) (from_step_three rules (calling m) until (serving g.K.Chooser.held c.args.chooser.now left) (state_of m p)) None (Finished Fuel)
+          (record { state = around m.globals n q.state; held = serving g.K.Chooser.held c.args.chooser.now left; shown = shown g.L.Lines.seen q }) in
           subst P (sym c.in_ok-finish-2.ensures.fuel)
           (task-over rules (calling m) (calling-adds m) until m.globals p.fuel p.state (serving g.K.Chooser.held c.args.chooser.now left)
           (leb-false until (page_of p.state).now (sym c.is_over.ensures ∙ c.if-is_over.false)) (λ e. cc)
@@ -139,10 +139,10 @@ returns-in_err-idle-in-None-clause-does g c =
     λ left h. (
       x.0,
       x.1,
-      (let P : Result (Option End) RunStop → Type 0 = λ r. Turns g.L.Lines.keeping (g.L.Lines.seen p.lines) (from_step_three rules (calling m) until (serving g.K.Chooser.held c.args.chooser.now x.0) (state_of m p)) (line_fault r) (turn_outcome r) (reached g.L.Lines.seen n u (serving g.K.Chooser.held c.perform_next.new.chooser left)) in
+      (let P : Result (Option End) RunStop → Type 0 = λ r. Turns g.L.Lines.keeping (shown g.L.Lines.seen p) (from_step_three rules (calling m) until (serving g.K.Chooser.held c.args.chooser.now x.0) (state_of m p)) (line_fault r) (turn_outcome r) (reached g.L.Lines.seen n u (serving g.K.Chooser.held c.perform_next.new.chooser left)) in
           subst P (sym (is-err c.from_residual-in_err-idle-in-None.result (run_stop_of why) c.from_residual-in_err-idle-in-None.ensures.1))
           (act-exit idled
-          (λ w. Turns g.L.Lines.keeping (g.L.Lines.seen p.lines) (from_step_three rules (calling m) until (serving g.K.Chooser.held c.args.chooser.now x.0) (state_of m p)) w (stop_outcome (run_stop_of why)) (reached g.L.Lines.seen n u (serving g.K.Chooser.held c.perform_next.new.chooser left)))
+          (λ w. Turns g.L.Lines.keeping (shown g.L.Lines.seen p) (from_step_three rules (calling m) until (serving g.K.Chooser.held c.args.chooser.now x.0) (state_of m p)) w (stop_outcome (run_stop_of why)) (reached g.L.Lines.seen n u (serving g.K.Chooser.held c.perform_next.new.chooser left)))
           why c.in_err-idle-in-None.ensures.does c.in_err-idle-in-None.ensures.stops
           (λ fault f. task-then rules (calling m) (calling-adds m) until m.globals p.fuel p.state (serving g.K.Chooser.held c.args.chooser.now x.0)
           (leb-false until (page_of p.state).now (sym c.is_over.ensures ∙ c.if-is_over.false)) x.2
@@ -163,8 +163,8 @@ returns-in_ok-idle-in-None-clause-does g c =
     λ left h. let x = does left (kept-then q.state.kept u.state.kept (work-kept idled c.in_ok-idle-in-None.ensures.does) left h) in (
       x.0,
       x.1,
-      (let P : ℕ → Type 0 = λ f. Turns g.L.Lines.keeping (g.L.Lines.seen p.lines) (from_step_three rules (calling m) until (serving g.K.Chooser.held c.args.chooser.now x.0) (state_of m p)) None WentOn
-          (record { state = around n.globals f u.state; held = serving g.K.Chooser.held c.perform_next.new.chooser left; seen = g.L.Lines.seen u.lines }) in
+      (let P : ℕ → Type 0 = λ f. Turns g.L.Lines.keeping (shown g.L.Lines.seen p) (from_step_three rules (calling m) until (serving g.K.Chooser.held c.args.chooser.now x.0) (state_of m p)) None WentOn
+          (record { state = around n.globals f u.state; held = serving g.K.Chooser.held c.perform_next.new.chooser left; shown = shown g.L.Lines.seen u }) in
           subst P (sym c.in_ok-idle-in-None.ensures.fuel)
           (task-then rules (calling m) (calling-adds m) until m.globals p.fuel p.state (serving g.K.Chooser.held c.args.chooser.now x.0)
           (leb-false until (page_of p.state).now (sym c.is_over.ensures ∙ c.if-is_over.false)) x.2

@@ -10,7 +10,7 @@ use Rattle.loop_turn.specs.Outcomes.{Finished, AtReading, Turns}
 use Rattle.loop_turn.specs.RunRules.{run_rules}
 use Rattle.loop_turn.specs.RunStops.{run_stop_of, stop_fault, stop_outcome}
 use Rattle.loop_turn.specs.Waiting.{items_taken}
-use Rattle.loop_turn.specs.TurnActs.{holding, reached, serving, next_seen}
+use Rattle.loop_turn.specs.TurnActs.{holding, reached, serving, next_seen, shown}
 use Rattle.loop_turn.specs.declared.run_stop.RunStop.TheVariants as stop
 use Rattle.loop_turn.proofs.TurnSteps.{Turns-same}
 use Rattle.loop_turn.proofs.ChoiceSteps.{reading-given, reading-refused, serving-as, with_clock, Turns-as}
@@ -29,7 +29,7 @@ waits-init g c = record {
   refusals = refl;
   readings = refl;
   fuel = refl;
-  waits = starts-waits g.L.Lines.keeping (run_rules g.C.Clock.rule g.K.Chooser.rule) (calling c.args.machine.now) c.args.until.0 (holding g.C.Clock.held g.K.Chooser.held c.args.clock.now c.args.chooser.now) (g.L.Lines.seen c.args.page.now.lines) (state_of c.args.machine.now c.args.page.now);
+  waits = starts-waits g.L.Lines.keeping (run_rules g.C.Clock.rule g.K.Chooser.rule) (calling c.args.machine.now) c.args.until.0 (holding g.C.Clock.held g.K.Chooser.held c.args.clock.now c.args.chooser.now) (shown g.L.Lines.seen c.args.page.now) (state_of c.args.machine.now c.args.page.now);
 }
 
 pub returns-in_err-take_items-clause-does : goal.returns-in_err-take_items-clause-does
@@ -37,7 +37,7 @@ returns-in_err-take_items-clause-does g c =
     let why = c.in_err-take_items.field-0.0 in
     turn-fault c.args.page.now.state.kept c.take_items.new.page.state.kept (all (run_rules g.C.Clock.rule g.K.Chooser.rule) (calling c.args.machine.now) (calling-adds c.args.machine.now) c.args.until.0 c.args.machine.now.globals c.waits.page.fuel c.waits.page.state c.waits.invariant.waits) (λ left. (reached g.L.Lines.seen c.waits.machine c.take_items.new.page (holding g.C.Clock.held g.K.Chooser.held c.waits.clock c.waits.chooser left))) c.from_residual.result (run_stop_of why) c.from_residual.ensures.1
     (λ first left. act-exit items_taken
-    (λ w. Turns g.L.Lines.keeping (g.L.Lines.seen c.args.page.now.lines) (all (run_rules g.C.Clock.rule g.K.Chooser.rule) (calling c.args.machine.now) (calling-adds c.args.machine.now) c.args.until.0 c.args.machine.now.globals c.waits.page.fuel c.waits.page.state c.waits.invariant.waits first) w (stop_outcome (run_stop_of why)) (reached g.L.Lines.seen c.waits.machine c.take_items.new.page (holding g.C.Clock.held g.K.Chooser.held c.waits.clock c.waits.chooser left)))
+    (λ w. Turns g.L.Lines.keeping (shown g.L.Lines.seen c.args.page.now) (all (run_rules g.C.Clock.rule g.K.Chooser.rule) (calling c.args.machine.now) (calling-adds c.args.machine.now) c.args.until.0 c.args.machine.now.globals c.waits.page.fuel c.waits.page.state c.waits.invariant.waits first) w (stop_outcome (run_stop_of why)) (reached g.L.Lines.seen c.waits.machine c.take_items.new.page (holding g.C.Clock.held g.K.Chooser.held c.waits.clock c.waits.chooser left)))
     why c.in_err-take_items.ensures.does c.in_err-take_items.ensures.stops
     (λ fault h. stop-items (run_rules g.C.Clock.rule g.K.Chooser.rule) (calling c.args.machine.now) (calling-adds c.args.machine.now) c.args.until.0 c.args.machine.now.globals c.waits.page.fuel c.waits.page.state c.waits.invariant.waits first (stop_outcome (run_stop_of why)) (state_of c.waits.machine c.take_items.new.page) (holding g.C.Clock.held g.K.Chooser.held c.waits.clock c.waits.chooser left) h))
 
@@ -52,7 +52,7 @@ returns-in_err-find_next-clause-does g c =
     let why = c.in_err-find_next.field-0.0 in
     turn-fault c.args.page.now.state.kept c.take_items.new.page.state.kept (all (run_rules g.C.Clock.rule g.K.Chooser.rule) (calling c.args.machine.now) (calling-adds c.args.machine.now) c.args.until.0 c.args.machine.now.globals c.waits.page.fuel c.waits.page.state c.waits.invariant.waits) (λ left. (reached g.L.Lines.seen c.waits.machine c.take_items.new.page (holding g.C.Clock.held g.K.Chooser.held c.waits.clock c.waits.chooser left))) c.from_residual-in_err-find_next.result (run_stop_of why) c.from_residual-in_err-find_next.ensures.1
     (λ first left.
-    let P : PageStop → Type 0 = λ w. Turns g.L.Lines.keeping (g.L.Lines.seen c.args.page.now.lines) (all (run_rules g.C.Clock.rule g.K.Chooser.rule) (calling c.args.machine.now) (calling-adds c.args.machine.now) c.args.until.0 c.args.machine.now.globals c.waits.page.fuel c.waits.page.state c.waits.invariant.waits first) (stop_fault (run_stop_of w)) (stop_outcome (run_stop_of w)) (reached g.L.Lines.seen c.waits.machine c.take_items.new.page (holding g.C.Clock.held g.K.Chooser.held c.waits.clock c.waits.chooser left)) in
+    let P : PageStop → Type 0 = λ w. Turns g.L.Lines.keeping (shown g.L.Lines.seen c.args.page.now) (all (run_rules g.C.Clock.rule g.K.Chooser.rule) (calling c.args.machine.now) (calling-adds c.args.machine.now) c.args.until.0 c.args.machine.now.globals c.waits.page.fuel c.waits.page.state c.waits.invariant.waits first) (stop_fault (run_stop_of w)) (stop_outcome (run_stop_of w)) (reached g.L.Lines.seen c.waits.machine c.take_items.new.page (holding g.C.Clock.held g.K.Chooser.held c.waits.clock c.waits.chooser left)) in
     subst P (sym c.in_err-find_next.ensures.memory)
     (stop-memory (run_rules g.C.Clock.rule g.K.Chooser.rule) (calling c.args.machine.now) (calling-adds c.args.machine.now) c.args.until.0 c.args.machine.now.globals c.waits.page.fuel c.waits.page.state c.waits.invariant.waits c.take_items.new.page.state (g.L.Lines.seen c.take_items.new.page.lines) c.in_ok-take_items.ensures.does first (stop_outcome stop.OutOfMemory) (state_of c.waits.machine c.take_items.new.page) (holding g.C.Clock.held g.K.Chooser.held c.waits.clock c.waits.chooser left)))
 
@@ -93,7 +93,7 @@ returns-in_err-finish-in-End-clause-does g c =
     let why = c.in_err-finish-in-End.field-0.0 in
     turn-fault c.args.page.now.state.kept c.finish.new.self.state.kept (all (run_rules g.C.Clock.rule g.K.Chooser.rule) (calling c.args.machine.now) (calling-adds c.args.machine.now) c.args.until.0 c.args.machine.now.globals c.waits.page.fuel c.waits.page.state c.waits.invariant.waits) (λ left. (reached g.L.Lines.seen c.waits.machine c.finish.new.self (holding g.C.Clock.held g.K.Chooser.held c.waits.clock c.waits.chooser left))) c.from_residual-in_err-finish-in-End.result (run_stop_of why) c.from_residual-in_err-finish-in-End.ensures.1
     (λ first left. act-exit (run_ended c.args.until.0 c.in-End.end)
-    (λ w. Turns g.L.Lines.keeping (g.L.Lines.seen c.args.page.now.lines) (all (run_rules g.C.Clock.rule g.K.Chooser.rule) (calling c.args.machine.now) (calling-adds c.args.machine.now) c.args.until.0 c.args.machine.now.globals c.waits.page.fuel c.waits.page.state c.waits.invariant.waits first) w (stop_outcome (run_stop_of why)) (reached g.L.Lines.seen c.waits.machine c.finish.new.self (holding g.C.Clock.held g.K.Chooser.held c.waits.clock c.waits.chooser left)))
+    (λ w. Turns g.L.Lines.keeping (shown g.L.Lines.seen c.args.page.now) (all (run_rules g.C.Clock.rule g.K.Chooser.rule) (calling c.args.machine.now) (calling-adds c.args.machine.now) c.args.until.0 c.args.machine.now.globals c.waits.page.fuel c.waits.page.state c.waits.invariant.waits first) w (stop_outcome (run_stop_of why)) (reached g.L.Lines.seen c.waits.machine c.finish.new.self (holding g.C.Clock.held g.K.Chooser.held c.waits.clock c.waits.chooser left)))
     why (rw (c.in_ok-take_items.ensures.setting.until ∙ c.waits.invariant.ready.ends) at c.in_err-finish-in-End.ensures.does) c.in_err-finish-in-End.ensures.stops
     (λ fault h. stop-end (run_rules g.C.Clock.rule g.K.Chooser.rule) (calling c.args.machine.now) (calling-adds c.args.machine.now) c.args.until.0 c.args.machine.now.globals c.waits.page.fuel c.waits.page.state c.waits.invariant.waits c.take_items.new.page.state (g.L.Lines.seen c.take_items.new.page.lines) c.in_ok-take_items.ensures.does first c.in-End.end (sym (ap next_seen c.in-End.is) ∙ c.in_ok-find_next.ensures.next) (stop_outcome (run_stop_of why)) (state_of c.waits.machine c.finish.new.self) (holding g.C.Clock.held g.K.Chooser.held c.waits.clock c.waits.chooser left) h))
 
@@ -112,7 +112,7 @@ returns-in-End-clause-does g c =
       left,
       kept-then c.args.page.now.state.kept u.state.kept kept left h,
       rw (c.waits.invariant.machine, c.waits.invariant.chooser)
-          (let P : ℕ → Type 0 = λ n. Turns g.L.Lines.keeping (g.L.Lines.seen c.args.page.now.lines) (all (run_rules g.C.Clock.rule g.K.Chooser.rule) (calling c.args.machine.now) (calling-adds c.args.machine.now) c.args.until.0 c.args.machine.now.globals c.waits.page.fuel c.waits.page.state c.waits.invariant.waits left) None (Finished c.in-End.end) (record { state = around c.args.machine.now.globals n u.state; held = holding g.C.Clock.held g.K.Chooser.held c.waits.clock c.args.chooser.now left; seen = g.L.Lines.seen u.lines }) in
+          (let P : ℕ → Type 0 = λ n. Turns g.L.Lines.keeping (shown g.L.Lines.seen c.args.page.now) (all (run_rules g.C.Clock.rule g.K.Chooser.rule) (calling c.args.machine.now) (calling-adds c.args.machine.now) c.args.until.0 c.args.machine.now.globals c.waits.page.fuel c.waits.page.state c.waits.invariant.waits left) None (Finished c.in-End.end) (record { state = around c.args.machine.now.globals n u.state; held = holding g.C.Clock.held g.K.Chooser.held c.waits.clock c.args.chooser.now left; shown = shown g.L.Lines.seen u }) in
           subst P (sym (c.in_ok-finish-in-End.ensures.fuel ∙ c.in_ok-take_items.ensures.fuel))
           (goes-end (run_rules g.C.Clock.rule g.K.Chooser.rule) (calling c.args.machine.now) (calling-adds c.args.machine.now) c.args.until.0 c.args.machine.now.globals c.waits.page.fuel c.waits.page.state c.waits.invariant.waits c.take_items.new.page.state (g.L.Lines.seen c.take_items.new.page.lines) c.in_ok-take_items.ensures.does left c.in-End.end (sym (ap next_seen c.in-End.is) ∙ c.in_ok-find_next.ensures.next) fin)),
     )
@@ -134,7 +134,7 @@ returns-in_err-reading-in-Wait-clause-does g c =
     let kept = work-kept items_taken c.in_ok-take_items.ensures.does ∙ c.waits.invariant.kept in
     turn-kept c.args.page.now.state.kept mid.state.kept (all (run_rules g.C.Clock.rule g.K.Chooser.rule) (calling c.args.machine.now) (calling-adds c.args.machine.now) c.args.until.0 c.args.machine.now.globals c.waits.page.fuel c.waits.page.state c.waits.invariant.waits) (λ left. (reached g.L.Lines.seen c.waits.machine mid (holding g.C.Clock.held g.K.Chooser.held c.wait.new.self c.waits.chooser left))) c.from_residual-in_err-reading-in-Wait.result stop.NoReading c.from_residual-in_err-reading-in-Wait.ensures.1 kept
     (λ answers. rw (c.waits.invariant.machine, c.waits.invariant.chooser, reading.1)
-    (let P : ℕ → Type 0 = λ n. Turns g.L.Lines.keeping (g.L.Lines.seen c.args.page.now.lines) (all (run_rules g.C.Clock.rule g.K.Chooser.rule) (calling c.args.machine.now) (calling-adds c.args.machine.now) c.args.until.0 c.args.machine.now.globals c.waits.page.fuel c.waits.page.state c.waits.invariant.waits answers) None AtReading (record { state = around c.args.machine.now.globals n mid.state; held = holding g.C.Clock.held g.K.Chooser.held c.waits.clock c.args.chooser.now answers; seen = g.L.Lines.seen mid.lines }) in
+    (let P : ℕ → Type 0 = λ n. Turns g.L.Lines.keeping (shown g.L.Lines.seen c.args.page.now) (all (run_rules g.C.Clock.rule g.K.Chooser.rule) (calling c.args.machine.now) (calling-adds c.args.machine.now) c.args.until.0 c.args.machine.now.globals c.waits.page.fuel c.waits.page.state c.waits.invariant.waits answers) None AtReading (record { state = around c.args.machine.now.globals n mid.state; held = holding g.C.Clock.held g.K.Chooser.held c.waits.clock c.args.chooser.now answers; shown = shown g.L.Lines.seen mid }) in
     subst P (sym c.in_ok-take_items.ensures.fuel)
     (stop-reading (run_rules g.C.Clock.rule g.K.Chooser.rule) (calling c.args.machine.now) (calling-adds c.args.machine.now) c.args.until.0 c.args.machine.now.globals c.waits.page.fuel c.waits.page.state c.waits.invariant.waits c.take_items.new.page.state (g.L.Lines.seen c.take_items.new.page.lines) c.in_ok-take_items.ensures.does c.in-Wait.target.0 (sym (ap next_seen c.in-Wait.is) ∙ c.in_ok-find_next.ensures.next) answers
     (reading-refused g.C.Clock.rule g.K.Chooser.rule (holding g.C.Clock.held g.K.Chooser.held c.waits.clock c.args.chooser.now answers) c.in-Wait.target.0 reading.0))))
@@ -160,7 +160,7 @@ returns-in_err-mark_wait-in-Wait-clause-does g c =
     let why = c.in_err-mark_wait-in-Wait.field-0.0 in
     turn-fault c.args.page.now.state.kept c.mark_wait.new.self.state.kept (all (run_rules g.C.Clock.rule g.K.Chooser.rule) (calling c.args.machine.now) (calling-adds c.args.machine.now) c.args.until.0 c.args.machine.now.globals c.waits.page.fuel c.waits.page.state c.waits.invariant.waits) (λ left. (reached g.L.Lines.seen c.waits.machine c.mark_wait.new.self (holding g.C.Clock.held g.K.Chooser.held c.wait.new.self c.waits.chooser left))) c.from_residual-in_err-mark_wait-in-Wait.result (run_stop_of why) c.from_residual-in_err-mark_wait-in-Wait.ensures.1
     (λ first left. act-exit (emit (Wait c.in-Wait.target.0))
-    (λ w. Turns g.L.Lines.keeping (g.L.Lines.seen c.args.page.now.lines) (all (run_rules g.C.Clock.rule g.K.Chooser.rule) (calling c.args.machine.now) (calling-adds c.args.machine.now) c.args.until.0 c.args.machine.now.globals c.waits.page.fuel c.waits.page.state c.waits.invariant.waits first) w (stop_outcome (run_stop_of why)) (reached g.L.Lines.seen c.waits.machine c.mark_wait.new.self (holding g.C.Clock.held g.K.Chooser.held c.wait.new.self c.waits.chooser left)))
+    (λ w. Turns g.L.Lines.keeping (shown g.L.Lines.seen c.args.page.now) (all (run_rules g.C.Clock.rule g.K.Chooser.rule) (calling c.args.machine.now) (calling-adds c.args.machine.now) c.args.until.0 c.args.machine.now.globals c.waits.page.fuel c.waits.page.state c.waits.invariant.waits first) w (stop_outcome (run_stop_of why)) (reached g.L.Lines.seen c.waits.machine c.mark_wait.new.self (holding g.C.Clock.held g.K.Chooser.held c.wait.new.self c.waits.chooser left)))
     why c.in_err-mark_wait-in-Wait.ensures.does c.in_err-mark_wait-in-Wait.ensures.stops
     (λ fault h. stop-wait (run_rules g.C.Clock.rule g.K.Chooser.rule) (calling c.args.machine.now) (calling-adds c.args.machine.now) c.args.until.0 c.args.machine.now.globals c.waits.page.fuel c.waits.page.state c.waits.invariant.waits c.take_items.new.page.state (g.L.Lines.seen c.take_items.new.page.lines) c.in_ok-take_items.ensures.does c.in-Wait.target.0 (sym (ap next_seen c.in-Wait.is) ∙ c.in_ok-find_next.ensures.next) c.in_ok-reading-in-Wait.reading.0 (holding g.C.Clock.held g.K.Chooser.held c.wait.new.self c.args.chooser.now) (λ answers. reading-given g.C.Clock.rule g.K.Chooser.rule (holding g.C.Clock.held g.K.Chooser.held c.waits.clock c.args.chooser.now answers) c.in-Wait.target.0 c.in_ok-reading-in-Wait.reading.0 (g.C.Clock.held c.wait.new.self) c.in_ok-reading-in-Wait.ensures.reading c.in_ok-reading-in-Wait.ensures.legal.0 c.in_ok-reading-in-Wait.ensures.legal.1) first (stop_outcome (run_stop_of why)) (state_of c.waits.machine c.mark_wait.new.self) (holding g.C.Clock.held g.K.Chooser.held c.wait.new.self c.waits.chooser left) (rw c.set_now.ensures at h)))
 

@@ -1,7 +1,7 @@
 use Rattle.std.proofs.Common.{◌≡◌, ◌-◌}
 use Rattle.page_host.specs.Moments.{state_of, calling}
 use Rattle.loop_turn.specs.RunRules.{run_rules}
-use Rattle.loop_turn.specs.TurnActs.{CanTurn, holding}
+use Rattle.loop_turn.specs.TurnActs.{CanTurn, holding, shown}
 use Rattle.loop_turn.proofs.Loops.{WaitsOn}
 use Rattle.loop_turn.proofs.turn.turn.Given as goal
 
@@ -17,8 +17,8 @@ invariant-waits g l = record {
   fuel : l.page.fuel ≡ l.initial.page.fuel;
   waits : WaitsOn g.L.Lines.keeping (run_rules g.C.Clock.rule g.K.Chooser.rule) (calling l.initial.machine) l.until.0
       (holding g.C.Clock.held g.K.Chooser.held l.initial.clock l.initial.chooser) (holding g.C.Clock.held g.K.Chooser.held l.clock l.initial.chooser)
-      (g.L.Lines.seen l.initial.page.lines) (state_of l.initial.machine l.initial.page)
-      (g.L.Lines.seen l.page.lines) l.page.state.script.now (state_of l.initial.machine l.page);
+      (shown g.L.Lines.seen l.initial.page) (state_of l.initial.machine l.initial.page)
+      (shown g.L.Lines.seen l.page) l.page.state.script.now (state_of l.initial.machine l.page);
 }
 
 abbrev pub decreases-waits : goal.decreases-waits

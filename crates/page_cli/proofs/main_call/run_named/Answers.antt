@@ -5,7 +5,7 @@ use Rattle.page_cli.proofs.MissingLemmas.{script-missing, arrivals-missing, all-
 use Rattle.page_cli.proofs.main_call.run_named.Goals as goal
 
 pub returns-in-Err-clause-answers : goal.returns-in-Err-clause-answers
-returns-in-Err-clause-answers g c = rw (c.with.ensures, c.unread.ensures) (told-script _ _ c.in-Err.fault _ _ _ c.in-Err.ensures.content)
+returns-in-Err-clause-answers g c = rw (c.with.ensures, c.unread.ensures) (told-script _ c.in-Err.fault _ _ _ c.in-Err.ensures.content)
 
 pub returns-in-Err-clause-missing : goal.returns-in-Err-clause-missing
 returns-in-Err-clause-missing g c =

@@ -2,7 +2,7 @@ use Rattle.page_cli.proofs.AnswerLemmas.{files-answers, refused-answers}
 use Rattle.page_cli.proofs.running.run_files.Goals as goal
 
 pub returns-in-Err-clause-answers : goal.returns-in-Err-clause-answers
-returns-in-Err-clause-answers g c = refused-answers _ _ _ _ _ _ c.requires.script c.requires.arrivals c.in-Err.ensures.refused
+returns-in-Err-clause-answers g c = refused-answers _ _ _ _ _ c.requires.script c.requires.arrivals c.in-Err.ensures.refused
 
 pub returns-in-Ok-clause-answers : goal.returns-in-Ok-clause-answers
 returns-in-Ok-clause-answers g c =

@@ -30,7 +30,7 @@ returns-in_default g c =
 
 pub returns-then-number-eq0 : goal.returns-then-number-eq0
 returns-then-number-eq0 g c =
-    Answers-wants g.L.Lines.keeping (settle_own (λ n v. settle n (settled_seen c.args.how)) (seen c.args.promise.now) UnitValue) c.args.page.now c.args.page.now (g.L.Lines.seen c.args.lines.now)
+    Answers-wants g.L.Lines.keeping (settle_own (λ n v. settle n (settled_seen c.args.how)) (seen c.args.promise.now) UnitValue) c.args.page.now c.args.page.now (g.L.Lines.seen c.args.lines.now) refl
 
 pub returns-then-not-is_script_promise : goal.returns-then-not-is_script_promise
 returns-then-not-is_script_promise g c =

@@ -1,4 +1,4 @@
-use Rattle.std.proofs.Common.{ℕ, List, length, map, sym, ◌∙◌, ap, subst, Option}
+use Rattle.std.proofs.Common.{refl, ℕ, List, length, map, sym, ◌∙◌, ap, subst, Option}
 use Rattle.std.specs.Prelude.{IfSome}
 use Rattle.std.specs.Option.{option_map}
 use Rattle.page_values.specs.Seen.{seen}
@@ -19,11 +19,11 @@ pure_op-requires-clause-numbered g c =
 
 pub returns-in_default-clause-answer : goal.returns-in_default-clause-answer
 returns-in_default-clause-answer g c = λ w lines.
-    Answers-wants g.L.Lines.keeping (operation w c.args.op (map seen c.args.args.items)) c.args.page.now c.args.page.now lines
+    Answers-wants g.L.Lines.keeping (operation w c.args.op (map seen c.args.args.items)) c.args.page.now c.args.page.now lines refl
 
 pub returns-in_default-answer-clause-answer : goal.returns-in_default-answer-clause-answer
 returns-in_default-answer-clause-answer g c = λ w lines.
-    Answers-wants g.L.Lines.keeping (operation w c.args.op (map seen c.args.args.items)) c.args.page.now c.args.page.now lines
+    Answers-wants g.L.Lines.keeping (operation w c.args.op (map seen c.args.args.items)) c.args.page.now c.args.page.now lines refl
 
 pub returns-clause-answer : goal.returns-clause-answer
 returns-clause-answer g c = λ w lines.

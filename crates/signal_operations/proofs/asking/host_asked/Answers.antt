@@ -1,4 +1,4 @@
-use Rattle.std.proofs.Common.{sym, ◌∙◌}
+use Rattle.std.proofs.Common.{refl, sym, ◌∙◌}
 use Rattle.std.proofs.Math.Facts.{to_z-of_z}
 use Rattle.page_model.specs.Operations.{host_asked}
 use Rattle.page_state.specs.PageActs.{at}
@@ -12,7 +12,7 @@ returns-then-not-takes g c =
     (sym (rw (to_z-of_z c.ranges.k, to_z-of_z c.ranges.x) at c.takes.ensures) ∙ c.if-not-takes.true) c.reject_fault.ensures
 
 pub returns-in_default : goal.returns-in_default
-returns-in_default g c = Answers-wants g.L.Lines.keeping (host_asked c.args.k c.args.x c.args.signal) c.args.page.now c.args.page.now (g.L.Lines.seen c.args.lines.now)
+returns-in_default g c = Answers-wants g.L.Lines.keeping (host_asked c.args.k c.args.x c.args.signal) c.args.page.now c.args.page.now (g.L.Lines.seen c.args.lines.now) refl
 
 pub returns : goal.returns
 returns g c =

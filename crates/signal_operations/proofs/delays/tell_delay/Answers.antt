@@ -1,4 +1,4 @@
-use Rattle.std.proofs.Common.{◌≡◌, ℕ, ◌+◌, ◌*◌, ap, arith}
+use Rattle.std.proofs.Common.{refl, ◌≡◌, ℕ, ◌+◌, ◌*◌, ap, arith}
 use Rattle.page_types.specs.Events.{Arm}
 use Rattle.page_model.specs.State.{emit}
 use Rattle.page_state.specs.Standing.{page_of}
@@ -8,7 +8,7 @@ use Rattle.signal_operations.proofs.delays.tell_delay.Goals as goal
 
 pub returns-in_default : goal.returns-in_default
 returns-in_default g c =
-    Does-wants g.L.Lines.keeping (λ p. emit (Arm c.args.registration (p.now + c.args.ms * 1000) 0) p) c.args.page.now c.args.page.now (g.L.Lines.seen c.args.lines.now)
+    Does-wants g.L.Lines.keeping (λ p. emit (Arm c.args.registration (p.now + c.args.ms * 1000) 0) p) c.args.page.now c.args.page.now (g.L.Lines.seen c.args.lines.now) refl
 
 pub returns : goal.returns
 returns g c =

@@ -9,7 +9,7 @@ use Rattle.page_model.specs.State.{Page, State}
 use Rattle.page_model.specs.Operations.{answers, make_any, signal_left, signal_value, signals_in, where_left, with_signals}
 use Rattle.page_state.specs.PageActs.{at, changed_by}
 use Rattle.page_state.proofs.Acting.{Does-silent}
-use Rattle.page_answers.proofs.Choosing.{Answers-given, Answers-left, Answers-none_left, Answers-not_given, Answers-wanted}
+use Rattle.page_answers.proofs.Choosing.{Answers-given, Answers-left, Answers-none_left, Answers-not_given, Answers-wanted, Answers-wanting}
 use Rattle.signal_operations.proofs.Answered.{Answers-made}
 use Rattle.signal_operations.proofs.making.any_signal.Goals as goal
 
@@ -19,7 +19,7 @@ depending_on ss m = where_left (signal_left m.host) m (answers signal_value (wit
 
 pub returns-in_err-of : goal.returns-in_err-of
 returns-in_err-of g c =
-    Answers-wanted g.L.Lines.keeping (make_any (seen c.args.list)) c.args.page.now c.args.page.now _ _ c.from_residual.ensures.1 c.in_err-of.ensures.memory
+    Answers-wanting g.L.Lines.keeping (make_any (seen c.args.list)) c.args.page.now _ _ c.from_residual.ensures.1 c.in_err-of.ensures.memory
 
 pub returns-in_default : goal.returns-in_default
 returns-in_default g c =

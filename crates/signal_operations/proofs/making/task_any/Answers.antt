@@ -11,7 +11,7 @@ use Rattle.page_model.specs.Operations.{any_following, any_with_priority, make_t
 use Rattle.page_state.specs.Standing.{page_of}
 use Rattle.page_state.specs.PageActs.{at}
 use Rattle.page_answers.proofs.Answering.{Answers-is}
-use Rattle.page_answers.proofs.Choosing.{Answers-given, Answers-not_given, Answers-wanted}
+use Rattle.page_answers.proofs.Choosing.{Answers-given, Answers-not_given, Answers-wanting}
 use Rattle.signal_operations.proofs.making.task_any.Goals as goal
 
 -- what is done with the signals, where the other argument names this priority
@@ -24,7 +24,7 @@ depending_on x ss = with_priority (priority_in x) x ss
 
 pub returns-in_err-of : goal.returns-in_err-of
 returns-in_err-of g c =
-    Answers-wanted g.L.Lines.keeping (make_task_any (seen c.args.list) (seen c.args.priority)) c.args.page.now c.args.page.now _ _ c.from_residual.ensures.1 c.in_err-of.ensures.memory
+    Answers-wanting g.L.Lines.keeping (make_task_any (seen c.args.list) (seen c.args.priority)) c.args.page.now _ _ c.from_residual.ensures.1 c.in_err-of.ensures.memory
 
 pub returns-in_default : goal.returns-in_default
 returns-in_default g c =

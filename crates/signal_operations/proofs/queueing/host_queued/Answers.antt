@@ -27,7 +27,7 @@ returns g c = λ closure is.
     let r = c.in_ok-registration.registration in
     let mid = c.promised.new.self in
     let same : mid.hosts ≡ c.args.page.now.hosts =
-    ap (λ (s : Standing). s.hosts) (c.in_ok-registration.ensures.does.state refl) ∙ promised-hosts HostKind None c.args.signal (page_of c.args.page.now) in
+    ap (λ (s : Standing). s.hosts) (c.in_ok-registration.ensures.does.acts.state refl) ∙ promised-hosts HostKind None c.args.signal (page_of c.args.page.now) in
     Does-next (promised HostKind None c.args.signal) (λ p. awaited k closure x (last_registration p) p) (awaited_last-adds k closure x) c.in_ok-registration.ensures.does
     (Does-read (λ (n : ℕ) p. awaited k closure x n p) last_registration r mid c.in_ok-registration.ensures.number
     (Does-is (answer_awaited k x r) (awaited k closure x r) (at mid (g.L.Lines.seen c.promised.new.lines))

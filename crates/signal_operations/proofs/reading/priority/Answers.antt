@@ -10,7 +10,7 @@ use Rattle.page_model.specs.State.{Page, State}
 use Rattle.page_model.specs.PageSignals.{priority_value}
 use Rattle.page_model.specs.Operations.{of_signal}
 use Rattle.page_state.specs.PageActs.{at}
-use Rattle.page_answers.proofs.Choosing.{Answers-given, Answers-not_given, Answers-wanted}
+use Rattle.page_answers.proofs.Choosing.{Answers-given, Answers-not_given, Answers-wanting}
 use Rattle.signal_operations.proofs.Answered.{Answers-read}
 use Rattle.signal_operations.proofs.reading.priority.Goals as goal
 
@@ -23,7 +23,7 @@ returns-in_default g c =
 
 pub returns-in_err-priority : goal.returns-in_err-priority
 returns-in_err-priority g c =
-    Answers-wanted g.L.Lines.keeping (of_signal (seen c.args.signal) (λ s p. priority_value (priority_of p.prios s))) c.args.page.now c.args.page.now _ _ c.from_residual.ensures.1
+    Answers-wanting g.L.Lines.keeping (of_signal (seen c.args.signal) (λ s p. priority_value (priority_of p.prios s))) c.args.page.now _ _ c.from_residual.ensures.1
     c.in_err-priority.ensures.memory
 
 pub returns : goal.returns

@@ -8,7 +8,7 @@ use Rattle.page_model.specs.State.{Page, State}
 use Rattle.page_model.specs.PageSignals.{reason_value}
 use Rattle.page_model.specs.Operations.{of_signal}
 use Rattle.page_state.specs.PageActs.{at}
-use Rattle.page_answers.proofs.Choosing.{Answers-given, Answers-not_given, Answers-wanted}
+use Rattle.page_answers.proofs.Choosing.{Answers-given, Answers-not_given, Answers-wanting}
 use Rattle.signal_operations.proofs.Answered.{Answers-read}
 use Rattle.signal_operations.proofs.reading.reason.Goals as goal
 
@@ -21,7 +21,7 @@ returns-in_default g c =
 
 pub returns-in_err-reason : goal.returns-in_err-reason
 returns-in_err-reason g c =
-    Answers-wanted g.L.Lines.keeping (of_signal (seen c.args.signal) (λ s p. reason_value p s)) c.args.page.now c.args.page.now _ _ c.from_residual.ensures.1 c.in_err-reason.ensures.memory
+    Answers-wanting g.L.Lines.keeping (of_signal (seen c.args.signal) (λ s p. reason_value p s)) c.args.page.now _ _ c.from_residual.ensures.1 c.in_err-reason.ensures.memory
 
 pub returns : goal.returns
 returns g c =

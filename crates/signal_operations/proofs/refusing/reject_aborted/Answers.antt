@@ -8,13 +8,13 @@ use Rattle.page_model.specs.Operations.{rejected_with, source_reason}
 use Rattle.page_state.specs.Standing.{page_of}
 use Rattle.page_state.specs.PageActs.{at}
 use Rattle.page_answers.proofs.Answering.{Answers-is}
-use Rattle.page_answers.proofs.Choosing.{Answers-wanted}
+use Rattle.page_answers.proofs.Choosing.{Answers-wanting}
 use Rattle.signal_operations.proofs.refusing.reject_aborted.Goals as goal
 
 pub returns-in_err-reason : goal.returns-in_err-reason
 returns-in_err-reason g c =
     let f : State → Done Page = λ m. rejected_with (source_reason m.host c.args.signal) m in
-    Answers-wanted g.L.Lines.keeping f c.args.page.now c.args.page.now _ _ c.from_residual.ensures.1 c.in_err-reason.ensures.memory
+    Answers-wanting g.L.Lines.keeping f c.args.page.now _ _ c.from_residual.ensures.1 c.in_err-reason.ensures.memory
 
 pub returns : goal.returns
 returns g c =

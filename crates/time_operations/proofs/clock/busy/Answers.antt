@@ -1,4 +1,4 @@
-use Rattle.std.proofs.Common.{◌≡◌, ◌+◌, SFits, w64, rules, arith}
+use Rattle.std.proofs.Common.{refl, ◌≡◌, ◌+◌, SFits, w64, rules, arith}
 use Rattle.std.proofs.Math.Facts.{to_z-of_z}
 use Rattle.std.specs.Prelude.{unsigned_abs}
 use Rattle.page_answers.proofs.Answering.{Answers-wants}
@@ -16,7 +16,7 @@ returns-then-not-is_within g c =
     busy-outside g.L.Lines.keeping (seen c.args.span) c.args.page.now _ c.in-Some.span c.throw-then-not-is_within.result c.in-Some.ensures c.if-not-is_within.true (rw (to_z-of_z fits) at c.is_within.ensures) c.throw-then-not-is_within.ensures
 
 pub returns-in_default-checked_add : goal.returns-in_default-checked_add
-returns-in_default-checked_add g c = Answers-wants g.L.Lines.keeping (busy (seen c.args.span)) c.args.page.now c.args.page.now _
+returns-in_default-checked_add g c = Answers-wants g.L.Lines.keeping (busy (seen c.args.span)) c.args.page.now c.args.page.now _ refl
 
 pub returns : goal.returns
 returns g c =

@@ -1,4 +1,4 @@
-use Rattle.std.proofs.Common.{pos, ap, ◌∙◌}
+use Rattle.std.proofs.Common.{refl, pos, ap, ◌∙◌}
 use Rattle.page_types.specs.Values.{IntValue}
 use Rattle.lang_meaning.specs.HostSteps.{StepValue}
 use Rattle.page_state.specs.PageActs.{at}
@@ -13,4 +13,4 @@ returns-in-Some g c =
     (c.give.ensures ∙ ap StepValue (c.in-Some.ensures ∙ ap (λ n. IntValue (pos n)) c.now.ensures))
 
 pub returns-in-None : goal.returns-in-None
-returns-in-None g c = Answers-wants g.L.Lines.keeping now_given c.args.page.now c.args.page.now _
+returns-in-None g c = Answers-wants g.L.Lines.keeping now_given c.args.page.now c.args.page.now _ refl

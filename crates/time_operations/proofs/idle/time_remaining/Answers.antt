@@ -1,4 +1,4 @@
-use Rattle.std.proofs.Common.{Option, ℕ, pos, ap, ◌∙◌}
+use Rattle.std.proofs.Common.{refl, Option, ℕ, pos, ap, ◌∙◌}
 use Rattle.page_types.specs.Values.{IntValue}
 use Rattle.page_types.specs.declared.FaultName.TheVariants.{TypeError}
 use Rattle.page_parts.specs.Kinds.{deadline_in}
@@ -29,4 +29,4 @@ returns-in-Some-long_number g c =
     (c.give.ensures ∙ ap StepValue (c.in-Some-long_number.ensures ∙ ap (λ n. IntValue (pos n)) (c.time_remaining.ensures ∙ ap (λ t. time_remaining t (page_of c.args.page.now)) c.moment_at.ensures))))
 
 pub returns : goal.returns
-returns g c = Answers-wants g.L.Lines.keeping (remaining (seen c.args.deadline)) c.args.page.now c.args.page.now _
+returns g c = Answers-wants g.L.Lines.keeping (remaining (seen c.args.deadline)) c.args.page.now c.args.page.now _ refl

@@ -1,4 +1,4 @@
-use Rattle.std.proofs.Common.{ap, ◌+◌}
+use Rattle.std.proofs.Common.{refl, ap, ◌+◌}
 use Rattle.std.proofs.Math.Facts.{to_z-of_z}
 use Rattle.page_script.specs.Seen.{function_seen}
 use Rattle.page_model.specs.Operations.{timer_set}
@@ -8,7 +8,7 @@ use Rattle.time_operations.proofs.requests.timer_set.Goals as goal
 
 pub returns-then-made : goal.returns-then-made
 returns-then-made g c =
-    Does-wants g.L.Lines.keeping (timer_set c.args.kind c.args.repeats (function_seen c.args.callback) c.args.timeout) c.args.page.now c.args.page.now _
+    Does-wants g.L.Lines.keeping (timer_set c.args.kind c.args.repeats (function_seen c.args.callback) c.args.timeout) c.args.page.now c.args.page.now _ refl
 
 pub returns-in_err-r : goal.returns-in_err-r
 returns-in_err-r g c =

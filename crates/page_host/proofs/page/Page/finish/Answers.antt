@@ -5,9 +5,9 @@ use Rattle.page_types.specs.Events.{EndLine}
 use Rattle.page_model.specs.State.{Page, emit}
 use Rattle.trace_text.specs.declared.lines.NoLine.{NoLine}
 use Rattle.trace_text.specs.Given.{Keeping, Seen}
-use Rattle.trace_text.specs.Acts.{At, Does}
+use Rattle.trace_text.specs.Acts.{At}
 use Rattle.page_state.specs.Standing.{Standing, page_of}
-use Rattle.page_state.specs.PageActs.{at, on_page, changed_by}
+use Rattle.page_state.specs.PageActs.{at, on_page, changed_by, Does}
 use Rattle.page_host.specs.PageNow.{PageNow}
 use Rattle.page_host.specs.Turning.{time_up, run_ended}
 use Rattle.page_state.proofs.Telling.{Does-told}

@@ -6,13 +6,13 @@ use Rattle.page_hosts.proofs.HostLemmas.{unfired_is, dropped_held, give_up_is}
 use Rattle.page_hosts.proofs.hosts.PageHosts.drop_closure.Goals as goal
 
 pub invariant_of-self : goal.invariant_of-self
-invariant_of-self g c = rw c.give_up.ensures.marks (dropped_held (contains nat_cmp c.self.inside.asked) (g.P.HostPort.closures c.self.inside.port) c.args.k c.self.invariant)
+invariant_of-self g c = rw c.give_up.ensures (dropped_held (contains nat_cmp c.self.inside.asked) c.self.inside.port.closures c.args.k c.self.invariant)
 
 pub returns : goal.returns
 returns g c =
     let asked = contains nat_cmp c.self.inside.asked in
-    let cs = g.P.HostPort.closures c.self.inside.port in
+    let cs = c.self.inside.port.closures in
     let unfired = unfired_is asked cs c.args.k c.self.invariant.of_port (rw (← c.self.view_is) at c.requires) in
-    let seen : List HostClosure → Hosts = λ hosts. record { closures = hosts; kept = g.P.HostPort.kept c.self.inside.port; refusals = g.P.HostPort.refusals c.self.inside.port } in
-    rw (← c.self.view_is, c.give_up.ensures.marks, c.give_up.ensures.kept, c.give_up.ensures.refused)
+    let seen : List HostClosure → Hosts = λ hosts. record { closures = hosts; at_port = c.self.inside.port.at_port; kept = c.self.inside.port.kept; refusals = c.self.inside.port.refusals } in
+    rw (← c.self.view_is, c.give_up.ensures)
     (ap seen (give_up_is asked cs c.args.k unfired))

@@ -6,6 +6,6 @@ use Rattle.page_hosts.proofs.hosts.PageHosts.is_dropped.Goals as goal
 pub returns : goal.returns
 returns g c =
     let asked = contains nat_cmp c.self.inside.asked in
-    let cs = g.P.HostPort.closures c.self.inside.port in
+    let cs = c.self.inside.port.closures in
     rw (← c.self.view_is)
     (ap not (c.live.ensures ∙ sym (undropped_is asked cs c.args.k (unfired_is asked cs c.args.k c.self.invariant.of_port (rw (← c.self.view_is) at c.requires)))))

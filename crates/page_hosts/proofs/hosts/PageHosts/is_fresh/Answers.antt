@@ -7,10 +7,10 @@ pub returns-then-live : goal.returns-then-live
 returns-then-live g c =
     let asked = contains nat_cmp c.self.inside.asked in
     rw (← c.self.view_is)
-    (ap not c.contains.ensures ∙ sym (fresh_is asked (g.P.HostPort.closures c.self.inside.port) c.args.k ∙ ap (λ b. b && not (asked c.args.k)) (sym c.live.ensures ∙ c.if-live.true)))
+    (ap not c.contains.ensures ∙ sym (fresh_is asked c.self.inside.port.closures c.args.k ∙ ap (λ b. b && not (asked c.args.k)) (sym c.live.ensures ∙ c.if-live.true)))
 
 pub returns-else-live : goal.returns-else-live
 returns-else-live g c =
     let asked = contains nat_cmp c.self.inside.asked in
     rw (← c.self.view_is)
-    (c.if-live.false ∙ sym (fresh_is asked (g.P.HostPort.closures c.self.inside.port) c.args.k ∙ ap (λ b. b && not (asked c.args.k)) (sym c.live.ensures ∙ c.if-live.false)))
+    (c.if-live.false ∙ sym (fresh_is asked c.self.inside.port.closures c.args.k ∙ ap (λ b. b && not (asked c.args.k)) (sym c.live.ensures ∙ c.if-live.false)))

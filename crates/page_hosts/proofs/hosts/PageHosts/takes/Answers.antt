@@ -9,9 +9,9 @@ returns-in-Ok g c =
     let number = rw (to_z-of_z c.ranges.k) at c.in-Ok.ensures in
     rw (← c.self.view_is)
     ((rw (to_z-of_z c.ranges.x) at c.fits.ensures)
-    ∙ takes_found (contains nat_cmp c.self.inside.asked) (g.P.HostPort.closures c.self.inside.port) c.args.k c.args.x c.in-Ok.k number.0 number.1)
+    ∙ takes_found (contains nat_cmp c.self.inside.asked) c.self.inside.port.closures c.args.k c.args.x c.in-Ok.k number.0 number.1)
 
 pub returns-in-Err : goal.returns-in-Err
 returns-in-Err g c =
     rw (← c.self.view_is)
-    (takes_not_found (contains nat_cmp c.self.inside.asked) (g.P.HostPort.closures c.self.inside.port) c.args.k c.args.x c.self.invariant.of_port.count (rw (to_z-of_z c.ranges.k) at c.in-Err.ensures))
+    (takes_not_found (contains nat_cmp c.self.inside.asked) c.self.inside.port.closures c.args.k c.args.x c.self.invariant.of_port.count (rw (to_z-of_z c.ranges.k) at c.in-Err.ensures))

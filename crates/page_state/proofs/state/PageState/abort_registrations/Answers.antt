@@ -2,7 +2,7 @@ use Rattle.std.proofs.Common.{ap, arith, length}
 use Rattle.page_values.specs.Seen.{seen}
 use Rattle.page_model.specs.PageSignals.{abort_registrations}
 use Rattle.page_state.proofs.Marking.{Does-aborted, Does-not_aborted, Does-none_left}
-use Rattle.page_state.proofs.Telling.{Does-wanted}
+use Rattle.page_state.proofs.Telling.{Does-wanted, wanted-still}
 use Rattle.page_state.proofs.state.PageState.abort_registrations.Goals as goal
 
 pub registrations-init : goal.registrations-init
@@ -11,7 +11,7 @@ registrations-init g c = λ why new h. h
 pub returns-in_err-reason : goal.returns-in_err-reason
 returns-in_err-reason g c =
     c.registrations.invariant _ _
-    (Does-wanted g.L.Lines.keeping (abort_registrations (seen c.args.reason.now) c.registrations.left) c.registrations.self c.registrations.self _ _ c.from_residual.ensures.1 c.in_err-reason.ensures.memory)
+    (Does-wanted g.L.Lines.keeping (abort_registrations (seen c.args.reason.now) c.registrations.left) c.registrations.self c.registrations.self _ _ c.from_residual.ensures.1 (wanted-still c.in_err-reason.ensures.memory))
 
 pub returns-in_err-abort_registration : goal.returns-in_err-abort_registration
 returns-in_err-abort_registration g c =

@@ -2,9 +2,9 @@ use Rattle.std.proofs.Common.{Option, length}
 use Rattle.page_values.specs.Seen.{seen}
 use Rattle.page_model.specs.PageSignals.{abort_registrations}
 use Rattle.trace_text.specs.declared.lines.NoLine.{NoLine}
-use Rattle.trace_text.specs.Acts.{At, Does}
+use Rattle.trace_text.specs.Acts.{At}
 use Rattle.page_state.specs.Standing.{Standing}
-use Rattle.page_state.specs.PageActs.{on_page, at}
+use Rattle.page_state.specs.PageActs.{on_page, at, Does}
 use Rattle.page_state.proofs.state.PageState.abort_registrations.Given as goal
 
 -- the abort steps that are left come behind those that were run

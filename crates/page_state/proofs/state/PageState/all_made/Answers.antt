@@ -1,8 +1,8 @@
 use Rattle.std.proofs.Common.{map, sym}
 use Rattle.std.proofs.lemmas.List.{length-map}
 use Rattle.page_values.specs.Seen.{seen}
-use Rattle.trace_text.proofs.Doing.{Does-last}
 use Rattle.promise_combine.specs.Seen.{kind_seen}
+use Rattle.page_state.proofs.Acting.{Does-last}
 use Rattle.page_state.proofs.Combined.{Does-all, Does-all_stops}
 use Rattle.page_state.proofs.state.PageState.all_made.Goals as goal
 

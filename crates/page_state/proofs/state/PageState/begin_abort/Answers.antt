@@ -4,7 +4,7 @@ use Rattle.page_values.specs.Seen.{seen}
 use Rattle.page_model.specs.State.{emit_each}
 use Rattle.page_model.specs.Folds.{begin_abort}
 use Rattle.page_signals.specs.Laws.{as_fold}
-use Rattle.page_state.specs.Standing.{Standing, page_of}
+use Rattle.page_state.specs.Standing.{Standing, page_of, port_of}
 use Rattle.page_state.specs.FoldActs.{abort_step, hosting_of, around}
 use Rattle.page_state.proofs.Reaching.{Reaches-more, Reaches-stop, Reaches-wants}
 use Rattle.page_state.proofs.Begun.{abort-begins}
@@ -22,7 +22,7 @@ returns-in_err-emit_aborts g c =
     let ss = c.deref.result.now in
     Reaches-stop (begin_abort c.args.s reason (page_of s)) (map as_fold s.folds) (emit_each (map Abort ss)) s mid _
     (abort-begins s mid c.args.s reason ss (c.deref.ensures.value ∙ c.in_ok-signals.ensures.signals) c.in_ok-signals.ensures.opened)
-    c.from_residual-in_err-emit_aborts.ensures.1 c.in_err-emit_aborts.ensures
+    c.from_residual-in_err-emit_aborts.ensures.1 (ap port_of c.in_ok-signals.ensures.opened) c.in_err-emit_aborts.ensures
 
 pub returns : goal.returns
 returns g c =
@@ -33,5 +33,5 @@ returns g c =
     let opened = c.in_ok-signals.ensures.opened in
     Reaches-more (begin_abort c.args.s reason (page_of s)) (map as_fold s.folds) (emit_each (map Abort ss)) s mid _
     (abort-begins s mid c.args.s reason ss (c.deref.ensures.value ∙ c.in_ok-signals.ensures.signals) opened)
-    (ap (λ (t : Standing). map as_fold (around t.folds)) opened) (ap (λ (t : Standing). t.kept) opened) (ap (λ (t : Standing). t.refusals) opened)
+    (ap (λ (t : Standing). map as_fold (around t.folds)) opened) (ap port_of opened)
     c.in_ok-emit_aborts.ensures c.reach.ensures

@@ -1,4 +1,4 @@
-use Rattle.std.proofs.Common.{◌≡◌, ap, sym, ◌∙◌, cond, Bool, ℕ, arith}
+use Rattle.std.proofs.Common.{◌≡◌, ap, sym, ◌∙◌, cond, Bool, ℕ, arith, refl}
 use Rattle.page_model.specs.PageTime.{clear_timer}
 use Rattle.page_state.specs.Standing.{page_of}
 use Rattle.page_state.specs.PageActs.{at}
@@ -24,4 +24,4 @@ returns-in-Ok g c =
     c.drop_timer.ensures
 
 pub returns-in-Err : goal.returns-in-Err
-returns-in-Err g c = Does-wants g.L.Lines.keeping (clear_timer c.args.number) c.args.self.now c.args.self.now _
+returns-in-Err g c = Does-wants g.L.Lines.keeping (clear_timer c.args.number) c.args.self.now c.args.self.now _ refl

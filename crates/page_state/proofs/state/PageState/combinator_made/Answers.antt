@@ -1,3 +1,4 @@
+use Rattle.std.proofs.Common.{refl}
 use Rattle.promise_combine.specs.Seen.{kind_seen}
 use Rattle.page_model.specs.PageCombinators.{combinator_made}
 use Rattle.page_script.proofs.Touching.{combinator_made-only}
@@ -9,7 +10,7 @@ use Rattle.page_state.proofs.state.PageState.combinator_made.Goals as goal
 
 pub returns-then-promises_made-clause-does : goal.returns-then-promises_made-clause-does
 returns-then-promises_made-clause-does g c =
-    Does-wants g.L.Lines.keeping (combinator_made (kind_seen c.args.kind) c.args.count) c.args.self.now c.args.self.now (g.L.Lines.seen c.args.lines.now)
+    Does-wants g.L.Lines.keeping (combinator_made (kind_seen c.args.kind) c.args.count) c.args.self.now c.args.self.now (g.L.Lines.seen c.args.lines.now) refl
 
 pub returns-clause-does : goal.returns-clause-does
 returns-clause-does g c =

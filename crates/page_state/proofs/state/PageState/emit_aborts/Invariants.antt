@@ -2,9 +2,9 @@ use Rattle.std.proofs.Common.{Option, map}
 use Rattle.page_types.specs.Events.{Abort}
 use Rattle.page_model.specs.State.{emit_each}
 use Rattle.trace_text.specs.declared.lines.NoLine.{NoLine}
-use Rattle.trace_text.specs.Acts.{At, Does}
+use Rattle.trace_text.specs.Acts.{At}
 use Rattle.page_state.specs.Standing.{Standing}
-use Rattle.page_state.specs.PageActs.{on_page, at}
+use Rattle.page_state.specs.PageActs.{on_page, at, Does}
 use Rattle.page_state.proofs.Marking.{lines_left}
 use Rattle.page_state.proofs.state.PageState.emit_aborts.Given as goal
 

@@ -6,16 +6,16 @@ use Rattle.page_values.specs.Seen.{seen}
 use Rattle.page_script.specs.Seen.{function_seen}
 use Rattle.page_model.specs.Operations.{finally_made}
 use Rattle.page_state.proofs.Handled.{Does-same_handlers}
-use Rattle.page_state.proofs.Telling.{Does-wanted}
+use Rattle.page_state.proofs.Telling.{Does-wanted, wanted-still}
 use Rattle.page_state.proofs.state.PageState.finally_made.Goals as goal
 
 pub returns-in_err-second_handler-clause-does : goal.returns-in_err-second_handler-clause-does
 returns-in_err-second_handler-clause-does g c =
-    Does-wanted g.L.Lines.keeping (finally_made c.args.p (seen c.args.handler)) c.args.self.now c.args.self.now _ _ c.from_residual.ensures.1 c.in_err-second_handler.ensures.memory
+    Does-wanted g.L.Lines.keeping (finally_made c.args.p (seen c.args.handler)) c.args.self.now c.args.self.now _ _ c.from_residual.ensures.1 (wanted-still c.in_err-second_handler.ensures.memory)
 
 pub returns-in_err-registration-clause-does : goal.returns-in_err-registration-clause-does
 returns-in_err-registration-clause-does g c =
-    Does-wanted g.L.Lines.keeping (finally_made c.args.p (seen c.args.handler)) c.args.self.now c.args.self.now _ _ c.from_residual-in_err-registration.ensures.1 c.in_err-registration.ensures.memory
+    Does-wanted g.L.Lines.keeping (finally_made c.args.p (seen c.args.handler)) c.args.self.now c.args.self.now _ _ c.from_residual-in_err-registration.ensures.1 (wanted-still c.in_err-registration.ensures.memory)
 
 pub returns-clause-does : goal.returns-clause-does
 returns-clause-does g c =

@@ -1,6 +1,6 @@
-use Rattle.trace_text.proofs.Doing.{Does-last}
 use Rattle.page_script.specs.Seen.{registration_seen}
 use Rattle.page_state.specs.Handling.{handlers_made}
+use Rattle.page_state.proofs.Acting.{Does-last}
 use Rattle.page_state.proofs.Handled.{Does-handlers}
 use Rattle.page_state.proofs.Telling.{Does-wanted}
 use Rattle.page_state.proofs.state.PageState.handlers_made.Goals as goal

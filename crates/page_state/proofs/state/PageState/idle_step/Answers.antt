@@ -6,7 +6,7 @@ use Rattle.page_state.proofs.Acting.{Does-next, Does-silent, Does-wants}
 use Rattle.page_state.proofs.state.PageState.idle_step.Goals as goal
 
 pub returns-then-now : goal.returns-then-now
-returns-then-now g c = Does-wants g.L.Lines.keeping idle_step c.args.self.now c.args.self.now _
+returns-then-now g c = Does-wants g.L.Lines.keeping idle_step c.args.self.now c.args.self.now _ refl
 
 pub returns : goal.returns
 returns g c =

@@ -2,18 +2,17 @@ use Rattle.std.proofs.Common.{ap, sym, refl, ◌∙◌}
 use Rattle.std.specs.Option.{option_map}
 use Rattle.page_types.specs.Events.{Ret}
 use Rattle.page_model.specs.Invoke.{call_begun, call_ended}
-use Rattle.trace_text.proofs.Doing.{Does-last}
 use Rattle.page_state.specs.Standing.{page_of}
 use Rattle.page_state.specs.CodeFolds.{called_seen}
 use Rattle.page_state.specs.FoldActs.{listener_called}
-use Rattle.page_state.proofs.Acting.{Does-next, Does-leave, Does-is}
-use Rattle.page_state.proofs.Telling.{Does-wanted}
+use Rattle.page_state.proofs.Acting.{Does-last, Does-next, Does-leave, Does-is}
+use Rattle.page_state.proofs.Telling.{Does-wanted, wanted-still}
 use Rattle.page_state.proofs.Listened.{called-none, called-some}
 use Rattle.page_state.proofs.state.PageState.listener_begun.Goals as goal
 
 pub returns-in_err-calling-clause-does : goal.returns-in_err-calling-clause-does
 returns-in_err-calling-clause-does g c =
-    Does-wanted g.L.Lines.keeping (listener_called c.args.r) c.args.self.now c.args.self.now _ _ c.from_residual.ensures.1 c.in_err-calling.ensures.memory
+    Does-wanted g.L.Lines.keeping (listener_called c.args.r) c.args.self.now c.args.self.now _ _ c.from_residual.ensures.1 (wanted-still c.in_err-calling.ensures.memory)
 
 pub returns-in_err-call_begun-clause-does : goal.returns-in_err-call_begun-clause-does
 returns-in_err-call_begun-clause-does g c =

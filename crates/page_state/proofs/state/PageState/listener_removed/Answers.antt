@@ -1,4 +1,4 @@
-use Rattle.std.proofs.Common.{◌≡◌, Bool, true, false, cond, ap, sym, ◌∙◌, ℕ, arith}
+use Rattle.std.proofs.Common.{◌≡◌, Bool, true, false, cond, ap, sym, ◌∙◌, ℕ, arith, refl}
 use Rattle.page_parts.specs.Listeners.{is_listening}
 use Rattle.page_model.specs.Operations.{listener_removed}
 use Rattle.page_state.specs.Standing.{Standing, page_of}
@@ -30,4 +30,4 @@ returns-in-Ok g c =
     c.drop_listener.ensures
 
 pub returns-in-Err : goal.returns-in-Err
-returns-in-Err g c = Does-wants g.L.Lines.keeping (listener_removed c.args.number) c.args.self.now c.args.self.now _
+returns-in-Err g c = Does-wants g.L.Lines.keeping (listener_removed c.args.number) c.args.self.now c.args.self.now _ refl

@@ -1,3 +1,4 @@
+use Rattle.std.proofs.Common.{refl}
 use Rattle.promise_core.specs.Seen.{settled_seen}
 use Rattle.page_script.specs.Marks.{settled_at_once}
 use Rattle.page_state.proofs.Handled.{settled_at_once-only}
@@ -7,7 +8,7 @@ use Rattle.page_state.proofs.Lifted.{counted-number}
 use Rattle.page_state.proofs.state.PageState.new_settled.Goals as goal
 
 pub returns-then-promises_made-clause-does : goal.returns-then-promises_made-clause-does
-returns-then-promises_made-clause-does g c = Does-wants g.L.Lines.keeping (settled_at_once (settled_seen c.args.how)) c.args.self.now c.args.self.now (g.L.Lines.seen c.args.lines.now)
+returns-then-promises_made-clause-does g c = Does-wants g.L.Lines.keeping (settled_at_once (settled_seen c.args.how)) c.args.self.now c.args.self.now (g.L.Lines.seen c.args.lines.now) refl
 
 pub returns-clause-does : goal.returns-clause-does
 returns-clause-does g c = Does-lifted (settled_at_once (settled_seen c.args.how)) (settled_at_once-only (settled_seen c.args.how)) c.self.view_is c.settled_promise.ensures.does

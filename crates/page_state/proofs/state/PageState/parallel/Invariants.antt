@@ -2,9 +2,9 @@ use Rattle.std.proofs.Common.{Option}
 use Rattle.page_model.specs.Parallel.{parallel}
 use Rattle.page_model.proofs.Bounding.Items.{items_waiting}
 use Rattle.trace_text.specs.declared.lines.NoLine.{NoLine}
-use Rattle.trace_text.specs.Acts.{At, Does}
+use Rattle.trace_text.specs.Acts.{At}
 use Rattle.page_state.specs.Standing.{Standing, page_of}
-use Rattle.page_state.specs.PageActs.{at, on_page}
+use Rattle.page_state.specs.PageActs.{at, on_page, Does}
 use Rattle.page_state.proofs.state.PageState.parallel.Given as goal
 
 abbrev pub invariant-items : goal.invariant-items

@@ -1,8 +1,8 @@
 use Rattle.std.proofs.Common.{ap, length, map, ◌∙◌}
-use Rattle.trace_text.proofs.Doing.{Does-last}
 use Rattle.page_values.specs.Seen.{seen}
 use Rattle.page_model.specs.PageCombinators.{race_made}
 use Rattle.page_state.specs.Standing.{Standing, page_of}
+use Rattle.page_state.proofs.Acting.{Does-last}
 use Rattle.page_state.proofs.Lifted.{new_promise-one}
 use Rattle.page_state.proofs.Telling.{Does-wanted}
 use Rattle.page_state.proofs.Combined.{Does-race}

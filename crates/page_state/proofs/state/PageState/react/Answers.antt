@@ -3,7 +3,7 @@ use Rattle.page_state.specs.Handling.{reacted}
 use Rattle.page_state.proofs.Acting.{Does-wants}
 use Rattle.page_state.proofs.Lifted.{Does-lifted}
 use Rattle.page_state.proofs.Handled.{reacted-only, Does-reacted}
-use Rattle.std.proofs.Common.{◌≡◌, subst}
+use Rattle.std.proofs.Common.{◌≡◌, subst, refl}
 use Rattle.std.specs.Prelude.{IfOk}
 use Rattle.page_parts.specs.Notices.{is_outstanding}
 use Rattle.page_state.specs.Standing.{Standing}
@@ -11,7 +11,7 @@ use Rattle.page_state.proofs.state.PageState.react.Goals as goal
 
 pub returns-then-not-is_promise-clause-does : goal.returns-then-not-is_promise-clause-does
 returns-then-not-is_promise-clause-does g c =
-    Does-wants g.L.Lines.keeping (reacted c.args.p (reaction_seen c.args.reaction)) c.args.self.now c.args.self.now (g.L.Lines.seen c.args.lines.now)
+    Does-wants g.L.Lines.keeping (reacted c.args.p (reaction_seen c.args.reaction)) c.args.self.now c.args.self.now (g.L.Lines.seen c.args.lines.now) refl
 
 pub returns-clause-does : goal.returns-clause-does
 returns-clause-does g c =

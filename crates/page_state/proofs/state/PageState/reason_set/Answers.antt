@@ -5,8 +5,7 @@ use Rattle.page_model.specs.State.{emit_each}
 use Rattle.page_model.proofs.Adding.Lines.{emit_each-adds}
 use Rattle.page_state.specs.Standing.{page_of}
 use Rattle.page_state.specs.AbortActs.{reason_marked, reason_silent}
-use Rattle.page_state.proofs.Acting.{Does-next, Does-silent, Does-is}
-use Rattle.trace_text.proofs.Doing.{Does-last}
+use Rattle.page_state.proofs.Acting.{Does-last, Does-next, Does-silent, Does-is}
 use Rattle.page_state.proofs.Telling.{Does-wanted}
 use Rattle.page_state.proofs.state.PageState.reason_set.Goals as goal
 

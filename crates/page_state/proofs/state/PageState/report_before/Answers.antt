@@ -1,3 +1,4 @@
+use Rattle.std.proofs.Common.{refl}
 use Rattle.page_values.specs.Seen.{seen}
 use Rattle.page_model.specs.Invoke.{report_before}
 use Rattle.page_script.specs.Reports.{when_seen}
@@ -7,7 +8,7 @@ use Rattle.page_state.proofs.Lifted.{Does-kept}
 use Rattle.page_state.proofs.state.PageState.report_before.Goals as goal
 
 pub returns-then-not-is_numbered : goal.returns-then-not-is_numbered
-returns-then-not-is_numbered g c = Does-wants g.L.Lines.keeping (report_before (when_seen c.args.when) (seen c.args.value.now)) c.args.self.now c.args.self.now (g.L.Lines.seen c.args.lines.now)
+returns-then-not-is_numbered g c = Does-wants g.L.Lines.keeping (report_before (when_seen c.args.when) (seen c.args.value.now)) c.args.self.now c.args.self.now (g.L.Lines.seen c.args.lines.now) refl
 
 pub returns : goal.returns
 returns g c = Does-kept (report_before (when_seen c.args.when) (seen c.args.value.now)) (report_before-only (when_seen c.args.when) (seen c.args.value.now)) c.self.view_is c.report_before.ensures

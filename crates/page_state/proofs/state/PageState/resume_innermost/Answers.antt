@@ -16,7 +16,7 @@ returns-then-open_count-eq0 g c =
 pub returns-then-not-is_calling : goal.returns-then-not-is_calling
 returns-then-not-is_calling g c =
     let s = c.args.self.now in
-    Reaches-wants (resume_step (seen_outcome c.args.end) (hosting_of s)) s s (g.L.Lines.seen c.args.lines.now) _ refl refl
+    Reaches-wants (resume_step (seen_outcome c.args.end) (hosting_of s)) s s (g.L.Lines.seen c.args.lines.now) _ refl (record { memory = refl; port = refl })
 
 pub returns-in_err-callback_ended : goal.returns-in_err-callback_ended
 returns-in_err-callback_ended g c =

@@ -6,12 +6,12 @@ use Rattle.page_model.proofs.Adding.Lines.{abort_registrations-adds}
 use Rattle.page_state.specs.Standing.{page_of}
 use Rattle.page_state.specs.AbortActs.{algorithms_taken}
 use Rattle.page_state.proofs.Acting.{Does-next, Does-silent, Does-is}
-use Rattle.page_state.proofs.Telling.{Does-wanted}
+use Rattle.page_state.proofs.Telling.{Does-wanted, wanted-still}
 use Rattle.page_state.proofs.state.PageState.run_algorithms.Goals as goal
 
 pub returns-in_err-reason : goal.returns-in_err-reason
 returns-in_err-reason g c =
-    Does-wanted g.L.Lines.keeping (run_algorithms c.args.s) c.args.self.now c.args.self.now _ _ c.from_residual.ensures.1 c.in_err-reason.ensures.memory
+    Does-wanted g.L.Lines.keeping (run_algorithms c.args.s) c.args.self.now c.args.self.now _ _ c.from_residual.ensures.1 (wanted-still c.in_err-reason.ensures.memory)
 
 pub returns : goal.returns
 returns g c =

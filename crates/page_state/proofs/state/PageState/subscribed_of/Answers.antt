@@ -1,13 +1,13 @@
 use Rattle.page_values.specs.Seen.{seen}
 use Rattle.page_model.specs.PageCombinators.{subscribe_into}
 use Rattle.page_state.specs.Handling.{item_taken}
-use Rattle.page_state.proofs.Telling.{Does-wanted}
+use Rattle.page_state.proofs.Telling.{Does-wanted, wanted-still}
 use Rattle.page_state.proofs.Combined.{subscribe_into-adds, Does-taken, Does-untaken, Does-same_item}
 use Rattle.page_state.proofs.state.PageState.subscribed_of.Goals as goal
 
 pub returns-in_err-item : goal.returns-in_err-item
 returns-in_err-item g c =
-    Does-wanted g.L.Lines.keeping (item_taken (subscribe_into c.args.into) 0 (seen c.args.value.now)) c.args.self.now c.args.self.now _ _ c.from_residual.ensures.1 c.in_err-item.ensures.memory
+    Does-wanted g.L.Lines.keeping (item_taken (subscribe_into c.args.into) 0 (seen c.args.value.now)) c.args.self.now c.args.self.now _ _ c.from_residual.ensures.1 (wanted-still c.in_err-item.ensures.memory)
 
 pub returns-in_err-n : goal.returns-in_err-n
 returns-in_err-n g c =

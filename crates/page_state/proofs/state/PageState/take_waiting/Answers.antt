@@ -1,9 +1,9 @@
 use Rattle.std.proofs.Common.{ap, sym, ◌∙◌, Option}
 use Rattle.page_parts.specs.Words.{is_there}
 use Rattle.page_model.specs.Parallel.{Item, due_item}
-use Rattle.trace_text.proofs.Doing.{Does-last}
 use Rattle.parallel_items.specs.Items.{first_waiting}
 use Rattle.parallel_items.specs.Seen.{taken_seen}
+use Rattle.page_state.proofs.Acting.{Does-last}
 use Rattle.page_state.proofs.Items.{Does-item, Does-no_item}
 use Rattle.page_state.proofs.state.PageState.take_waiting.Goals as goal
 

@@ -1,9 +1,8 @@
 use Rattle.std.proofs.Common.{refl, sym, ◌∙◌}
-use Rattle.trace_text.proofs.Doing.{Does-last}
 use Rattle.page_parts.specs.AbortGraph as graph
 use Rattle.page_model.specs.Operations.{with_signals, last_signal, task_signal_made}
 use Rattle.page_model.specs.PageSignals.{give_priority}
-use Rattle.page_state.proofs.Acting.{Does-next, Does-silent}
+use Rattle.page_state.proofs.Acting.{Does-last, Does-next, Does-silent}
 use Rattle.page_state.proofs.Telling.{Does-wanted}
 use Rattle.page_state.proofs.Handled.{Does-read}
 use Rattle.page_state.proofs.Signalled.{same-signals}

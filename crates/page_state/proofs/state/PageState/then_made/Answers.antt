@@ -5,12 +5,12 @@ use Rattle.page_values.specs.Seen.{seen}
 use Rattle.page_script.specs.Seen.{function_seen}
 use Rattle.page_model.specs.Operations.{then_made}
 use Rattle.page_state.proofs.Handled.{Does-same_handlers}
-use Rattle.page_state.proofs.Telling.{Does-wanted}
+use Rattle.page_state.proofs.Telling.{Does-wanted, wanted-still}
 use Rattle.page_state.proofs.state.PageState.then_made.Goals as goal
 
 pub returns-in_err-registration-clause-does : goal.returns-in_err-registration-clause-does
 returns-in_err-registration-clause-does g c =
-    Does-wanted g.L.Lines.keeping (then_made c.args.p (seen c.args.fulfilled) (seen c.args.rejected)) c.args.self.now c.args.self.now _ _ c.from_residual.ensures.1 c.in_err-registration.ensures.memory
+    Does-wanted g.L.Lines.keeping (then_made c.args.p (seen c.args.fulfilled) (seen c.args.rejected)) c.args.self.now c.args.self.now _ _ c.from_residual.ensures.1 (wanted-still c.in_err-registration.ensures.memory)
 
 pub returns-clause-does : goal.returns-clause-does
 returns-clause-does g c =
