@@ -182,9 +182,9 @@ pub fn page_main<F: Folder, O: Sink, E: Sink>(
     // And all that was put was handed on.
     ensures whole { IsWhole result.answer → O.IsHandedOn result.out }
 
-    // Each other answer comes only where its cause stands, with what it leaves: where a run stopped for a write fault or for want of memory,
-    // a closure is fired, or dropped, only where it was so before or where that run leaves it so. All this holds of each file that the
-    // folder tells, whatever it tells of the others: of a file that it does not tell, it holds of some content.
+    // Each other answer comes only where its cause stands, with what it leaves: where a run stopped for a write fault or for want of
+    // memory, a closure is fired, or dropped, only where it was so before or where that run leaves it so. All this holds of each file
+    // that the folder tells, whatever it tells of the others: of a file that it does not tell, it holds of some content.
     ensures answers { IfSome (form_of (map string_bytes words.now.items)) (λ form. AnswersForm result.answer form (F.file folder.old)
         (closures_of hosts) (closures_of result.hosts) (O.bytes out) (O.bytes result.out)) }
     ensures usage { (result.answer ≡ Answer.Usage) ↔ (form_of (map string_bytes words.now.items) ≡ None) }
