@@ -26,26 +26,3 @@ fn at_most(moment: Micros, other: Option<Micros>) -> Micros
         None => moment,
     }
 }
-
-#[cfg(test)]
-mod tests {
-    use super::*;
-
-    #[test]
-    fn a_period_ends_before_the_next_timer_and_rendering(rt: HostRuntime) {
-        let table = [
-            (0, None, None, 50_000),
-            (60_000, None, None, 110_000),
-            (0, Some(Micros(20_000)), None, 20_000),
-            (0, Some(Micros(60_000)), None, 50_000),
-            (0, Some(Micros(20_000)), Some(Micros(16_666)), 16_666),
-        ];
-        for (start, timer, render, end) in table {
-            assert_eq!(rt;
-                deadline(Micros(start), timer, render),
-                Micros(end),
-                "from {start}"
-            );
-        }
-    }
-}

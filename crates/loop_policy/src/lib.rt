@@ -7,8 +7,6 @@ mod policy;
 mod policy_chooser;
 mod recorded;
 mod seeing;
-#[cfg(test)]
-mod tests;
 mod view;
 
 pub use chooser::{Chooser, NoChoice};

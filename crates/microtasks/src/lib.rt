@@ -59,24 +59,3 @@ impl<J> Jobs<J> {
         self.waiting.pop_front()
     }
 }
-
-#[cfg(test)]
-mod tests {
-    use super::*;
-
-    #[test]
-    fn gives_jobs_in_the_order_in_which_they_came(rt: HostRuntime) -> Result<(), MemoryFault> {
-        let mut jobs = Jobs::<u32>::new(rt.alloc());
-        assert_eq!(rt; jobs.pop(), None);
-        assert!(rt; !jobs.has_job());
-        jobs.push(7)?;
-        assert!(rt; jobs.has_job());
-        jobs.push(8)?;
-        assert_eq!(rt; jobs.pop(), Some(7));
-        jobs.push(9)?;
-        assert_eq!(rt; jobs.pop(), Some(8));
-        assert_eq!(rt; jobs.pop(), Some(9));
-        assert_eq!(rt; jobs.pop(), None);
-        Ok(())
-    }
-}

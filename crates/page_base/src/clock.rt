@@ -140,35 +140,3 @@ impl Clock for RecordedClock {
         Err(NoReading)
     }
 }
-
-#[cfg(test)]
-mod tests {
-    use super::*;
-    use std::test::Fail;
-
-    #[test]
-    fn each_lateness_is_used_once(rt: HostRuntime) -> Result<(), Fail> {
-        let mut clock = ScriptClock::new([500, 1_000_000].to_vec(rt.alloc())?);
-        assert_eq!(rt; clock.wait(Micros(1_000)), Ok(Micros(1_500)));
-        assert_eq!(rt; clock.wait(Micros(200_000)), Ok(Micros(1_200_000)));
-        assert_eq!(rt; clock.wait(Micros(301_500)), Ok(Micros(301_500)));
-        assert_eq!(rt; clock.wait(Micros(0)), Ok(Micros(0)));
-        Ok(())
-    }
-
-    #[test]
-    fn a_reading_that_does_not_fit_is_refused_and_stays(rt: HostRuntime) -> Result<(), Fail> {
-        let past = Micros(1 << 63);
-        let readings = [Micros(5), Micros(3), past].to_vec(rt.alloc())?;
-        let mut clock = RecordedClock::new(readings);
-        assert_eq!(rt; clock.wait(Micros(5)), Ok(Micros(5)));
-        assert_eq!(rt; clock.wait(Micros(4)), Err(NoReading));
-        assert_eq!(rt; clock.wait(Micros(3)), Ok(Micros(3)));
-        assert_eq!(rt; clock.wait(Micros(0)), Err(NoReading));
-
-        let mut clock = RecordedClock::new([Micros((1 << 63) - 1)].to_vec(rt.alloc())?);
-        assert_eq!(rt; clock.wait(Micros(0)), Ok(Micros((1 << 63) - 1)));
-        assert_eq!(rt; clock.wait(Micros(0)), Err(NoReading));
-        Ok(())
-    }
-}

@@ -92,29 +92,3 @@ fn with_digit(number: u64, digit: u8) -> Option<u64>
 {
     number.checked_mul(10)?.checked_add(u64::from(digit - b'0'))
 }
-
-#[cfg(test)]
-mod tests {
-    use super::*;
-
-    #[test]
-    fn reads_canonical_numbers_and_stays_at_others(rt: HostRuntime) {
-        let mut cursor = Cursor::new(b"0,10000000;007");
-        assert_eq!(rt; cursor.read_u64(9), Some(0));
-        assert_eq!(rt; cursor.read_u64(9), None);
-        assert_eq!(rt; cursor.rest().len(), 13);
-
-        let mut cursor = Cursor::new(b"10000000;");
-        assert_eq!(rt; cursor.read_u64(9_999_999), None);
-        assert_eq!(rt; cursor.read_u64(10_000_000), Some(10_000_000));
-        assert_eq!(rt; cursor.rest().len(), 1);
-
-        let mut cursor = Cursor::new(b"007");
-        assert_eq!(rt; cursor.read_u64(9), None);
-
-        let mut cursor = Cursor::new(b"18446744073709551615");
-        assert_eq!(rt; cursor.read_u64(u64::MAX), Some(u64::MAX));
-        let mut cursor = Cursor::new(b"18446744073709551616");
-        assert_eq!(rt; cursor.read_u64(u64::MAX), None);
-    }
-}

@@ -45,26 +45,3 @@ fn find(text: &[u8], byte: u8) -> Option<usize>
 {
     text.iter().position(|other| *other == byte)
 }
-
-#[cfg(test)]
-mod tests {
-    use super::*;
-
-    #[test]
-    fn cuts_a_line_into_its_fields(rt: HostRuntime) {
-        assert_eq!(rt; behind(b"fuel 7", b"fuel "), Some(b"7".as_slice()));
-        assert_eq!(rt; behind(b"fuel", b"fuel "), None);
-        assert_eq!(rt; behind(b"fuel 7", b""), Some(b"fuel 7".as_slice()));
-
-        assert!(rt; is_word(b"fifo", b"fifo"));
-        assert!(rt; !is_word(b"fifo ", b"fifo"));
-        assert!(rt; !is_word(b"fif", b"fifo"));
-
-        assert_eq!(rt;
-            cut_at(b"a bc d", b' '),
-            Some((b"a".as_slice(), b"bc d".as_slice()))
-        );
-        assert_eq!(rt; cut_at(b" ", b' '), Some((b"".as_slice(), b"".as_slice())));
-        assert_eq!(rt; cut_at(b"abc", b' '), None);
-    }
-}

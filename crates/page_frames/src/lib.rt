@@ -8,8 +8,6 @@
 mod laws;
 mod moments;
 mod part;
-#[cfg(test)]
-mod tests;
 
 pub use laws::{
     callbacks_called_are_those_of_a_page, frame_calls_are_steps_of_a_page,

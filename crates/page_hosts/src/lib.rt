@@ -4,8 +4,6 @@
 mod deferred;
 mod hosts;
 mod laws;
-#[cfg(test)]
-mod tests;
 
 pub use host_jobs::{HostPort, NoHost};
 pub use hosts::PageHosts;

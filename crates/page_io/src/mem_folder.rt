@@ -113,38 +113,3 @@ fn append_file(content: &[u8], limit: usize, into: &mut Vec<u8>) -> Result<Fetch
         Err(_) => Err(FetchFault::OutOfMemory),
     }
 }
-
-#[cfg(test)]
-mod tests {
-    use super::*;
-    use std::test::Fail;
-
-    #[test]
-    fn gives_the_first_file_of_a_name_up_to_the_limit(rt: HostRuntime) -> Result<(), Fail> {
-        let mut files = Vec::new(rt.alloc());
-        files.push((
-            String::from_str(rt.alloc(), "s")?,
-            b"log(1);".to_vec(rt.alloc())?,
-        ))?;
-        files.push((
-            String::from_str(rt.alloc(), "s")?,
-            b"log(2);".to_vec(rt.alloc())?,
-        ))?;
-        let mut folder = MemFolder::new(files, vec![in rt.alloc(); 4]?);
-        let mut into = Vec::new(rt.alloc());
-
-        assert_eq!(rt; folder.fetch("s", 7, &mut into), Ok(Fetched::Whole));
-        assert_eq!(rt; into.as_slice(), b"log(1);".as_slice());
-        assert_eq!(rt; folder.fetch("s", 2, &mut into), Ok(Fetched::TooLong));
-        assert_eq!(rt; into.as_slice(), b"log(1);log".as_slice());
-        assert_eq!(rt; folder.fetch("a", 7, &mut into), Err(FetchFault::Failed));
-        assert_eq!(rt;
-            folder.fetch("s", 7, &mut into),
-            Err(FetchFault::Failed),
-            "call 4"
-        );
-        assert_eq!(rt; folder.fetch("s", 7, &mut into), Ok(Fetched::Whole));
-        assert_eq!(rt; into.len(), 17);
-        Ok(())
-    }
-}

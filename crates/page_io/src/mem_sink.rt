@@ -151,28 +151,3 @@ impl Sink for MemSink {
         Ok(())
     }
 }
-
-#[cfg(test)]
-mod tests {
-    use super::*;
-    use std::test::Fail;
-
-    #[test]
-    fn keeps_what_a_failing_put_is_told_to(rt: HostRuntime) -> Result<(), Fail> {
-        let fails = vec![in rt.alloc(); (2, 3), (2, 1), (4, 9)]?;
-        let mut sink = MemSink::new(rt.alloc(), 20, fails)?;
-
-        assert_eq!(rt; sink.put(b"pageloop 1\n"), Ok(()));
-        assert_eq!(rt; sink.put(b"turn"), Err(Failed), "call 2");
-        assert_eq!(rt; sink.put(b"call 1\n"), Err(Failed), "no room");
-        assert_eq!(rt; sink.put(b"end"), Err(Failed), "call 4");
-        assert_eq!(rt; sink.put(b"en\n"), Ok(()));
-        assert_eq!(rt; sink.put(b"d"), Err(Failed), "no room");
-        assert_eq!(rt; sink.bytes(), b"pageloop 1\nturenden\n".as_slice());
-        assert_eq!(rt; sink.finish(), Ok(()));
-        let mut sink = sink.failing_at_end();
-        assert_eq!(rt; sink.finish(), Err(Failed));
-        assert_eq!(rt; sink.bytes(), b"pageloop 1\nturenden\n".as_slice());
-        Ok(())
-    }
-}

@@ -11,6 +11,14 @@ use std::alloc::Global;
 use std::process::Abort;
 use std::test::Fail;
 
+// A word, and the spelling of a value. No function has a name.
+fn told(alloc: Global, word: &[u8], value: &Value) -> Result<Vec<u8>, Fail> {
+    let names = FunNames::new(Vec::new(alloc));
+    let mut line = word.to_vec(alloc)?;
+    print(alloc, value, &names, &mut line)?;
+    Ok(line)
+}
+
 // How the answer settles the promise, and with what.
 fn expect_answer(
     rt: &impl Abort,
@@ -18,19 +26,11 @@ fn expect_answer(
     answer: Option<Settled>,
     wanted: &str,
 ) -> Result<(), Fail> {
-    let names = FunNames::new(Vec::new(alloc));
-    let mut line = Vec::new(alloc);
-    match &answer {
-        None => line.extend_from_slice(b"none")?,
-        Some(Ok(value)) => {
-            line.extend_from_slice(b"ok ")?;
-            print(alloc, value, &names, &mut line)?;
-        }
-        Some(Err(reason)) => {
-            line.extend_from_slice(b"err ")?;
-            print(alloc, reason, &names, &mut line)?;
-        }
-    }
+    let line = match &answer {
+        None => b"none".to_vec(alloc)?,
+        Some(Ok(value)) => told(alloc, b"ok ", value)?,
+        Some(Err(reason)) => told(alloc, b"err ", reason)?,
+    };
     assert_eq!(rt; line.as_slice(), wanted.as_bytes(), "for {wanted}");
     Ok(())
 }

@@ -103,21 +103,27 @@ impl Written {
     }
 
     fn react(&mut self, rt: &impl Abort, of: u32, reaction: Reaction) -> Result<(), NoLine> {
+        if reaction.registration.is_none() {
+            return self.pass_on(rt, of, reaction.into);
+        }
         let Written {
             notices,
             names,
             lines,
         } = self;
         let into = reaction.into;
-        if reaction.registration.is_some() {
-            assert_made(rt, notices, into);
-            return notices.settle(into, Ok(Value::Unit), 0, None, AT, names, lines);
-        }
-        assert_made(rt, notices, of);
-        let n = match notices.outcome(of) {
-            Some(Ok(Value::Int(n))) => *n,
-            _ => panic!(rt; "a reaction to a promise that is not fulfilled with a number"),
-        };
+        assert_made(rt, notices, into);
+        notices.settle(into, Ok(Value::Unit), 0, None, AT, names, lines)
+    }
+
+    // A promise follows another one that is fulfilled with a number.
+    fn pass_on(&mut self, rt: &impl Abort, of: u32, into: u32) -> Result<(), NoLine> {
+        let Written {
+            notices,
+            names,
+            lines,
+        } = self;
+        let n = number_of(rt, notices, of);
         assert_made(rt, notices, into);
         notices.follow(into, Ok(Value::Int(n)), 0, None, AT, names, lines)
     }
@@ -165,6 +171,15 @@ fn assert_made(rt: &impl Abort, notices: &Notices, p: u32)
     assert!(rt; p > 0 && p <= notices.made());
 }
 
+// The number that a promise is fulfilled with.
+fn number_of(rt: &impl Abort, notices: &Notices, of: u32) -> i64 {
+    assert_made(rt, notices, of);
+    match notices.outcome(of) {
+        Some(Ok(Value::Int(n))) => *n,
+        _ => panic!(rt; "a reaction to a promise that is not fulfilled with a number"),
+    }
+}
+
 // The handlers a, b, c and x have the registrations 1, 2, 3 and 4.
 fn resolve_with_a_promise(page: &mut Written, rt: &impl Abort) -> Result<(), Fail> {
     let p = page.make(rt)?;
@@ -201,28 +216,63 @@ fn an_adopted_promise_settles_two_jobs_later(rt: HostRuntime) -> Result<(), Fail
     Ok(())
 }
 
-// Promise 1 is rejected and stays unhandled, and promise 2 is rejected and then handled.
-fn reject_two(page: &mut Written, rt: &impl Abort) -> Result<(), Fail> {
-    let told = page.make(rt)?;
-    let handled = page.make(rt)?;
-    page.reject(rt, told, 7)?;
-    page.reject(rt, handled, 8)?;
-    assert!(rt; !page.subscribe(rt, handled, Some(1), told)?);
-    assert_made(rt, &page.notices, handled);
-    assert!(rt; page.notices.handled(handled));
+// A call on promises, and what it answers.
+enum Call {
+    Make(u32),
+    Reject(u32, i64),
+    // A handler of this promise, with its registration and the promise that it leads into, and
+    // whether the promise was outstanding.
+    Handle(u32, u32, u32, bool),
+    IsHandled(u32),
+    Rejected(&'static [u32]),
+    Note(u32, bool),
+}
+
+use Call::{Handle, IsHandled, Make, Note, Reject, Rejected};
+
+fn expect_handled(rt: &impl Abort, notices: &Notices, p: u32) {
+    assert_made(rt, notices, p);
+    assert!(rt; notices.handled(p));
+}
+
+fn take(page: &mut Written, rt: &impl Abort, call: &Call) -> Result<(), Fail> {
+    match call {
+        Make(p) => assert_eq!(rt; page.make(rt)?, *p),
+        Reject(p, n) => page.reject(rt, *p, *n)?,
+        Handle(p, registration, into, was) => {
+            assert_eq!(rt; page.subscribe(rt, *p, Some(*registration), *into)?, *was);
+        }
+        IsHandled(p) => expect_handled(rt, &page.notices, *p),
+        Rejected(expected) => {
+            assert_eq!(rt; page.notices.take_rejected().as_slice(), *expected);
+        }
+        Note(p, was) => assert_eq!(rt; page.note(rt, *p)?, *was),
+    }
     Ok(())
 }
 
 #[test]
 fn a_rejection_is_outstanding_until_it_is_handled(rt: HostRuntime) -> Result<(), Fail> {
+    // Promise 1 stays unhandled at first, and promise 2 is handled.
+    const CALLS: [Call; 12] = [
+        Make(1),
+        Make(2),
+        Reject(1, 7),
+        Reject(2, 8),
+        Handle(2, 1, 1, false),
+        IsHandled(2),
+        Rejected(&[1]),
+        Rejected(&[]),
+        Note(1, true),
+        Note(2, false),
+        Handle(1, 2, 2, true),
+        Handle(1, 3, 2, false),
+    ];
     let alloc = rt.alloc();
     let mut page = Written::new(alloc, Vec::new(alloc))?;
-    reject_two(&mut page, &rt)?;
-    assert_eq!(rt; page.notices.take_rejected().as_slice(), [1].as_slice());
-    assert_eq!(rt; page.notices.take_rejected().len(), 0);
-    assert_eq!(rt; (page.note(&rt, 1)?, page.note(&rt, 2)?), (true, false));
-    assert_eq!(rt; page.subscribe(&rt, 1, Some(2), 2)?, true);
-    assert_eq!(rt; page.subscribe(&rt, 1, Some(3), 2)?, false);
+    for call in &CALLS {
+        take(&mut page, &rt, call)?;
+    }
     page.expect(
         &rt,
         b"5 settle 1 err 7\n5 settle 2 err 8\n5 job 1 react 2\n5 job 2 react 1\n5 job 3 react 1\n",
@@ -248,13 +298,19 @@ fn a_job_keeps_what_was_current(rt: HostRuntime) -> Result<(), Fail> {
     Ok(())
 }
 
+// A promise that has two handlers.
+fn handled_twice(page: &mut Written, rt: &impl Abort) -> Result<u32, Fail> {
+    let p = page.make(rt)?;
+    page.then(rt, p, 1)?;
+    page.then(rt, p, 2)?;
+    Ok(p)
+}
+
 #[test]
 fn a_failed_line_is_the_last(rt: HostRuntime) -> Result<(), Fail> {
     let alloc = rt.alloc();
     let mut page = Written::new(alloc, vec![in alloc; (2, 4)]?)?;
-    let p = page.make(&rt)?;
-    page.then(&rt, p, 1)?;
-    page.then(&rt, p, 2)?;
+    let p = handled_twice(&mut page, &rt)?;
     assert_eq!(rt; page.fulfil(&rt, p, 3), Err(NoLine::Failed));
     page.expect(&rt, b"5 settle 1 ok 3\n5 jo");
     Ok(())

@@ -61,15 +61,26 @@ fn kind(taken: Option<Taken>) -> Option<(char, u64)> {
     }
 }
 
-#[test]
-fn an_answer_is_taken_before_a_timer_of_its_moment(rt: HostRuntime) -> Result<(), Fail> {
-    let mut items = nothing(rt.alloc())?;
+// The timer of registration 3 is due at 10 milliseconds, and so is the answer of registration 2.
+fn a_timer_and_an_answer(alloc: Global) -> Result<ParallelItems, Fail> {
+    let mut items = nothing(alloc)?;
     items.init(None, 3, false, 10, 0, Micros(0))?;
     items.ask(answer(10_000, 2))?;
+    Ok(items)
+}
+
+#[test]
+fn an_answer_is_taken_before_a_timer_of_its_moment(rt: HostRuntime) -> Result<(), Fail> {
+    const TAKEN: [(u64, Option<(char, u64)>); 3] = [
+        (9_999, None),
+        (10_000, Some(('h', 2))),
+        (10_000, Some(('t', 3))),
+    ];
+    let mut items = a_timer_and_an_answer(rt.alloc())?;
     assert_eq!(rt; items.next_due(), Some(Micros(10_000)));
-    assert_eq!(rt; kind(items.take_due(Micros(9_999))), None);
-    assert_eq!(rt; kind(items.take_due(Micros(10_000))), Some(('h', 2)));
-    assert_eq!(rt; kind(items.take_due(Micros(10_000))), Some(('t', 3)));
+    for (now, taken) in &TAKEN {
+        assert_eq!(rt; kind(items.take_due(Micros(*now))), *taken);
+    }
     assert!(rt; items.is_empty());
     Ok(())
 }

@@ -41,39 +41,100 @@ fn assert_made(rt: &impl Abort, page: &PageScript, p: u32)
     assert!(rt; p > 0 && p <= page.promises_made());
 }
 
-// The result of `all` of no item is promise 1, the item promise 2 and the element promise 3.
-fn make_promises(
+// A call that makes promises or settles them, and what it answers.
+enum Call {
+    // A combinator `all` of so many items, with its number and that of its result.
+    All(u32, u32, u32),
+    Item(i64, u32),
+    // The first element of a combinator, made of a promise that is not outstanding.
+    Element(u32, u32),
+    Own(u32),
+    Rejected(i64, u32),
+    Lead(u32, i64),
+    // A handler of a promise that is outstanding, with its registration and the promise that it
+    // leads into.
+    Handle(u32, u32, u32),
+    Look(Look),
+}
+
+// A look at promises, and what is found.
+enum Look {
+    IsOwn(u32, bool),
+    Ended(&'static [u32]),
+    Noted(u32),
+    HasOutcome(u32, bool),
+}
+
+use Call::{All, Element, Handle, Item, Lead, Own, Rejected};
+use Look::{Ended, HasOutcome, IsOwn, Noted};
+
+fn expect_all(
     rt: &impl Abort,
     page: &mut PageScript,
     lines: &mut LineSink<MemSink>,
+    count: u32,
+    expected: (u32, u32),
 ) -> Result<(), Fail> {
     assert_room(rt, page);
-    let made = page.combine(Kind::All, 0, lines)?;
-    assert_room(rt, page);
-    let p = page.item(Value::Int(7), lines)?;
-    assert_room(rt, page);
-    assert_made(rt, page, p);
-    assert!(rt; !page.element(made.combinator, 0, p, lines)?);
-    assert_room(rt, page);
-    let own = page.script_promise()?;
-    assert!(rt; own > 1 && page.is_script_promise(own) && !page.is_script_promise(own - 1));
+    let made = page.combine(Kind::All, count, lines)?;
+    assert_eq!(rt; (made.combinator, made.result), expected);
     Ok(())
 }
 
-// Promise 5 is rejected and told as unhandled, and then it is handled.
-fn reject_and_handle(
+fn expect_item(
     rt: &impl Abort,
     page: &mut PageScript,
     lines: &mut LineSink<MemSink>,
+    n: i64,
+    p: u32,
 ) -> Result<(), Fail> {
     assert_room(rt, page);
-    let p = page.settled_promise(Err(Value::Int(9)), lines)?;
-    assert_eq!(rt; page.checkpoint_ended(0, None).as_slice(), [5].as_slice());
+    assert_eq!(rt; page.item(Value::Int(n), lines)?, p);
+    Ok(())
+}
+
+fn expect_element(
+    rt: &impl Abort,
+    page: &mut PageScript,
+    lines: &mut LineSink<MemSink>,
+    combinator: u32,
+    p: u32,
+) -> Result<(), Fail> {
+    assert_room(rt, page);
     assert_made(rt, page, p);
-    assert!(rt; page.note_outstanding(p)?);
+    assert!(rt; !page.element(combinator, 0, p, lines)?);
+    Ok(())
+}
+
+fn expect_own(rt: &impl Abort, page: &mut PageScript, p: u32) -> Result<(), Fail> {
+    assert_room(rt, page);
+    assert_eq!(rt; page.script_promise()?, p);
+    Ok(())
+}
+
+fn expect_rejected(
+    rt: &impl Abort,
+    page: &mut PageScript,
+    lines: &mut LineSink<MemSink>,
+    n: i64,
+    p: u32,
+) -> Result<(), Fail> {
+    assert_room(rt, page);
+    assert_eq!(rt; page.settled_promise(Err(Value::Int(n)), lines)?, p);
+    Ok(())
+}
+
+fn expect_outstanding(
+    rt: &impl Abort,
+    page: &mut PageScript,
+    lines: &mut LineSink<MemSink>,
+    p: u32,
+    registration: u32,
+    into: u32,
+) -> Result<(), Fail> {
     let reaction = Reaction {
-        registration: Some(1),
-        into: 4,
+        registration: Some(registration),
+        into,
         state: None,
     };
     assert_made(rt, page, p);
@@ -81,50 +142,109 @@ fn reject_and_handle(
     Ok(())
 }
 
-#[test]
-fn promises_write_their_lines(rt: HostRuntime) -> Result<(), Fail> {
-    let mut page = first_page(rt.alloc())?;
-    let mut lines = sink(rt.alloc())?;
-    make_promises(&rt, &mut page, &mut lines)?;
-    reject_and_handle(&rt, &mut page, &mut lines)?;
-    let sink = lines.into_sink();
-    assert_eq!(rt;
-        sink.bytes(),
-        b"0 settle 1 ok []\n0 settle 2 ok 7\n0 job 1 react 2\n0 settle 5 err 9\n\
-        0 job 2 react 5\n"
-            .as_slice()
-    );
+fn take_look(rt: &impl Abort, page: &mut PageScript, look: &Look) -> Result<(), Fail> {
+    match look {
+        IsOwn(p, is) => {
+            assert!(rt; *p > 0);
+            assert_eq!(rt; page.is_script_promise(*p), *is);
+        }
+        Ended(rejected) => {
+            assert_eq!(rt; page.checkpoint_ended(0, None).as_slice(), *rejected);
+        }
+        Noted(p) => {
+            assert_made(rt, page, *p);
+            assert!(rt; page.note_outstanding(*p)?);
+        }
+        HasOutcome(p, has) => assert_eq!(rt; page.outcome(*p).is_some(), *has),
+    }
     Ok(())
 }
 
-// The result of `all` of one item is promise 1, the item promise 2 and the element promise 3.
-fn report_an_element(
+fn take(
     rt: &impl Abort,
     page: &mut PageScript,
     lines: &mut LineSink<MemSink>,
+    call: &Call,
 ) -> Result<(), Fail> {
-    assert_room(rt, page);
-    let made = page.combine(Kind::All, 1, lines)?;
-    assert_room(rt, page);
-    let p = page.item(Value::Int(7), lines)?;
-    assert_room(rt, page);
-    assert_made(rt, page, p);
-    assert!(rt; !page.element(made.combinator, 0, p, lines)?);
-    page.lead_into(3, Ok(Value::Int(7)), lines)?;
-    assert!(rt; page.outcome(1).is_some() && page.outcome(3).is_none());
+    match call {
+        All(count, combinator, p) => expect_all(rt, page, lines, *count, (*combinator, *p))?,
+        Item(n, p) => expect_item(rt, page, lines, *n, *p)?,
+        Element(combinator, p) => expect_element(rt, page, lines, *combinator, *p)?,
+        Own(p) => expect_own(rt, page, *p)?,
+        Rejected(n, p) => expect_rejected(rt, page, lines, *n, *p)?,
+        Lead(into, n) => page.lead_into(*into, Ok(Value::Int(*n)), lines)?,
+        Handle(p, registration, into) => {
+            expect_outstanding(rt, page, lines, *p, *registration, *into)?;
+        }
+        Call::Look(look) => take_look(rt, page, look)?,
+    }
+    Ok(())
+}
+
+fn take_all(
+    rt: &impl Abort,
+    page: &mut PageScript,
+    lines: &mut LineSink<MemSink>,
+    calls: &[Call],
+) -> Result<(), Fail> {
+    for call in calls {
+        take(rt, page, lines, call)?;
+    }
+    Ok(())
+}
+
+// These are the lines that were written.
+fn expect_lines(rt: &impl Abort, lines: LineSink<MemSink>, written: &[u8]) {
+    let sink = lines.into_sink();
+    assert_eq!(rt; sink.bytes(), written);
+}
+
+#[test]
+fn promises_write_their_lines(rt: HostRuntime) -> Result<(), Fail> {
+    // Promise 3 is the element. Promise 5 is told as unhandled, and then it is handled.
+    const CALLS: [Call; 10] = [
+        All(0, 1, 1),
+        Item(7, 2),
+        Element(1, 2),
+        Own(4),
+        Call::Look(IsOwn(4, true)),
+        Call::Look(IsOwn(3, false)),
+        Rejected(9, 5),
+        Call::Look(Ended(&[5])),
+        Call::Look(Noted(5)),
+        Handle(5, 1, 4),
+    ];
+    let mut page = first_page(rt.alloc())?;
+    let mut lines = sink(rt.alloc())?;
+    take_all(&rt, &mut page, &mut lines, &CALLS)?;
+    expect_lines(
+        &rt,
+        lines,
+        b"0 settle 1 ok []\n0 settle 2 ok 7\n0 job 1 react 2\n0 settle 5 err 9\n\
+        0 job 2 react 5\n",
+    );
     Ok(())
 }
 
 #[test]
 fn an_element_reports_once(rt: HostRuntime) -> Result<(), Fail> {
+    // Promise 3 is the element, which stays pending.
+    const CALLS: [Call; 6] = [
+        All(1, 1, 1),
+        Item(7, 2),
+        Element(1, 2),
+        Lead(3, 7),
+        Call::Look(HasOutcome(1, true)),
+        Call::Look(HasOutcome(3, false)),
+    ];
     let mut page = first_page(rt.alloc())?;
     let mut lines = sink(rt.alloc())?;
-    report_an_element(&rt, &mut page, &mut lines)?;
+    take_all(&rt, &mut page, &mut lines, &CALLS)?;
     assert!(rt; page.lead_into(3, Ok(Value::Int(8)), &mut lines).is_err());
-    let sink = lines.into_sink();
-    assert_eq!(rt;
-        sink.bytes(),
-        b"0 settle 2 ok 7\n0 job 1 react 2\n0 settle 1 ok [7]\n".as_slice()
+    expect_lines(
+        &rt,
+        lines,
+        b"0 settle 2 ok 7\n0 job 1 react 2\n0 settle 1 ok [7]\n",
     );
     Ok(())
 }
@@ -135,22 +255,50 @@ fn what_was_never_made_is_led_nowhere(rt: HostRuntime) -> Result<(), Fail> {
     let mut lines = sink(rt.alloc())?;
     assert!(rt; !page.is_promise(1) && page.outcome(1).is_none() && !page.handled(1));
     assert!(rt; page.lead_into(1, Ok(Value::Unit), &mut lines).is_err());
-    assert_eq!(rt; lines.into_sink().bytes(), b"".as_slice());
+    expect_lines(&rt, lines, b"");
     Ok(())
+}
+
+// The first function, which has no name here.
+fn unnamed(alloc: Global) -> Value {
+    Value::Fun(Func {
+        function: 0,
+        bound: Items::new(Vec::new(alloc)),
+    })
+}
+
+// Promise 1 is made and may be settled, but with no function.
+fn expect_no_function(rt: &impl Abort, page: &PageScript, unnamed: Value) {
+    assert!(rt; page.is_numbered(&Value::Int(1)) && !page.is_numbered(&unnamed));
+    assert!(rt; page.may_settle(1, &Err(Value::Unit)) && !page.may_settle(1, &Ok(unnamed)));
+    assert!(rt; !page.may_settle(2, &Ok(Value::Unit)));
 }
 
 #[test]
 fn names_of_functions_are_tested(rt: HostRuntime) -> Result<(), Fail> {
     let mut page = first_page(rt.alloc())?;
-    let unnamed = Value::Fun(Func {
-        function: 0,
-        bound: Items::new(Vec::new(rt.alloc())),
-    });
     assert_room(&rt, &page);
-    let p = page.new_promise()?;
-    assert!(rt; page.is_numbered(&Value::Int(1)) && !page.is_numbered(&unnamed));
-    assert!(rt; page.may_settle(p, &Err(Value::Unit)) && !page.may_settle(p, &Ok(unnamed)));
-    assert!(rt; p == 1 && !page.may_settle(2, &Ok(Value::Unit)));
+    assert_eq!(rt; page.new_promise()?, 1);
+    expect_no_function(&rt, &page, unnamed(rt.alloc()));
+    Ok(())
+}
+
+// A timeout that was registered, with timer id 4.
+fn register_timeout(
+    rt: &impl Abort,
+    page: &mut PageScript,
+    lines: &mut LineSink<MemSink>,
+) -> Result<(), Fail> {
+    let registration = Registration {
+        role: Role::Of(RegKind::Timeout),
+        callbacks: Callbacks::Absent,
+        timer_id: 4,
+        promise: 0,
+        signal: None,
+        finally: false,
+    };
+    assert_room(rt, page);
+    page.register(RegKind::Timeout, registration, lines)?;
     Ok(())
 }
 
@@ -159,16 +307,7 @@ fn the_first_registration_has_the_timer_id(rt: HostRuntime) -> Result<(), Fail> 
     let mut page = first_page(rt.alloc())?;
     let mut lines = sink(rt.alloc())?;
     for _ in 0..2 {
-        let registration = Registration {
-            role: Role::Of(RegKind::Timeout),
-            callbacks: Callbacks::Absent,
-            timer_id: 4,
-            promise: 0,
-            signal: None,
-            finally: false,
-        };
-        assert_room(&rt, &page);
-        page.register(RegKind::Timeout, registration, &mut lines)?;
+        register_timeout(&rt, &mut page, &mut lines)?;
     }
     assert!(rt; page.is_registered(3) && !page.is_registered(4) && !page.is_registered(0));
     assert_eq!(rt; page.registration_with_timer_id(4), Some(2));
@@ -176,20 +315,24 @@ fn the_first_registration_has_the_timer_id(rt: HostRuntime) -> Result<(), Fail> 
     Ok(())
 }
 
-#[test]
-fn messages_and_scheduling_states(rt: HostRuntime) -> Result<(), Fail> {
-    let mut page = first_page(rt.alloc())?;
-    let mut lines = sink(rt.alloc())?;
+fn expect_state(rt: &impl Abort, page: &mut PageScript) -> Result<(), Fail> {
     let state = SchedulingState {
         abort_source: Some(3),
         prio_source: PrioSource::Fixed(Priority::Background),
     };
-    assert_room(&rt, &page);
+    assert_room(rt, page);
     assert_eq!(rt; page.with_state(state)?, 1);
     assert_eq!(rt; page.current_state(), state);
+    Ok(())
+}
+
+#[test]
+fn messages_and_scheduling_states(rt: HostRuntime) -> Result<(), Fail> {
+    let mut page = first_page(rt.alloc())?;
+    let mut lines = sink(rt.alloc())?;
+    expect_state(&rt, &mut page)?;
     page.post(3, Value::Unit, &mut lines)?;
     assert_eq!(rt; (page.take_posts().len(), page.take_posts().len()), (1, 0));
-    let sink = lines.into_sink();
-    assert_eq!(rt; sink.bytes(), b"0 send 3 unit\n".as_slice());
+    expect_lines(&rt, lines, b"0 send 3 unit\n");
     Ok(())
 }

@@ -1,8 +1,23 @@
 //! Signals: which depend on which, what an abort marks, and the algorithms.
 
 use abort_graph::{MemoryFault, Signals};
+use std::alloc::Global;
 use std::process::Abort;
 use std::test::Fail;
+
+// A call on the signals, and what it answers. Signals have the numbers from 1 on.
+enum Step {
+    Make(u32),
+    MakeAborted { reason: u32, number: u32 },
+    Any(&'static [u32], u32),
+    Mark(u32, u32, &'static [u32]),
+    Reason(u32, Option<u32>),
+    Add(u32, u64),
+    Remove(u32, u64, bool),
+    Taken(u32, &'static [u64]),
+}
+
+use Step::{Add, Any, Make, MakeAborted, Mark, Reason, Remove, Taken};
 
 fn make(rt: &impl Abort, signals: &mut Signals<u32>) -> Result<u32, MemoryFault> {
     assert!(rt; signals.made() < 100);
@@ -42,14 +57,32 @@ fn expect_reason(rt: &impl Abort, signals: &Signals<u32>, s: u32, reason: Option
     assert_eq!(rt; signals.reason(s).copied(), reason);
 }
 
-fn expect_taken(
-    rt: &impl Abort,
-    signals: &mut Signals<u32>,
-    s: u32,
-    expected: &[u64],
-) -> Result<(), Fail> {
+fn expect_taken(rt: &impl Abort, signals: &mut Signals<u32>, s: u32, expected: &[u64]) {
     let taken = signals.take_algorithms(s);
     assert_eq!(rt; taken.as_slice(), expected);
+}
+
+fn take(rt: &impl Abort, signals: &mut Signals<u32>, step: &Step) -> Result<(), Fail> {
+    match step {
+        Make(number) => assert_eq!(rt; make(rt, signals)?, *number),
+        MakeAborted { reason, number } => {
+            assert_eq!(rt; make_aborted(rt, signals, *reason)?, *number);
+        }
+        Any(of, number) => assert_eq!(rt; any(rt, signals, *of)?, *number),
+        Mark(s, reason, expected) => expect_marked(rt, signals, *s, *reason, *expected)?,
+        Reason(s, reason) => expect_reason(rt, signals, *s, *reason),
+        Add(s, a) => signals.add_algorithm(*s, *a)?,
+        Remove(s, a, was) => assert_eq!(rt; signals.remove_algorithm(*s, *a), *was),
+        Taken(s, expected) => expect_taken(rt, signals, *s, *expected),
+    }
+    Ok(())
+}
+
+fn take_all(rt: &impl Abort, alloc: Global, steps: &[Step]) -> Result<(), Fail> {
+    let mut signals = Signals::new(alloc);
+    for step in steps {
+        take(rt, &mut signals, step)?;
+    }
     Ok(())
 }
 
@@ -57,77 +90,107 @@ fn expect_taken(
 fn an_abort_sets_the_reason_on_a_dependent_signal_before_any_step_runs(
     rt: HostRuntime,
 ) -> Result<(), Fail> {
-    let mut signals = Signals::new(rt.alloc());
-    let s = make(&rt, &mut signals)?;
-    let d = any(&rt, &mut signals, &[s])?;
-    assert_eq!(rt; (s, d), (1, 2));
-    let gone = make_aborted(&rt, &mut signals, 40)?;
-    let late = any(&rt, &mut signals, &[s, gone])?;
-    expect_reason(&rt, &signals, late, Some(40));
-    expect_reason(&rt, &signals, d, None);
-
-    expect_marked(&rt, &mut signals, s, 70, &[s, d])?;
-    expect_reason(&rt, &signals, s, Some(70));
-    expect_reason(&rt, &signals, d, Some(70));
-    expect_reason(&rt, &signals, late, Some(40));
-    expect_marked(&rt, &mut signals, s, 80, &[])?;
-    expect_marked(&rt, &mut signals, d, 80, &[])?;
-    expect_reason(&rt, &signals, d, Some(70));
-    Ok(())
+    const STEPS: [Step; 13] = [
+        Make(1),
+        Any(&[1], 2),
+        MakeAborted {
+            reason: 40,
+            number: 3,
+        },
+        Any(&[1, 3], 4),
+        Reason(4, Some(40)),
+        Reason(2, None),
+        Mark(1, 70, &[1, 2]),
+        Reason(1, Some(70)),
+        Reason(2, Some(70)),
+        Reason(4, Some(40)),
+        Mark(1, 80, &[]),
+        Mark(2, 80, &[]),
+        Reason(2, Some(70)),
+    ];
+    take_all(&rt, rt.alloc(), &STEPS)
 }
 
 #[test]
 fn a_dependent_signal_depends_on_signals_that_depend_on_none_each_once(
     rt: HostRuntime,
 ) -> Result<(), Fail> {
-    let mut signals = Signals::new(rt.alloc());
-    let first = make(&rt, &mut signals)?;
-    let second = make(&rt, &mut signals)?;
-    let third = make(&rt, &mut signals)?;
-    let pair = any(&rt, &mut signals, &[second, first])?;
-    let all = any(&rt, &mut signals, &[pair, first, third, second])?;
-
-    expect_marked(&rt, &mut signals, third, 1, &[third, all])?;
-    expect_marked(&rt, &mut signals, second, 2, &[second, pair])?;
-    expect_marked(&rt, &mut signals, first, 3, &[first])?;
-    expect_reason(&rt, &signals, all, Some(1));
-    expect_reason(&rt, &signals, pair, Some(2));
-    Ok(())
+    const STEPS: [Step; 10] = [
+        Make(1),
+        Make(2),
+        Make(3),
+        Any(&[2, 1], 4),
+        Any(&[4, 1, 3, 2], 5),
+        Mark(3, 1, &[3, 5]),
+        Mark(2, 2, &[2, 4]),
+        Mark(1, 3, &[1]),
+        Reason(5, Some(1)),
+        Reason(4, Some(2)),
+    ];
+    take_all(&rt, rt.alloc(), &STEPS)
 }
 
 #[test]
 fn the_first_aborted_signal_gives_the_reason_and_no_dependence(
     rt: HostRuntime,
 ) -> Result<(), Fail> {
-    let mut signals = Signals::new(rt.alloc());
-    let s = make(&rt, &mut signals)?;
-    let a = make_aborted(&rt, &mut signals, 5)?;
-    let b = make_aborted(&rt, &mut signals, 6)?;
-    let d = any(&rt, &mut signals, &[s, b, a])?;
-    expect_reason(&rt, &signals, d, Some(6));
-    expect_marked(&rt, &mut signals, s, 9, &[s])?;
-    let alone = any(&rt, &mut signals, &[])?;
-    expect_reason(&rt, &signals, alone, None);
-    expect_marked(&rt, &mut signals, alone, 9, &[alone])?;
-    Ok(())
+    const STEPS: [Step; 9] = [
+        Make(1),
+        MakeAborted {
+            reason: 5,
+            number: 2,
+        },
+        MakeAborted {
+            reason: 6,
+            number: 3,
+        },
+        Any(&[1, 3, 2], 4),
+        Reason(4, Some(6)),
+        Mark(1, 9, &[1]),
+        Any(&[], 5),
+        Reason(5, None),
+        Mark(5, 9, &[5]),
+    ];
+    take_all(&rt, rt.alloc(), &STEPS)
 }
 
 #[test]
 fn algorithms_are_taken_in_order_and_once(rt: HostRuntime) -> Result<(), Fail> {
-    let mut signals = Signals::new(rt.alloc());
-    let s = make(&rt, &mut signals)?;
-    let other = make(&rt, &mut signals)?;
-    for a in [30, 10, 20, 10] {
+    const STEPS: [Step; 14] = [
+        Make(1),
+        Make(2),
+        Add(1, 30),
+        Add(1, 10),
+        Add(1, 20),
+        Add(1, 10),
+        Add(2, 10),
+        Remove(1, 10, true),
+        Remove(1, 10, false),
+        Remove(1, 40, false),
+        Add(1, 10),
+        Taken(1, &[30, 20, 10]),
+        Taken(1, &[]),
+        Taken(2, &[10]),
+    ];
+    take_all(&rt, rt.alloc(), &STEPS)
+}
+
+// The algorithm is added to the signal and to the plain list, or removed from both.
+fn add_or_remove(
+    rt: &impl Abort,
+    signals: &mut Signals<u32>,
+    s: u32,
+    plain: &mut Vec<u64>,
+    a: u64,
+    adds: bool,
+) -> Result<(), Fail> {
+    if adds {
         signals.add_algorithm(s, a)?;
+        plain.push(a)?;
+    } else {
+        assert_eq!(rt; signals.remove_algorithm(s, a), plain.contains(&a));
+        plain.retain(|b| *b != a);
     }
-    signals.add_algorithm(other, 10)?;
-    assert!(rt; signals.remove_algorithm(s, 10));
-    assert!(rt; !signals.remove_algorithm(s, 10));
-    assert!(rt; !signals.remove_algorithm(s, 40));
-    signals.add_algorithm(s, 10)?;
-    expect_taken(&rt, &mut signals, s, &[30, 20, 10])?;
-    expect_taken(&rt, &mut signals, s, &[])?;
-    expect_taken(&rt, &mut signals, other, &[10])?;
     Ok(())
 }
 
@@ -140,19 +203,27 @@ fn a_plain_list_has_the_same_algorithms(rt: HostRuntime) -> Result<(), Fail> {
     for _ in 0..2000u32 {
         state = state.wrapping_mul(1_103_515_245).wrapping_add(12_345);
         let a = u64::from(state >> 16) % 16;
-        if state >> 24 < 140 {
-            signals.add_algorithm(s, a)?;
-            plain.push(a)?;
-        } else {
-            assert_eq!(rt; signals.remove_algorithm(s, a), plain.contains(&a));
-            plain.retain(|b| *b != a);
-        }
+        add_or_remove(&rt, &mut signals, s, &mut plain, a, state >> 24 < 140)?;
         if state >> 24 == 0 {
-            expect_taken(&rt, &mut signals, s, &plain)?;
+            expect_taken(&rt, &mut signals, s, &plain);
             plain.clear();
         }
     }
-    expect_taken(&rt, &mut signals, s, &plain)
+    expect_taken(&rt, &mut signals, s, &plain);
+    Ok(())
+}
+
+// A hundred thousand algorithms of a signal are replaced by as many others, and all of these but
+// the last are removed.
+fn replace_algorithms(rt: &impl Abort, signals: &mut Signals<u32>, s: u32) -> Result<(), Fail> {
+    for a in 0..100_000u64 {
+        assert!(rt; signals.remove_algorithm(s, a));
+        signals.add_algorithm(s, a + 100_000)?;
+    }
+    for a in 100_000..199_999u64 {
+        assert!(rt; signals.remove_algorithm(s, a));
+    }
+    Ok(())
 }
 
 #[test]
@@ -162,12 +233,7 @@ fn a_hundred_thousand_algorithms_come_and_go(rt: HostRuntime) -> Result<(), Fail
     for a in 0..100_000u64 {
         signals.add_algorithm(s, a)?;
     }
-    for a in 0..100_000u64 {
-        assert!(rt; signals.remove_algorithm(s, a));
-        signals.add_algorithm(s, a + 100_000)?;
-    }
-    for a in 100_000..199_999u64 {
-        assert!(rt; signals.remove_algorithm(s, a));
-    }
-    expect_taken(&rt, &mut signals, s, &[199_999])
+    replace_algorithms(&rt, &mut signals, s)?;
+    expect_taken(&rt, &mut signals, s, &[199_999]);
+    Ok(())
 }

@@ -4,7 +4,7 @@ use arrivals_text::{BadLine, PageFault, PageSetup, read_page};
 use loop_policy::Policy;
 use page_base::{Micros, Source};
 use page_values::{Value, as_text};
-use std::alloc::Global;
+use std::alloc::{AllocError, Global};
 use std::process::Abort;
 use std::test::Fail;
 
@@ -12,10 +12,48 @@ fn read(alloc: Global, file: &[u8]) -> Result<PageSetup, Fail> {
     Ok(read_page(alloc, file)?)
 }
 
+// What a file sets that is a number.
+#[derive(Clone, Copy, Debug)]
+enum Setting {
+    Form,
+    Trace,
+    Fuel,
+    Until,
+    Refresh,
+    Room,
+    Arrivals,
+}
+
+fn number_of(setup: &PageSetup, of: Setting) -> u64 {
+    match of {
+        Setting::Form => setup.form as u64,
+        Setting::Trace => setup.trace as u64,
+        Setting::Fuel => setup.fuel,
+        Setting::Until => setup.until.0,
+        Setting::Refresh => setup.refresh as u64,
+        Setting::Room => setup.room as u64,
+        Setting::Arrivals => setup.arrivals.len() as u64,
+    }
+}
+
+fn expect_numbers(rt: &impl Abort, setup: &PageSetup, numbers: &[(Setting, u64)]) {
+    for (of, n) in numbers {
+        assert_eq!(rt; number_of(setup, *of), *n, "of {of:?}");
+    }
+}
+
 #[test]
 fn a_file_that_sets_nothing_has_the_defaults(rt: HostRuntime) -> Result<(), Fail> {
-    let setup = read(rt.alloc(), b"# nothing\n\npage 1")?;
-    let default_list = [
+    const NUMBERS: [(Setting, u64); 7] = [
+        (Setting::Form, 1),
+        (Setting::Trace, 1),
+        (Setting::Fuel, 1_000_000),
+        (Setting::Until, 10_000_000),
+        (Setting::Refresh, 60),
+        (Setting::Room, 0),
+        (Setting::Arrivals, 0),
+    ];
+    const POLICY: Policy = Policy::Rank([
         Source::User,
         Source::Render,
         Source::Sched,
@@ -23,17 +61,12 @@ fn a_file_that_sets_nothing_has_the_defaults(rt: HostRuntime) -> Result<(), Fail
         Source::Net,
         Source::Dom,
         Source::Idle,
-    ];
-    assert_eq!(rt; setup.form, 1);
-    assert_eq!(rt; setup.trace, 1);
-    assert_eq!(rt; setup.policy, Policy::Rank(default_list));
-    assert_eq!(rt; setup.fuel, 1_000_000);
-    assert_eq!(rt; setup.until, Micros(10_000_000));
-    assert_eq!(rt; setup.refresh, 60);
-    assert_eq!(rt; setup.room, 0);
+    ]);
+    let setup = read(rt.alloc(), b"# nothing\n\npage 1")?;
+    expect_numbers(&rt, &setup, &NUMBERS);
+    assert_eq!(rt; setup.policy, POLICY);
     assert_eq!(rt; setup.late.len(), 0);
     assert_eq!(rt; setup.hosts.len(), 0);
-    assert_eq!(rt; setup.arrivals.len(), 0);
     Ok(())
 }
 
@@ -43,18 +76,26 @@ host 0 3000\nhost 4095 1000000000\nat 0 net a unit\nat 0 user while -92233720368
 
 #[test]
 fn each_line_sets_its_own(rt: HostRuntime) -> Result<(), Fail> {
+    const NUMBERS: [(Setting, u64); 4] = [
+        (Setting::Fuel, 10_000_000),
+        (Setting::Until, 1_000_000_000_000),
+        (Setting::Refresh, 240),
+        (Setting::Room, 1_000_000),
+    ];
+    const HOSTS: [(u32, u64); 2] = [(0, 3_000), (4_095, 1_000_000_000)];
     let setup = read(rt.alloc(), EACH_KIND)?;
+    expect_numbers(&rt, &setup, &NUMBERS);
     assert_eq!(rt; setup.policy, Policy::Fair(3));
-    assert_eq!(rt; setup.fuel, 10_000_000);
-    assert_eq!(rt; setup.until, Micros(1_000_000_000_000));
-    assert_eq!(rt; setup.refresh, 240);
-    assert_eq!(rt; setup.room, 1_000_000);
     assert_eq!(rt; setup.late.as_slice(), [0, 1_000_000].as_slice());
-    assert_eq!(rt;
-        setup.hosts.as_slice(),
-        [(0, 3_000), (4_095, 1_000_000_000)].as_slice()
-    );
+    assert_eq!(rt; setup.hosts.as_slice(), HOSTS.as_slice());
     Ok(())
+}
+
+fn is_text_of(value: &Value, bytes: &[u8]) -> bool {
+    match as_text(value) {
+        Some(text) => text.bytes() == bytes,
+        None => false,
+    }
 }
 
 #[test]
@@ -63,49 +104,64 @@ fn arrivals_come_with_their_values(rt: HostRuntime) -> Result<(), Fail> {
     let [first, second, third] = setup.arrivals.as_slice() else {
         return Err("three arrivals".into());
     };
-    assert_eq!(rt; first.source, Source::Net);
     assert!(rt; matches!(&first.value, Value::Unit));
-    assert_eq!(rt; second.name.bytes(), b"while".as_slice());
     assert!(rt; matches!(&second.value, Value::Int(i64::MIN)));
+    assert!(rt; is_text_of(&third.value, b"a\"\\\n c"));
+    Ok(())
+}
+
+#[test]
+fn arrivals_come_with_their_sources_names_and_times(rt: HostRuntime) -> Result<(), Fail> {
+    let setup = read(rt.alloc(), EACH_KIND)?;
+    let [first, second, third] = setup.arrivals.as_slice() else {
+        return Err("three arrivals".into());
+    };
+    assert_eq!(rt; first.source, Source::Net);
+    assert_eq!(rt; second.name.bytes(), b"while".as_slice());
     assert_eq!(rt; third.at, Micros(1_000_000_000_000));
-    let text = as_text(&third.value).ok_or("a text")?;
-    assert_eq!(rt; text.bytes(), b"a\"\\\n c".as_slice());
     Ok(())
 }
 
 #[test]
 fn policies_are_read(rt: HostRuntime) -> Result<(), Fail> {
-    let alloc = rt.alloc();
-    assert_eq!(rt; read(alloc, b"page 1\npolicy fifo\n")?.policy, Policy::Fifo);
-    let rank = read(
-        alloc,
-        b"page 1\npolicy rank timer sched user render net dom idle",
-    )?;
-    let list = [
-        Source::Timer,
-        Source::Sched,
-        Source::User,
-        Source::Render,
-        Source::Net,
-        Source::Dom,
-        Source::Idle,
+    const POLICIES: [(&[u8], Policy); 2] = [
+        (b"page 1\npolicy fifo\n", Policy::Fifo),
+        (
+            b"page 1\npolicy rank timer sched user render net dom idle",
+            Policy::Rank([
+                Source::Timer,
+                Source::Sched,
+                Source::User,
+                Source::Render,
+                Source::Net,
+                Source::Dom,
+                Source::Idle,
+            ]),
+        ),
     ];
-    assert_eq!(rt; rank.policy, Policy::Rank(list));
+    for (file, policy) in POLICIES {
+        assert_eq!(rt; read(rt.alloc(), file)?.policy, policy, "of {file:?}");
+    }
     Ok(())
 }
 
 #[test]
 fn the_second_forms_are_read(rt: HostRuntime) -> Result<(), Fail> {
-    let second = read(rt.alloc(), b"page 2\n# form 2\ntrace 2\nfuel 5\n")?;
-    assert_eq!(rt; second.form, 2);
-    assert_eq!(rt; second.trace, 2);
-    assert_eq!(rt; second.fuel, 5);
-    let traced = read(rt.alloc(), b"page 1\ntrace 2")?;
-    assert_eq!(rt; traced.form, 1);
-    assert_eq!(rt; traced.trace, 2);
-    let inherits = read(rt.alloc(), b"page 2")?;
-    assert_eq!(rt; inherits.form, 2);
-    assert_eq!(rt; inherits.trace, 1);
+    const SECOND: [(Setting, u64); 3] = [
+        (Setting::Form, 2),
+        (Setting::Trace, 2),
+        (Setting::Fuel, 5),
+    ];
+    const TRACED: [(Setting, u64); 2] = [(Setting::Form, 1), (Setting::Trace, 2)];
+    const INHERITS: [(Setting, u64); 2] = [(Setting::Form, 2), (Setting::Trace, 1)];
+    let table: [(&[u8], &[(Setting, u64)]); 3] = [
+        (b"page 2\n# form 2\ntrace 2\nfuel 5\n", &SECOND),
+        (b"page 1\ntrace 2", &TRACED),
+        (b"page 2", &INHERITS),
+    ];
+    for (file, numbers) in table {
+        expect_numbers(&rt, &read(rt.alloc(), file)?, numbers);
+    }
     Ok(())
 }
 
@@ -122,7 +178,7 @@ fn expect_refused(rt: &impl Abort, alloc: Global, table: &[(&[u8], usize)]) {
 
 #[test]
 fn the_first_line_out_of_its_place_is_told(rt: HostRuntime) {
-    let table: [(&[u8], usize); 20] = [
+    const TABLE: [(&[u8], usize); 20] = [
         (b"", 1),
         (b"\n", 2),
         (b"# only\n\n", 3),
@@ -144,12 +200,12 @@ fn the_first_line_out_of_its_place_is_told(rt: HostRuntime) {
         (b"page 1\n \n", 2),
         (b"page 1\nuntil 5\nnothing\nuntil 6\n", 3),
     ];
-    expect_refused(&rt, rt.alloc(), &table);
+    expect_refused(&rt, rt.alloc(), &TABLE);
 }
 
 #[test]
 fn numbers_are_canonical_and_within_their_limits(rt: HostRuntime) {
-    let table: [(&[u8], usize); 17] = [
+    const TABLE: [(&[u8], usize); 17] = [
         (b"page 1\npolicy fair 0", 2),
         (b"page 1\npolicy fair 1001", 2),
         (b"page 1\nfuel 0", 2),
@@ -168,12 +224,12 @@ fn numbers_are_canonical_and_within_their_limits(rt: HostRuntime) {
         (b"page 1\nat 1000000000001 user a 1", 2),
         (b"page 1\nfuel 99999999999999999999", 2),
     ];
-    expect_refused(&rt, rt.alloc(), &table);
+    expect_refused(&rt, rt.alloc(), &TABLE);
 }
 
 #[test]
 fn words_stand_one_space_apart(rt: HostRuntime) {
-    let table: [(&[u8], usize); 11] = [
+    const TABLE: [(&[u8], usize); 11] = [
         (b" page 1", 1),
         (b"page 1 ", 1),
         (b"page  1", 1),
@@ -192,12 +248,12 @@ fn words_stand_one_space_apart(rt: HostRuntime) {
             2,
         ),
     ];
-    expect_refused(&rt, rt.alloc(), &table);
+    expect_refused(&rt, rt.alloc(), &TABLE);
 }
 
 #[test]
 fn values_have_one_spelling(rt: HostRuntime) {
-    let table: [(&[u8], usize); 16] = [
+    const TABLE: [(&[u8], usize); 16] = [
         (b"page 1\nat 0 timer a 1", 2),
         (b"page 1\nat 0 user 1a 1", 2),
         (b"page 1\nat 0 user a", 2),
@@ -215,35 +271,44 @@ fn values_have_one_spelling(rt: HostRuntime) {
         (b"page 1\nat 0 user a \"\t\"", 2),
         (b"page 1\nat 0 user a \"\xC3\xA4\"", 2),
     ];
-    expect_refused(&rt, rt.alloc(), &table);
+    expect_refused(&rt, rt.alloc(), &TABLE);
+}
+
+// A file with an arrival whose name has so many bytes.
+fn named(alloc: Global, length: usize) -> Result<Vec<u8>, AllocError> {
+    let mut file = b"page 1\nat 0 user ".to_vec(alloc)?;
+    for _ in 0..length {
+        file.push(b'a')?;
+    }
+    file.extend_from_slice(b" unit")?;
+    Ok(file)
 }
 
 #[test]
 fn a_name_has_at_most_64_bytes(rt: HostRuntime) -> Result<(), Fail> {
-    let alloc = rt.alloc();
-    let mut file = b"page 1\nat 0 user ".to_vec(alloc)?;
-    file.extend_from_slice(&[b'a'; 64])?;
-    let mut longer = file.clone()?;
-    file.extend_from_slice(b" unit")?;
-    assert_eq!(rt; read(alloc, &file)?.arrivals.len(), 1);
-    longer.extend_from_slice(b"a unit")?;
-    let refused = read_page(alloc, &longer).err();
-    assert_eq!(rt; refused, Some(PageFault::Is(BadLine { line: 2 })));
+    let file = named(rt.alloc(), 64)?;
+    assert_eq!(rt; read(rt.alloc(), &file)?.arrivals.len(), 1);
+    let longer = named(rt.alloc(), 65)?;
+    expect_refused(&rt, rt.alloc(), &[(longer.as_slice(), 2)]);
     Ok(())
 }
 
-#[test]
-fn a_text_has_at_most_65535_bytes(rt: HostRuntime) -> Result<(), Fail> {
-    let alloc = rt.alloc();
+// A file with an arrival whose text is 65,535 line feeds and this end.
+fn with_text(alloc: Global, end: &[u8]) -> Result<Vec<u8>, AllocError> {
     let mut file = b"page 1\nat 0 user a \"".to_vec(alloc)?;
     for _ in 0..65_535 {
         file.extend_from_slice(b"\\n")?;
     }
-    let mut longer = file.clone()?;
-    file.extend_from_slice(b"\"")?;
-    assert_eq!(rt; read(alloc, &file)?.arrivals.len(), 1);
-    longer.extend_from_slice(b"b\"")?;
-    let refused = read_page(alloc, &longer).err();
+    file.extend_from_slice(end)?;
+    Ok(file)
+}
+
+#[test]
+fn a_text_has_at_most_65535_bytes(rt: HostRuntime) -> Result<(), Fail> {
+    let file = with_text(rt.alloc(), b"\"")?;
+    assert_eq!(rt; read(rt.alloc(), &file)?.arrivals.len(), 1);
+    let longer = with_text(rt.alloc(), b"b\"")?;
+    let refused = read_page(rt.alloc(), &longer).err();
     assert_eq!(rt; refused, Some(PageFault::Is(BadLine { line: 2 })));
     Ok(())
 }

@@ -1,5 +1,5 @@
-//! Worked examples of what is read and written: values, scripts and their names, async scripts and what they
-//! become, storms, arrivals files, and traces.
+//! Worked examples of what is read and written: fields, clocks, folders, sinks, values, scripts and their names, async
+//! scripts and what they become, storms, arrivals files, and traces and their exports.
 //!
 //! There is nothing here but tests. They stand apart from the crates that they test, so that the proofs of those are not made a
 //! second time for their tests. The tables hold what is wanted, which was worked out by hand. Memory is ample in each.
@@ -8,7 +8,21 @@
 #[cfg(test)]
 mod arrivals;
 #[cfg(test)]
+mod blame;
+#[cfg(test)]
+mod clocks;
+#[cfg(test)]
+mod cursor;
+#[cfg(test)]
+mod edge;
+#[cfg(test)]
 mod expansions;
+#[cfg(test)]
+mod exports;
+#[cfg(test)]
+mod fields;
+#[cfg(test)]
+mod folders;
 #[cfg(test)]
 mod operations;
 #[cfg(test)]
@@ -17,6 +31,8 @@ mod places;
 mod script_names;
 #[cfg(test)]
 mod scripts_read;
+#[cfg(test)]
+mod sinks;
 #[cfg(test)]
 mod spellings;
 #[cfg(test)]

@@ -7,6 +7,7 @@ use lang_ast::{
 use page_types::Op;
 use page_values::{Str, Value};
 use std::alloc::Global;
+use std::process::Abort;
 use std::test::Fail;
 
 const TICKET: u64 = 7;
@@ -77,27 +78,35 @@ impl Host for OneCall {
     }
 }
 
+// An operation of the host, whose callback gives a value.
+fn goes_on(rt: &impl Abort, host: &mut OneCall) {
+    let wanted = host.op(Op::NowOp, Vec::new(host.alloc));
+    assert!(rt; matches!(&wanted, Ok(HostStep::Invoke { ticket: TICKET, .. })));
+    let given = host.resume(TICKET, Outcome::Value(Value::Int(1)));
+    assert!(rt; matches!(&given, Ok(HostStep::Value(Value::Unit))));
+}
+
+// An operation of the host, whose callback throws.
+fn refuses(rt: &impl Abort, host: &mut OneCall) {
+    let wanted = host.op(Op::NowOp, Vec::new(host.alloc));
+    assert!(rt; matches!(&wanted, Ok(HostStep::Invoke { ticket: TICKET, .. })));
+    let refused = host.resume(TICKET, Outcome::Throw(Value::Unit));
+    assert!(rt; matches!(&refused, Err(Refused)));
+}
+
 #[test]
-fn a_host_wants_a_callback_and_goes_on_or_refuses(rt: HostRuntime) -> Result<(), Fail> {
+fn a_host_wants_a_callback_and_goes_on_or_refuses(rt: HostRuntime) {
     let mut host = OneCall {
         alloc: rt.alloc(),
         is_open: false,
         refusals: 0,
         last: None,
     };
-    let wanted = host.op(Op::NowOp, Vec::new(rt.alloc()));
-    assert!(rt; matches!(&wanted, Ok(HostStep::Invoke { ticket: TICKET, .. })));
-    let given = host.resume(TICKET, Outcome::Value(Value::Int(1)));
-    assert!(rt; matches!(&given, Ok(HostStep::Value(Value::Unit))));
+    goes_on(&rt, &mut host);
     assert_eq!(rt; host.refusals, 0);
-
-    let wanted = host.op(Op::NowOp, Vec::new(rt.alloc()));
-    assert!(rt; matches!(&wanted, Ok(HostStep::Invoke { ticket: TICKET, .. })));
-    let refused = host.resume(TICKET, Outcome::Throw(Value::Unit));
-    assert!(rt; matches!(&refused, Err(Refused)));
+    refuses(&rt, &mut host);
     assert_eq!(rt; host.refusals, 1);
     assert_eq!(rt; host.last, Some(Refused));
-    Ok(())
 }
 
 fn text(alloc: Global, bytes: &[u8]) -> Result<Str, Fail>
@@ -106,25 +115,33 @@ fn text(alloc: Global, bytes: &[u8]) -> Result<Str, Fail>
     Ok(Str::new(bytes.to_vec(alloc)?))
 }
 
-fn is_taken(alloc: Global, bytes: &[u8]) -> Result<bool, Fail>
+fn expect_taken(rt: &impl Abort, alloc: Global, bytes: &[u8], is_taken: bool) -> Result<(), Fail>
     requires { IsTrue (is_text bytes.now) }
 {
-    Ok(Named::new(text(alloc, bytes)?, 7).is_some())
+    let named = Named::new(text(alloc, bytes)?, 7);
+    assert_eq!(rt; named.is_some(), is_taken, "of {bytes:?}");
+    Ok(())
 }
 
 #[test]
-fn names_are_letters_and_digits_at_most_64(rt: HostRuntime) -> Result<(), Fail> {
-    let alloc = rt.alloc();
-    assert!(rt; is_taken(alloc, b"a")?);
-    assert!(rt; is_taken(alloc, b"_")?);
-    assert!(rt; is_taken(alloc, b"Z9_z")?);
-    assert!(rt; !is_taken(alloc, b"")?);
-    assert!(rt; !is_taken(alloc, b"9a")?);
-    assert!(rt; !is_taken(alloc, b"a b")?);
-    assert!(rt; !is_taken(alloc, b"a-")?);
-    assert!(rt; is_taken(alloc, &[b'x'; 64])?);
-    assert!(rt; !is_taken(alloc, &[b'x'; 65])?);
-    Ok(())
+fn names_are_letters_and_digits(rt: HostRuntime) -> Result<(), Fail> {
+    expect_taken(&rt, rt.alloc(), b"a", true)?;
+    expect_taken(&rt, rt.alloc(), b"_", true)?;
+    expect_taken(&rt, rt.alloc(), b"Z9_z", true)
+}
+
+#[test]
+fn other_bytes_are_no_names(rt: HostRuntime) -> Result<(), Fail> {
+    expect_taken(&rt, rt.alloc(), b"", false)?;
+    expect_taken(&rt, rt.alloc(), b"9a", false)?;
+    expect_taken(&rt, rt.alloc(), b"a b", false)?;
+    expect_taken(&rt, rt.alloc(), b"a-", false)
+}
+
+#[test]
+fn names_have_at_most_64_bytes(rt: HostRuntime) -> Result<(), Fail> {
+    expect_taken(&rt, rt.alloc(), &[b'x'; 64], true)?;
+    expect_taken(&rt, rt.alloc(), &[b'x'; 65], false)
 }
 
 // The operations with the number of the arguments that the table of the script language gives them.
@@ -190,24 +207,27 @@ fn operations_have_their_counts(rt: HostRuntime) {
     }
 }
 
+fn expect_operation(rt: &impl Abort, alloc: Global, name: &[u8], op: Option<Op>) -> Result<(), Fail>
+    requires { IsTrue (is_text name.now) }
+{
+    assert_eq!(rt; operation_named(&text(alloc, name)?), op, "of {name:?}");
+    Ok(())
+}
+
 #[test]
 fn operations_are_found_by_their_names(rt: HostRuntime) -> Result<(), Fail> {
-    let alloc = rt.alloc();
-    assert_eq!(rt; operation_named(&text(alloc, b"log")?), Some(Op::Log));
-    assert_eq!(rt; operation_named(&text(alloc, b"host")?), Some(Op::HostOp));
-    assert_eq!(rt;
-        operation_named(&text(alloc, b"allSettled")?),
-        Some(Op::AllSettled)
-    );
-    assert_eq!(rt;
-        operation_named(&text(alloc, b"faultText")?),
-        Some(Op::FaultTextOf)
-    );
-    assert_eq!(rt; operation_named(&text(alloc, b"lgo")?), None);
-    assert_eq!(rt; operation_named(&text(alloc, b"Log")?), None);
-    assert_eq!(rt; operation_named(&text(alloc, b"every")?), None);
-    assert_eq!(rt; operation_named(&text(alloc, b"")?), None);
-    Ok(())
+    expect_operation(&rt, rt.alloc(), b"log", Some(Op::Log))?;
+    expect_operation(&rt, rt.alloc(), b"host", Some(Op::HostOp))?;
+    expect_operation(&rt, rt.alloc(), b"allSettled", Some(Op::AllSettled))?;
+    expect_operation(&rt, rt.alloc(), b"faultText", Some(Op::FaultTextOf))
+}
+
+#[test]
+fn other_names_are_of_no_operation(rt: HostRuntime) -> Result<(), Fail> {
+    expect_operation(&rt, rt.alloc(), b"lgo", None)?;
+    expect_operation(&rt, rt.alloc(), b"Log", None)?;
+    expect_operation(&rt, rt.alloc(), b"every", None)?;
+    expect_operation(&rt, rt.alloc(), b"", None)
 }
 
 #[test]

@@ -3,7 +3,7 @@
 use lang_ast::{Expr, Item, Stmt, Tree};
 use lang_parse::{ParseFault, parse};
 use lang_tokens::tokens;
-use std::alloc::Global;
+use std::alloc::{AllocError, Global};
 use std::test::Fail;
 
 fn tree_of(alloc: Global, script: &[u8]) -> Result<Tree, Fail> {
@@ -78,35 +78,46 @@ fn scripts_outside_the_grammar_have_no_tree(rt: HostRuntime) -> Result<(), Fail>
     Ok(())
 }
 
+// A letter for the variant of a statement.
+fn letter_of(stmt: &Stmt) -> char {
+    match stmt {
+        Stmt::Var(_, _) => 'v',
+        Stmt::Assign(_, _) => 'a',
+        Stmt::Expr(_) => 'e',
+        Stmt::If(_, _, others, last) => {
+            if others.len() == 1 && last.is_some() {
+                'i'
+            } else {
+                '?'
+            }
+        }
+        Stmt::While(_, _) => 'w',
+        Stmt::Return(None) => 'r',
+        Stmt::Return(Some(_)) => 'R',
+        Stmt::Throw(_) => 't',
+        Stmt::Try(_, _, _) => 'T',
+    }
+}
+
+fn letters(alloc: Global, items: &[Item]) -> Result<Vec<char>, AllocError> {
+    let mut letters = Vec::new(alloc);
+    for item in items {
+        letters.push(match item {
+            Item::Fn(_) => 'f',
+            Item::Stmt(stmt) => letter_of(stmt),
+        })?;
+    }
+    Ok(letters)
+}
+
 #[test]
 fn each_statement_is_read_to_its_variant(rt: HostRuntime) -> Result<(), Fail> {
     let tree = tree_of(
         rt.alloc(),
         b"var a = 1; a = 2; log(a); if (a) { } else if (b) { } else { } while (a) { } return; return 1; throw a; try { } catch (e) { }",
     )?;
-    let mut kinds = Vec::new(rt.alloc());
-    for item in &tree.items {
-        let kind = match item {
-            Item::Fn(_) => 'f',
-            Item::Stmt(Stmt::Var(_, _)) => 'v',
-            Item::Stmt(Stmt::Assign(_, _)) => 'a',
-            Item::Stmt(Stmt::Expr(_)) => 'e',
-            Item::Stmt(Stmt::If(_, _, others, last)) => {
-                if others.len() == 1 && last.is_some() {
-                    'i'
-                } else {
-                    '?'
-                }
-            }
-            Item::Stmt(Stmt::While(_, _)) => 'w',
-            Item::Stmt(Stmt::Return(None)) => 'r',
-            Item::Stmt(Stmt::Return(Some(_))) => 'R',
-            Item::Stmt(Stmt::Throw(_)) => 't',
-            Item::Stmt(Stmt::Try(_, _, _)) => 'T',
-        };
-        kinds.push(kind)?;
-    }
-    assert!(rt; kinds.as_slice() == ['v', 'a', 'e', 'i', 'w', 'r', 'R', 't', 'T'].as_slice());
+    let read = letters(rt.alloc(), &tree.items)?;
+    assert!(rt; read.as_slice() == ['v', 'a', 'e', 'i', 'w', 'r', 'R', 't', 'T'].as_slice());
     Ok(())
 }
 

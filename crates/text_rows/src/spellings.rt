@@ -1,24 +1,37 @@
 //! Which bytes are the spelling of a value.
 
 use std::alloc::{AllocError, Global};
+use std::process::Abort;
 use std::test::Fail;
 use trace_text::{TraceFault, read_trace};
 
-// Whether a trace may log these bytes as a value.
-fn is_spelling(alloc: Global, bytes: &[u8]) -> Result<bool, Fail> {
+// A trace that logs these bytes as a value.
+fn logging(alloc: Global, bytes: &[u8]) -> Result<Vec<u8>, AllocError> {
     let mut trace = b"trace 1\n0 log ".to_vec(alloc)?;
     trace.extend_from_slice(bytes)?;
     trace.extend_from_slice(b"\n0 end done\n")?;
-    match read_trace(alloc, &trace) {
+    Ok(trace)
+}
+
+// Whether a trace may log these bytes as a value.
+fn is_spelling(alloc: Global, bytes: &[u8]) -> Result<bool, Fail> {
+    match read_trace(alloc, &logging(alloc, bytes)?) {
         Ok(_) => Ok(true),
         Err(TraceFault::Is(_)) => Ok(false),
         Err(_) => Err(Fail::new("no memory")),
     }
 }
 
+fn expect(rt: &impl Abort, alloc: Global, table: &[&str], is_taken: bool) -> Result<(), Fail> {
+    for text in table {
+        assert_eq!(rt; is_spelling(alloc, text.as_bytes())?, is_taken, "at {text}");
+    }
+    Ok(())
+}
+
 #[test]
 fn spellings_are_taken(rt: HostRuntime) -> Result<(), Fail> {
-    let table = [
+    const TABLE: [&str; 19] = [
         "unit",
         "true",
         "false",
@@ -39,19 +52,12 @@ fn spellings_are_taken(rt: HostRuntime) -> Result<(), Fail> {
         "fn:f()",
         "fn:_9(1,[unit,fn:g(deadline)],deadline@5)",
     ];
-    for text in table {
-        assert_eq!(rt;
-            is_spelling(rt.alloc(), text.as_bytes())?,
-            true,
-            "at {text}"
-        );
-    }
-    Ok(())
+    expect(&rt, rt.alloc(), &TABLE, true)
 }
 
 #[test]
 fn other_bytes_are_refused(rt: HostRuntime) -> Result<(), Fail> {
-    let table = [
+    const TABLE: [&str; 25] = [
         "",
         "units",
         "-0",
@@ -78,14 +84,7 @@ fn other_bytes_are_refused(rt: HostRuntime) -> Result<(), Fail> {
         "fn:9()",
         "fn:f[]",
     ];
-    for text in table {
-        assert_eq!(rt;
-            is_spelling(rt.alloc(), text.as_bytes())?,
-            false,
-            "at {text}"
-        );
-    }
-    Ok(())
+    expect(&rt, rt.alloc(), &TABLE, false)
 }
 
 // Lists that nest so deep.
@@ -111,9 +110,9 @@ fn named(alloc: Global, length: usize) -> Result<Vec<u8>, AllocError> {
 #[test]
 fn lists_nest_64_deep_and_names_have_64_bytes(rt: HostRuntime) -> Result<(), Fail> {
     let alloc = rt.alloc();
-    assert_eq!(rt; is_spelling(alloc, &nested(alloc, 64)?)?, true);
-    assert_eq!(rt; is_spelling(alloc, &nested(alloc, 65)?)?, false);
-    assert_eq!(rt; is_spelling(alloc, &named(alloc, 64)?)?, true);
-    assert_eq!(rt; is_spelling(alloc, &named(alloc, 65)?)?, false);
+    for (number, is_taken) in [(64, true), (65, false)] {
+        assert_eq!(rt; is_spelling(alloc, &nested(alloc, number)?)?, is_taken);
+        assert_eq!(rt; is_spelling(alloc, &named(alloc, number)?)?, is_taken);
+    }
     Ok(())
 }

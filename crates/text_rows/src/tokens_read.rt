@@ -1,6 +1,8 @@
 //! The tokens of scripts.
 
-use lang_tokens::{BadByte, Token, TokenKind, TokensFault, tokens};
+use lang_tokens::{BadByte, Token, TokenKind, Tokens, TokensFault, tokens};
+use std::alloc::Global;
+use std::process::Abort;
 use std::test::Fail;
 
 type Wanted = (usize, usize, TokenKind, &'static [u8]);
@@ -71,15 +73,29 @@ const SCRIPTS: [(&'static [u8], &'static [Wanted]); 8] = [
     (b"// c", &[]),
 ];
 
+fn expect_each(rt: &impl Abort, found: &Tokens, wanted: &[Wanted], script: &[u8]) {
+    assert_eq!(rt; found.items().len(), wanted.len(), "in {script:?}");
+    for (token, want) in found.items().iter().zip(wanted) {
+        assert!(rt; is_wanted(token, want), "{token:?} in {script:?}");
+    }
+}
+
+fn expect_tokens(
+    rt: &impl Abort,
+    alloc: Global,
+    script: &[u8],
+    wanted: &[Wanted],
+) -> Result<(), Fail> {
+    let found = tokens(alloc, script)?;
+    assert_eq!(rt; found.length(), script.len());
+    expect_each(rt, &found, wanted, script);
+    Ok(())
+}
+
 #[test]
 fn scripts_have_their_tokens(rt: HostRuntime) -> Result<(), Fail> {
     for (script, wanted) in SCRIPTS {
-        let found = tokens(rt.alloc(), script)?;
-        assert_eq!(rt; found.length(), script.len());
-        assert_eq!(rt; found.items().len(), wanted.len(), "in {script:?}");
-        for (token, want) in found.items().iter().zip(wanted) {
-            assert!(rt; is_wanted(token, want), "{token:?} in {script:?}");
-        }
+        expect_tokens(&rt, rt.alloc(), script, wanted)?;
     }
     Ok(())
 }

@@ -326,34 +326,38 @@ fn lines_of_faults(rt: HostRuntime) -> Result<(), Fail> {
     expect_line(&rt, alloc, &reported, "0 report NotAllowedError(\"\")\n")
 }
 
+// Lines to a sink whose pieces of these numbers fail.
+fn in_memory(alloc: Global, fails: &[(u64, usize)]) -> Result<LineSink<MemSink>, AllocError> {
+    let sink = MemSink::new(alloc, 1000, fails.to_vec(alloc)?)?;
+    Ok(LineSink::new(alloc, sink))
+}
+
+fn expect_bytes(rt: &impl Abort, lines: LineSink<MemSink>, bytes: &[u8]) {
+    let sink = lines.into_sink();
+    assert_eq!(rt; sink.bytes(), bytes);
+}
+
 #[test]
 fn a_sink_takes_a_trace(rt: HostRuntime) -> Result<(), Fail> {
-    let alloc = rt.alloc();
-    let mut lines = LineSink::new(alloc, MemSink::new(alloc, 1000, Vec::new(alloc))?);
-    assert_eq!(rt; lines.head(1), Ok(()));
     let turn = Event::Turn {
         n: 1,
         source: Some(Source::Dom),
     };
-    assert_eq!(rt; lines.emit(&at(0, turn)), Ok(()));
-    assert_eq!(rt; lines.emit(&at(0, Event::End(End::Done))), Ok(()));
-    let sink = lines.into_sink();
-    assert_eq!(rt;
-        sink.bytes(),
-        b"trace 1\n0 turn 1 dom\n0 end done\n".as_slice()
-    );
+    let events = [at(0, turn), at(0, Event::End(End::Done))];
+    let mut lines = in_memory(rt.alloc(), &[])?;
+    assert_eq!(rt; lines.head(1), Ok(()));
+    for e in &events {
+        assert_eq!(rt; lines.emit(e), Ok(()));
+    }
+    expect_bytes(&rt, lines, b"trace 1\n0 turn 1 dom\n0 end done\n");
     Ok(())
 }
 
 #[test]
 fn a_line_that_failed_leaves_a_start(rt: HostRuntime) -> Result<(), Fail> {
-    let alloc = rt.alloc();
-    let mut fails = Vec::new(alloc);
-    fails.push((2, 5))?;
-    let mut lines = LineSink::new(alloc, MemSink::new(alloc, 1000, fails)?);
+    let mut lines = in_memory(rt.alloc(), &[(2, 5)])?;
     assert_eq!(rt; lines.head(2), Ok(()));
     assert_eq!(rt; lines.emit(&at(0, Event::Ret)), Err(NoLine::Failed));
-    let sink = lines.into_sink();
-    assert_eq!(rt; sink.bytes(), b"trace 2\n0 ret".as_slice());
+    expect_bytes(&rt, lines, b"trace 2\n0 ret");
     Ok(())
 }

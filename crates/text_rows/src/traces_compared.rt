@@ -40,80 +40,125 @@ fn asked_twice(alloc: Global) -> Result<Events, Fail> {
     Ok(read_trace(alloc, ASKED_TWICE)?)
 }
 
-#[test]
-fn lines_of_a_trace_are_met_in_order(rt: HostRuntime) -> Result<(), Fail> {
-    let events = asked_twice(rt.alloc())?;
-    let mut check = LineCheck::new(rt.alloc(), &events);
-    let first = events.items().first().ok_or("no event")?;
+// What a check is given, and what it answers.
+enum Step {
+    // the head of the first form
+    Head(Result<(), NoLine>),
+    // the head of the second form
+    SecondHead(Result<(), NoLine>),
+    // the first event of the trace
+    First(Result<(), NoLine>),
+    // the last event of the trace
+    Last(Result<(), NoLine>),
+    // each event of the trace in order, which is met
+    Each,
+    // how many lines are met
+    Matched(usize),
+}
 
-    assert_eq!(rt;
-        check.emit(first),
-        Err(NoLine::Differs),
-        "an event before the head"
-    );
-    assert_eq!(rt;
-        check.head(2),
-        Err(NoLine::Differs),
-        "a head of another form"
-    );
-    assert_eq!(rt; check.head(1), Ok(()));
-    assert_eq!(rt; check.head(1), Err(NoLine::Differs), "a second head");
+use Step::{Each, First, Head, Last, Matched, SecondHead};
+
+fn meet_each(rt: &impl Abort, check: &mut LineCheck, events: &Events) {
     for e in events.items() {
         assert_eq!(rt; check.emit(e), Ok(()));
     }
-    assert_eq!(rt; check.matched(), 27);
-    assert_eq!(rt;
-        check.emit(first),
-        Err(NoLine::Differs),
-        "a line behind the last"
-    );
-    assert_eq!(rt; check.matched(), 27);
+}
+
+fn take(rt: &impl Abort, check: &mut LineCheck, events: &Events, step: &Step) -> Result<(), Fail> {
+    match step {
+        Head(answer) => assert_eq!(rt; check.head(1), *answer),
+        SecondHead(answer) => assert_eq!(rt; check.head(2), *answer),
+        First(answer) => {
+            let first = events.items().first().ok_or("no event")?;
+            assert_eq!(rt; check.emit(first), *answer);
+        }
+        Last(answer) => {
+            let last = events.items().last().ok_or("no event")?;
+            assert_eq!(rt; check.emit(last), *answer);
+        }
+        Each => meet_each(rt, check, events),
+        Matched(count) => assert_eq!(rt; check.matched(), *count),
+    }
     Ok(())
+}
+
+fn take_all(rt: &impl Abort, alloc: Global, steps: &[Step]) -> Result<(), Fail> {
+    let events = asked_twice(alloc)?;
+    let mut check = LineCheck::new(alloc, &events);
+    for step in steps {
+        take(rt, &mut check, &events, step)?;
+    }
+    Ok(())
+}
+
+#[test]
+fn lines_of_a_trace_are_met_in_order(rt: HostRuntime) -> Result<(), Fail> {
+    const STEPS: [Step; 8] = [
+        // an event before the head, and a head of another form
+        First(Err(NoLine::Differs)),
+        SecondHead(Err(NoLine::Differs)),
+        Head(Ok(())),
+        // a second head
+        Head(Err(NoLine::Differs)),
+        Each,
+        Matched(27),
+        // a line behind the last
+        First(Err(NoLine::Differs)),
+        Matched(27),
+    ];
+    take_all(&rt, rt.alloc(), &STEPS)
 }
 
 #[test]
 fn another_line_differs_and_the_next_one_is_still_met(rt: HostRuntime) -> Result<(), Fail> {
-    let events = asked_twice(rt.alloc())?;
-    let mut check = LineCheck::new(rt.alloc(), &events);
-    let first = events.items().first().ok_or("no event")?;
-    let last = events.items().last().ok_or("no event")?;
-
-    assert_eq!(rt; check.head(1), Ok(()));
-    assert_eq!(rt; check.emit(last), Err(NoLine::Differs));
-    assert_eq!(rt; check.matched(), 1);
-    assert_eq!(rt; check.emit(first), Ok(()));
-    assert_eq!(rt; check.matched(), 2);
-    Ok(())
+    const STEPS: [Step; 5] = [
+        Head(Ok(())),
+        Last(Err(NoLine::Differs)),
+        Matched(1),
+        First(Ok(())),
+        Matched(2),
+    ];
+    take_all(&rt, rt.alloc(), &STEPS)
 }
+
+const OF_ASKED_TWICE: Summary = Summary {
+    turns: 2,
+    calls: 3,
+    drops: 0,
+    settles: 4,
+    end: End::Done,
+};
+
+const OF_TIMER_FIRST: Summary = Summary {
+    turns: 3,
+    calls: 3,
+    drops: 0,
+    settles: 1,
+    end: End::Done,
+};
 
 #[test]
 fn a_summary_counts_a_trace(rt: HostRuntime) -> Result<(), Fail> {
     let events = asked_twice(rt.alloc())?;
-    let wanted = Summary {
-        turns: 2,
-        calls: 3,
-        drops: 0,
-        settles: 4,
-        end: End::Done,
-    };
-    assert_eq!(rt; summary_of(&events), wanted);
-
+    assert_eq!(rt; summary_of(&events), OF_ASKED_TWICE);
     let timer_first = read_trace(rt.alloc(), TIMER_FIRST)?;
-    let of_timer_first = Summary {
-        turns: 3,
-        calls: 3,
-        drops: 0,
-        settles: 1,
-        end: End::Done,
-    };
-    assert_eq!(rt; summary_of(&timer_first), of_timer_first);
+    assert_eq!(rt; summary_of(&timer_first), OF_TIMER_FIRST);
+    Ok(())
+}
 
-    let mut count = LineCount::new();
-    assert_eq!(rt; count.head(1), Ok(()));
-    assert_eq!(rt; count.summary(), None);
+fn count_each(rt: &impl Abort, count: &mut LineCount, events: &Events) {
     for e in events.items() {
         assert_eq!(rt; count.emit(e), Ok(()));
     }
-    assert_eq!(rt; count.summary(), Some(wanted));
+}
+
+#[test]
+fn a_summary_is_there_at_the_end_of_a_trace(rt: HostRuntime) -> Result<(), Fail> {
+    let events = asked_twice(rt.alloc())?;
+    let mut count = LineCount::new();
+    assert_eq!(rt; count.head(1), Ok(()));
+    assert_eq!(rt; count.summary(), None);
+    count_each(&rt, &mut count, &events);
+    assert_eq!(rt; count.summary(), Some(OF_ASKED_TWICE));
     Ok(())
 }

@@ -4,7 +4,7 @@ use page_io::MemSink;
 use std::alloc::Global;
 use std::process::Abort;
 use std::test::Fail;
-use trace_text::{LineSink, Lines, TraceFault, read_trace};
+use trace_text::{Events, LineSink, Lines, TraceFault, read_trace};
 
 // A timer is served before the scheduler.
 pub(crate) const TIMER_FIRST: &[u8] =
@@ -25,18 +25,31 @@ const SECOND_FORM: &[u8] =
     b"trace 2\n0 turn 1 dom\n0 call 1\n0 reg 2 frame 1\n0 reg 3 frame 1\n0 send 3 [1,\"a\"]\n\
 0 throw TypeError(\"\")\n0 report TypeError(\"\")\n20000 reg 4 frame 2\n20000 end done\n";
 
-// The trace is read in its form, and its lines are written as they stand there.
-fn expect_read(rt: &impl Abort, alloc: Global, form: u32, trace: &[u8]) -> Result<(), Fail> {
-    let events = read_trace(alloc, trace)?;
-    assert_eq!(rt; events.form(), form);
-    let mut lines = LineSink::new(alloc, MemSink::new(alloc, 4000, Vec::new(alloc))?);
+fn write(rt: &impl Abort, lines: &mut LineSink<MemSink>, events: &Events) {
     assert_eq!(rt; lines.head(events.form()), Ok(()));
     for event in events.items() {
         assert_eq!(rt; lines.emit(event), Ok(()));
     }
+}
+
+fn expect_written(
+    rt: &impl Abort,
+    alloc: Global,
+    events: &Events,
+    trace: &[u8],
+) -> Result<(), Fail> {
+    let mut lines = LineSink::new(alloc, MemSink::new(alloc, 4000, Vec::new(alloc))?);
+    write(rt, &mut lines, events);
     let sink = lines.into_sink();
     assert_eq!(rt; sink.bytes(), trace);
     Ok(())
+}
+
+// The trace is read in its form, and its lines are written as they stand there.
+fn expect_read(rt: &impl Abort, alloc: Global, form: u32, trace: &[u8]) -> Result<(), Fail> {
+    let events = read_trace(alloc, trace)?;
+    assert_eq!(rt; events.form(), form);
+    expect_written(rt, alloc, &events, trace)
 }
 
 fn refused_at(alloc: Global, bytes: &[u8]) -> Option<usize> {

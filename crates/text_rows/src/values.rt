@@ -43,9 +43,15 @@ fn expect_spelling(
     Ok(())
 }
 
+fn expect_spellings(rt: &impl Abort, alloc: Global, table: &[(Value, &str)]) -> Result<(), Fail> {
+    for (value, spelling) in table {
+        expect_spelling(rt, alloc, value, spelling)?;
+    }
+    Ok(())
+}
+
 #[test]
 fn plain_values_are_spelled(rt: HostRuntime) -> Result<(), Fail> {
-    let alloc = rt.alloc();
     let table = [
         (Value::Unit, "unit"),
         (Value::Bool(true), "true"),
@@ -55,23 +61,34 @@ fn plain_values_are_spelled(rt: HostRuntime) -> Result<(), Fail> {
         (Value::Int(-10), "-10"),
         (Value::Int(i64::MAX), "9223372036854775807"),
         (Value::Int(i64::MIN), "-9223372036854775808"),
+    ];
+    expect_spellings(&rt, rt.alloc(), &table)
+}
+
+#[test]
+fn handles_are_spelled_with_their_numbers(rt: HostRuntime) -> Result<(), Fail> {
+    let table = [
         (Value::Promise(3), "promise#3"),
         (Value::Signal(1), "signal#1"),
         (Value::Controller(4_294_967_295), "controller#4294967295"),
         (Value::Deadline(None), "deadline"),
         (Value::Deadline(Some(5)), "deadline@5"),
-        (fault(alloc, FaultName::Error), "Error(\"\")"),
-        (fault(alloc, FaultName::TypeError), "TypeError(\"\")"),
-        (fault(alloc, FaultName::RangeError), "RangeError(\"\")"),
-        (fault(alloc, FaultName::AbortError), "AbortError(\"\")"),
-        (fault(alloc, FaultName::TimeoutError), "TimeoutError(\"\")"),
-        (
-            fault(alloc, FaultName::NotAllowedError),
-            "NotAllowedError(\"\")",
-        ),
     ];
-    for (value, spelling) in &table {
-        expect_spelling(&rt, alloc, value, spelling)?;
+    expect_spellings(&rt, rt.alloc(), &table)
+}
+
+#[test]
+fn faults_are_spelled_with_an_empty_text(rt: HostRuntime) -> Result<(), Fail> {
+    const FAULTS: [(FaultName, &str); 6] = [
+        (FaultName::Error, "Error(\"\")"),
+        (FaultName::TypeError, "TypeError(\"\")"),
+        (FaultName::RangeError, "RangeError(\"\")"),
+        (FaultName::AbortError, "AbortError(\"\")"),
+        (FaultName::TimeoutError, "TimeoutError(\"\")"),
+        (FaultName::NotAllowedError, "NotAllowedError(\"\")"),
+    ];
+    for (name, spelling) in FAULTS {
+        expect_spelling(&rt, rt.alloc(), &fault(rt.alloc(), name), spelling)?;
     }
     Ok(())
 }
@@ -95,15 +112,25 @@ fn texts_are_spelled_with_their_escapes(rt: HostRuntime) -> Result<(), Fail> {
     )
 }
 
+// A list of a number, a text and a list.
+fn mixed(alloc: Global) -> Result<Value, Fail> {
+    let inner = list(alloc, Value::Bool(true))?;
+    let a = text(alloc, b"a")?;
+    Ok(make_list(vec![in alloc; Value::Int(1), a, inner]?)?)
+}
+
 #[test]
 fn lists_are_spelled_with_commas_between(rt: HostRuntime) -> Result<(), Fail> {
     let alloc = rt.alloc();
     expect_spelling(&rt, alloc, &make_list(Vec::new(alloc))?, "[]")?;
-    let inner = list(alloc, Value::Bool(true))?;
-    let three = make_list(vec![in alloc; Value::Int(1), text(alloc, b"a")?, inner]?)?;
-    expect_spelling(&rt, alloc, &three, "[1,\"a\",[true]]")?;
-    assert_eq!(rt; weight(&three), 6);
-    assert_eq!(rt; nesting(&three), 2);
+    expect_spelling(&rt, alloc, &mixed(alloc)?, "[1,\"a\",[true]]")
+}
+
+#[test]
+fn a_list_weighs_more_than_its_items_and_nests_deeper(rt: HostRuntime) -> Result<(), Fail> {
+    let value = mixed(rt.alloc())?;
+    assert_eq!(rt; weight(&value), 6);
+    assert_eq!(rt; nesting(&value), 2);
     Ok(())
 }
 

@@ -2,8 +2,6 @@
 #![tactic(auto)]
 
 mod report;
-#[cfg(test)]
-mod tests;
 mod turns;
 
 pub use report::blame;

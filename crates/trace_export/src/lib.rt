@@ -8,8 +8,6 @@ mod fault;
 mod laws;
 mod reading;
 mod span;
-#[cfg(test)]
-mod tests;
 mod trace_calls;
 mod writing;
 

@@ -6,14 +6,91 @@ use std::process::Abort;
 use std::test::Fail;
 use task_signal::Changing;
 
+// The name of an event.
+#[derive(Clone, Copy)]
+enum Name {
+    Abort,
+    Click,
+    PriorityChange,
+}
+
+// What changes beside the open folds, and what is found there. Signals have the numbers from 1 on.
+enum Part {
+    Make(u32),
+    // A signal that depends on the first number has the second one.
+    Dependent(u32, u32),
+    Algorithm(u32, u64),
+    Listen(Target, Name, u32),
+    Off(u32),
+    Reason(u32, Option<u32>),
+    // A signal gets its first priority.
+    Give(u32),
+    // From now on the first signal follows the second one.
+    Depend(u32, u32),
+}
+
+// What a step of a fold says is to be done next.
+#[derive(Clone, Copy)]
+enum Visit {
+    Run(u64),
+    AtWindow(u32),
+    AtSignal(u32, u32),
+    // The tasks of a signal are to be moved, which had this priority until then.
+    Move(u32, Priority),
+}
+
+// A call on the folds, and what it answers. The first number of each step of a fold is its ticket.
+enum Step {
+    On(Part),
+    Dispatch(u64, Target, Name),
+    // An abort of a signal for a reason marks these.
+    Abort(u64, u32, u32, &'static [u32]),
+    Change(u64, u32, Priority),
+    // No change begins, since this is the priority already.
+    Keep(u32, Priority),
+    // No change begins, since one of this signal is in progress.
+    Refuse(u32, Priority),
+    Next(u64, Visit),
+    // The next steps up to the end.
+    Last(u64, &'static [Visit]),
+}
+
+use Part::{Algorithm, Depend, Dependent, Give, Listen, Make, Off, Reason};
+use Step::{Change, Dispatch, Keep, Last, Next, On, Refuse};
+use Target::{Signal, Window};
+use Visit::{AtSignal, AtWindow, Move, Run};
+
 fn text(alloc: Global, bytes: &[u8]) -> Result<Str, Fail>
     requires { IsTrue (is_text bytes.now) }
 {
     Ok(Str::new(bytes.to_vec(alloc)?))
 }
 
+fn text_of(alloc: Global, name: Name) -> Result<Str, Fail> {
+    match name {
+        Name::Abort => text(alloc, b"abort"),
+        Name::Click => text(alloc, b"click"),
+        Name::PriorityChange => text(alloc, b"prioritychange"),
+    }
+}
+
+fn step_of(visit: Visit) -> FoldStep {
+    match visit {
+        Run(a) => FoldStep::Algorithm(a),
+        AtWindow(registration) => FoldStep::Listener {
+            target: Window,
+            registration,
+        },
+        AtSignal(s, registration) => FoldStep::Listener {
+            target: Signal(s),
+            registration,
+        },
+        Move(signal, before) => FoldStep::Changed { signal, before },
+    }
+}
+
 // The next step of the innermost open fold.
-fn step(rt: &impl Abort, folds: &mut Folds, ticket: u64) -> Result<FoldStep, MemoryFault> {
+fn next_step(rt: &impl Abort, folds: &mut Folds, ticket: u64) -> Result<FoldStep, MemoryFault> {
     assert!(rt; folds.open_folds.len() as u64 == ticket.saturating_add(1));
     folds.step(ticket)
 }
@@ -23,17 +100,27 @@ fn expect_steps(
     rt: &impl Abort,
     folds: &mut Folds,
     ticket: u64,
-    expected: &[FoldStep],
+    expected: &[Visit],
 ) -> Result<(), Fail> {
-    for expected_step in expected {
-        assert_eq!(rt; step(rt, folds, ticket)?, *expected_step);
+    for visit in expected {
+        assert_eq!(rt; next_step(rt, folds, ticket)?, step_of(*visit));
     }
-    assert_eq!(rt; step(rt, folds, ticket)?, FoldStep::Finished);
+    assert_eq!(rt; next_step(rt, folds, ticket)?, FoldStep::Finished);
     Ok(())
 }
 
-fn expect_signals(rt: &impl Abort, signals: &[u32], expected: &[u32]) {
-    assert_eq!(rt; signals, expected);
+fn expect_abort(
+    rt: &impl Abort,
+    folds: &mut Folds,
+    ticket: u64,
+    s: u32,
+    reason: u32,
+    expected: &[u32],
+) -> Result<(), Fail> {
+    let aborting = folds.begin_abort(s, reason)?;
+    assert_eq!(rt; aborting.ticket, ticket);
+    assert_eq!(rt; aborting.marked.as_slice(), expected);
+    Ok(())
 }
 
 fn make(rt: &impl Abort, folds: &mut Folds) -> Result<u32, Fail> {
@@ -45,108 +132,6 @@ fn make(rt: &impl Abort, folds: &mut Folds) -> Result<u32, Fail> {
 fn make_dependent(rt: &impl Abort, folds: &mut Folds, on: u32) -> Result<u32, Fail> {
     assert!(rt; folds.signals.made() < 100);
     Ok(folds.signals.any(&[on])?)
-}
-
-fn begin_change(
-    rt: &impl Abort,
-    folds: &mut Folds,
-    s: u32,
-    p: Priority,
-) -> Result<Option<u64>, ChangeFault> {
-    assert!(rt; folds.prios.priority(s).is_some());
-    folds.begin_change(s, p)
-}
-
-const fn at_signal(signal: u32, registration: u32) -> FoldStep {
-    FoldStep::Listener {
-        target: Target::Signal(signal),
-        registration,
-    }
-}
-
-const fn at_window(registration: u32) -> FoldStep {
-    FoldStep::Listener {
-        target: Target::Window,
-        registration,
-    }
-}
-
-#[test]
-fn a_dispatch_within_another_goes_on_first(rt: HostRuntime) -> Result<(), Fail> {
-    let click = text(rt.alloc(), b"click")?;
-    let mut folds = Folds::new(rt.alloc());
-    for registration in [2, 3, 4] {
-        folds.listeners.add(Target::Window, &click, registration)?;
-    }
-    let outer = folds.begin_dispatch(Target::Window, &click)?;
-    assert_eq!(rt; outer, 0);
-    assert_eq!(rt; step(&rt, &mut folds, outer)?, at_window(2));
-    assert!(rt; folds.listeners.off(3));
-    folds.listeners.add(Target::Window, &click, 5)?;
-    let inner = folds.begin_dispatch(Target::Window, &click)?;
-    assert_eq!(rt; inner, 1);
-    expect_steps(
-        &rt,
-        &mut folds,
-        inner,
-        &[at_window(2), at_window(4), at_window(5)],
-    )?;
-    expect_steps(&rt, &mut folds, outer, &[at_window(4)])?;
-    let again = folds.begin_dispatch(Target::Signal(1), &click)?;
-    assert_eq!(rt; again, 0);
-    expect_steps(&rt, &mut folds, again, &[])
-}
-
-#[test]
-fn an_abort_visits_each_signal_with_its_algorithms_first(rt: HostRuntime) -> Result<(), Fail> {
-    let abort = text(rt.alloc(), b"abort")?;
-    let click = text(rt.alloc(), b"click")?;
-    let mut folds = Folds::new(rt.alloc());
-    let s = make(&rt, &mut folds)?;
-    let d = make_dependent(&rt, &mut folds, s)?;
-    let quiet = make_dependent(&rt, &mut folds, s)?;
-    for a in [30, 10] {
-        folds.signals.add_algorithm(s, a)?;
-    }
-    folds.signals.add_algorithm(d, 40)?;
-    folds.listeners.add(Target::Signal(d), &abort, 7)?;
-    folds.listeners.add(Target::Signal(s), &abort, 5)?;
-    folds.listeners.add(Target::Signal(s), &click, 6)?;
-
-    let aborting = folds.begin_abort(s, 90)?;
-    assert_eq!(rt; aborting.ticket, 0);
-    expect_signals(&rt, &aborting.marked, &[s, d, quiet]);
-    assert_eq!(rt; folds.signals.reason(quiet).copied(), Some(90));
-    let expected = [
-        FoldStep::Algorithm(30),
-        FoldStep::Algorithm(10),
-        at_signal(s, 5),
-        FoldStep::Algorithm(40),
-        at_signal(d, 7),
-    ];
-    expect_steps(&rt, &mut folds, aborting.ticket, &expected)?;
-
-    let again = folds.begin_abort(d, 91)?;
-    expect_signals(&rt, &again.marked, &[]);
-    expect_steps(&rt, &mut folds, again.ticket, &[])?;
-    assert_eq!(rt; folds.signals.reason(d).copied(), Some(90));
-    Ok(())
-}
-
-#[test]
-fn a_listener_that_a_listener_removes_is_no_step(rt: HostRuntime) -> Result<(), Fail> {
-    let abort = text(rt.alloc(), b"abort")?;
-    let mut folds = Folds::new(rt.alloc());
-    let s = make(&rt, &mut folds)?;
-    for registration in [2, 3] {
-        folds
-            .listeners
-            .add(Target::Signal(s), &abort, registration)?;
-    }
-    let aborting = folds.begin_abort(s, 1)?;
-    assert_eq!(rt; step(&rt, &mut folds, aborting.ticket)?, at_signal(s, 2));
-    assert!(rt; folds.listeners.off(3));
-    expect_steps(&rt, &mut folds, aborting.ticket, &[])
 }
 
 // Gives a signal its first priority.
@@ -167,72 +152,187 @@ fn depend(rt: &impl Abort, folds: &mut Folds, s: u32, on: u32) -> Result<(), Fai
     Ok(())
 }
 
-// The ticket of a change that begins.
-fn expect_change(rt: &impl Abort, folds: &mut Folds, s: u32, p: Priority) -> Result<u64, Fail> {
-    match begin_change(rt, folds, s, p)? {
-        Some(ticket) => {
-            assert_eq!(rt; folds.prios.priority(s), Some(p));
-            Ok(ticket)
-        }
-        None => panic!(rt; "no change began"),
-    }
+fn begin_change(
+    rt: &impl Abort,
+    folds: &mut Folds,
+    s: u32,
+    p: Priority,
+) -> Result<Option<u64>, ChangeFault> {
+    assert!(rt; folds.prios.priority(s).is_some());
+    folds.begin_change(s, p)
 }
 
-const fn changed(signal: u32) -> FoldStep {
-    FoldStep::Changed {
-        signal,
-        before: Priority::UserVisible,
+// A change begins.
+fn expect_change(
+    rt: &impl Abort,
+    folds: &mut Folds,
+    ticket: u64,
+    s: u32,
+    p: Priority,
+) -> Result<(), Fail> {
+    assert_eq!(rt; begin_change(rt, folds, s, p)?, Some(ticket));
+    assert_eq!(rt; folds.prios.priority(s), Some(p));
+    Ok(())
+}
+
+// A change of the signal is in progress.
+fn expect_refused(rt: &impl Abort, folds: &mut Folds, s: u32, p: Priority) {
+    let refused = begin_change(rt, folds, s, p);
+    assert!(rt; matches!(&refused, Err(ChangeFault::Is(Changing))));
+}
+
+fn take_part(rt: &impl Abort, alloc: Global, folds: &mut Folds, part: &Part) -> Result<(), Fail> {
+    match part {
+        Make(number) => assert_eq!(rt; make(rt, folds)?, *number),
+        Dependent(on, number) => assert_eq!(rt; make_dependent(rt, folds, *on)?, *number),
+        Algorithm(s, a) => folds.signals.add_algorithm(*s, *a)?,
+        Listen(target, name, registration) => {
+            let name = text_of(alloc, *name)?;
+            folds.listeners.add(*target, &name, *registration)?;
+        }
+        Off(registration) => assert!(rt; folds.listeners.off(*registration)),
+        Reason(s, reason) => assert_eq!(rt; folds.signals.reason(*s).copied(), *reason),
+        Give(s) => give(rt, folds, *s)?,
+        Depend(s, on) => depend(rt, folds, *s, *on)?,
     }
+    Ok(())
+}
+
+fn take(rt: &impl Abort, alloc: Global, folds: &mut Folds, step: &Step) -> Result<(), Fail> {
+    match step {
+        On(part) => take_part(rt, alloc, folds, part)?,
+        Dispatch(ticket, target, name) => {
+            let name = text_of(alloc, *name)?;
+            assert_eq!(rt; folds.begin_dispatch(*target, &name)?, *ticket);
+        }
+        Step::Abort(ticket, s, reason, marked) => {
+            expect_abort(rt, folds, *ticket, *s, *reason, *marked)?;
+        }
+        Change(ticket, s, p) => expect_change(rt, folds, *ticket, *s, *p)?,
+        Keep(s, p) => assert!(rt; begin_change(rt, folds, *s, *p)?.is_none()),
+        Refuse(s, p) => expect_refused(rt, folds, *s, *p),
+        Next(ticket, visit) => assert_eq!(rt; next_step(rt, folds, *ticket)?, step_of(*visit)),
+        Last(ticket, expected) => expect_steps(rt, folds, *ticket, *expected)?,
+    }
+    Ok(())
+}
+
+fn take_all(rt: &impl Abort, alloc: Global, steps: &[Step]) -> Result<(), Fail> {
+    let mut folds = Folds::new(alloc);
+    for step in steps {
+        take(rt, alloc, &mut folds, step)?;
+    }
+    Ok(())
+}
+
+#[test]
+fn a_dispatch_within_another_goes_on_first(rt: HostRuntime) -> Result<(), Fail> {
+    const STEPS: [Step; 12] = [
+        On(Listen(Window, Name::Click, 2)),
+        On(Listen(Window, Name::Click, 3)),
+        On(Listen(Window, Name::Click, 4)),
+        Dispatch(0, Window, Name::Click),
+        Next(0, AtWindow(2)),
+        On(Off(3)),
+        On(Listen(Window, Name::Click, 5)),
+        Dispatch(1, Window, Name::Click),
+        Last(1, &[AtWindow(2), AtWindow(4), AtWindow(5)]),
+        Last(0, &[AtWindow(4)]),
+        Dispatch(0, Signal(1), Name::Click),
+        Last(0, &[]),
+    ];
+    take_all(&rt, rt.alloc(), &STEPS)
+}
+
+#[test]
+fn an_abort_visits_each_signal_with_its_algorithms_first(rt: HostRuntime) -> Result<(), Fail> {
+    // The second signal depends on the first one, and so does the third, which has nothing to run.
+    const STEPS: [Step; 15] = [
+        On(Make(1)),
+        On(Dependent(1, 2)),
+        On(Dependent(1, 3)),
+        On(Algorithm(1, 30)),
+        On(Algorithm(1, 10)),
+        On(Algorithm(2, 40)),
+        On(Listen(Signal(2), Name::Abort, 7)),
+        On(Listen(Signal(1), Name::Abort, 5)),
+        On(Listen(Signal(1), Name::Click, 6)),
+        Step::Abort(0, 1, 90, &[1, 2, 3]),
+        On(Reason(3, Some(90))),
+        Last(
+            0,
+            &[Run(30), Run(10), AtSignal(1, 5), Run(40), AtSignal(2, 7)],
+        ),
+        Step::Abort(0, 2, 91, &[]),
+        Last(0, &[]),
+        On(Reason(2, Some(90))),
+    ];
+    take_all(&rt, rt.alloc(), &STEPS)
+}
+
+#[test]
+fn a_listener_that_a_listener_removes_is_no_step(rt: HostRuntime) -> Result<(), Fail> {
+    const STEPS: [Step; 7] = [
+        On(Make(1)),
+        On(Listen(Signal(1), Name::Abort, 2)),
+        On(Listen(Signal(1), Name::Abort, 3)),
+        Step::Abort(0, 1, 1, &[1]),
+        Next(0, AtSignal(1, 2)),
+        On(Off(3)),
+        Last(0, &[]),
+    ];
+    take_all(&rt, rt.alloc(), &STEPS)
 }
 
 #[test]
 fn a_change_tells_its_own_listeners_before_its_followers(rt: HostRuntime) -> Result<(), Fail> {
-    let change = text(rt.alloc(), b"prioritychange")?;
-    let mut folds = Folds::new(rt.alloc());
-    for s in [1, 2, 3, 4] {
-        give(&rt, &mut folds, s)?;
-        folds.listeners.add(Target::Signal(s), &change, s + 10)?;
-    }
-    depend(&rt, &mut folds, 3, 2)?;
-    depend(&rt, &mut folds, 2, 1)?;
-    depend(&rt, &mut folds, 4, 1)?;
-
-    let ticket = expect_change(&rt, &mut folds, 1, Priority::UserBlocking)?;
-    assert_eq!(rt; step(&rt, &mut folds, ticket)?, changed(1));
-    assert_eq!(rt; step(&rt, &mut folds, ticket)?, at_signal(1, 11));
-    let refused = begin_change(&rt, &mut folds, 1, Priority::Background);
-    assert!(rt; matches!(&refused, Err(ChangeFault::Is(Changing))));
-    let expected = [
-        changed(2),
-        at_signal(2, 12),
-        changed(3),
-        at_signal(3, 13),
-        changed(4),
-        at_signal(4, 14),
+    const STEPS: [Step; 19] = [
+        On(Give(1)),
+        On(Listen(Signal(1), Name::PriorityChange, 11)),
+        On(Give(2)),
+        On(Listen(Signal(2), Name::PriorityChange, 12)),
+        On(Give(3)),
+        On(Listen(Signal(3), Name::PriorityChange, 13)),
+        On(Give(4)),
+        On(Listen(Signal(4), Name::PriorityChange, 14)),
+        On(Depend(3, 2)),
+        On(Depend(2, 1)),
+        On(Depend(4, 1)),
+        Change(0, 1, Priority::UserBlocking),
+        Next(0, Move(1, Priority::UserVisible)),
+        Next(0, AtSignal(1, 11)),
+        Refuse(1, Priority::Background),
+        Last(
+            0,
+            &[
+                Move(2, Priority::UserVisible),
+                AtSignal(2, 12),
+                Move(3, Priority::UserVisible),
+                AtSignal(3, 13),
+                Move(4, Priority::UserVisible),
+                AtSignal(4, 14),
+            ],
+        ),
+        Keep(1, Priority::UserBlocking),
+        Change(0, 3, Priority::UserVisible),
+        Last(0, &[Move(3, Priority::UserBlocking), AtSignal(3, 13)]),
     ];
-    expect_steps(&rt, &mut folds, ticket, &expected)?;
-    let same = begin_change(&rt, &mut folds, 1, Priority::UserBlocking)?;
-    assert!(rt; same.is_none());
-    let again = expect_change(&rt, &mut folds, 3, Priority::UserVisible)?;
-    let before = FoldStep::Changed {
-        signal: 3,
-        before: Priority::UserBlocking,
-    };
-    expect_steps(&rt, &mut folds, again, &[before, at_signal(3, 13)])
+    take_all(&rt, rt.alloc(), &STEPS)
 }
 
 #[test]
 fn a_change_passes_over_a_signal_that_is_changed_within_it(rt: HostRuntime) -> Result<(), Fail> {
-    let mut folds = Folds::new(rt.alloc());
-    for s in [1, 2, 3] {
-        give(&rt, &mut folds, s)?;
-    }
-    depend(&rt, &mut folds, 2, 1)?;
-    depend(&rt, &mut folds, 3, 1)?;
-    let outer = expect_change(&rt, &mut folds, 1, Priority::Background)?;
-    assert_eq!(rt; step(&rt, &mut folds, outer)?, changed(1));
-    let inner = expect_change(&rt, &mut folds, 2, Priority::Background)?;
-    assert_eq!(rt; inner, 1);
-    expect_steps(&rt, &mut folds, inner, &[changed(2)])?;
-    expect_steps(&rt, &mut folds, outer, &[changed(3)])
+    const STEPS: [Step; 10] = [
+        On(Give(1)),
+        On(Give(2)),
+        On(Give(3)),
+        On(Depend(2, 1)),
+        On(Depend(3, 1)),
+        Change(0, 1, Priority::Background),
+        Next(0, Move(1, Priority::UserVisible)),
+        Change(1, 2, Priority::Background),
+        Last(1, &[Move(2, Priority::UserVisible)]),
+        Last(0, &[Move(3, Priority::UserVisible)]),
+    ];
+    take_all(&rt, rt.alloc(), &STEPS)
 }

@@ -1,8 +1,24 @@
-ghost use Rattle.task_signal.specs.Changes.{HasPriority};
-
 use super::*;
 use std::process::Abort;
 use std::test::Fail;
+
+// A call on the priorities, and what it answers.
+enum Step {
+    Give(u32, Priority),
+    Depend(u32, u32),
+    Follows(u32, Option<u32>),
+    Has(u32, Option<Priority>),
+    // A change from the second priority to the first one begins, and these signals follow.
+    Change(u32, Priority, Priority, &'static [u32]),
+    // No change begins, since this is the priority already.
+    Keep(u32, Priority),
+    // No change begins, since one of this signal is in progress.
+    Refuse(u32, Priority),
+    Finish(u32),
+}
+
+use Priority::{Background, UserBlocking, UserVisible};
+use Step::{Change, Depend, Finish, Follows, Give, Has, Keep, Refuse};
 
 fn give(rt: &impl Abort, prios: &mut Prios, s: u32, p: Priority) -> Result<(), MemoryFault> {
     assert!(rt; prios.priority(s).is_none());
@@ -55,107 +71,84 @@ fn is_changing(answer: Result<Option<Moved>, ChangeFault>) -> bool {
     }
 }
 
+fn take(rt: &impl Abort, prios: &mut Prios, step: &Step) -> Result<(), Fail> {
+    match step {
+        Give(s, p) => give(rt, prios, *s, *p)?,
+        Depend(s, on) => depend(rt, prios, *s, *on)?,
+        Follows(s, on) => assert_eq!(rt; prios.followed(*s), *on),
+        Has(s, p) => assert_eq!(rt; prios.priority(*s), *p),
+        Change(s, p, before, dependents) => {
+            expect_moved(rt, prios, *s, *p, *before, *dependents)?;
+        }
+        Keep(s, p) => assert!(rt; change(rt, prios, *s, *p)?.is_none()),
+        Refuse(s, p) => assert!(rt; is_changing(change(rt, prios, *s, *p))),
+        Finish(s) => prios.finish(*s),
+    }
+    Ok(())
+}
+
+fn take_all(rt: &impl Abort, alloc: Global, steps: &[Step]) -> Result<(), Fail> {
+    let mut prios = Prios::new(alloc);
+    for step in steps {
+        take(rt, &mut prios, step)?;
+    }
+    Ok(())
+}
+
 #[test]
 fn a_change_within_a_change_of_the_same_signal_is_refused(rt: HostRuntime) -> Result<(), Fail> {
-    let mut prios = Prios::new(rt.alloc());
-    give(&rt, &mut prios, 1, Priority::Background)?;
-    expect_moved(
-        &rt,
-        &mut prios,
-        1,
-        Priority::UserVisible,
-        Priority::Background,
-        &[],
-    )?;
-    assert!(rt; is_changing(change(&rt, &mut prios, 1, Priority::UserBlocking)));
-    assert!(rt; is_changing(change(&rt, &mut prios, 1, Priority::UserVisible)));
-    assert_eq!(rt; prios.priority(1), Some(Priority::UserVisible));
-    prios.finish(1);
-    assert!(rt; change(&rt, &mut prios, 1, Priority::UserVisible)?.is_none());
-    expect_moved(
-        &rt,
-        &mut prios,
-        1,
-        Priority::UserBlocking,
-        Priority::UserVisible,
-        &[],
-    )?;
-    Ok(())
+    const STEPS: [Step; 8] = [
+        Give(1, Background),
+        Change(1, UserVisible, Background, &[]),
+        Refuse(1, UserBlocking),
+        Refuse(1, UserVisible),
+        Has(1, Some(UserVisible)),
+        Finish(1),
+        Keep(1, UserVisible),
+        Change(1, UserBlocking, UserVisible, &[]),
+    ];
+    take_all(&rt, rt.alloc(), &STEPS)
 }
 
 #[test]
 fn signals_that_follow_are_told_in_the_order_in_which_they_came(
     rt: HostRuntime,
 ) -> Result<(), Fail> {
-    let mut prios = Prios::new(rt.alloc());
-    for s in [4, 1, 3, 2] {
-        give(&rt, &mut prios, s, Priority::Background)?;
-    }
-    depend(&rt, &mut prios, 3, 1)?;
-    depend(&rt, &mut prios, 2, 1)?;
-    assert_eq!(rt; prios.followed(3), Some(1));
-    assert_eq!(rt; prios.followed(2), Some(1));
-    assert_eq!(rt; prios.followed(1), None);
-    assert_eq!(rt; prios.followed(9), None);
-    assert_eq!(rt; prios.priority(9), None);
-
-    expect_moved(
-        &rt,
-        &mut prios,
-        1,
-        Priority::UserBlocking,
-        Priority::Background,
-        &[3, 2],
-    )?;
-    assert_eq!(rt; prios.priority(2), Some(Priority::Background));
-    expect_moved(
-        &rt,
-        &mut prios,
-        3,
-        Priority::UserBlocking,
-        Priority::Background,
-        &[],
-    )?;
-    expect_moved(
-        &rt,
-        &mut prios,
-        4,
-        Priority::UserVisible,
-        Priority::Background,
-        &[],
-    )?;
-    prios.finish(3);
-    assert!(rt; is_changing(change(&rt, &mut prios, 1, Priority::Background)));
-    prios.finish(1);
-    prios.finish(9);
-    expect_moved(
-        &rt,
-        &mut prios,
-        1,
-        Priority::Background,
-        Priority::UserBlocking,
-        &[3, 2],
-    )?;
-    Ok(())
+    const STEPS: [Step; 20] = [
+        Give(4, Background),
+        Give(1, Background),
+        Give(3, Background),
+        Give(2, Background),
+        Depend(3, 1),
+        Depend(2, 1),
+        Follows(3, Some(1)),
+        Follows(2, Some(1)),
+        Follows(1, None),
+        Follows(9, None),
+        Has(9, None),
+        Change(1, UserBlocking, Background, &[3, 2]),
+        Has(2, Some(Background)),
+        Change(3, UserBlocking, Background, &[]),
+        Change(4, UserVisible, Background, &[]),
+        Finish(3),
+        Refuse(1, Background),
+        Finish(1),
+        Finish(9),
+        Change(1, Background, UserBlocking, &[3, 2]),
+    ];
+    take_all(&rt, rt.alloc(), &STEPS)
 }
 
 #[test]
 fn a_hundred_thousand_signals_have_a_priority(rt: HostRuntime) -> Result<(), Fail> {
     let mut prios = Prios::new(rt.alloc());
     for s in 0..100_000u32 {
-        give(&rt, &mut prios, s, Priority::UserVisible)?;
+        give(&rt, &mut prios, s, UserVisible)?;
     }
     for s in 0..100_000u32 {
-        expect_moved(
-            &rt,
-            &mut prios,
-            s,
-            Priority::Background,
-            Priority::UserVisible,
-            &[],
-        )?;
+        expect_moved(&rt, &mut prios, s, Background, UserVisible, &[])?;
         prios.finish(s);
     }
-    assert_eq!(rt; prios.priority(99_999), Some(Priority::Background));
+    assert_eq!(rt; prios.priority(99_999), Some(Background));
     Ok(())
 }

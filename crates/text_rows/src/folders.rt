@@ -1,0 +1,75 @@
+//! Files that are fetched from a folder in memory.
+
+use page_io::{FetchFault, Fetched, Folder, MemFolder};
+use std::alloc::{AllocError, Global};
+use std::process::Abort;
+use std::test::Fail;
+
+pub(crate) enum Step<'a> {
+    // A fetch up to a limit, and what it answers.
+    Fetch(usize, Result<Fetched, FetchFault>),
+    // All that was appended.
+    Bytes(&'a [u8]),
+    Len(usize),
+}
+
+use Step::{Bytes, Fetch, Len};
+
+fn expect_bytes(rt: &impl Abort, into: &[u8], bytes: &[u8]) {
+    assert_eq!(rt; into, bytes);
+}
+
+fn take<F: Folder>(rt: &impl Abort, folder: &mut F, name: &str, into: &mut Vec<u8>, step: &Step) {
+    match step {
+        Fetch(limit, fetched) => assert_eq!(rt; folder.fetch(name, *limit, into), *fetched),
+        Bytes(bytes) => expect_bytes(rt, into, *bytes),
+        Len(len) => assert_eq!(rt; into.len(), *len),
+    }
+}
+
+// The file of a name is fetched.
+pub(crate) fn take_all<F: Folder>(
+    rt: &impl Abort,
+    folder: &mut F,
+    name: &str,
+    into: &mut Vec<u8>,
+    steps: &[Step],
+) {
+    for step in steps {
+        take(rt, folder, name, into, step);
+    }
+}
+
+fn file(alloc: Global, name: &str, content: &[u8]) -> Result<(String, Vec<u8>), AllocError> {
+    Ok((String::from_str(alloc, name)?, content.to_vec(alloc)?))
+}
+
+// Two files of one name. The fourth call fails.
+fn folder(alloc: Global) -> Result<MemFolder, Fail> {
+    let mut files = Vec::new(alloc);
+    files.push(file(alloc, "s", b"log(1);")?)?;
+    files.push(file(alloc, "s", b"log(2);")?)?;
+    Ok(MemFolder::new(files, vec![in alloc; 4]?))
+}
+
+#[test]
+fn gives_the_first_file_of_a_name_up_to_the_limit(rt: HostRuntime) -> Result<(), Fail> {
+    const FIRST: [Step; 4] = [
+        Fetch(7, Ok(Fetched::Whole)),
+        Bytes(b"log(1);"),
+        Fetch(2, Ok(Fetched::TooLong)),
+        Bytes(b"log(1);log"),
+    ];
+    const MISSING: [Step; 1] = [Fetch(7, Err(FetchFault::Failed))];
+    const FOURTH: [Step; 3] = [
+        Fetch(7, Err(FetchFault::Failed)),
+        Fetch(7, Ok(Fetched::Whole)),
+        Len(17),
+    ];
+    let mut folder = folder(rt.alloc())?;
+    let mut into = Vec::new(rt.alloc());
+    take_all(&rt, &mut folder, "s", &mut into, &FIRST);
+    take_all(&rt, &mut folder, "a", &mut into, &MISSING);
+    take_all(&rt, &mut folder, "s", &mut into, &FOURTH);
+    Ok(())
+}
