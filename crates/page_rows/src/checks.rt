@@ -2,9 +2,8 @@
 
 use crate::example::{Ended, Example, joined};
 use crate::host_closures::table;
-use host_jobs::{Fired, HostTable};
+use host_jobs::Fired;
 use std::alloc::{AllocError, Global};
-use std::process::Abort;
 use std::test::Fail;
 
 // A timer and a posted task. The default policy serves the task first.
@@ -155,38 +154,14 @@ fn a_trace_of_another_form_differs_in_its_head(rt: HostRuntime) -> Result<(), Fa
     Ok(())
 }
 
-// The closure was not called, so it answers now.
-fn expect_uncalled(rt: &impl Abort, hosts: &mut HostTable) {
-    assert_eq!(rt; hosts.fire(0, 7), Fired::Answer(Ok(49)));
-}
-
 #[test]
 fn answers_of_closures_are_checked_and_none_is_called(rt: HostRuntime) -> Result<(), Fail> {
     let trace = joined(rt.alloc(), &ANSWERED)?;
     let mut ended = check_answers(rt.alloc(), &trace)?;
     assert!(rt; is_legal(&ended));
-    expect_uncalled(&rt, &mut ended.hosts);
-    Ok(())
-}
+    assert_eq!(rt; ended.hosts.fire(0, 7), Fired::Answer(Ok(49)));
 
-// The answered trace with this text in the place of a line is refused, and no closure is called.
-fn expect_refused(
-    rt: &impl Abort,
-    alloc: Global,
-    line: usize,
-    text: &[u8],
-    complaint: &str,
-) -> Result<(), Fail> {
-    let trace = with_line(alloc, &ANSWERED, line, text)?;
-    let mut ended = check_answers(alloc, &trace)?;
-    assert!(rt; is_refusal(&ended, 7, complaint), "line {line}");
-    expect_uncalled(rt, &mut ended.hosts);
-    Ok(())
-}
-
-#[test]
-fn other_answers_of_closures_are_refused_and_none_is_called(rt: HostRuntime) -> Result<(), Fail> {
-    const REFUSED: [(usize, &[u8], &str); 2] = [
+    let examples: [(usize, &[u8], &str); 2] = [
         (
             16,
             b"2999 wait 3000\n",
@@ -198,8 +173,11 @@ fn other_answers_of_closures_are_refused_and_none_is_called(rt: HostRuntime) -> 
             "pageloop: choice not legal at line 19\n",
         ),
     ];
-    for (line, text, complaint) in REFUSED {
-        expect_refused(&rt, rt.alloc(), line, text, complaint)?;
+    for (line, text, complaint) in examples {
+        let trace = with_line(rt.alloc(), &ANSWERED, line, text)?;
+        let mut ended = check_answers(rt.alloc(), &trace)?;
+        assert!(rt; is_refusal(&ended, 7, complaint), "line {line}");
+        assert_eq!(rt; ended.hosts.fire(0, 7), Fired::Answer(Ok(49)));
     }
     Ok(())
 }
@@ -309,6 +287,8 @@ fn a_verdict_that_cannot_be_written_gives_status_75(rt: HostRuntime) -> Result<(
         ..Example::of_trace(b"", b"page 1\n", EMPTY)
     };
     let ended = example.run(rt.alloc())?;
-    ended.expect(&rt, "check", "leg", "pageloop: write fault\n", 75);
+    assert_eq!(rt; ended.out.as_str(), "leg");
+    assert_eq!(rt; ended.err.as_str(), "pageloop: write fault\n");
+    assert_eq!(rt; ended.status, 75);
     Ok(())
 }

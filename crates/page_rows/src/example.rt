@@ -4,7 +4,6 @@ use host_jobs::HostTable;
 use page_cli::page_main;
 use page_io::{MemFolder, MemSink};
 use std::alloc::{AllocError, Global};
-use std::process::Abort;
 use std::test::Fail;
 
 /// Room for more bytes than an example writes.
@@ -112,15 +111,6 @@ impl<'a> Example<'a> {
             }
         }
         Ok(MemFolder::new(files, self.failing_fetches.to_vec(alloc)?))
-    }
-}
-
-impl Ended {
-    /// Expects what the program wrote, and its status, in the example that is named.
-    pub(crate) fn expect(&self, rt: &impl Abort, of: &str, out: &str, err: &str, status: u8) {
-        assert_eq!(rt; self.out.as_str(), out, "out of {of}");
-        assert_eq!(rt; self.err.as_str(), err, "err of {of}");
-        assert_eq!(rt; self.status, status, "status of {of}");
     }
 }
 

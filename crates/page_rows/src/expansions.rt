@@ -3,7 +3,6 @@
 use crate::example::{Ended, Example};
 use crate::page_logs::logs;
 use std::alloc::Global;
-use std::process::Abort;
 use std::test::Fail;
 
 // A function that awaits once and returns a value.
@@ -26,13 +25,16 @@ fn expand(alloc: Global, script: &[u8]) -> Result<Ended, Fail> {
 
 #[test]
 fn a_script_is_expanded_with_status_0(rt: HostRuntime) -> Result<(), Fail> {
-    const EXPANDED: [(&[u8], &str); 3] = [
+    let examples: [(&[u8], &str); 3] = [
         (AWAITING, AWAITING_EXPANDED),
         (b"log(1+2); // a sum", "log ( 1 + 2 ) ;\n"),
         (b"", "\n"),
     ];
-    for (script, plain) in EXPANDED {
-        expand(rt.alloc(), script)?.expect(&rt, plain, plain, "", 0);
+    for (number, (script, plain)) in examples.into_iter().enumerate() {
+        let ended = expand(rt.alloc(), script)?;
+        assert_eq!(rt; ended.out.as_str(), plain, "out of {number}");
+        assert_eq!(rt; ended.err.as_str(), "", "err of {number}");
+        assert_eq!(rt; ended.status, 0, "status of {number}");
     }
     Ok(())
 }
@@ -107,65 +109,56 @@ const LOGGED: [(&[u8], &[u8]); 13] = [
     ),
 ];
 
-// The plain script is run, and logs what is wanted.
-fn expect_logs(rt: &impl Abort, alloc: Global, plain: &str, wanted: &[u8]) -> Result<(), Fail> {
-    let ended = Example::of_files(plain.as_bytes(), b"page 1\n").run(alloc)?;
-    let values = logs(alloc, ended.out.as_bytes())?;
-    assert!(rt; values.as_slice() == wanted, "logs of {plain}");
-    assert_eq!(rt; ended.status, 0, "status of {plain}");
-    Ok(())
-}
-
 #[test]
 fn expanded_scripts_are_run(rt: HostRuntime) -> Result<(), Fail> {
-    for (script, wanted) in LOGGED {
+    for (number, (script, wanted)) in LOGGED.into_iter().enumerate() {
         let plain = expand(rt.alloc(), script)?;
-        expect_logs(&rt, rt.alloc(), plain.out.as_str(), wanted)?;
+        let ended = Example::of_files(plain.out.as_bytes(), b"page 1\n").run(rt.alloc())?;
+        let values = logs(rt.alloc(), ended.out.as_bytes())?;
+        assert!(rt; values.as_slice() == wanted, "logs of {number}");
+        assert_eq!(rt; ended.status, 0, "status of {number}");
     }
     Ok(())
 }
 
 #[test]
 fn a_script_that_is_not_async_is_refused_with_status_3(rt: HostRuntime) -> Result<(), Fail> {
-    const SCRIPTS: [&str; 7] = [
-        "await unit;",
-        "async fn f() { if (true) { await unit; } }",
-        "async log(1);",
-        "fn f__0() { }",
-        "async fn f(a, b, c, d, e, g, h) { }",
-        "log(",
-        "log(1); #",
+    let examples: [&[u8]; 7] = [
+        b"await unit;",
+        b"async fn f() { if (true) { await unit; } }",
+        b"async log(1);",
+        b"fn f__0() { }",
+        b"async fn f(a, b, c, d, e, g, h) { }",
+        b"log(",
+        b"log(1); #",
     ];
-    for script in SCRIPTS {
-        expand(rt.alloc(), script.as_bytes())?.expect(&rt, script, "", NOT_ASYNC, 3);
+    for (number, script) in examples.into_iter().enumerate() {
+        let ended = expand(rt.alloc(), script)?;
+        assert_eq!(rt; ended.out.as_str(), "", "out of {number}");
+        assert_eq!(rt; ended.err.as_str(), NOT_ASYNC, "err of {number}");
+        assert_eq!(rt; ended.status, 3, "status of {number}");
     }
     Ok(())
 }
 
 #[test]
-fn a_script_that_is_too_long_is_named(rt: HostRuntime) -> Result<(), Fail> {
+fn a_script_that_cannot_be_fetched_or_written_is_told(rt: HostRuntime) -> Result<(), Fail> {
     let long = vec![in rt.alloc(); b' '; 1_048_577]?;
     let ended = expand(rt.alloc(), long.as_slice())?;
     assert_eq!(rt; ended.err.as_str(), "pageloop: too long: s\n");
     assert_eq!(rt; ended.status, 6);
-    Ok(())
-}
 
-#[test]
-fn a_script_that_cannot_be_fetched_is_told(rt: HostRuntime) -> Result<(), Fail> {
     let ended = Example::new(&["expand", "b"], AWAITING, b"").run(rt.alloc())?;
     assert_eq!(rt; ended.err.as_str(), "pageloop: read fault: b\n");
     assert_eq!(rt; ended.status, 74);
-    Ok(())
-}
 
-#[test]
-fn a_script_that_cannot_be_written_is_told(rt: HostRuntime) -> Result<(), Fail> {
     let example = Example {
         failing_out: &[(1, 4)],
         ..Example::new(&["expand", "s"], AWAITING, b"")
     };
     let ended = example.run(rt.alloc())?;
-    ended.expect(&rt, "expand", "fn f", "pageloop: write fault\n", 75);
+    assert_eq!(rt; ended.out.as_str(), "fn f");
+    assert_eq!(rt; ended.err.as_str(), "pageloop: write fault\n");
+    assert_eq!(rt; ended.status, 75);
     Ok(())
 }

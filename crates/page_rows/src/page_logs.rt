@@ -1,9 +1,8 @@
 //! What whole pages log.
 
-use crate::example::{Ended, Example};
+use crate::example::Example;
 use page_base::{behind, cut_at};
 use std::alloc::{AllocError, Global};
-use std::process::Abort;
 use std::test::Fail;
 
 /// A script and its arrivals, and what is wanted: the values that are logged, a line each, and the status.
@@ -35,26 +34,15 @@ pub(crate) fn logs(alloc: Global, trace: &[u8]) -> Result<Vec<u8>, AllocError> {
     Ok(values)
 }
 
-fn run(alloc: Global, page: &Page) -> Result<Ended, Fail> {
-    Example::of_files(page.script.as_bytes(), page.arrivals.as_bytes()).run(alloc)
-}
-
 // Whether the program logs what is wanted, and writes nothing to the error output.
 fn is_met(alloc: Global, page: &Page) -> Result<bool, Fail> {
-    let ended = run(alloc, page)?;
+    let ended = Example::of_files(page.script.as_bytes(), page.arrivals.as_bytes()).run(alloc)?;
     let logs = logs(alloc, ended.out.as_bytes())?;
-    Ok(logs.as_slice() == page.logs.as_bytes() && is_quiet(&ended, page.status))
-}
-
-fn is_quiet(ended: &Ended, status: u8) -> bool {
-    ended.err.is_empty() && ended.status == status
-}
-
-fn expect_met(rt: &impl Abort, alloc: Global, pages: &[Page]) -> Result<(), Fail> {
-    for page in pages {
-        assert!(rt; is_met(alloc, page)?, "{}", page.script);
-    }
-    Ok(())
+    Ok(
+        logs.as_slice() == page.logs.as_bytes()
+            && ended.err.is_empty()
+            && ended.status == page.status,
+    )
 }
 
 /// Timers that nest.
@@ -99,7 +87,10 @@ const CLAMPED: [Page; 6] = [
 
 #[test]
 fn timers_are_clamped_by_their_nesting(rt: HostRuntime) -> Result<(), Fail> {
-    expect_met(&rt, rt.alloc(), &CLAMPED)
+    for page in CLAMPED {
+        assert!(rt; is_met(rt.alloc(), &page)?, "{}", page.script);
+    }
+    Ok(())
 }
 
 /// Promises that adopt, reactions, listeners and their checkpoints.
@@ -169,7 +160,10 @@ abortedSignal(\"no\")]))); abort(c, \"why\"); log(reason(d));",
 
 #[test]
 fn promises_adopt_and_listeners_have_checkpoints(rt: HostRuntime) -> Result<(), Fail> {
-    expect_met(&rt, rt.alloc(), &ADOPTING)
+    for page in ADOPTING {
+        assert!(rt; is_met(rt.alloc(), &page)?, "{}", page.script);
+    }
+    Ok(())
 }
 
 /// Posted tasks and continuations.
@@ -222,46 +216,50 @@ queueMicrotask(m); postTask(b, \"user-visible\", unit, 0); } postTask(a, \"backg
 
 #[test]
 fn posted_tasks_run_by_their_priorities(rt: HostRuntime) -> Result<(), Fail> {
-    expect_met(&rt, rt.alloc(), &POSTED)
+    for page in POSTED {
+        assert!(rt; is_met(rt.alloc(), &page)?, "{}", page.script);
+    }
+    Ok(())
 }
-
-/// Arrivals, idle work, and calls of the host that are out of range.
-const ARRIVING: [Page; 5] = [
-    Page {
-        script: "fn f(v) { log(v); } listen(unit, \"a\", f);",
-        arrivals: "page 1\nat 0 net a 1\nat 0 user a 2\n",
-        logs: "2\n1\n",
-        status: 0,
-    },
-    Page {
-        script: "fn f(v) { log(v); } listen(unit, \"a\", f);",
-        arrivals: "page 1\npolicy fifo\nat 0 net a 1\nat 0 user a 2\n",
-        logs: "1\n2\n",
-        status: 0,
-    },
-    Page {
-        script: "fn a(d) { log(timeRemaining(d)); busy(60000); } fn b(d) { log(timeRemaining(d)); } \
-requestIdleCallback(a, 0); requestIdleCallback(b, 0); fn g() { } setTimeout(g, 20);",
-        arrivals: "page 1\n",
-        logs: "20000\n50000\n",
-        status: 0,
-    },
-    Page {
-        script: "fn f(d) { log(timeRemaining(d)); busy(60000); } fn g(t) { log(t); } requestIdleCallback(f, 0); \
-requestAnimationFrame(g);",
-        arrivals: "page 1\n",
-        logs: "16666\n60000\n",
-        status: 0,
-    },
-    Page {
-        script: "fn f(v) { log(v); } then(host(64, 1, unit), f, f); then(host(0, 3037000500, unit), f, f);",
-        arrivals: "page 1\n",
-        logs: "RangeError(\"\")\nRangeError(\"\")\n",
-        status: 0,
-    },
-];
 
 #[test]
 fn arrivals_and_idle_work_come_by_the_written_choices(rt: HostRuntime) -> Result<(), Fail> {
-    expect_met(&rt, rt.alloc(), &ARRIVING)
+    let pages = [
+        Page {
+            script: "fn f(v) { log(v); } listen(unit, \"a\", f);",
+            arrivals: "page 1\nat 0 net a 1\nat 0 user a 2\n",
+            logs: "2\n1\n",
+            status: 0,
+        },
+        Page {
+            script: "fn f(v) { log(v); } listen(unit, \"a\", f);",
+            arrivals: "page 1\npolicy fifo\nat 0 net a 1\nat 0 user a 2\n",
+            logs: "1\n2\n",
+            status: 0,
+        },
+        Page {
+            script: "fn a(d) { log(timeRemaining(d)); busy(60000); } fn b(d) { log(timeRemaining(d)); } \
+requestIdleCallback(a, 0); requestIdleCallback(b, 0); fn g() { } setTimeout(g, 20);",
+            arrivals: "page 1\n",
+            logs: "20000\n50000\n",
+            status: 0,
+        },
+        Page {
+            script: "fn f(d) { log(timeRemaining(d)); busy(60000); } fn g(t) { log(t); } requestIdleCallback(f, 0); \
+requestAnimationFrame(g);",
+            arrivals: "page 1\n",
+            logs: "16666\n60000\n",
+            status: 0,
+        },
+        Page {
+            script: "fn f(v) { log(v); } then(host(64, 1, unit), f, f); then(host(0, 3037000500, unit), f, f);",
+            arrivals: "page 1\n",
+            logs: "RangeError(\"\")\nRangeError(\"\")\n",
+            status: 0,
+        },
+    ];
+    for page in pages {
+        assert!(rt; is_met(rt.alloc(), &page)?, "{}", page.script);
+    }
+    Ok(())
 }

@@ -2,7 +2,6 @@
 
 use crate::example::{Ended, Example};
 use std::alloc::Global;
-use std::process::Abort;
 use std::test::Fail;
 
 // Two timers, of which one was set while the script was busy.
@@ -51,7 +50,7 @@ fn run(alloc: Global, command: &str, trace: &[u8]) -> Result<Ended, Fail> {
 
 #[test]
 fn a_trace_is_exported_blamed_and_counted_with_status_0(rt: HostRuntime) -> Result<(), Fail> {
-    const WRITTEN: [(&str, &[u8], &str); 9] = [
+    let examples: [(&str, &[u8], &str); 9] = [
         ("export", TWO_TIMERS, TWO_TIMERS_EXPORT),
         ("export", SECOND_FORM, SECOND_FORM_EXPORT),
         ("blame", BUSY_IDLE, "long 2 idle 0 60000 2\ntotal 1\n"),
@@ -82,37 +81,31 @@ fn a_trace_is_exported_blamed_and_counted_with_status_0(rt: HostRuntime) -> Resu
             "turns 0\ncalls 0\ndrops 0\nsettles 0\nend clock\n",
         ),
     ];
-    for (command, trace, text) in WRITTEN {
-        run(rt.alloc(), command, trace)?.expect(&rt, command, text, "", 0);
-    }
-    Ok(())
-}
-
-const COMMANDS: [&str; 3] = ["export", "blame", "stat"];
-
-fn expect_refused(rt: &impl Abort, alloc: Global, trace: &[u8], line: &str) -> Result<(), Fail> {
-    for command in COMMANDS {
-        run(alloc, command, trace)?.expect(rt, command, "", line, 8);
+    for (number, (command, trace, text)) in examples.into_iter().enumerate() {
+        let ended = run(rt.alloc(), command, trace)?;
+        assert_eq!(rt; ended.out.as_str(), text, "out of {number}");
+        assert_eq!(rt; ended.err.as_str(), "", "err of {number}");
+        assert_eq!(rt; ended.status, 0, "status of {number}");
     }
     Ok(())
 }
 
 #[test]
-fn a_trace_is_refused_with_its_line(rt: HostRuntime) -> Result<(), Fail> {
-    const REFUSED: [(&[u8], &str); 3] = [
+fn a_trace_is_refused_with_its_line_its_length_or_its_name(rt: HostRuntime) -> Result<(), Fail> {
+    let examples: [(&[u8], &str); 3] = [
         (b"", "pageloop: trace: line 1\n"),
         (b"trace 1\n0 turn 1\n", "pageloop: trace: line 2\n"),
         (b"trace 1\n0 ret\n", "pageloop: trace: line 3\n"),
     ];
-    for (trace, line) in REFUSED {
-        expect_refused(&rt, rt.alloc(), trace, line)?;
+    for (number, (trace, line)) in examples.into_iter().enumerate() {
+        for command in ["export", "blame", "stat"] {
+            let ended = run(rt.alloc(), command, trace)?;
+            assert_eq!(rt; ended.out.as_str(), "", "out of {command} {number}");
+            assert_eq!(rt; ended.err.as_str(), line, "err of {command} {number}");
+            assert_eq!(rt; ended.status, 8, "status of {command} {number}");
+        }
     }
-    Ok(())
-}
-
-#[test]
-fn a_trace_that_is_not_there_is_named(rt: HostRuntime) -> Result<(), Fail> {
-    for command in COMMANDS {
+    for command in ["export", "blame", "stat"] {
         let ended = Example::new(&[command, "t"], TWO_TIMERS, b"").run(rt.alloc())?;
         assert_eq!(rt; ended.err.as_str(), "pageloop: read fault: t\n");
         assert_eq!(rt; ended.status, 74);
@@ -131,25 +124,27 @@ fn a_trace_that_is_too_long_is_named_with_status_6(rt: HostRuntime) -> Result<()
         ("stat", long.as_slice(), 8, "pageloop: trace: line 1\n"),
         ("stat", longer.as_slice(), 6, "pageloop: too long: s\n"),
     ];
-    for (command, trace, status, line) in examples {
-        run(rt.alloc(), command, trace)?.expect(&rt, command, "", line, status);
+    for (number, (command, trace, status, line)) in examples.into_iter().enumerate() {
+        let ended = run(rt.alloc(), command, trace)?;
+        assert_eq!(rt; ended.out.as_str(), "", "out of {number}");
+        assert_eq!(rt; ended.err.as_str(), line, "err of {number}");
+        assert_eq!(rt; ended.status, status, "status of {number}");
     }
-    Ok(())
-}
-
-fn expect_cut(rt: &impl Abort, alloc: Global, command: &str, start: &str) -> Result<(), Fail> {
-    let words = [command, "s"];
-    let example = Example {
-        failing_out: &[(1, 7)],
-        ..Example::new(&words, BUSY_IDLE, b"")
-    };
-    let ended = example.run(alloc)?;
-    ended.expect(rt, command, start, "pageloop: write fault\n", 75);
     Ok(())
 }
 
 #[test]
 fn a_text_that_cannot_be_written_gives_status_75(rt: HostRuntime) -> Result<(), Fail> {
-    expect_cut(&rt, rt.alloc(), "blame", "long 2 ")?;
-    expect_cut(&rt, rt.alloc(), "stat", "turns 4")
+    for (command, start) in [("blame", "long 2 "), ("stat", "turns 4")] {
+        let words = [command, "s"];
+        let example = Example {
+            failing_out: &[(1, 7)],
+            ..Example::new(&words, BUSY_IDLE, b"")
+        };
+        let ended = example.run(rt.alloc())?;
+        assert_eq!(rt; ended.out.as_str(), start);
+        assert_eq!(rt; ended.err.as_str(), "pageloop: write fault\n");
+        assert_eq!(rt; ended.status, 75);
+    }
+    Ok(())
 }

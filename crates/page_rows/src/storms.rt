@@ -4,7 +4,6 @@ use crate::example::{Ended, Example};
 use crate::host_closures::table;
 use host_jobs::Fired;
 use std::alloc::Global;
-use std::process::Abort;
 use std::test::Fail;
 
 const USAGE: &str =
@@ -21,29 +20,16 @@ fn line(text: &str, number: usize) -> Option<&str> {
 
 #[test]
 fn the_trace_of_a_storm_is_counted_with_status_0(rt: HostRuntime) -> Result<(), Fail> {
-    const COUNTED: [(&str, &str); 2] = [
+    let examples = [
         ("4", "turns 3\ncalls 5\ndrops 1\nsettles 4\nend done\n"),
         ("10", "turns 6\ncalls 11\ndrops 4\nsettles 12\nend done\n"),
     ];
-    for (number, text) in COUNTED {
-        storm(rt.alloc(), number)?.expect(&rt, number, text, "", 0);
+    for (number, text) in examples {
+        let ended = storm(rt.alloc(), number)?;
+        assert_eq!(rt; ended.out.as_str(), text, "out of {number}");
+        assert_eq!(rt; ended.err.as_str(), "", "err of {number}");
+        assert_eq!(rt; ended.status, 0, "status of {number}");
     }
-    Ok(())
-}
-
-// The counts end after the fifth line, and these are the calls.
-fn expect_calls(rt: &impl Abort, text: &str, calls: &str) {
-    assert_eq!(rt; line(text, 1), Some(calls));
-    assert_eq!(rt; line(text, 4), Some("end done"));
-    assert_eq!(rt; line(text, 5), None);
-}
-
-// The storm is run twice, and its counts are the same.
-fn expect_same(rt: &impl Abort, alloc: Global, number: &str, calls: &str) -> Result<(), Fail> {
-    let ended = storm(alloc, number)?;
-    assert_eq!(rt; ended.status, 0);
-    expect_calls(rt, ended.out.as_str(), calls);
-    assert_eq!(rt; storm(alloc, number)?.out.as_str(), ended.out.as_str());
     Ok(())
 }
 
@@ -51,20 +37,25 @@ fn expect_same(rt: &impl Abort, alloc: Global, number: &str, calls: &str) -> Res
 fn each_turn_of_the_loop_leads_to_one_call_and_each_run_is_the_same(
     rt: HostRuntime,
 ) -> Result<(), Fail> {
-    const CALLS: [(&str, &str); 3] = [
+    let examples = [
         ("1", "calls 2"),
         ("1000", "calls 1001"),
         ("100000", "calls 100001"),
     ];
-    for (number, calls) in CALLS {
-        expect_same(&rt, rt.alloc(), number, calls)?;
+    for (number, calls) in examples {
+        let ended = storm(rt.alloc(), number)?;
+        assert_eq!(rt; line(ended.out.as_str(), 1), Some(calls));
+        assert_eq!(rt; line(ended.out.as_str(), 4), Some("end done"));
+        assert_eq!(rt; line(ended.out.as_str(), 5), None);
+        assert_eq!(rt; ended.status, 0);
+        assert_eq!(rt; storm(rt.alloc(), number)?.out.as_str(), ended.out.as_str());
     }
     Ok(())
 }
 
 #[test]
 fn the_number_of_a_storm_is_canonical_and_at_most_100_000(rt: HostRuntime) -> Result<(), Fail> {
-    const NUMBERS: [&str; 11] = [
+    let numbers = [
         "0",
         "",
         "04",
@@ -77,14 +68,12 @@ fn the_number_of_a_storm_is_canonical_and_at_most_100_000(rt: HostRuntime) -> Re
         "100001",
         "1000000000000000000000",
     ];
-    for number in NUMBERS {
-        storm(rt.alloc(), number)?.expect(&rt, number, "", USAGE, 2);
+    for number in numbers {
+        let ended = storm(rt.alloc(), number)?;
+        assert_eq!(rt; ended.out.as_str(), "", "out of {number}");
+        assert_eq!(rt; ended.err.as_str(), USAGE, "err of {number}");
+        assert_eq!(rt; ended.status, 2, "status of {number}");
     }
-    Ok(())
-}
-
-#[test]
-fn a_storm_has_one_number_and_its_word(rt: HostRuntime) -> Result<(), Fail> {
     let forms: [&[&str]; 3] = [&["storm"], &["storm", "4", "4"], &["Storm", "4"]];
     for words in forms {
         let ended = Example::new(words, b"", b"").run(rt.alloc())?;
@@ -110,6 +99,8 @@ fn counts_that_cannot_be_written_give_status_75(rt: HostRuntime) -> Result<(), F
         ..Example::new(&words, b"", b"")
     };
     let ended = example.run(rt.alloc())?;
-    ended.expect(&rt, "storm", "turns 3\nca", "pageloop: write fault\n", 75);
+    assert_eq!(rt; ended.out.as_str(), "turns 3\nca");
+    assert_eq!(rt; ended.err.as_str(), "pageloop: write fault\n");
+    assert_eq!(rt; ended.status, 75);
     Ok(())
 }

@@ -2,7 +2,6 @@
 
 use crate::example::Example;
 use std::alloc::Global;
-use std::process::Abort;
 use std::test::Fail;
 
 /// A script and its arrivals, and the trace and the status that are wanted.
@@ -18,13 +17,6 @@ struct Page {
 fn is_met(alloc: Global, page: &Page) -> Result<bool, Fail> {
     let ended = Example::of_files(page.script.as_bytes(), page.arrivals.as_bytes()).run(alloc)?;
     Ok(ended.out.as_str() == page.trace && ended.err.is_empty() && ended.status == page.status)
-}
-
-fn expect_met(rt: &impl Abort, alloc: Global, pages: &[Page]) -> Result<(), Fail> {
-    for page in pages {
-        assert!(rt; is_met(alloc, page)?, "{}", page.script);
-    }
-    Ok(())
 }
 
 /// Timers, microtasks, rejections, and a policy.
@@ -76,7 +68,10 @@ const TIMERS: [Page; 5] = [
 
 #[test]
 fn timers_run_in_order_and_promises_in_microtasks(rt: HostRuntime) -> Result<(), Fail> {
-    expect_met(&rt, rt.alloc(), &TIMERS)
+    for page in TIMERS {
+        assert!(rt; is_met(rt.alloc(), &page)?, "{}", page.script);
+    }
+    Ok(())
 }
 
 /// Continuations, changes of priority, aborts, and want of room.
@@ -125,62 +120,67 @@ postTask(a, unit, unit, 0); postTask(b, unit, unit, 0);",
 
 #[test]
 fn scheduler_tasks_and_signals_go_by_their_priorities(rt: HostRuntime) -> Result<(), Fail> {
-    expect_met(&rt, rt.alloc(), &PRIORITIES)
+    for page in PRIORITIES {
+        assert!(rt; is_met(rt.alloc(), &page)?, "{}", page.script);
+    }
+    Ok(())
 }
-
-/// Frames and idle callbacks.
-const TURNS: [Page; 2] = [
-    Page {
-        script: "fn c(t) { log(t); } fn b(t) { log(\"b\"); } fn a(t) { log(t); cancelAnimationFrame(2); \
-requestAnimationFrame(c); } requestAnimationFrame(a); requestAnimationFrame(b);",
-        arrivals: "page 1\nrefresh 50\n",
-        trace: "trace 1\n0 turn 1 dom\n0 call 1\n0 reg 2 frame\n0 reg 3 frame\n0 ret\n20000 wait 20000\n\
-20000 turn 2 render\n20000 frame 20000\n20000 call 2\n20000 log 20000\n20000 drop 3\n\
-20000 reg 4 frame\n20000 ret\n40000 wait 40000\n40000 turn 3 render\n40000 frame 40000\n\
-40000 call 4\n40000 log 40000\n40000 ret\n40000 end done\n",
-        status: 0,
-    },
-    Page {
-        script: "fn a(d) { log(timeRemaining(d)); busy(60000); } fn b(d) { log(timeRemaining(d)); } \
-requestIdleCallback(a, 0); requestIdleCallback(b, 0);",
-        arrivals: "page 1\n",
-        trace: "trace 1\n0 turn 1 dom\n0 call 1\n0 reg 2 idle\n0 reg 3 idle\n0 ret\n0 period 50000\n0 turn 2 idle\n\
-0 idle 50000\n0 call 2\n0 log 50000\n60000 ret\n60000 turn 3 idle\n60000 period 110000\n\
-60000 turn 4 idle\n60000 idle 110000\n60000 call 3\n60000 log 50000\n60000 ret\n60000 end done\n",
-        status: 0,
-    },
-];
 
 #[test]
 fn frames_and_idle_callbacks_come_in_their_turns(rt: HostRuntime) -> Result<(), Fail> {
-    expect_met(&rt, rt.alloc(), &TURNS)
+    let pages = [
+        Page {
+            script: "fn c(t) { log(t); } fn b(t) { log(\"b\"); } fn a(t) { log(t); cancelAnimationFrame(2); \
+requestAnimationFrame(c); } requestAnimationFrame(a); requestAnimationFrame(b);",
+            arrivals: "page 1\nrefresh 50\n",
+            trace: "trace 1\n0 turn 1 dom\n0 call 1\n0 reg 2 frame\n0 reg 3 frame\n0 ret\n20000 wait 20000\n\
+20000 turn 2 render\n20000 frame 20000\n20000 call 2\n20000 log 20000\n20000 drop 3\n\
+20000 reg 4 frame\n20000 ret\n40000 wait 40000\n40000 turn 3 render\n40000 frame 40000\n\
+40000 call 4\n40000 log 40000\n40000 ret\n40000 end done\n",
+            status: 0,
+        },
+        Page {
+            script: "fn a(d) { log(timeRemaining(d)); busy(60000); } fn b(d) { log(timeRemaining(d)); } \
+requestIdleCallback(a, 0); requestIdleCallback(b, 0);",
+            arrivals: "page 1\n",
+            trace: "trace 1\n0 turn 1 dom\n0 call 1\n0 reg 2 idle\n0 reg 3 idle\n0 ret\n0 period 50000\n0 turn 2 idle\n\
+0 idle 50000\n0 call 2\n0 log 50000\n60000 ret\n60000 turn 3 idle\n60000 period 110000\n\
+60000 turn 4 idle\n60000 idle 110000\n60000 call 3\n60000 log 50000\n60000 ret\n60000 end done\n",
+            status: 0,
+        },
+    ];
+    for page in pages {
+        assert!(rt; is_met(rt.alloc(), &page)?, "{}", page.script);
+    }
+    Ok(())
 }
-
-/// Scripts that need more fuel than there is.
-const NO_FUEL: [Page; 3] = [
-    Page {
-        script: "while (1 == 1) { }",
-        arrivals: "page 1\nfuel 5\n",
-        trace: "trace 1\n0 turn 1 dom\n0 call 1\n0 end fuel\n",
-        status: 10,
-    },
-    Page {
-        script: "fn f() { queueMicrotask(f); } f();",
-        arrivals: "page 1\nfuel 7\n",
-        trace: "trace 1\n0 turn 1 dom\n0 call 1\n0 reg 2 micro\n0 job 1 micro 2\n0 ret\n0 run 1\n0 call 2\n\
-0 reg 3 micro\n0 job 2 micro 3\n0 ret\n0 run 2\n0 call 3\n0 reg 4 micro\n0 job 3 micro 4\n0 ret\n\
-0 end fuel\n",
-        status: 10,
-    },
-    Page {
-        script: "",
-        arrivals: "page 1\nfuel 1\n",
-        trace: "trace 1\n0 turn 1 dom\n0 call 1\n0 end fuel\n",
-        status: 10,
-    },
-];
 
 #[test]
 fn a_run_without_fuel_ends_with_status_10(rt: HostRuntime) -> Result<(), Fail> {
-    expect_met(&rt, rt.alloc(), &NO_FUEL)
+    let pages = [
+        Page {
+            script: "while (1 == 1) { }",
+            arrivals: "page 1\nfuel 5\n",
+            trace: "trace 1\n0 turn 1 dom\n0 call 1\n0 end fuel\n",
+            status: 10,
+        },
+        Page {
+            script: "fn f() { queueMicrotask(f); } f();",
+            arrivals: "page 1\nfuel 7\n",
+            trace: "trace 1\n0 turn 1 dom\n0 call 1\n0 reg 2 micro\n0 job 1 micro 2\n0 ret\n0 run 1\n0 call 2\n\
+0 reg 3 micro\n0 job 2 micro 3\n0 ret\n0 run 2\n0 call 3\n0 reg 4 micro\n0 job 3 micro 4\n0 ret\n\
+0 end fuel\n",
+            status: 10,
+        },
+        Page {
+            script: "",
+            arrivals: "page 1\nfuel 1\n",
+            trace: "trace 1\n0 turn 1 dom\n0 call 1\n0 end fuel\n",
+            status: 10,
+        },
+    ];
+    for page in pages {
+        assert!(rt; is_met(rt.alloc(), &page)?, "{}", page.script);
+    }
+    Ok(())
 }
