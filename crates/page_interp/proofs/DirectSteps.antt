@@ -1,15 +1,16 @@
 -- An expression that calls nothing has the value that is found with no frame for its parts.
-use Rattle.std.proofs.Common.{◌≡◌, ℕ, ◌<◌, List, ◌∷◌, Option, Some, None, Ok, Err, IfSome, Vec, Global, refl, ap, ◌∙◌, arith}
+use Rattle.std.proofs.Common.{◌≡◌, ℕ, ◌<◌, List, [], ◌∷◌, ◌++◌, Option, Some, None, Result, Ok, Err, IfOk, IfSome, Vec, Global, refl, ap, ◌∙◌, arith}
 use Rattle.std.specs.Prelude.{Box, Bool, true, false, cond, ℤ, ◌*ℤ◌, int_div, int_rem}
 use Rattle.std.specs.Borrow.{Bor}
 use Rattle.page_types.specs.declared.FaultName.TheVariants.{TypeError, RangeError}
 use Rattle.page_types.specs.declared.SumSign.{SumSign}
+use Rattle.page_types.specs.declared.SumSign.TheVariants.{Plus}
 use Rattle.page_types.specs.declared.ProductSign.{ProductSign}
 use Rattle.page_types.specs.declared.ProductSign.TheVariants.{Times, Divide, Remainder}
 use Rattle.page_types.specs.declared.CompareSign.{CompareSign}
 use Rattle.page_types.specs.Values as Model
 use Rattle.page_types.specs.Values.{IntValue}
-use Rattle.page_parts.specs.Kinds.{list_in}
+use Rattle.page_parts.specs.Kinds.{list_in, within_limits}
 use Rattle.page_types.specs.Tree as Tree
 use Rattle.page_types.specs.Tree.{Compare, Sum, Product, Post, Number, Name, Paren, Exprs, no_exprs, with_expr, SumParts, no_terms, with_term, ProductParts, no_factors, with_factor}
 use Rattle.page_values.specs.declared.Value.{Value}
@@ -21,7 +22,7 @@ use Rattle.lang_ast.specs.declared.tree.Expr.{Expr}
 use Rattle.lang_ast.specs.declared.tree.Expr as E
 use Rattle.lang_ast.specs.declared.tree.Named.{Named}
 use Rattle.lang_ast.specs.Seen.{seen_expr, seen_exprs, seen_terms, seen_factors}
-use Rattle.lang_ast.proofs.Trees.{seen-Compare, seen-Sum, seen-Product, seen-Post, seen-Number, seen-Name, seen-Paren}
+use Rattle.lang_ast.proofs.Trees.{seen-Compare, seen-Sum, seen-Product, seen-Post, seen-Number, seen-Text, seen-True, seen-False, seen-Name, seen-Paren}
 use Rattle.lang_ast.specs.Sizes.{expr_size}
 use Rattle.lang_meaning.specs.Machine.{Machine, Done, Gives, given, and_then}
 use Rattle.lang_meaning.specs.Evaluation.{Answer, Around, answered, eval, eval_places, eval_sum, eval_product, named_value, sum_answer, product_answer, compare_answer, item_answer, place_in, fits, divides}
@@ -65,6 +66,9 @@ module _ {H : Type 0} (w : Around H) (m : Machine H) (look : List ℕ → Option
   mutual
     pub direct_means : (e : Tree.Expr) → IfSome (direct look e) (λ v. eval w e m ≡ Gives v m)
     direct_means (Number n) = refl
+    direct_means (Tree.TextLiteral bs) = refl
+    direct_means Tree.TrueLiteral = refl
+    direct_means Tree.FalseLiteral = refl
     direct_means (Name x) = names m (look x.name) (named_value w.program m x.name) (same x.name)
     direct_means (Paren e) = direct_means e
     direct_means (Compare a sign b) =
@@ -104,6 +108,9 @@ module _ (count : ℕ) (look : List ℕ → Option Model.Value) (each : (x : Lis
   mutual
     pub direct_numbered : (e : Tree.Expr) → SomeIsNumbered count (direct look e)
     direct_numbered (Number n) = tt
+    direct_numbered (Tree.TextLiteral bs) = tt
+    direct_numbered Tree.TrueLiteral = tt
+    direct_numbered Tree.FalseLiteral = tt
     direct_numbered (Name x) = each x.name
     direct_numbered (Paren e) = direct_numbered e
     direct_numbered (Compare a sign b) =
@@ -171,6 +178,15 @@ module _ (look : List ℕ → Option Model.Value) where
   pub number_gives : (x : Expr) (n : ℤ) → x ≡ E.Number n → direct look (seen_expr x) ≡ Some (IntValue n)
   number_gives x n q = rw (q, seen-Number) refl
 
+  pub text_gives : (x : Expr) (t : List ℕ) → x ≡ E.Text t → direct look (seen_expr x) ≡ Some (Model.TextValue t)
+  text_gives x t q = rw (q, seen-Text) refl
+
+  pub true_gives : (x : Expr) → x ≡ E.True → direct look (seen_expr x) ≡ Some (Model.BoolValue true)
+  true_gives x q = rw (q, seen-True) refl
+
+  pub false_gives : (x : Expr) → x ≡ E.False → direct look (seen_expr x) ≡ Some (Model.BoolValue false)
+  false_gives x q = rw (q, seen-False) refl
+
   pub name_gives : (x : Expr) (n : Named) (v : Model.Value) → x ≡ E.Name n → look n.name ≡ Some v → direct look (seen_expr x) ≡ Some v
   name_gives x n v q h = rw (q, seen-Name) h
 
@@ -184,6 +200,25 @@ module _ (look : List ℕ → Option Model.Value) where
   pub sum_gives : (x first : Expr) (e : Box Expr Global) (es : Vec (SumSign × Expr) Global) (terms : List (SumSign × Expr)) (v u : Model.Value) → x ≡ E.Sum e es → first ≡ e.value → terms ≡ es.items
       → direct look (seen_expr first) ≡ Some v → direct_sum look (seen_terms terms) v ≡ Some u → direct look (seen_expr x) ≡ Some u
   sum_gives x first e es terms v u q a b h k = rw (q, seen-Sum, ← a, ← b) (so_is (direct look (seen_expr first)) (direct_sum look (seen_terms terms)) v h ∙ k)
+
+  pub term_gives : (rest more : List (SumSign × Expr)) (t : SumSign × Expr) (i v u : Model.Value) → rest ≡ t ∷ more → direct look (seen_expr t.1) ≡ Some i → sum_answer t.0 v i ≡ Ok u
+      → direct_sum look (seen_terms rest) v ≡ direct_sum look (seen_terms more) u
+  term_gives rest more t i v u q h k = rw q
+      (so_is (direct look (seen_expr t.1)) (λ x. and_so (value_of (sum_answer t.0 v x)) (direct_sum look (seen_terms more))) i h
+      ∙ so_is (value_of (sum_answer t.0 v i)) (direct_sum look (seen_terms more)) u (ap value_of k))
+
+  -- two texts in a row
+  pub texts_give : (first : Expr) (terms : List (SumSign × Expr)) (t : SumSign × Expr) (a b : List ℕ) (v : Model.Value) → terms ≡ t ∷ [] → t.0 ≡ Plus
+      → direct look (seen_expr first) ≡ Some (Model.TextValue a) → direct look (seen_expr t.1) ≡ Some (Model.TextValue b) → within_limits (Model.TextValue (a ++ b)) ≡ Some v
+      → and_so (direct look (seen_expr first)) (direct_sum look (seen_terms terms)) ≡ Some v
+  texts_give first terms t a b v q plus h k fits =
+      let joined : sum_answer t.0 (Model.TextValue a) (Model.TextValue b) ≡ Ok v = rw (plus, fits) refl in
+      so_is (direct look (seen_expr first)) (direct_sum look (seen_terms terms)) (Model.TextValue a) h
+      ∙ term_gives terms [] t (Model.TextValue b) (Model.TextValue a) v q k joined
+
+  pub whole_sum_gives : (x first : Expr) (e : Box Expr Global) (es : Vec (SumSign × Expr) Global) (terms : List (SumSign × Expr)) (v : Model.Value) → x ≡ E.Sum e es → first ≡ e.value → terms ≡ es.items
+      → and_so (direct look (seen_expr first)) (direct_sum look (seen_terms terms)) ≡ Some v → direct look (seen_expr x) ≡ Some v
+  whole_sum_gives x first e es terms v q a b h = rw (q, seen-Sum, ← a, ← b) h
 
   pub product_gives : (x first : Expr) (e : Box Expr Global) (es : Vec (ProductSign × Expr) Global) (factors : List (ProductSign × Expr)) (v u : Model.Value) → x ≡ E.Product e es → first ≡ e.value → factors ≡ es.items
       → direct look (seen_expr first) ≡ Some v → direct_product look (seen_factors factors) v ≡ Some u → direct look (seen_expr x) ≡ Some u
@@ -201,12 +236,6 @@ module _ (look : List ℕ → Option Model.Value) where
       (so_is (direct look (seen_expr place)) (λ i. and_so (value_of (item_answer v i)) (direct_item look (seen_exprs more))) i h
       ∙ so_is (value_of (item_answer v i)) (direct_item look (seen_exprs more)) u (ap value_of k))
 
-  pub term_gives : (rest more : List (SumSign × Expr)) (t : SumSign × Expr) (i v u : Model.Value) → rest ≡ t ∷ more → direct look (seen_expr t.1) ≡ Some i → sum_answer t.0 v i ≡ Ok u
-      → direct_sum look (seen_terms rest) v ≡ direct_sum look (seen_terms more) u
-  term_gives rest more t i v u q h k = rw q
-      (so_is (direct look (seen_expr t.1)) (λ x. and_so (value_of (sum_answer t.0 v x)) (direct_sum look (seen_terms more))) i h
-      ∙ so_is (value_of (sum_answer t.0 v i)) (direct_sum look (seen_terms more)) u (ap value_of k))
-
   pub factor_gives : (rest more : List (ProductSign × Expr)) (t : ProductSign × Expr) (i v u : Model.Value) → rest ≡ t ∷ more → direct look (seen_expr t.1) ≡ Some i → product_answer t.0 v i ≡ Ok u
       → direct_product look (seen_factors rest) v ≡ direct_product look (seen_factors more) u
   factor_gives rest more t i v u q h k = rw q
@@ -221,6 +250,10 @@ item_is v u vs n p q = rw (p, q) refl
 pub if_so : {X : Type 0} {P Q : X → Type 0} (o : Option X) → IfSome o P → ((x : X) → P x → Q x) → IfSome o Q
 if_so None h each = tt
 if_so (Some x) h each = each x h
+
+pub ok_so : {X F : Type 0} {P Q : X → Type 0} (r : Result (Option X) F) → IfOk r (λ o. IfSome o P) → ((x : X) → P x → Q x) → IfOk r (λ o. IfSome o Q)
+ok_so (Ok o) h each = if_so o h each
+ok_so (Err _) h each = tt
 
 product_by : (b : Bool) (p z : ℤ) → Some z ≡ cond b (Some p) None → cond b (Ok (IntValue p)) (Err RangeError) ≡ Ok (IntValue z)
 product_by true p z h = let e : p ≡ z = cc in ap (λ n. Ok (IntValue n)) e

@@ -1,8 +1,8 @@
 -- What an expression gives where it calls nothing and nothing is thrown.
-use Rattle.std.specs.Prelude.{◌≡◌, ℕ, ℤ, List, Option, Some, None, Ok, Err}
+use Rattle.std.specs.Prelude.{◌≡◌, ℕ, ℤ, true, false, List, Option, Some, None, Ok, Err}
 use Rattle.std.specs.Option.{option_and_then}
-use Rattle.page_types.specs.Values.{Value, IntValue}
-use Rattle.page_types.specs.Tree.{Expr, Compare, Sum, Product, Post, Number, Name, Paren, Exprs, no_exprs, with_expr, SumParts, no_terms, with_term, ProductParts, no_factors, with_factor}
+use Rattle.page_types.specs.Values.{Value, IntValue, BoolValue, TextValue}
+use Rattle.page_types.specs.Tree.{Expr, Compare, Sum, Product, Post, Number, TextLiteral, TrueLiteral, FalseLiteral, Name, Paren, Exprs, no_exprs, with_expr, SumParts, no_terms, with_term, ProductParts, no_factors, with_factor}
 use Rattle.page_types.specs.declared.SumSign.{SumSign}
 use Rattle.page_types.specs.declared.ProductSign.{ProductSign}
 use Rattle.lang_meaning.specs.Evaluation.{Answer, sum_answer, product_answer, compare_answer, item_answer}
@@ -28,6 +28,9 @@ abbrev mutual
   -- the value of an expression, where `look` tells the values of names
   pub direct : (look : List ℕ → Option Value) → Expr → Option Value
   direct look (Number n) = Some (IntValue n)
+  direct look (TextLiteral bs) = Some (TextValue bs)
+  direct look TrueLiteral = Some (BoolValue true)
+  direct look FalseLiteral = Some (BoolValue false)
   direct look (Name x) = look x.name
   direct look (Paren e) = direct look e
   direct look (Compare a sign b) =
@@ -91,3 +94,11 @@ abbrev pub FactorsGive : Code.Program → Store → Current → List (ProductSig
 FactorsGive script store current factors first total =
     direct_product (names_there script store current) (seen_factors factors) (IntValue first)
     ≡ Some (IntValue total)
+
+-- the terms of a sum, from the first one on, give this value
+abbrev pub SumGives : Code.Program → Store → Current → (first : Syntax.Expr)
+    → List (SumSign × Syntax.Expr) → Value → Type 0
+SumGives script store current first terms v =
+    and_so (direct_there script store current first)
+    (direct_sum (names_there script store current) (seen_terms terms))
+    ≡ Some v

@@ -4,10 +4,10 @@
 
 ghost use Rattle.std.specs.Prelude.{◌≡◌, Ok, IfOk, IfSome};
 ghost use Rattle.std.specs.Option.{option_map};
-ghost use Rattle.page_types.specs.Values.{BoolValue, IntValue};
+ghost use Rattle.page_types.specs.Values.{BoolValue, IntValue, TextValue};
 ghost use Rattle.lang_meaning.specs.Evaluation.{compare_answer, sum_answer, product_answer};
 ghost use Rattle.page_values.specs.Seen.{seen};
-ghost use Rattle.page_interp.specs.Direct.{NameHolds, HasValue, PlacesGive, TermsGive, FactorsGive};
+ghost use Rattle.page_interp.specs.Direct.{NameHolds, HasValue, PlacesGive, TermsGive, FactorsGive, SumGives};
 
 use crate::code::Code;
 use crate::exit::Store;
@@ -16,7 +16,7 @@ use crate::stack::Current;
 use crate::values::copied;
 use crate::variables::find;
 use lang_ast::{CompareSign, Expr, ProductSign, SumSign};
-use page_values::{MemoryFault, Str, Value, as_int, as_list};
+use page_values::{MemoryFault, Str, Value, ValueFault, as_int, as_list, as_text, copy_text, join};
 
 /// How deep the parts of an expression may nest that is evaluated at once.
 const LEVELS: u32 = 8;
@@ -178,7 +178,55 @@ fn compared(sign: CompareSign, x: i64, y: i64) -> bool
     }
 }
 
-/// The value of an expression of integers or of an item, where it calls nothing and throws nothing.
+/// A text that is written there, that a variable holds or that is an item.
+fn text<'a>(
+    code: &'a Code,
+    store: &'a Store,
+    current: &'a Current,
+    expr: &'a Expr,
+) -> Option<&'a Str>
+    ensures { IfSome result (λ t.
+        HasValue code.now store.now current.now expr.now (TextValue t.now)) }
+{
+    match expr {
+        Expr::Text(text) => Some(text),
+        Expr::Name(_) | Expr::Post(_, _) => as_text(item(code, store, current, expr, LEVELS)?),
+        _ => None,
+    }
+}
+
+/// Two texts in a row, within the limits.
+fn text_sum(
+    code: &Code,
+    store: &Store,
+    current: &Current,
+    first: &Expr,
+    terms: &[(SumSign, Expr)],
+) -> Result<Option<Value>, MemoryFault>
+    ensures { IfOk result (λ o. IfSome o (λ v.
+        SumGives code.now store.now current.now first.now terms.now (seen v))) }
+{
+    let Some((term, more)) = terms.split_first() else {
+        return Ok(None);
+    };
+    if term.0 != SumSign::Plus || !more.is_empty() {
+        return Ok(None);
+    }
+    let Some(a) = text(code, store, current, first) else {
+        return Ok(None);
+    };
+    let Some(b) = text(code, store, current, &term.1) else {
+        return Ok(None);
+    };
+    match join(code.alloc(), a, b) {
+        Ok(joined) => Ok(Some(joined)),
+        Err(ValueFault::Is(_)) => Ok(None),
+        Err(ValueFault::OutOfMemory) => Err(MemoryFault::OutOfMemory),
+    }
+}
+
+/// The value of an expression of integers, of two texts in a row, of a literal or of an item, where it calls nothing and
+/// throws nothing.
 pub fn direct_value(
     code: &Code,
     store: &Store,
@@ -189,9 +237,16 @@ pub fn direct_value(
         HasValue code.now store.now current.now expr.now (seen v))) }
 {
     match expr {
-        Expr::Number(_) | Expr::Sum(_, _) | Expr::Product(_, _) => {
+        Expr::Number(_) | Expr::Product(_, _) => {
             Ok(int_value(int(code, store, current, expr, LEVELS)))
         }
+        Expr::Sum(first, terms) => match int(code, store, current, expr, LEVELS) {
+            Some(n) => Ok(Some(Value::Int(n))),
+            None => text_sum(code, store, current, first, terms),
+        },
+        Expr::Text(text) => Ok(Some(Value::Text(copy_text(code.alloc(), text)?))),
+        Expr::True => Ok(Some(Value::Bool(true))),
+        Expr::False => Ok(Some(Value::Bool(false))),
         Expr::Compare(left, sign, right) => {
             let Some(x) = int(code, store, current, left, LEVELS) else {
                 return Ok(None);

@@ -16,7 +16,7 @@ use crate::expressions::come;
 use crate::operators::{add, compare, item_at, multiply, negate};
 use crate::stack::{Focus, Frame, Purpose, Waiting, push, wait};
 use crate::values::append;
-use lang_ast::{Expr, Host, ProductSign, SumSign};
+use lang_ast::{Expr, Host, ProductSign, Stmt, SumSign};
 use page_values::{FaultName, Value, as_bool, fault};
 use std::alloc::Global;
 
@@ -157,13 +157,20 @@ fn into_place<'c, H: Host>(
     come(item_at(alloc, &list, &value))
 }
 
-/// One way or the other, by a condition's value.
-pub fn pick<'c>(alloc: Global, value: &Value, yes: Focus<'c>, no: Focus<'c>) -> Focus<'c>
-    ensures { IsPicked (bool_in (seen value.now)) yes.entry no.entry result }
+/// The value of an `if`'s condition: its block is next, or what comes after `else`.
+fn into_if<'c>(
+    alloc: Global,
+    value: &Value,
+    block: &'c [Stmt],
+    others: &'c [(Expr, Vec<Stmt>)],
+    last: &'c Option<Vec<Stmt>>,
+) -> Focus<'c>
+    ensures { IsPicked (bool_in (seen value.now))
+        (focus.Block block.entry) (focus.Others others.entry last.entry) result }
 {
     match as_bool(value) {
-        Some(true) => yes,
-        Some(false) => no,
+        Some(true) => Focus::Block(block),
+        Some(false) => Focus::Others(others, last),
         None => Focus::Throw(fault(alloc, FaultName::TypeError)),
     }
 }
@@ -210,14 +217,7 @@ pub fn receive<'c, H: Host>(
         Waiting::Place(list, rest) => into_place::<H>(alloc, stack, value, list, rest),
         Waiting::Row(purpose, values, rest) => into_row::<H>(value, purpose, values, rest),
         Waiting::Ignore => Ok(Focus::Value(Value::Unit)),
-        Waiting::If(block, others, last) => {
-            Ok(pick(
-                alloc,
-                &value,
-                Focus::Block(block),
-                Focus::Others(others, last),
-            ))
-        }
+        Waiting::If(block, others, last) => Ok(into_if(alloc, &value, block, others, last)),
         Waiting::Return => Ok(Focus::Return(value)),
         Waiting::Throw => Ok(Focus::Throw(value)),
         Waiting::Stmts(rest) => Ok(Focus::Block(rest)),

@@ -2,12 +2,25 @@ use Rattle.std.proofs.Common.{rules}
 use Rattle.std.proofs.lemmas.Int.{to_z-of_z}
 use mir.Val.{SFits}
 use mir.Syntax.{w64}
-use Rattle.page_interp.proofs.DirectSteps.{compare_gives}
+use Rattle.page_interp.proofs.DirectSteps.{ok_so, compare_gives, whole_sum_gives, text_gives, true_gives, false_gives}
 use Rattle.page_interp.proofs.direct.direct_value.Goals as goal
 
-pub returns-in-Some-int : goal.returns-in-Some-int
-returns-in-Some-int c =
-    let x : SFits w64 c.in-Some.x = search rules in
-    let y : SFits w64 c.in-Some-int.y = search rules in
-    compare_gives _ _ _ _ _ _ _ _ _ _ c.in-Compare.is c.deref.ensures c.deref-in-Compare.ensures c.in-Some.ensures c.in-Some-int.ensures
-    (rw (to_z-of_z w64 c.in-Some.x x, to_z-of_z w64 c.in-Some-int.y y) at c.compared.ensures)
+pub returns-in-Some-int-2 : goal.returns-in-Some-int-2
+returns-in-Some-int-2 c =
+    let x : SFits w64 c.in-Some-int.x = search rules in
+    let y : SFits w64 c.in-Some-int-2.y = search rules in
+    compare_gives _ _ _ _ _ _ _ _ _ _ c.in-Compare.is c.deref-in-Compare.ensures c.deref-in-Compare-2.ensures c.in-Some-int.ensures c.in-Some-int-2.ensures
+    (rw (to_z-of_z w64 c.in-Some-int.x x, to_z-of_z w64 c.in-Some-int-2.y y) at c.compared.ensures)
+
+pub returns-in-None : goal.returns-in-None
+returns-in-None c = ok_so c.text_sum.result c.text_sum.ensures
+    (λ v h. whole_sum_gives _ _ _ _ _ _ _ c.in-Sum.is c.deref.ensures c.deref-in-None.ensures.value h)
+
+pub returns-in_ok-copy_text-in-Text : goal.returns-in_ok-copy_text-in-Text
+returns-in_ok-copy_text-in-Text c = rw c.in_ok-copy_text-in-Text.ensures (text_gives _ _ _ c.in-Text.is)
+
+pub returns-in-True : goal.returns-in-True
+returns-in-True c = true_gives _ _ c.in-True.is
+
+pub returns-in-False : goal.returns-in-False
+returns-in-False c = false_gives _ _ c.in-False.is

@@ -16,7 +16,7 @@ pub returns-in-Ignore-clause-ok : goal.returns-in-Ignore-clause-ok
 returns-in-Ignore-clause-ok g c = rw c.in-Ignore.is (pops_moves g.H.Host.rules _ (ignore_pops _))
 
 pub returns-in-If-clause-ok : goal.returns-in-If-clause-ok
-returns-in-If-clause-ok g c = rw c.in-If.is (pops_moves g.H.Host.rules _ (if_picks _ _ _ _ _ _ refl c.pick.ensures))
+returns-in-If-clause-ok g c = rw c.in-If.is (pops_moves g.H.Host.rules _ (if_picks _ _ _ _ _ _ refl c.into_if.ensures))
 
 pub returns-in-Return-clause-ok : goal.returns-in-Return-clause-ok
 returns-in-Return-clause-ok g c = rw c.in-Return.is (pops_moves g.H.Host.rules _ (return_pops _))
