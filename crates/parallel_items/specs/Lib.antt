@@ -1,4 +1,5 @@
 pub mod Codes
+pub mod Hashed
 pub mod InParallel
 pub mod Items
 pub mod Kept

@@ -16,6 +16,7 @@ ghost use Rattle.page_tasks.specs.Seen.{host_task};
 use crate::answers::HostAnswers;
 use crate::arrivals::Arrivals;
 use crate::delays::{forget_delay, note_delay};
+use crate::hasher::CountedKeys;
 use crate::idle::IdleTimeouts;
 use crate::maps::{put, sooner};
 use crate::{Completion, HostAnswer, HostTask, MemoryFault, Taken, TimerTask};
@@ -24,6 +25,7 @@ use page_base::Micros;
 use std::alloc::Global;
 use std::collections::{HashMap, HashSet};
 use std::marker::Model;
+use timer_map::counted::{self, Counted};
 use timer_map::{Armed, Timers};
 
 /// What goes on in parallel beside the script of a page (HTML, "Event loops: processing model").
@@ -34,9 +36,9 @@ use timer_map::{Armed, Timers};
 #[derive(Drop)]
 pub struct ParallelItems {
     timers: Timers,
-    completions: HashMap<u64, Completion>,
+    completions: HashMap<u64, Completion, CountedKeys>,
     delayed: HashSet<u32>,
-    owners: HashMap<u32, u32>,
+    owners: Counted<u32>,
     idle: IdleTimeouts,
     answers: HostAnswers,
     arrivals: Arrivals,
@@ -52,6 +54,7 @@ impl Model for ParallelItems {
 
     ghost use Rattle.parallel_items.specs.Seen.{completings_of, owners_of};
     ghost use Rattle.parallel_items.specs.Kept.{AreKept};
+    ghost use Rattle.timer_map.specs.Counted.{entries_of};
 
     ghost view = { λ items. record {
       waiting = record {
@@ -61,12 +64,13 @@ impl Model for ParallelItems {
         host_answers = items.answers;
         arrivals = items.arrivals.arrivals;
       };
-      owners = owners_of items.timers.ids_made items.owners.entries;
+      owners = owners_of items.timers.ids_made (entries_of items.owners.items);
       last_idle = items.idle.last;
       arrivals_made = items.arrivals.made;
     } };
 
-    ghost invariant = { λ items. AreKept items.timers items.completions.entries items.delayed.keys items.owners.entries };
+    ghost invariant = { λ items.
+        AreKept items.timers items.completions.entries items.delayed.keys (entries_of items.owners.items) };
 }
 
 impl ParallelItems {
@@ -81,9 +85,9 @@ impl ParallelItems {
         let arrivals = Arrivals::new(alloc, arrivals)?;
         Ok(ParallelItems {
             timers: Timers::new(alloc),
-            completions: HashMap::new(alloc),
+            completions: HashMap::with_hasher(alloc, CountedKeys::new()),
             delayed: HashSet::new(alloc),
-            owners: HashMap::new(alloc),
+            owners: Vec::new(alloc),
             idle: IdleTimeouts::new(alloc),
             answers: HostAnswers::new(alloc),
             arrivals,
@@ -114,7 +118,7 @@ impl ParallelItems {
             timer_started again (armed_of again timeout nesting now.0 self.old.waiting.timers) registration repeats timeout self.old) }
         ensures err { OnErr result (self.new ≡ self.old) }
     {
-        self.owners.reserve(1)?;
+        counted::make_place(&mut self.owners, self.timers.made().saturating_add(1))?;
         self.completions.reserve(1)?;
         let armed = self.timers.init(again, repeats, timeout, nesting, now)?;
         let task = TimerTask {
@@ -131,7 +135,7 @@ impl ParallelItems {
             Completion::QueueTimer(task),
         );
         if again.is_none() {
-            put(&mut self.owners, armed.id, registration);
+            counted::put(&mut self.owners, armed.id, registration);
         }
         Ok(armed)
     }
@@ -172,7 +176,7 @@ impl ParallelItems {
         ensures cleared { self.new ≡ id_cleared id self.old }
     {
         self.timers.clear(id);
-        self.owners.remove(&id)
+        counted::take(&mut self.owners, id)
     }
 
     /// Whether the id is in the map with this handle. Takes no memory.

@@ -8,6 +8,7 @@ mod answers;
 mod arrivals;
 mod completion;
 mod delays;
+mod hasher;
 mod idle;
 mod items;
 mod laws;

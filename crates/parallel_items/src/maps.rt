@@ -5,12 +5,13 @@ ghost use Rattle.std.specs.Map.{remove_entry};
 ghost use Rattle.std.specs.Option.{option_map};
 ghost use Rattle.page_parts.specs.Words.{least};
 
+use crate::hasher::CountedKeys;
 use page_base::Micros;
 use std::collections::HashMap;
 use std::hash::Hash;
 
 // Sets the value of a key. There is room for it.
-pub(crate) fn put<K: Eq + Hash + Copy, V: Drop>(map: &mut HashMap<K, V>, key: K, value: V)
+pub(crate) fn put<K: Eq + Hash + Copy, V: Drop>(map: &mut HashMap<K, V, CountedKeys>, key: K, value: V)
     requires { 0 < spare map.old }
     ensures set { IsPermutation ((key, value) ∷ remove_entry (K.eq key) map.old.entries) map.new.entries }
     ensures unique { IsUnique K.eq map.new }

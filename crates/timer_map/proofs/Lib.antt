@@ -1,3 +1,4 @@
+pub mod CountedLemmas
 pub mod FirstLemmas
 pub mod HeapLemmas
 pub mod IdLemmas

@@ -3,6 +3,7 @@
 #![tactic(auto)]
 
 mod armed;
+pub mod counted;
 mod ids;
 mod timers;
 mod waiting;

@@ -6,22 +6,24 @@ ghost use Rattle.timer_map.specs.Seen.{seen_armed};
 
 use crate::MemoryFault;
 use crate::armed::{Armed, clamped, milliseconds};
-use crate::ids::{id_and_last, set_handle};
+use crate::counted::{Counted, make_place, put, take, value_of};
+use crate::ids::id_and_last;
 use crate::waiting::{ActiveTimer, Waiting};
 use page_base::Micros;
 use std::alloc::Global;
 use std::cmp::Reverse;
-use std::collections::{BinaryHeap, HashMap};
+use std::collections::BinaryHeap;
 use std::marker::Model;
 
 /// The map of setTimeout and setInterval ids, and the active timers (HTML, "Timers").
 ///
 /// Ids, unique handles and start numbers are counted from 1. An active timer stays where its id is cleared.
 ///
-/// Each call costs at most the logarithm of the number of active timers, but for the growth of the map of ids.
+/// Each call costs at most the logarithm of the number of active timers, but for the growth of the map of ids, which keeps a place
+/// for each id that was ever given.
 #[derive(Drop)]
 pub struct Timers {
-    ids: HashMap<u32, u64>,
+    ids: Counted<u64>,
     active: Waiting,
     ids_made: u32,
     handles_made: u64,
@@ -34,18 +36,19 @@ impl Model for Timers {
     ghost Value = { TimerMap };
 
     ghost use Rattle.std.specs.BinaryHeap.{heap_items};
+    ghost use Rattle.timer_map.specs.Counted.{entries_of};
     ghost use Rattle.timer_map.specs.Seen.{ids_in_order, timers_in_order};
     ghost use Rattle.timer_map.specs.Kept.{AreKept};
 
     ghost view = { λ timers. record {
-      ids = ids_in_order timers.handles_made timers.ids.entries;
+      ids = ids_in_order timers.handles_made (entries_of timers.ids.items);
       active = timers_in_order timers.starts_made (heap_items timers.active);
       ids_made = timers.ids_made;
       handles_made = timers.handles_made;
       starts_made = timers.starts_made;
     } };
 
-    ghost invariant = { λ timers. AreKept timers.handles_made timers.ids.entries timers.starts_made (heap_items timers.active) };
+    ghost invariant = { λ timers. AreKept timers.handles_made (entries_of timers.ids.items) timers.starts_made (heap_items timers.active) };
 }
 
 impl Timers {
@@ -54,7 +57,7 @@ impl Timers {
         ensures { result ≡ no_timers }
     {
         Timers {
-            ids: HashMap::new(alloc),
+            ids: Vec::new(alloc),
             active: BinaryHeap::new(alloc),
             ids_made: 0,
             handles_made: 0,
@@ -93,12 +96,12 @@ impl Timers {
             due: Micros(now.0 + clamped(nesting, milliseconds(timeout)) * 1000),
             level: nesting + 1,
         };
-        self.ids.reserve(1)?;
+        make_place(&mut self.ids, id)?;
         self.active.push(Reverse(ActiveTimer {
             due: armed.due,
             start: armed.start,
         }))?;
-        set_handle(&mut self.ids, armed.id, armed.handle);
+        put(&mut self.ids, armed.id, armed.handle);
         self.ids_made = ids_made;
         self.handles_made = armed.handle;
         self.starts_made = armed.start;
@@ -131,21 +134,21 @@ impl Timers {
         ensures was { result ≡ has_id id self.old }
         ensures gone { self.new ≡ cleared id self.old }
     {
-        self.ids.remove(&id).is_some()
+        take(&mut self.ids, id).is_some()
     }
 
     /// Whether the id is in the map with this handle. Takes no memory.
     pub fn live(&self, id: u32, handle: u64) -> bool
         ensures { result ≡ is_live id handle self.now }
     {
-        self.ids.get(&id).copied() == Some(handle)
+        value_of(&self.ids, id) == Some(handle)
     }
 
     /// Whether the id is in the map, with any handle. Takes no memory.
     pub fn has(&self, id: u32) -> bool
         ensures { result ≡ has_id id self.now }
     {
-        self.ids.contains_key(&id)
+        value_of(&self.ids, id).is_some()
     }
 
     /// Whether a number is an id in the map, with any handle. Each id is below 2^32. Takes no memory.
@@ -154,7 +157,7 @@ impl Timers {
     {
         let ids = &self.ids;
         match u32::try_from(number) {
-            Ok(id) => ids.contains_key(&id),
+            Ok(id) => value_of(ids, id).is_some(),
             Err(_) => false,
         }
     }

@@ -1,3 +1,4 @@
+use Rattle.timer_map.specs.Counted.{entries_of}
 use Rattle.std.proofs.Common.{◌∙◌, ◌+◌, ◌*◌, ◌++◌, ◌∷◌, [], suc, List, find, Result, Ok, Err, OnErr, sym, subst, ap, add-one, refl, nat_eq}
 use Rattle.std.specs.List.Sorted.{IsPermutation}
 use Rattle.std.specs.Map.{remove_entry}
@@ -20,8 +21,8 @@ on_err (Err e) p = p
 pub invariant_of-self-in_err-reserve-2 : goal.invariant_of-self-in_err-reserve-2
 invariant_of-self-in_err-reserve-2 c =
     let i = c.self.inside in
-    let kept = kept_completions i.timers i.completions.entries i.delayed.keys i.owners.entries c.self.invariant c.reserve.new.self.entries c.in_ok-reserve.ensures.entries.0 in
-    kept_delays i.timers c.reserve.new.self.entries i.delayed.keys i.owners.entries kept c.reserve-2.new.self.keys c.in_err-reserve-2.ensures.keys.2
+    let kept = kept_completions i.timers i.completions.entries i.delayed.keys (entries_of i.owners.items) c.self.invariant c.reserve.new.self.entries c.in_ok-reserve.ensures.entries.0 in
+    kept_delays i.timers c.reserve.new.self.entries i.delayed.keys (entries_of i.owners.items) kept c.reserve-2.new.self.keys c.in_err-reserve-2.ensures.keys.2
 
 pub returns-in_err-reserve-2-clause-err : goal.returns-in_err-reserve-2-clause-err
 returns-in_err-reserve-2-clause-err c =
@@ -35,9 +36,9 @@ returns-in_err-reserve-2-clause-err c =
 pub invariant_of-self-in_err-start : goal.invariant_of-self-in_err-start
 invariant_of-self-in_err-start c =
     let i = c.self.inside in
-    let kept = kept_completions i.timers i.completions.entries i.delayed.keys i.owners.entries c.self.invariant c.reserve.new.self.entries c.in_ok-reserve.ensures.entries.0 in
-    subst (λ (t : Timers). AreKept t c.reserve.new.self.entries c.reserve-2.new.self.keys i.owners.entries) (sym c.in_err-start.ensures.err)
-    (kept_delays i.timers c.reserve.new.self.entries i.delayed.keys i.owners.entries kept c.reserve-2.new.self.keys c.in_ok-reserve-2.ensures.keys.2)
+    let kept = kept_completions i.timers i.completions.entries i.delayed.keys (entries_of i.owners.items) c.self.invariant c.reserve.new.self.entries c.in_ok-reserve.ensures.entries.0 in
+    subst (λ (t : Timers). AreKept t c.reserve.new.self.entries c.reserve-2.new.self.keys (entries_of i.owners.items)) (sym c.in_err-start.ensures.err)
+    (kept_delays i.timers c.reserve.new.self.entries i.delayed.keys (entries_of i.owners.items) kept c.reserve-2.new.self.keys c.in_ok-reserve-2.ensures.keys.2)
 
 pub returns-in_err-start-clause-err : goal.returns-in_err-start-clause-err
 returns-in_err-start-clause-err c =
@@ -56,11 +57,11 @@ invariant_of-self-2 c =
     let grown = c.reserve.new.self.entries in
     let e = c.in_ok-start.ensures in
     let reordered = c.in_ok-reserve.ensures.entries.0 in
-    let kept = kept_completions t i.completions.entries i.delayed.keys i.owners.entries c.self.invariant grown reordered in
-    let room = kept_delays t grown i.delayed.keys i.owners.entries kept c.reserve-2.new.self.keys c.in_ok-reserve-2.ensures.keys.2 in
+    let kept = kept_completions t i.completions.entries i.delayed.keys (entries_of i.owners.items) c.self.invariant grown reordered in
+    let room = kept_delays t grown i.delayed.keys (entries_of i.owners.items) kept c.reserve-2.new.self.keys c.in_ok-reserve-2.ensures.keys.2 in
     let put = subst (λ n. IsPermutation ((n, c.args.completion) ∷ remove_entry (nat_eq n) grown) c.put.new.map.entries) (e.start ∙ add-one t.starts_made) c.put.ensures.set in
-    subst (λ (u : Timers). AreKept u c.put.new.map.entries c.note_delay.new.delayed.keys i.owners.entries) (sym e.set)
-    (kept_delayed t grown c.reserve-2.new.self.keys i.owners.entries room (run_after c.args.ms c.args.now.0 t) c.args.completion
+    subst (λ (u : Timers). AreKept u c.put.new.map.entries c.note_delay.new.delayed.keys (entries_of i.owners.items)) (sym e.set)
+    (kept_delayed t grown c.reserve-2.new.self.keys (entries_of i.owners.items) room (run_after c.args.ms c.args.now.0 t) c.args.completion
     (c.args.now.0 + c.args.ms * 1000) c.put.new.map.entries c.note_delay.new.delayed.keys (sym (add-one t.starts_made)) refl put c.note_delay.ensures
     (λ r is. ap (λ (cs : List Completing). is_there (find (λ (d : Completing). is_delay_of r d.completion) cs))
     (completings_reordered t.starts_made i.completions.entries grown c.self.invariant.numbered reordered)
@@ -75,7 +76,7 @@ returns-clause-started c =
     let grown = c.reserve.new.self.entries in
     let e = c.in_ok-start.ensures in
     let reordered = c.in_ok-reserve.ensures.entries.0 in
-    let kept = kept_completions t i.completions.entries i.delayed.keys i.owners.entries c.self.invariant grown reordered in
+    let kept = kept_completions t i.completions.entries i.delayed.keys (entries_of i.owners.items) c.self.invariant grown reordered in
     let put = subst (λ n. IsPermutation ((n, c.args.completion) ∷ remove_entry (nat_eq n) grown) c.put.new.map.entries) (e.start ∙ add-one t.starts_made) c.put.ensures.set in
     let steps = completings_put t.starts_made (suc t.starts_made) c.args.completion grown c.put.new.map.entries (sym (add-one t.starts_made)) kept.numbered put
     ∙ ap (λ (cs : List Completing). cs ++ record { start = suc t.starts_made; completion = completion_seen c.args.completion } ∷ [])

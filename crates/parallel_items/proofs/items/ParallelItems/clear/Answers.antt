@@ -1,4 +1,8 @@
-use Rattle.std.proofs.Common.{◌∙◌, List, sym, subst, ap, is_some}
+use Rattle.std.proofs.Common.{◌∙◌, List, nat_eq, sym, subst, ap, is_some}
+use Rattle.std.proofs.lemmas.List.Sorted.{IsPermutation-refl}
+use Rattle.std.specs.List.Sorted.{IsPermutation}
+use Rattle.std.specs.Map.{remove_entry}
+use Rattle.timer_map.specs.Counted.{entries_of}
 use Rattle.page_parts.specs.Timers.{Timers, has_id, clear}
 use Rattle.parallel_items.specs.InParallel.{InParallel, TimerOwner}
 use Rattle.parallel_items.specs.Kept.{AreKept}
@@ -11,16 +15,16 @@ use Rattle.parallel_items.proofs.items.ParallelItems.clear.Goals as goal
 pub invariant_of-self : goal.invariant_of-self
 invariant_of-self c =
     let i = c.self.inside in
-    subst (λ (t : Timers). AreKept t i.completions.entries i.delayed.keys c.remove.new.self.entries) (sym c.clear.ensures.gone)
-    (kept_cleared i.timers i.completions.entries i.delayed.keys i.owners.entries c.self.invariant c.args.id c.remove.new.self.entries c.remove.ensures.entries)
+    subst (λ (t : Timers). AreKept t i.completions.entries i.delayed.keys (entries_of c.take.new.places.items)) (sym c.clear.ensures.gone)
+    (kept_cleared i.timers i.completions.entries i.delayed.keys (entries_of i.owners.items) c.self.invariant c.args.id (entries_of c.take.new.places.items) (subst (IsPermutation (remove_entry (nat_eq c.args.id) (entries_of i.owners.items))) (sym c.take.ensures.left) (IsPermutation-refl _)))
 
 pub returns-clause-registration : goal.returns-clause-registration
 returns-clause-registration c =
-    c.remove.ensures.value ∙ sym (owner_found c.args.id _ _ c.self.invariant.owners_numbered) ∙ ap (λ (s : InParallel). owner_of c.args.id s.owners) c.self.view_is
+    c.take.ensures.value ∙ sym (owner_found c.args.id _ _ c.self.invariant.owners_numbered) ∙ ap (λ (s : InParallel). owner_of c.args.id s.owners) c.self.view_is
 
 pub returns-clause-was : goal.returns-clause-was
 returns-clause-was c =
-    ap is_some (c.remove.ensures.value ∙ sym (owner_found c.args.id _ _ c.self.invariant.owners_numbered))
+    ap is_some (c.take.ensures.value ∙ sym (owner_found c.args.id _ _ c.self.invariant.owners_numbered))
     ∙ some_is_there _ ∙ sym (c.self.invariant.owners c.args.id)
     ∙ ap (λ (s : InParallel). has_id c.args.id s.waiting.timers) c.self.view_is
 
@@ -28,7 +32,7 @@ pub returns-clause-cleared : goal.returns-clause-cleared
 returns-clause-cleared c =
     let i = c.self.inside in
     let v : InParallel = the_view i in
-    ap (λ (t : Timers). the_view (record i { timers = t; owners = c.remove.new.self })) c.clear.ensures.gone
+    ap (λ (t : Timers). the_view (record i { timers = t; owners = c.take.new.places })) c.clear.ensures.gone
     ∙ ap (λ (owners : List TimerOwner). record v { waiting = record v.waiting { timers = clear c.args.id i.timers }; owners = owners })
-    (owners_removed c.args.id i.timers.ids_made i.owners.entries c.remove.new.self.entries c.self.invariant.owners_numbered c.remove.ensures.entries)
+    (owners_removed c.args.id i.timers.ids_made (entries_of i.owners.items) (entries_of c.take.new.places.items) c.self.invariant.owners_numbered (subst (IsPermutation (remove_entry (nat_eq c.args.id) (entries_of i.owners.items))) (sym c.take.ensures.left) (IsPermutation-refl _)))
     ∙ ap (id_cleared c.args.id) c.self.view_is

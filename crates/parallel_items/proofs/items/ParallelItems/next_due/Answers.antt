@@ -1,3 +1,4 @@
+use Rattle.timer_map.specs.Counted.{entries_of}
 use Rattle.std.proofs.Common.{◌∙◌, ap}
 use Rattle.parallel_items.specs.InParallel.{InParallel}
 use Rattle.parallel_items.specs.Items.{first_waiting, due_of}
@@ -10,7 +11,7 @@ pub returns : goal.returns
 returns c =
     let i = c.self.inside in
     let v : InParallel = the_view i in
-    let timer = c.next_due-3.ensures ∙ timer_due i.timers i.completions.entries i.delayed.keys i.owners.entries c.self.invariant in
+    let timer = c.next_due-3.ensures ∙ timer_due i.timers i.completions.entries i.delayed.keys (entries_of i.owners.items) c.self.invariant in
     least_of_four v.waiting c.next_due.result c.next_due-2.result c.next_due-3.result c.next_due-4.result c.sooner-outside.result c.sooner.result c.sooner-2.result
     c.next_due.ensures c.next_due-2.ensures timer c.next_due-4.ensures c.sooner-outside.ensures c.sooner.ensures c.sooner-2.ensures
     ∙ ap (λ (s : InParallel). due_of (first_waiting s.waiting)) c.self.view_is

@@ -1,3 +1,4 @@
+use Rattle.timer_map.specs.Counted.{entries_of}
 use Rattle.std.proofs.Common.{◌≡◌, ◌∙◌, sym, ap}
 use Rattle.parallel_items.specs.InParallel.{InParallel, Waiting}
 use Rattle.parallel_items.specs.Items.{first_waiting, due_of}
@@ -27,7 +28,7 @@ returns-then-eq-3 c =
     let i = c.self.inside in
     let a = c.next_due.ensures ∙ ap (λ (s : InParallel). due_of (arrival s.waiting)) c.self.view_is in
     let b = c.next_due-else-eq.ensures ∙ ap (λ (s : InParallel). due_of (answer s.waiting)) c.self.view_is in
-    let t = c.next_due-else-eq-2.ensures ∙ timer_due i.timers i.completions.entries i.delayed.keys i.owners.entries c.self.invariant
+    let t = c.next_due-else-eq-2.ensures ∙ timer_due i.timers i.completions.entries i.delayed.keys (entries_of i.owners.items) c.self.invariant
     ∙ ap (λ (s : InParallel). due_of (timer s.waiting)) c.self.view_is in
     let other : due_of (arrival w) ≡ due_of (first_waiting w) → ⊥ = λ e. other_due _ _ (sym c.eq.ensures ∙ c.if-eq.false) (a ∙ e ∙ sym c.next_due-due.ensures) in
     let another : due_of (answer w) ≡ due_of (first_waiting w) → ⊥ = λ e. other_due _ _ (sym c.eq-else-eq.ensures ∙ c.if-eq-2.false) (b ∙ e ∙ sym c.next_due-due.ensures) in
@@ -40,7 +41,7 @@ returns-else-eq-3 c =
     let i = c.self.inside in
     let a = c.next_due.ensures ∙ ap (λ (s : InParallel). due_of (arrival s.waiting)) c.self.view_is in
     let b = c.next_due-else-eq.ensures ∙ ap (λ (s : InParallel). due_of (answer s.waiting)) c.self.view_is in
-    let t = c.next_due-else-eq-2.ensures ∙ timer_due i.timers i.completions.entries i.delayed.keys i.owners.entries c.self.invariant
+    let t = c.next_due-else-eq-2.ensures ∙ timer_due i.timers i.completions.entries i.delayed.keys (entries_of i.owners.items) c.self.invariant
     ∙ ap (λ (s : InParallel). due_of (timer s.waiting)) c.self.view_is in
     let other : due_of (arrival w) ≡ due_of (first_waiting w) → ⊥ = λ e. other_due _ _ (sym c.eq.ensures ∙ c.if-eq.false) (a ∙ e ∙ sym c.next_due-due.ensures) in
     let another : due_of (answer w) ≡ due_of (first_waiting w) → ⊥ = λ e. other_due _ _ (sym c.eq-else-eq.ensures ∙ c.if-eq-2.false) (b ∙ e ∙ sym c.next_due-due.ensures) in

@@ -5,5 +5,4 @@ use Rattle.timer_map.proofs.timers.Timers.live.Goals as goal
 
 pub returns : goal.returns
 returns c =
-    let copied = c.copied.ensures ∙ c.get.ensures.value in
-    rw (← c.self.view_is) (c.eq.ensures ∙ ap (λ r. option_eq nat_eq r (Some c.args.handle)) copied ∙ live_in_order c.args.id c.args.handle _ _ c.self.invariant.ids)
+    rw (← c.self.view_is) (c.eq.ensures ∙ ap (λ r. option_eq nat_eq r (Some c.args.handle)) c.value_of.ensures ∙ live_in_order c.args.id c.args.handle _ _ c.self.invariant.ids)
