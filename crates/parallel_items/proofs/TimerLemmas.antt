@@ -14,7 +14,7 @@ use Rattle.page_model.specs.Parallel.{first_item_from, first_item_of}
 use Rattle.timer_map.specs.Due.{due_timer, after_due}
 use Rattle.timer_map.specs.InOrder.{in_order}
 use Rattle.timer_map.specs.Kept.{AreNumbered}
-use Rattle.timer_map.proofs.HeapLemmas.{due_first, after_first}
+use Rattle.timer_map.proofs.SetLemmas.{due_first, after_first}
 use Rattle.timer_map.proofs.OrderLemmas.{without_none}
 use Rattle.parallel_items.specs.declared.completion.Completion as code
 use Rattle.parallel_items.specs.InParallel.{TimerOwner}

@@ -1,5 +1,5 @@
 pub mod CountedLemmas
 pub mod FirstLemmas
-pub mod HeapLemmas
 pub mod IdLemmas
 pub mod OrderLemmas
+pub mod SetLemmas

@@ -1,18 +1,10 @@
--- What the map of ids and the heap of active timers keep.
+-- What the map of ids and the set of active timers keep.
 use Rattle.std.specs.Prelude.{ℕ, ◌<◌, ◌≤◌, ◌^◌, List, map, All, nat_eq}
-use Rattle.std.specs.BinaryHeap.{IsHeap}
 use Rattle.std.specs.List.{IsDistinct}
 use Rattle.std.specs.Map.{keys_of}
-use Rattle.std.specs.Ordering.{nat_cmp, ordering_then}
-use Rattle.std.specs.declared.cmp.Reverse.{Reverse}
-use Rattle.std.specs.declared.cmp.Ordering.{Ordering}
 use Rattle.page_parts.specs.Timers.{ActiveTimer, TimerId}
 use Rattle.timer_map.specs.declared.waiting.ActiveTimer as waiting
 use Rattle.timer_map.specs.Seen.{timers_of, ids_of}
-
--- the order of the heap: a timer is greater where it is due earlier, or is due together and was started earlier
-abbrev pub earlier : (x y : Reverse waiting.ActiveTimer) → Ordering
-earlier x y = ordering_then (nat_cmp y.0.due.0 x.0.due.0) (nat_cmp y.0.start x.0.start)
 
 -- a number that was given
 abbrev pub Given : (last n : ℕ) → Type 0
@@ -23,10 +15,9 @@ pub record AreNumbered {X : Type 0} (number : X → ℕ) (last : ℕ) (items : L
   pub distinct : IsDistinct nat_eq (map number items)
   pub given : All (λ item. Given last (number item)) items
 
--- the timers stand as in a heap, and by their start numbers
-pub record IsKept (last : ℕ) (timers : List (Reverse waiting.ActiveTimer)) : Type 0 where
-  pub heap : IsHeap earlier timers
-  pub numbered : AreNumbered (λ (t : ActiveTimer). t.start) last (timers_of timers)
+-- the timers stand by their start numbers
+abbrev pub IsKept : (last : ℕ) (timers : List waiting.ActiveTimer) → Type 0
+IsKept last timers = AreNumbered (λ (t : ActiveTimer). t.start) last (timers_of timers)
 
 -- the ids are distinct and below 2 ^ 32, and stand by their handles
 pub record AreIdsKept (last : ℕ) (entries : List (ℕ × ℕ)) : Type 0 where
@@ -35,6 +26,6 @@ pub record AreIdsKept (last : ℕ) (entries : List (ℕ × ℕ)) : Type 0 where
   pub numbered : AreNumbered (λ (e : TimerId). e.handle) last (ids_of entries)
 
 -- both
-pub record AreKept (handles : ℕ) (entries : List (ℕ × ℕ)) (starts : ℕ) (timers : List (Reverse waiting.ActiveTimer)) : Type 0 where
+pub record AreKept (handles : ℕ) (entries : List (ℕ × ℕ)) (starts : ℕ) (timers : List waiting.ActiveTimer) : Type 0 where
   pub ids : AreIdsKept handles entries
   pub active : IsKept starts timers

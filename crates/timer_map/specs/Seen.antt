@@ -1,6 +1,5 @@
 -- The maps and the timers of the code as those of the definitions.
 use Rattle.std.specs.Prelude.{ℕ, List, map}
-use Rattle.std.specs.declared.cmp.Reverse.{Reverse}
 use Rattle.page_parts.specs.Timers.{TimerId, ActiveTimer, Armed}
 use Rattle.timer_map.specs.InOrder.{in_order}
 use Rattle.timer_map.specs.declared.waiting.ActiveTimer as waiting
@@ -13,14 +12,14 @@ ids_of entries = map (λ (entry : ℕ × ℕ). record { id = entry.0; handle = e
 abbrev pub ids_in_order : ℕ → List (ℕ × ℕ) → List TimerId
 ids_in_order last entries = in_order (λ (e : TimerId). e.handle) last (ids_of entries)
 
-abbrev pub seen_timer : Reverse waiting.ActiveTimer → ActiveTimer
-seen_timer timer = record { start = timer.0.start; due = timer.0.due.0 }
+abbrev pub seen_timer : waiting.ActiveTimer → ActiveTimer
+seen_timer timer = record { start = timer.start; due = timer.due.0 }
 
-abbrev pub timers_of : List (Reverse waiting.ActiveTimer) → List ActiveTimer
+abbrev pub timers_of : List waiting.ActiveTimer → List ActiveTimer
 timers_of timers = map seen_timer timers
 
 -- the active timers in the order of start
-abbrev pub timers_in_order : ℕ → List (Reverse waiting.ActiveTimer) → List ActiveTimer
+abbrev pub timers_in_order : ℕ → List waiting.ActiveTimer → List ActiveTimer
 timers_in_order last timers = in_order (λ (t : ActiveTimer). t.start) last (timers_of timers)
 
 abbrev pub seen_armed : code.Armed → Armed

@@ -1,7 +1,6 @@
 ghost use Rattle.std.specs.Prelude.{◌≡◌, ◌+◌, ◌^◌, ◌<◌, unwrap_or};
 ghost use Rattle.std.specs.Option.{ForNone, option_map_or};
 
-
 // The id of a timer, which is the next one where it has none yet, and the last id that was given then.
 pub(crate) fn id_and_last(again: Option<u32>, last: u32) -> (u32, u32)
     requires { ForNone again (last + 1 < 2 ^ 32) }

@@ -6,13 +6,12 @@ ghost use Rattle.timer_map.specs.Seen.{seen_armed};
 
 use crate::MemoryFault;
 use crate::armed::{Armed, clamped, milliseconds};
-use crate::counted::{Counted, make_place, put, take, value_of};
+use crate::counted::{self, Counted};
 use crate::ids::id_and_last;
 use crate::waiting::{ActiveTimer, Waiting};
 use page_base::Micros;
 use std::alloc::Global;
-use std::cmp::Reverse;
-use std::collections::BinaryHeap;
+use std::collections::BTreeSet;
 use std::marker::Model;
 
 /// The map of setTimeout and setInterval ids, and the active timers (HTML, "Timers").
@@ -35,20 +34,19 @@ impl Model for Timers {
 
     ghost Value = { TimerMap };
 
-    ghost use Rattle.std.specs.BinaryHeap.{heap_items};
     ghost use Rattle.timer_map.specs.Counted.{entries_of};
     ghost use Rattle.timer_map.specs.Seen.{ids_in_order, timers_in_order};
     ghost use Rattle.timer_map.specs.Kept.{AreKept};
 
     ghost view = { λ timers. record {
       ids = ids_in_order timers.handles_made (entries_of timers.ids.items);
-      active = timers_in_order timers.starts_made (heap_items timers.active);
+      active = timers_in_order timers.starts_made timers.active.keys;
       ids_made = timers.ids_made;
       handles_made = timers.handles_made;
       starts_made = timers.starts_made;
     } };
 
-    ghost invariant = { λ timers. AreKept timers.handles_made (entries_of timers.ids.items) timers.starts_made (heap_items timers.active) };
+    ghost invariant = { λ timers. AreKept timers.handles_made (entries_of timers.ids.items) timers.starts_made timers.active.keys };
 }
 
 impl Timers {
@@ -58,7 +56,7 @@ impl Timers {
     {
         Timers {
             ids: Vec::new(alloc),
-            active: BinaryHeap::new(alloc),
+            active: BTreeSet::new(alloc),
             ids_made: 0,
             handles_made: 0,
             starts_made: 0,
@@ -96,12 +94,12 @@ impl Timers {
             due: Micros(now.0 + clamped(nesting, milliseconds(timeout)) * 1000),
             level: nesting + 1,
         };
-        make_place(&mut self.ids, id)?;
-        self.active.push(Reverse(ActiveTimer {
+        counted::make_place(&mut self.ids, id)?;
+        self.active.insert(ActiveTimer {
             due: armed.due,
             start: armed.start,
-        }))?;
-        put(&mut self.ids, armed.id, armed.handle);
+        })?;
+        counted::put(&mut self.ids, armed.id, armed.handle);
         self.ids_made = ids_made;
         self.handles_made = armed.handle;
         self.starts_made = armed.start;
@@ -122,7 +120,7 @@ impl Timers {
     {
         let start = self.starts_made + 1;
         let due = Micros(now.0 + ms * 1000);
-        self.active.push(Reverse(ActiveTimer { due, start }))?;
+        self.active.insert(ActiveTimer { due, start })?;
         self.starts_made = start;
         Ok(start)
     }
@@ -134,21 +132,21 @@ impl Timers {
         ensures was { result ≡ has_id id self.old }
         ensures gone { self.new ≡ cleared id self.old }
     {
-        take(&mut self.ids, id).is_some()
+        counted::take(&mut self.ids, id).is_some()
     }
 
     /// Whether the id is in the map with this handle. Takes no memory.
     pub fn live(&self, id: u32, handle: u64) -> bool
         ensures { result ≡ is_live id handle self.now }
     {
-        value_of(&self.ids, id) == Some(handle)
+        counted::value_of(&self.ids, id) == Some(handle)
     }
 
     /// Whether the id is in the map, with any handle. Takes no memory.
     pub fn has(&self, id: u32) -> bool
         ensures { result ≡ has_id id self.now }
     {
-        value_of(&self.ids, id).is_some()
+        counted::value_of(&self.ids, id).is_some()
     }
 
     /// Whether a number is an id in the map, with any handle. Each id is below 2^32. Takes no memory.
@@ -157,7 +155,7 @@ impl Timers {
     {
         let ids = &self.ids;
         match u32::try_from(number) {
-            Ok(id) => value_of(ids, id).is_some(),
+            Ok(id) => counted::value_of(ids, id).is_some(),
             Err(_) => false,
         }
     }
@@ -166,8 +164,8 @@ impl Timers {
     pub fn next_due(&self) -> Option<Micros>
         ensures { option_map (λ moment. moment.0) result ≡ next_due_of self.now }
     {
-        let first = self.active.peek()?;
-        Some(first.0.due)
+        let first = self.active.first()?;
+        Some(first.due)
     }
 
     /// Completes the active timer that is due first, and of those that was started first: it leaves, and its start number is
@@ -181,8 +179,8 @@ impl Timers {
         if self.next_due()? > now {
             return None;
         }
-        let completed = self.active.pop()?;
-        Some(completed.0.start)
+        let completed = self.active.pop_first()?;
+        Some(completed.start)
     }
 
     /// How many ids were ever given. Takes no memory.

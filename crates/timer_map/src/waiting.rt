@@ -1,6 +1,5 @@
 use page_base::Micros;
-use std::cmp::Reverse;
-use std::collections::BinaryHeap;
+use std::collections::BTreeSet;
 
 // An active timer. The one that is due first comes first, and of two that are due together the one that was started first.
 #[derive(Clone, Copy, PartialEq, Eq, PartialOrd, Ord)]
@@ -9,5 +8,5 @@ pub(crate) struct ActiveTimer {
     pub start: u64,
 }
 
-// The active timers. The heap's greatest is the one that comes due first.
-pub(crate) type Waiting = BinaryHeap<Reverse<ActiveTimer>>;
+// The active timers, in the order in which they come due.
+pub(crate) type Waiting = BTreeSet<ActiveTimer>;

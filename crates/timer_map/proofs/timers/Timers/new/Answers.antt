@@ -1,9 +1,8 @@
 use Rattle.std.proofs.Common.{◌≡◌, List, Option, ℕ, [], sym, subst}
 use Rattle.std.proofs.lemmas.List.Elements.{All-from_recursion}
-use Rattle.std.specs.BinaryHeap.{IsHeap}
 use Rattle.page_parts.specs.Timers.{TimerId, ActiveTimer}
 use Rattle.timer_map.specs.Counted.{entries_of}
-use Rattle.timer_map.specs.Kept.{AreIdsKept, IsKept, earlier}
+use Rattle.timer_map.specs.Kept.{AreIdsKept, IsKept}
 use Rattle.timer_map.proofs.CountedLemmas.{entries_distinct, nothing_numbered}
 use Rattle.timer_map.proofs.IdLemmas.{IsSmall}
 use Rattle.timer_map.proofs.timers.Timers.new.Goals as goal
@@ -21,5 +20,4 @@ pub invariant_of-result : goal.invariant_of-result
 invariant_of-result c =
     let ids = subst (λ ps. AreIdsKept 0 (entries_of ps)) (sym c.new.ensures.items) no_ids in
     let numbered = nothing_numbered (λ (t : ActiveTimer). t.start) in
-    let active : IsKept 0 [] = record { heap = subst (IsHeap earlier) c.new-2.ensures.items c.new-2.ensures.heap_order; numbered = numbered } in
-    record { ids = ids; active = subst (IsKept 0) (sym c.new-2.ensures.items) active }
+    record { ids = ids; active = subst (IsKept 0) (sym c.new-2.ensures.empty) numbered }
