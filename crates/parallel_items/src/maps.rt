@@ -11,7 +11,11 @@ use std::collections::HashMap;
 use std::hash::Hash;
 
 // Sets the value of a key. There is room for it.
-pub(crate) fn put<K: Eq + Hash + Copy, V: Drop>(map: &mut HashMap<K, V, CountedKeys>, key: K, value: V)
+pub(crate) fn put<K: Eq + Hash + Copy, V: Drop>(
+    map: &mut HashMap<K, V, CountedKeys>,
+    key: K,
+    value: V,
+)
     requires { 0 < spare map.old }
     ensures set { IsPermutation ((key, value) ∷ remove_entry (K.eq key) map.old.entries) map.new.entries }
     ensures unique { IsUnique K.eq map.new }
