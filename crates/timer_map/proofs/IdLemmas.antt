@@ -107,21 +107,8 @@ module _ (id last : ℕ) (es : List (ℕ × ℕ)) (kept : AreIdsKept last es) wh
   pub ids_rest : ids_in_order last (remove_entry (nat_eq id) es) ≡ without (λ e. eqb e.id id) (ids_in_order last es)
   ids_rest = ap (in_order handle_of last) (without_removed id es kept.distinct) ∙ order_without handle_of (λ e. eqb e.id id) last (ids_of es) kept.numbered.distinct
 
--- ---- the entries change places
-
 abbrev entry_of : ℕ × ℕ → TimerId
 entry_of entry = record { id = entry.0; handle = entry.1 }
-
-pub kept_reordered : (last : ℕ) (old new : List (ℕ × ℕ)) → AreIdsKept last old → IsPermutation old new → IsDistinct nat_eq (keys_of new) → AreIdsKept last new
-kept_reordered last old new kept p distinct =
-    record {
-      distinct = distinct;
-      small = All-permutation IsSmall (ids_of old) (ids_of new) (IsPermutation-map entry_of old new p) kept.small;
-      numbered = numbered_permuted handle_of last (ids_of old) (ids_of new) (IsPermutation-map entry_of old new p) kept.numbered;
-    }
-
-pub ids_reordered : (last : ℕ) (old new : List (ℕ × ℕ)) → AreIdsKept last old → IsPermutation old new → ids_in_order last new ≡ ids_in_order last old
-ids_reordered last old new kept p = order_permuted handle_of last (ids_of old) (ids_of new) (IsPermutation-map entry_of old new p) kept.numbered.distinct
 
 -- ---- an id is set, with the next handle
 
