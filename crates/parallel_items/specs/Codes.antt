@@ -1,6 +1,6 @@
 -- The codes that the models of the structs ask for.
-use Rattle.std.specs.Prelude.{ℕ, Bool, List, ℤ, ◌⊎◌, ◌≡◌, refl}
-use Rattle.std.specs.Coded.{Coded, code_by, coded_list, coded×, coded⊎, coded_ℕ, coded_bool, coded_ℤ}
+use Rattle.std.specs.Prelude.{ℕ, List, ◌⊎◌, ◌≡◌, refl}
+use Rattle.std.specs.Coded.{Coded, code_by, coded_list, coded×, coded⊎, coded_ℕ}
 use Rattle.page_types.specs.ValueCode.{coded_value}
 use Rattle.page_types.specs.contracts.Source as source_code
 use Rattle.page_parts.specs.Setup.{Arrival}

@@ -6,14 +6,10 @@ use Rattle.page_parts.specs.Setup.{Arrival}
 use Rattle.page_model.specs.State as model
 use Rattle.arrivals_text.specs.SeenParts.{arrival_of}
 use Rattle.arrivals_text.specs.declared.arrival.Arrival as read
-use Rattle.post_task.specs.declared.level.PrioSource as post
-use Rattle.post_task.specs.declared.level.PrioSource.TheVariants as post_source
 use Rattle.timer_map.specs.InOrder.{in_order}
-use Rattle.page_tasks.specs.declared.tasks.TimerTask.{TimerTask}
 use Rattle.parallel_items.specs.declared.completion.Completion.{Completion}
 use Rattle.parallel_items.specs.declared.completion.Completion.TheVariants as completion
 use Rattle.parallel_items.specs.declared.idle.IdleTimeout.{IdleTimeout}
-use Rattle.page_tasks.specs.declared.tasks.HostTask.{HostTask}
 use Rattle.parallel_items.specs.declared.taken.HostAnswer.{HostAnswer}
 use Rattle.parallel_items.specs.declared.taken.Taken as code
 use Rattle.parallel_items.specs.declared.taken.Taken.TheVariants as taken

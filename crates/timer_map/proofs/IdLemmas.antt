@@ -13,7 +13,7 @@ use Rattle.page_parts.specs.Words.{is_there, without}
 use Rattle.timer_map.specs.InOrder.{in_order}
 use Rattle.timer_map.specs.Kept.{AreNumbered, AreIdsKept}
 use Rattle.timer_map.specs.Seen.{ids_of, ids_in_order}
-use Rattle.timer_map.proofs.OrderLemmas.{eqb_flip, each_without, find_none, without_none, only_one, find_in_order, order_permuted, order_pushed, order_without, distinct_pushed, distinct_without, numbered_permuted, numbered_pushed, numbered_without}
+use Rattle.timer_map.proofs.OrderLemmas.{eqb_flip, each_without, find_none, without_none, only_one, find_in_order, order_pushed, order_without, distinct_pushed, distinct_without, numbered_pushed, numbered_without}
 
 abbrev id_of : TimerId → ℕ
 id_of entry = entry.id

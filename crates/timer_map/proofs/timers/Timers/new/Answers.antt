@@ -1,4 +1,4 @@
-use Rattle.std.proofs.Common.{◌≡◌, List, Option, ℕ, [], sym, subst}
+use Rattle.std.proofs.Common.{List, Option, ℕ, [], sym, subst}
 use Rattle.std.proofs.lemmas.List.Elements.{All-from_recursion}
 use Rattle.page_parts.specs.Timers.{TimerId, ActiveTimer}
 use Rattle.timer_map.specs.Counted.{entries_of}
