@@ -17,7 +17,7 @@ ghost use Rattle.page_state.specs.HostActs.{answer_awaited, answer_set, net_task
 use super::PageState;
 use crate::latencies::latency_in;
 use page_base::Micros;
-use page_hosts::{HostPort, NoHost};
+use page_hosts::{HostPort, NoHost, PageHosts};
 use page_tasks::HostTask;
 use parallel_items::HostAnswer;
 use std::sync::ledger::Ledger;
@@ -32,7 +32,7 @@ impl<P: HostPort, M: Ledger> PageState<P, M> {
         ensures kept { P.kept result ≡ self.kept }
         ensures refused { P.refusals result ≡ self.refusals }
     {
-        self.hosts.into_port()
+        self.into_hosts().into_port()
     }
 
     /// The host port as it is so far: it has fired what was fired here, and has dropped nothing. Takes no memory.
@@ -41,7 +41,34 @@ impl<P: HostPort, M: Ledger> PageState<P, M> {
         ensures kept { P.kept result ≡ self.kept }
         ensures refused { P.refusals result ≡ self.refusals }
     {
-        self.hosts.into_port_so_far()
+        self.into_hosts().into_port_so_far()
+    }
+
+    // The host closures alone. Each other part goes by a call, since what the compiler writes in its place is long to prove.
+    fn into_hosts(self) -> PageHosts<P>
+        ensures closures { result.closures ≡ self.hosts }
+        ensures at_port { result.at_port ≡ self.at_port }
+        ensures kept { result.kept ≡ self.kept }
+        ensures refused { result.refusals ≡ self.refusals }
+    {
+        let PageState {
+            alloc: _,
+            script,
+            tasks,
+            items,
+            frames,
+            signals,
+            hosts,
+            latencies,
+            room: _,
+        } = self;
+        drop(script);
+        drop(tasks);
+        drop(items);
+        drop(frames);
+        drop(signals);
+        drop(latencies);
+        hosts
     }
 
     /// Whether there is a closure of the number `k` that a script gives, with `x` in its range. Takes no memory.
