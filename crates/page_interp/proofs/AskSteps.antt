@@ -13,7 +13,7 @@ use Rattle.page_interp.specs.declared.exit.Store.{Store}
 use Rattle.page_interp.specs.declared.stack.Current.{Current}
 use Rattle.page_interp.specs.declared.stack.Focus.{Focus}
 use Rattle.page_interp.specs.declared.stack.Frame.{Frame}
-use Rattle.page_interp.specs.Runs.{Left, ends, refused, no_memory, gives, throws, returns, no_fuel, Is, Comes, Stands, WhereSettled, Refuses, IsUnsettled, exit_left, call_left, more, Scope, outside, IsReady, Moment, moment_of, Runs, Asks, around_of}
+use Rattle.page_interp.specs.Runs.{Left, ends, refused, no_memory, gives, throws, returns, no_fuel, Is, Comes, Stands, WhereSettled, Refuses, IsUnsettled, exit_left, call_left, more, Scope, outside, IsReady, Moment, moment_of, Runs, Asks, AreNumberedIn, globals_in, count_of_functions, around_of}
 use Rattle.page_interp.specs.Frames.{does, depth_of, tickets_in, after_all, begun, meaning_at, state_at, moment_at, focus_weight, steps_left, Place, Goes, Halts, IsOwn, Stood, Advances, Finishes, Leaves}
 use Rattle.page_interp.proofs.Steps.{still, more_more, passed_within, comes_after, stands_within, refuses_trans, settled_same}
 use Rattle.page_interp.proofs.Calls.{end_dry, end_numbered, asked_once}
@@ -115,11 +115,11 @@ module _ {T S : Type 0} (rules : HostRules T) (leaves : Ask → T → T → Type
     tickets = outermost_tickets x a.frames h.tickets ts g.outermost s.tickets;
   }
 
-  -- no memory
-  pub memory_finishes : (f : Around (Limited T) → Machine (Limited T) → Done (Limited T)) (h : HostNow T S) (a : Place) (store : Store) → IsReady (outside rules leaves p) (moment_at p h a) → store.globals ≡ a.store.globals → store.fuel ≤ a.store.fuel
+  -- no memory, with the global variables as they stand then
+  pub memory_ends : (f : Around (Limited T) → Machine (Limited T) → Done (Limited T)) (h : HostNow T S) (a : Place) (store : Store) → IsReady (outside rules leaves p) (moment_at p h a) → AreNumberedIn (count_of_functions p) (globals_in p store) → store.fuel ≤ a.store.fuel
       → Finishes rules leaves p ts f h a exit.OutOfMemory h store
   unfolding moment_of
-  memory_finishes f h a store k g l = record {
+  memory_ends f h a store k g l = record {
     runs = λ ns t. record {
       meaning = tt;
       stands = unasked refl;
@@ -127,11 +127,17 @@ module _ {T S : Type 0} (rules : HostRules T) (leaves : Ask → T → T → Type
       dry = tt;
       tickets = tt;
       refusals = refl;
-      ready = record { functions = k.functions; room = let r = k.room in omega (arith, r, l); globals = rw g k.globals; held = tt };
+      ready = record { functions = k.functions; room = let r = k.room in omega (arith, r, l); globals = g; held = tt };
       numbered = tt;
     };
     tickets = tt;
   }
+
+  -- no memory, with the global variables as before
+  pub memory_finishes : (f : Around (Limited T) → Machine (Limited T) → Done (Limited T)) (h : HostNow T S) (a : Place) (store : Store) → IsReady (outside rules leaves p) (moment_at p h a) → store.globals ≡ a.store.globals → store.fuel ≤ a.store.fuel
+      → Finishes rules leaves p ts f h a exit.OutOfMemory h store
+  unfolding moment_of
+  memory_finishes f h a store k g l = memory_ends f h a store k (rw g k.globals) l
 
   -- no unit of fuel
   pub dry_finishes : (f : Around (Limited T) → Machine (Limited T) → Done (Limited T)) (h : HostNow T S) (a : Place) (store : Store) → IsReady (outside rules leaves p) (moment_at p h a) → store.globals ≡ a.store.globals → store.fuel ≤ a.store.fuel → a.store.fuel ≡ 0

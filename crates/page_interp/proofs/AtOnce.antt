@@ -1,5 +1,5 @@
 -- Several steps as one, where an expression calls nothing.
-use Rattle.std.proofs.Common.{◌≡◌, ℕ, ◌<◌, List, [], ◌∷◌, ◌++◌, Result, Ok, Err, IfOk, IfErr, Some, Vec, Global, refl, ◌∙◌, arith}
+use Rattle.std.proofs.Common.{◌≡◌, ℕ, ◌<◌, ◌≤◌, List, [], ◌∷◌, ◌++◌, Result, Ok, Err, IfOk, IfErr, Some, Vec, Global, refl, ◌∙◌, arith}
 use Rattle.std.specs.Borrow.{Bor}
 use Rattle.page_types.specs.Tree.{Program}
 use Rattle.page_values.specs.declared.Value.{Value}
@@ -10,8 +10,10 @@ use Rattle.lang_ast.specs.Hosts.{HostNow}
 use Rattle.lang_ast.specs.declared.program.Program as Code
 use Rattle.lang_ast.specs.declared.tree.Named.{Named}
 use Rattle.lang_ast.specs.declared.tree.Expr.{Expr}
+use Rattle.lang_ast.specs.declared.tree.Expr as E
 use Rattle.lang_ast.specs.declared.tree.Stmt.{Stmt}
 use Rattle.lang_ast.specs.declared.tree.Stmt as S
+use Rattle.lang_meaning.specs.OpNames.{op_named}
 use Rattle.lang_meaning.specs.HostSteps.{HostRules, Ask}
 use Rattle.page_interp.specs.declared.exit.Exit.{Exit}
 use Rattle.page_interp.specs.declared.exit.Exit.TheVariants as exit
@@ -23,20 +25,28 @@ use Rattle.page_interp.specs.declared.stack.Frame.{Frame}
 use Rattle.page_interp.specs.declared.stack.Frame.TheVariants as frame
 use Rattle.page_interp.specs.declared.stack.Waiting.TheVariants as waiting
 use Rattle.page_interp.specs.declared.stack.Purpose.{Purpose}
-use Rattle.page_interp.specs.AtOnce.{Assigns, Gives, Leads, turned}
+use Rattle.page_interp.specs.AtOnce.{Assigns, Gives, HasFirst, Leads, Brings, IsKept, turned}
 use Rattle.page_interp.specs.Direct.{direct_there}
-use Rattle.page_interp.specs.Frames.{does, place, Place, Holds, Goes, Moves, Steps, IsSet, IsWant}
+use Rattle.page_interp.specs.Frames.{does, place, meaning_at, steps_left, named_there, Place, Holds, Goes, Arrives, Moves, Steps, IsCalled, IsSet, IsWant}
+use Rattle.page_interp.specs.StackClauses.{RowBrings, BlockBrings}
 use Rattle.page_interp.proofs.Steps.{still}
 use Rattle.page_interp.proofs.SmallSteps.{pushes_moves, pops_moves, within}
 use Rattle.page_interp.proofs.StmtSteps.{block_pushes, var_moves, assign_moves}
 use Rattle.page_interp.proofs.ValueSteps.{stmts_pops, row_pops}
 use Rattle.page_interp.proofs.ExprSteps.{row_pushes}
 use Rattle.page_interp.proofs.FrameSteps.{assign_goes, turn_goes}
+use Rattle.page_interp.proofs.NameSteps.{call_row}
 use Rattle.page_interp.proofs.DirectSteps.{direct_goes}
-use Rattle.page_interp.proofs.AskSteps.{goes_advances, memory_finishes}
+use Rattle.page_interp.proofs.AskSteps.{goes_advances, memory_ends}
 
 less_trans : (a b c : ℕ) → a < b → b < c → a < c
 less_trans a b c h k = omega arith
+
+less_within : (a b c : ℕ) → a < b → b ≤ c → a < c
+less_within a b c h k = omega arith
+
+at_most : (a b : ℕ) → a < b → a ≤ b
+at_most a b h = omega arith
 
 module _ {T : Type 0} (rules : HostRules T) (p : Program) where
   pub goes_trans : (a b c : Place) → Goes rules p a b → Goes rules p b c → Goes rules p a c
@@ -48,11 +58,35 @@ module _ {T : Type 0} (rules : HostRules T) (p : Program) where
     fewer = less_trans _ _ _ y.fewer x.fewer;
   }
 
+  pub arrives_goes : (a b c : Place) → Arrives rules p a b → Goes rules p b c → Goes rules p a c
+  arrives_goes a b c x y = record {
+    means = λ ns k. let s = x.means ns k in let t = y.means s.numbers s.enough in record { numbers = t.numbers; enough = t.enough; same = λ host. s.same host ∙ t.same host };
+    holds = y.holds;
+    fuel = within _ _ _ y.fuel x.fuel;
+    tickets = λ ts. y.tickets ts ∙ x.tickets ts;
+    fewer = less_within _ _ _ y.fewer x.fewer;
+  }
+
+  -- one step more
+  pub arrives_on : (a b c : Place) → Arrives rules p a b → Goes rules p b c → Arrives rules p a c
+  arrives_on a b c x y = let g = arrives_goes a b c x y in record { means = g.means; holds = g.holds; fuel = g.fuel; tickets = g.tickets; fewer = at_most _ _ g.fewer }
+
 -- a step that may change the variables, or for which memory is wanting
 pub steps_leads : {T S : Type 0} (rules : HostRules T) (leaves : Ask → T → T → Type 0) (p : Program) (h : HostNow T S) (result : Result Focus (Exit S)) (a : Place) (store1 : Store) (current1 : Current) (fs1 : List Frame)
-    → IfOk result (λ f. Leads rules p a (place store1 current1 fs1 f)) → IfErr result (λ x. x ≡ exit.OutOfMemory) → IfErr result (λ _. store1 ≡ a.store) → Steps rules leaves p h a result h store1 current1 fs1
+    → IfOk result (λ f. Leads rules p a (place store1 current1 fs1 f)) → IfErr result (λ x. x ≡ exit.OutOfMemory) → IfErr result (λ _. IsKept p a store1) → Steps rules leaves p h a result h store1 current1 fs1
 steps_leads rules leaves p h (Ok f) a store1 current1 fs1 g e s = λ ts st. goes_advances rules leaves p ts h a (place store1 current1 fs1 f) st (g st.holds)
-steps_leads rules leaves p h (Err x) a store1 current1 fs1 g e s = λ ts st. rw (e, s) (memory_finishes rules leaves p ts (λ d. does d a.focus) h a a.store st.ready refl (still a.store.fuel))
+steps_leads rules leaves p h (Err x) a store1 current1 fs1 g e s = λ ts st. let k = s st.holds in rw e (memory_ends rules leaves p ts (λ d. does d a.focus) h a store1 st.ready k.0 k.1)
+
+-- the store is kept by what leads to where memory is wanting
+pub brings_kept : {T S X : Type 0} (rules : HostRules T) (p : Program) (result : Result X (Exit S)) (a b : Place) → Brings rules p a b → IfErr result (λ _. IsKept p a b.store)
+brings_kept rules p (Ok x) a b r = tt
+brings_kept rules p (Err x) a b r = λ h. let z = r h in (z.holds.globals, z.fuel)
+
+-- what comes before a step, and the step
+pub brings_leads : {T S : Type 0} (rules : HostRules T) (p : Program) (result : Result Focus (Exit S)) (a b : Place) (store : Store) (current : Current) (fs : List Frame) → Brings rules p a b → IfOk result (λ f. Leads rules p b (place store current fs f))
+    → IfOk result (λ f. Leads rules p a (place store current fs f))
+brings_leads rules p (Ok f) a b store current fs r k = λ h. let one = r h in arrives_goes rules p _ _ _ one (k one.holds)
+brings_leads rules p (Err x) a b store current fs r k = tt
 
 assigns_moves : {T : Type 0} (rules : HostRules T) (fs : List Frame) (s : Bor Stmt) (x : Stmt) (n : Bor Named) (e : Bor Expr) → s.now ≡ x → Assigns x n.now e.now → Moves rules fs (focus.Stmt s) (frame.Assign n ∷ fs) (focus.Expr e)
 assigns_moves rules fs s (S.Var name f) n e q r = var_moves rules fs s n e n.now e.now (rw (r.0, r.1) at q) refl refl
@@ -85,6 +119,50 @@ module _ {T : Type 0} (rules : HostRules T) (p : Code.Program) (store : Store) (
       let three = (pops_moves rules fs (row_pops v purpose vs vs1 rest a)).goes (seen_program p) store current two.holds in
       goes_trans rules (seen_program p) _ _ _ one (goes_trans rules (seen_program p) _ _ _ two three)
 
+  -- the same expressions, wherever they stand
+  pub row_stays : (fs : List Frame) (purpose : Purpose) (vs : Vec Value Global) (row rest : Bor (List Expr)) → row.now ≡ rest.now → Brings rules (seen_program p) (place store current fs (focus.Row purpose vs row)) (place store current fs (focus.Row purpose vs rest))
+  unfolding meaning_at steps_left
+  row_stays fs purpose vs row rest q = λ h. record {
+    means = λ ns k. record { numbers = ns; enough = k; same = λ host. rw q refl };
+    holds = record { depth = h.depth; few = h.few; globals = h.globals; held = h.held; frames = h.frames; focus = rw (← q) h.focus; size = rw (← q) h.size };
+    fuel = still store.fuel;
+    tickets = λ ts. refl;
+    fewer = rw q (still _);
+  }
+
+  -- the same statements, wherever they stand
+  pub block_stays : (fs : List Frame) (block rest : Bor (List Stmt)) → block.now ≡ rest.now → Brings rules (seen_program p) (place store current fs (focus.Block block)) (place store current fs (focus.Block rest))
+  unfolding meaning_at steps_left
+  block_stays fs block rest q = λ h. record {
+    means = λ ns k. record { numbers = ns; enough = k; same = λ host. rw q refl };
+    holds = record { depth = h.depth; few = h.few; globals = h.globals; held = h.held; frames = h.frames; focus = rw (← q) h.focus; size = rw (← q) h.size };
+    fuel = still store.fuel;
+    tickets = λ ts. refl;
+    fewer = rw q (still _);
+  }
+
+  -- one more value of a row
+  pub row_more : (vs vs1 vs2 : Vec Value Global) (es : List Expr) (here : Bor (List Expr)) (v : Value) (more : List Expr) → RowBrings rules p store current vs es vs1 here.now → HasFirst p store current here.now v more → vs2.items ≡ vs1.items ++ v ∷ [] → RowBrings rules p store current vs es vs2 more
+  row_more vs vs1 vs2 es here v more r g a = λ fs purpose row rest q e h.
+      let one = r fs purpose row here q refl h in
+      let two = row_direct fs purpose vs1 vs2 here rest g.expr v (rw e g.first) g.value a one.holds in
+      arrives_on rules (seen_program p) _ _ _ one two
+
+  -- a call by name, and then its arguments
+  pub call_leads : {S : Type 0} (result : Result Focus (Exit S)) (fs fs1 : List Frame) (n : Named) (args : Bor (List Expr)) (purpose : Purpose) (vs : Vec Value Global) → IsCalled (op_named n.name) (named_there p store current n.name) purpose → vs.items ≡ []
+      → IfOk result (λ f. Leads rules (seen_program p) (place store current fs (focus.Row purpose vs args)) (place store current fs1 f))
+      → IfOk result (λ f. (call : Bor Expr) (es : Vec Expr Global) → call.now ≡ E.Call n es → args.now ≡ es.items → Leads rules (seen_program p) (place store current fs (focus.Expr call)) (place store current fs1 f))
+  call_leads (Ok f) fs fs1 n args purpose vs k e next = λ call es q a h.
+      let one = call_row rules p store current fs call n es args args purpose vs q a k e refl h in
+      goes_trans rules (seen_program p) _ _ _ one (next one.holds)
+  call_leads (Err x) fs fs1 n args purpose vs k e next = tt
+
+  pub call_at : {S : Type 0} (result : Result Focus (Exit S)) (fs fs1 : List Frame) (n : Named) (args : List Expr) (call : Bor Expr) (es : Vec Expr Global) → call.now ≡ E.Call n es → args ≡ es.items
+      → IfOk result (λ f. (call : Bor Expr) (es : Vec Expr Global) → call.now ≡ E.Call n es → args ≡ es.items → Leads rules (seen_program p) (place store current fs (focus.Expr call)) (place store current fs1 f))
+      → IfOk result (λ f. Leads rules (seen_program p) (place store current fs (focus.Expr call)) (place store current fs1 f))
+  call_at (Ok f) fs fs1 n args call es q a k = k call es q a
+  call_at (Err x) fs fs1 n args call es q a k = tt
+
   -- the condition of a loop, after a turn
   pub turn_tests : (fs : List Frame) (test : Bor Expr) (block : Bor (List Stmt)) (u v : Value) (b : Place) → direct_there p store current test.now ≡ Some (seen v)
       → Leads rules (seen_program p) (place store current (frame.Test test block ∷ fs) (focus.Value v)) b → Leads rules (seen_program p) (turned store current test block fs u) b
@@ -92,6 +170,14 @@ module _ {T : Type 0} (rules : HostRules T) (p : Code.Program) (store : Store) (
       let one = turn_goes rules (seen_program p) store current fs test test block block u refl refl h in
       let two = direct_goes rules p store current (frame.Test test block ∷ fs) test v d one.holds in
       goes_trans rules (seen_program p) _ _ _ one (goes_trans rules (seen_program p) _ _ _ two (next two.holds))
+
+-- one more assignment of a block
+pub block_more : {T : Type 0} (rules : HostRules T) (p : Code.Program) (store store1 store2 : Store) (current current1 current2 : Current) (ss : List Stmt) (here : Bor (List Stmt)) (n : Bor Named) (v : Value) (more : List Stmt)
+    → BlockBrings rules p store current ss store1 current1 here.now → Gives p store1 current1 here.now n.now v more → IsSet p store1 current1 n.now.name v store2 current2 → BlockBrings rules p store current ss store2 current2 more
+block_more rules p store store1 store2 current current1 current2 ss here n v more r g i = λ fs block rest q e h.
+    let one = r fs block here q refl h in
+    let two = block_gives rules p store1 current1 fs store2 current2 here rest n v (rw e g) i one.holds in
+    arrives_on rules (seen_program p) _ _ _ one two
 
 -- where units are left, the want is one of memory
 pub memory_wanted : {S : Type 0} (fuel : ℕ) (x : Exit S) → 0 < fuel → IsWant fuel x → x ≡ exit.OutOfMemory

@@ -102,6 +102,11 @@ module _ {T : Type 0} (rules : HostRules T) (p : Code.Program) (store : Store) (
   leads_after (Ok f) fs2 m k = λ h. let one = m.goes (seen_program p) store current h in goes_trans rules (seen_program p) _ _ _ one (k one.holds)
   leads_after (Err x) fs2 m k = tt
 
+  -- a statement that is an expression, for whose end those after it wait
+  pub expr_leads : {X : Type 0} (result : Result Focus (Exit X)) (fs fs1 fs2 : List Frame) (s : Bor Stmt) (rest : Bor (List Stmt)) (e : Bor Expr) (f : Expr) → s.now ≡ S.Expr f → e.now ≡ f → fs1 ≡ before_stmt rest fs
+      → IfOk result (λ g. Leads rules (seen_program p) (place store current fs1 (focus.Expr e)) (place store current fs2 g)) → IfOk result (λ g. Leads rules (seen_program p) (place store current (before_stmt rest fs) (focus.Stmt s)) (place store current fs2 g))
+  expr_leads result fs fs1 fs2 s rest e f q a b k = leads_after result fs2 (expr_moves rules fs s rest e f q a) (rw b at k)
+
   -- a `return` whose value is found at once
   pub return_direct : (fs : List Frame) (s : Bor Stmt) (rest : Bor (List Stmt)) (e : Bor Expr) (v : Value) → s.now ≡ S.Return (Some e.now) → direct_there p store current e.now ≡ Some (seen v)
       → Leads rules (seen_program p) (place store current (before_stmt rest fs) (focus.Stmt s)) (place store current fs (focus.Return v))

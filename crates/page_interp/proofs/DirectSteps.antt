@@ -1,6 +1,7 @@
 -- An expression that calls nothing has the value that is found with no frame for its parts.
-use Rattle.std.proofs.Common.{◌≡◌, ℕ, ◌<◌, List, [], ◌∷◌, ◌++◌, Option, Some, None, Result, Ok, Err, IfOk, IfSome, Vec, Global, refl, ap, ◌∙◌, arith}
+use Rattle.std.proofs.Common.{◌≡◌, ℕ, ◌<◌, List, [], ◌∷◌, ◌++◌, Option, Some, None, Result, Ok, Err, IfOk, IfSome, Vec, Global, refl, sym, ap, ◌∙◌, arith}
 use Rattle.std.specs.Prelude.{Box, Bool, true, false, cond, ℤ, ◌*ℤ◌, int_div, int_rem}
+use Rattle.std.specs.Option.{option_map}
 use Rattle.std.specs.Borrow.{Bor}
 use Rattle.page_types.specs.declared.FaultName.TheVariants.{TypeError, RangeError}
 use Rattle.page_types.specs.declared.SumSign.{SumSign}
@@ -264,3 +265,12 @@ pub product_is : (sign : ProductSign) (x y z : ℤ) → Some z ≡ int_product s
 product_is Times x y z h = product_by (fits (x *ℤ y)) (x *ℤ y) z h
 product_is Divide x y z h = product_by (divides x y) (int_div x y) z h
 product_is Remainder x y z h = product_by (divides x y) (int_rem x y) z h
+
+-- what a name stands for, where it stands for anything
+name_stands : (look : List ℕ → Option Model.Value) (x : Expr) (n : Named) (o : Option Value) → x ≡ E.Name n → option_map seen o ≡ look n.name → IfSome o (λ v. direct look (seen_expr x) ≡ Some (seen v))
+name_stands look x n None q h = tt
+name_stands look x n (Some v) q h = name_gives look x n (seen v) q (sym h)
+
+pub name_in : {F : Type 0} (look : List ℕ → Option Model.Value) (x : Expr) (n : Named) (r : Result (Option Value) F) → x ≡ E.Name n → IfOk r (λ o. option_map seen o ≡ look n.name) → IfOk r (λ o. IfSome o (λ v. direct look (seen_expr x) ≡ Some (seen v)))
+name_in look x n (Ok o) q h = name_stands look x n o q h
+name_in look x n (Err e) q h = tt

@@ -1,11 +1,13 @@
 -- Steps from a name, and from a call by name.
 use Rattle.std.proofs.Common.{◌≡◌, ℕ, ◌+◌, List, [], Option, Some, None, Result, Ok, Err, IfOk, Vec, Global, refl, sym, ap, ◌∙◌, arith}
+use Rattle.std.specs.Option.{option_map}
 use Rattle.std.specs.Borrow.{Bor}
 use Rattle.page_types.specs.declared.FaultName.{FaultName}
 use Rattle.page_types.specs.declared.FaultName.TheVariants.{TypeError}
 use Rattle.page_types.specs.declared.Op.{Op}
 use Rattle.page_types.specs.Values as Model
 use Rattle.page_values.specs.declared.Value.{Value}
+use Rattle.page_values.specs.Seen.{seen}
 use Rattle.lang_ast.specs.declared.program.Program.{Program}
 use Rattle.lang_ast.specs.SeenProgram.{seen_program}
 use Rattle.lang_ast.specs.declared.tree.Named.{Named}
@@ -31,7 +33,7 @@ use Rattle.page_interp.specs.declared.stack.Purpose.TheVariants as purpose
 use Rattle.page_interp.specs.Answers.{Answers}
 use Rattle.page_interp.specs.Runs.{Left, SomeIsNumbered, count_of_functions, around_of, variables_of, call_given}
 use Rattle.page_interp.specs.Variables.{named_in, value_at, globals_of}
-use Rattle.page_interp.specs.Frames.{used_for, state_at, depth_of, after_all, meaning_at, steps_left, HasArguments, IsAnswer, IsCalled, IsCall, Holds, Goes, place}
+use Rattle.page_interp.specs.Frames.{used_for, state_at, depth_of, after_all, meaning_at, steps_left, HasArguments, IsAnswer, IsCalled, Holds, Goes, place}
 use Rattle.page_interp.proofs.Steps.{still}
 use Rattle.page_interp.proofs.Fitting.{call_fits}
 use Rattle.page_interp.proofs.Numbered.{need_numbered, or_numbered, read_numbered, function_numbered}
@@ -82,7 +84,8 @@ module _ {T : Type 0} (rules : HostRules T) (p : Program) (store : Store) (curre
   name_goes (Ok f) l x n q e a = name_answers x n f q (e _ a)
   name_goes (Err y) l x n q e a = tt
 
-  call_row : (x : Bor Expr) (n : Named) (es : Vec Expr Global) (args row : Bor (List Expr)) (purpose : Purpose) (vs : Vec Value Global) → x.now ≡ E.Call n es → args.now ≡ es.items
+  -- a call by name, whose arguments are next
+  pub call_row : (x : Bor Expr) (n : Named) (es : Vec Expr Global) (args row : Bor (List Expr)) (purpose : Purpose) (vs : Vec Value Global) → x.now ≡ E.Call n es → args.now ≡ es.items
       → IsCalled (op_named n.name) (named_in p store current.names.now current.locals n.name) purpose → vs.items ≡ [] → row ≡ args
       → Holds (seen_program p) (place store current fs (focus.Expr x)) → Goes rules (seen_program p) (place store current fs (focus.Expr x)) (place store current fs (focus.Row purpose vs row))
   unfolding around_of meaning_at steps_left call_by
@@ -111,8 +114,10 @@ module _ {T : Type 0} (rules : HostRules T) (p : Program) (store : Store) (curre
         fewer = under _ _ _ _ (rw (q, seen-Call, same) (omega arith));
       }
 
-  pub call_goes : {S : Type 0} (result : Result Focus (Exit S)) (x : Bor Expr) (n : Named) (es : Vec Expr Global) (args : Bor (List Expr)) → x.now ≡ E.Call n es → args.now ≡ es.items → IfOk result (IsCall p store current n args)
-      → IfOk result (λ f. Holds (seen_program p) (place store current fs (focus.Expr x)) → Goes rules (seen_program p) (place store current fs (focus.Expr x)) (place store current fs f))
-  call_goes (Ok (focus.Row purpose vs row)) x n es args q a k = call_row x n es args row purpose vs q a k.0 k.1 k.2
-  call_goes (Ok f) x n es args q a k = absurd k
-  call_goes (Err y) x n es args q a k = tt
+-- an operation of this name
+pub called_op : (o : Option Op) (op : Op) (v : Option Model.Value) → Some op ≡ o → IsCalled o v (purpose.Ask op)
+called_op o op v q = rw (← q) refl
+
+-- what a name stands for that is no operation's
+pub called_value : (o : Option Op) (callee : Option Value) (v : Option Model.Value) → None ≡ o → option_map seen callee ≡ v → IsCalled o v (purpose.Call callee)
+called_value o callee v q h = rw (← q) h

@@ -1,5 +1,5 @@
 -- What is done in one step where an expression calls nothing.
-use Rattle.std.specs.Prelude.{◌≡◌, List, ◌∷◌, Option, Some, Vec}
+use Rattle.std.specs.Prelude.{◌≡◌, ◌≤◌, List, ◌∷◌, Option, Some, Vec}
 use Rattle.std.specs.declared.alloc.Global.{Global}
 use Rattle.std.specs.Borrow.{Bor}
 use Rattle.page_types.specs.Tree.{Program}
@@ -18,7 +18,8 @@ use Rattle.page_interp.specs.declared.stack.Frame.{Frame}
 use Rattle.page_interp.specs.declared.stack.Frame.TheVariants as frame
 use Rattle.page_interp.specs.declared.stack.Waiting.TheVariants as waiting
 use Rattle.page_interp.specs.Direct.{direct_there}
-use Rattle.page_interp.specs.Frames.{Place, Holds, Goes, place}
+use Rattle.page_interp.specs.Runs.{AreNumberedIn, count_of_functions, globals_in}
+use Rattle.page_interp.specs.Frames.{Place, Holds, Goes, Arrives, place}
 
 -- a statement gives the variable of this name the value of this expression
 abbrev pub Assigns : Stmt → Named → Expr → Type 0
@@ -47,6 +48,16 @@ pub record HasFirst (p : Code.Program) (store : Store) (current : Current)
 -- holds at the first
 abbrev pub Leads : {T : Type 0} → HostRules T → Program → (a b : Place) → Type 0
 Leads rules p a b = Holds p a → Goes rules p a b
+
+-- any number of such steps lead there, also none
+abbrev pub Brings : {T : Type 0} → HostRules T → Program → (a b : Place) → Type 0
+Brings rules p a b = Holds p a → Arrives rules p a b
+
+-- a store after such steps: global variables name functions that are there, and no unit has come
+abbrev pub IsKept : Program → Place → Store → Type 0
+IsKept p a store =
+    Holds p a →
+    AreNumberedIn (count_of_functions p) (globals_in p store) × (store.fuel ≤ a.store.fuel)
 
 -- where a loop stands at the end of a turn
 abbrev pub turned : Store → Current → Bor Expr → Bor (List Stmt) → List Frame → Value → Place

@@ -41,7 +41,6 @@ use Rattle.page_interp.specs.Runs.{Part, variables_of, globals_in, machine_of, c
 use Rattle.page_interp.specs.Sizes.{program_size}
 use Rattle.page_interp.specs.Variables.{named_in, SetsLocal, SetsGlobal}
 use Rattle.std.specs.Borrow.{Bor}
-use Rattle.lang_meaning.specs.OpNames.{op_named}
 use Rattle.lang_ast.specs.declared.program.Program as Code
 use Rattle.lang_ast.specs.declared.tree.Named.{Named}
 use Rattle.lang_ast.specs.declared.tree.Expr as Syntax
@@ -431,6 +430,14 @@ pub record Goes {T : Type 0} (rules : HostRules T) (p : Program) (a b : Place) :
   pub tickets : (ts : List ℕ) → tickets_in b.frames ts ≡ tickets_in a.frames ts
   pub fewer : steps_left p b < steps_left p a
 
+-- The same of any number of steps, also of none.
+pub record Arrives {T : Type 0} (rules : HostRules T) (p : Program) (a b : Place) : Type 0 where
+  pub means : (ns : List ℕ) → HaveTurns a.store.fuel a.frames ns → Same rules p a ns b
+  pub holds : Holds p b
+  pub fuel : b.store.fuel ≤ a.store.fuel
+  pub tickets : (ts : List ℕ) → tickets_in b.frames ts ≡ tickets_in a.frames ts
+  pub fewer : steps_left p b ≤ steps_left p a
+
 -- what an operator answers is next
 abbrev pub IsAnswer : Focus → Answer → Type 0
 IsAnswer (focus.Value v) (Ok w) = seen v ≡ w
@@ -452,12 +459,6 @@ IsCalled op o purpose = ⊥
 -- what a name stands for there
 abbrev pub named_there : Code.Program → Store → Current → List ℕ → Option Model.Value
 named_there p store current x = named_in p store current.names.now current.locals x
-
-abbrev pub IsCall : Code.Program → Store → Current → Named → Bor (List Syntax.Expr) → Focus → Type 0
-IsCall p store current x args (focus.Row purpose vs es) =
-    IsCalled (op_named x.name) (named_there p store current x.name) purpose
-    × (vs.items ≡ []) × (es ≡ args)
-IsCall p store current x args f = ⊥
 
 -- the same with no eye on the variables
 pub record Moves {T : Type 0} (rules : HostRules T)

@@ -7,7 +7,9 @@ use Rattle.page_types.specs.declared.Op.{Op}
 use Rattle.page_values.specs.declared.Value.{Value}
 use Rattle.page_values.specs.Seen.{seen}
 use Rattle.lang_ast.specs.declared.program.Program as Code
+use Rattle.lang_ast.specs.declared.tree.Named.{Named}
 use Rattle.lang_ast.specs.declared.tree.Expr.{Expr}
+use Rattle.lang_ast.specs.declared.tree.Expr as E
 use Rattle.lang_ast.specs.declared.tree.Stmt.{Stmt}
 use Rattle.lang_ast.specs.Hosts.{HostNow}
 use Rattle.lang_meaning.specs.Evaluation.{Function}
@@ -20,8 +22,9 @@ use Rattle.page_interp.specs.declared.stack.Focus.{Focus}
 use Rattle.page_interp.specs.declared.stack.Focus.TheVariants as focus
 use Rattle.page_interp.specs.declared.stack.Frame.{Frame}
 use Rattle.page_interp.specs.declared.stack.Frame.TheVariants as frame
+use Rattle.page_interp.specs.declared.stack.Purpose.{Purpose}
 use Rattle.page_interp.specs.declared.stack.Waiting.{Waiting}
-use Rattle.page_interp.specs.AtOnce.{Leads, before_stmt, branches, turned, tested_at}
+use Rattle.page_interp.specs.AtOnce.{Leads, Brings, before_stmt, branches, turned, tested_at}
 use Rattle.page_interp.specs.Clauses.{script, count_in}
 use Rattle.page_interp.specs.CodeNames.{function_at}
 use Rattle.page_interp.specs.Frames.{Place, Holds, Moves, Opens, Stood, Steps, Answering, MayCome, Leaves, Finishes, stacked, place, waiting_at, moment_at, tickets_in, does, steps_on, resumes, call_names, call_variables, call_body, AreSeenNumbered}
@@ -69,6 +72,31 @@ abbrev pub LeadsOn : {T : Type 0} → HostRules T → Code.Program → Focus
     → Store → Current → Vec Frame Global → Store → Current → Vec Frame Global → Focus → Type 0
 LeadsOn rules code f store current stack store' current' stack' = λ f'.
     Leads rules (script code) (stand store current stack f) (stand store' current' stack' f')
+
+-- it leads on from a call of this name with these arguments
+abbrev pub CallLeads : {T : Type 0} → HostRules T → Code.Program → Named → (args : List Expr)
+    → Store → Current → (old new : Vec Frame Global) → Focus → Type 0
+CallLeads rules code name args store current old new = λ f'.
+    (call : Bor Expr) (es : Vec Expr Global) → call.now ≡ E.Call name es → args ≡ es.items →
+    Leads rules (script code) (stand store current old (focus.Expr call))
+    (stand store current new f')
+
+-- the first expressions of a row have become values, and the others are left
+abbrev pub RowBrings : {T : Type 0} → HostRules T → Code.Program → Store → Current
+    → Vec Value Global → List Expr → Vec Value Global → List Expr → Type 0
+RowBrings rules code store current vs es vs' es' =
+    (fs : List Frame) (purpose : Purpose) (row rest : Bor (List Expr)) →
+    row.now ≡ es → rest.now ≡ es' →
+    Brings rules (script code) (place store current fs (focus.Row purpose vs row))
+    (place store current fs (focus.Row purpose vs' rest))
+
+-- the first statements of a block are done, and the others are left
+abbrev pub BlockBrings : {T : Type 0} → HostRules T → Code.Program
+    → Store → Current → List Stmt → Store → Current → List Stmt → Type 0
+BlockBrings rules code store current ss store' current' ss' =
+    (fs : List Frame) (block rest : Bor (List Stmt)) → block.now ≡ ss → rest.now ≡ ss' →
+    Brings rules (script code) (place store current fs (focus.Block block))
+    (place store' current' fs (focus.Block rest))
 
 -- the same where these statements wait for its end
 abbrev pub LeadsBefore : {T : Type 0} → HostRules T → Code.Program → Bor (List Stmt) → Focus

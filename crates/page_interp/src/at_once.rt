@@ -6,7 +6,7 @@ ghost use Rattle.page_parts.specs.Kinds.{bool_in};
 ghost use Rattle.page_values.specs.Seen.{seen};
 ghost use Rattle.page_interp.specs.AtOnce.{HasFirst};
 ghost use Rattle.page_interp.specs.Frames.{IsWant, IsSet};
-ghost use Rattle.page_interp.specs.StackClauses.{LeadsOn, TestLeads, TurnLeads};
+ghost use Rattle.page_interp.specs.StackClauses.{LeadsOn, RowBrings, TestLeads, TurnLeads};
 ghost use Rattle.page_interp.specs.declared.exit.Exit.TheVariants as exit;
 ghost use Rattle.page_interp.specs.declared.stack.Focus.TheVariants as focus;
 
@@ -15,7 +15,6 @@ use crate::direct::direct_value;
 use crate::exit::{Exit, Store};
 use crate::expressions::from_row;
 use crate::stack::{Current, Focus, Frame, Purpose, within};
-use crate::values::append;
 use crate::variables::assign;
 use lang_ast::{Expr, Host, Named, Stmt};
 use page_values::{FaultName, MemoryFault, Value, as_bool, fault};
@@ -90,7 +89,27 @@ fn first_value<'c>(
     }
 }
 
-/// From expressions in a row.
+/// Takes the first expressions of some while their values are found at once: puts these behind the
+/// values so far, and gives the expressions that are left.
+fn first_values<'c, H: Host>(
+    code: &Code,
+    store: &Store,
+    current: &Current,
+    values: &mut Vec<Value>,
+    exprs: &'c [Expr],
+) -> Result<&'c [Expr], MemoryFault>
+    ensures { IfOk result (λ rest. RowBrings H.rules code.now store.now current.now
+        values.old exprs.now values.new rest.now) }
+{
+    let mut rest = exprs;
+    'taken: while let Some((value, more)) = first_value(code, store, current, rest)? {
+        values.push(value)?;
+        rest = more;
+    }
+    Ok(rest)
+}
+
+/// From expressions in a row. Those in front whose values are found at once are done in one step.
 pub fn next_in_row<'c, H: Host>(
     code: &Code,
     store: &Store,
@@ -104,13 +123,13 @@ pub fn next_in_row<'c, H: Host>(
         store.now current.now stack.old store.now current.now stack.new) }
     ensures err { IfErr result (λ x. x ≡ exit.OutOfMemory) }
 {
-    match first_value(code, store, current, exprs) {
-        Ok(Some((value, rest))) => {
-            append(&mut values, value)?;
-            Ok(Focus::Row(purpose, values, rest))
+    match first_values::<H>(code, store, current, &mut values, exprs) {
+        Ok(rest) => from_row::<H>(code.alloc(), stack, purpose, values, rest),
+        Err(_) => {
+            drop(purpose);
+            drop(values);
+            Err(Exit::OutOfMemory)
         }
-        Ok(None) => from_row::<H>(code.alloc(), stack, purpose, values, exprs),
-        Err(_) => Err(Exit::OutOfMemory),
     }
 }
 

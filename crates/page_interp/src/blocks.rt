@@ -4,8 +4,9 @@ ghost use Rattle.std.specs.Prelude.{◌≡◌, List, Some, IfOk, IfErr, IfSome};
 ghost use Rattle.std.specs.Borrow.{Bor};
 ghost use Rattle.lang_ast.specs.declared.tree.Stmt.{Stmt};
 ghost use Rattle.lang_ast.specs.declared.tree.Stmt.TheVariants.{Return};
-ghost use Rattle.page_interp.specs.AtOnce.{Assigns, Gives};
-ghost use Rattle.page_interp.specs.StackClauses.{MovesBefore, Branches, LeadsBefore, LeadsOn};
+ghost use Rattle.page_interp.specs.AtOnce.{Assigns, Gives, IsKept};
+ghost use Rattle.page_interp.specs.Clauses.{script};
+ghost use Rattle.page_interp.specs.StackClauses.{stand, MovesBefore, Branches, LeadsBefore, LeadsOn, BlockBrings};
 ghost use Rattle.page_interp.specs.declared.exit.Exit.TheVariants as exit;
 ghost use Rattle.page_interp.specs.declared.stack.Focus.TheVariants as focus;
 
@@ -13,6 +14,7 @@ use crate::at_once::set;
 use crate::code::Code;
 use crate::direct::direct_value;
 use crate::exit::{Exit, Store};
+use crate::expressions::from_expr;
 use crate::stack::{Current, Focus, Frame, Waiting, push, wait, within};
 use crate::statements::from_stmt;
 use lang_ast::{Expr, Host, Named, Stmt};
@@ -157,7 +159,10 @@ fn from_first<'c, H: Host>(
     ensures err { IfErr result (λ x. x ≡ exit.OutOfMemory) }
 {
     match stmt {
-        Stmt::Expr(expr) => wait(stack, Waiting::Stmts(rest), expr),
+        Stmt::Expr(expr) => {
+            push(stack, Frame::Wait(Waiting::Stmts(rest)))?;
+            from_expr::<H>(code, store, current, stack, expr)
+        }
         Stmt::If(test, block, others, last) => match direct_value(code, store, current, test) {
             Ok(Some(value)) => {
                 into_branch::<H>(code.alloc(), stack, value, block, others, last, rest)
@@ -191,7 +196,33 @@ fn from_block<'c, H: Host>(
     }
 }
 
-/// From the statements of a block.
+/// Does the first statements of some while each only gives a variable a value that is found at
+/// once, and gives the statements that are left.
+fn assigned<'c, H: Host>(
+    code: &Code,
+    store: &mut Store,
+    current: &mut Current<'c>,
+    stmts: &'c [Stmt],
+) -> &'c [Stmt]
+    ensures { BlockBrings H.rules code.now store.old current.old stmts.now
+        store.new current.new result.now }
+{
+    let mut rest = stmts;
+    'done: loop {
+        match given(code, store, current, rest) {
+            Ok(Some((name, value, more))) => {
+                set(code, store, current, name, value);
+                rest = more;
+            }
+            Ok(None) => return rest,
+            // No memory for the value: the steps from this statement find that too.
+            Err(_) => return rest,
+        }
+    }
+}
+
+/// From the statements of a block. Assignments in front whose values are found at once are done in
+/// one step with what comes after them.
 pub fn into_block<'c, H: Host>(
     code: &Code,
     store: &mut Store,
@@ -202,14 +233,9 @@ pub fn into_block<'c, H: Host>(
     ensures ok { IfOk result (LeadsOn H.rules code.now (focus.Block stmts.entry)
         store.old current.old stack.old store.new current.new stack.new) }
     ensures err { IfErr result (λ x. x ≡ exit.OutOfMemory) }
-    ensures as_before { IfErr result (λ _. store.new ≡ store.old) }
+    ensures kept { IfErr result (λ _. IsKept (script code.now)
+        (stand store.old current.old stack.old (focus.Block stmts.entry)) store.new) }
 {
-    match given(code, store, current, stmts) {
-        Ok(Some((name, value, rest))) => {
-            set(code, store, current, name, value);
-            Ok(Focus::Block(rest))
-        }
-        Ok(None) => from_block::<H>(code, store, current, stack, stmts),
-        Err(_) => Err(Exit::OutOfMemory),
-    }
+    let rest = assigned::<H>(code, store, current, stmts);
+    from_block::<H>(code, store, current, stack, rest)
 }

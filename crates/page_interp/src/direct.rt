@@ -14,7 +14,7 @@ use crate::exit::Store;
 use crate::operators::{int_product, item_of};
 use crate::stack::Current;
 use crate::values::copied;
-use crate::variables::find;
+use crate::variables::{find, named};
 use lang_ast::{CompareSign, Expr, ProductSign, SumSign};
 use page_values::{MemoryFault, Str, Value, ValueFault, as_int, as_list, as_text, copy_text, join};
 
@@ -225,8 +225,8 @@ fn text_sum(
     }
 }
 
-/// The value of an expression of integers, of two texts in a row, of a literal or of an item, where it calls nothing and
-/// throws nothing.
+/// The value of an expression of integers, of two texts in a row, of a literal, of a name or of an
+/// item, where it calls nothing and throws nothing.
 pub fn direct_value(
     code: &Code,
     store: &Store,
@@ -256,7 +256,8 @@ pub fn direct_value(
             };
             Ok(Some(Value::Bool(compared(*sign, x, y))))
         }
-        Expr::Name(_) | Expr::Post(_, _) => match item(code, store, current, expr, LEVELS) {
+        Expr::Name(x) => named(code, store, current.names, &current.locals, &x.name),
+        Expr::Post(_, _) => match item(code, store, current, expr, LEVELS) {
             Some(value) => Ok(Some(copied(code.alloc(), value)?)),
             None => Ok(None),
         },

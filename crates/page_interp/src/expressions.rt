@@ -2,13 +2,15 @@
 
 ghost use Rattle.std.specs.Prelude.{◌≡◌, IfOk, IfErr};
 ghost use Rattle.page_interp.specs.Answers.{Answers};
-ghost use Rattle.page_interp.specs.Frames.{IsAnswer, IsCall};
-ghost use Rattle.page_interp.specs.StackClauses.{MovesOn, LeadsOn};
+ghost use Rattle.page_interp.specs.Frames.{IsAnswer, IsCalled, named_there};
+ghost use Rattle.page_interp.specs.StackClauses.{MovesOn, LeadsOn, CallLeads};
 ghost use Rattle.page_interp.specs.Runs.{value_left};
 ghost use Rattle.lang_meaning.specs.Evaluation.{Answer};
+ghost use Rattle.lang_meaning.specs.OpNames.{op_named};
 ghost use Rattle.page_interp.specs.declared.exit.Exit.TheVariants as exit;
 ghost use Rattle.page_interp.specs.declared.stack.Focus.TheVariants as focus;
 
+use crate::at_once::next_in_row;
 use crate::code::Code;
 use crate::direct::direct_value;
 use crate::exit::{Exit, Store};
@@ -16,7 +18,7 @@ use crate::stack::{Current, Focus, Frame, Purpose, Waiting, wait};
 use crate::values::{list, text};
 use crate::variables::{name_value, named};
 use lang_ast::{Expr, Host, Named};
-use page_values::Value;
+use page_values::{MemoryFault, Value};
 use std::alloc::Global;
 
 /// What an operator answers is next.
@@ -80,30 +82,51 @@ fn by_parts<'c, H: Host>(
         Expr::False => Ok(Focus::Value(Value::Bool(false))),
         Expr::Unit => Ok(Focus::Value(Value::Unit)),
         Expr::Name(x) => come(name_value(code, store, current.names, &current.locals, &x.name)),
-        Expr::Call(x, args) => from_call::<H>(code, store, current, x, args),
+        Expr::Call(x, args) => from_call::<H>(code, store, current, stack, x, args),
         Expr::Paren(inner) => Ok(Focus::Expr(inner)),
-        Expr::List(items) => Ok(Focus::Row(Purpose::List, Vec::new(code.alloc()), items)),
+        Expr::List(items) => {
+            let values = Vec::new(code.alloc());
+            next_in_row::<H>(code, store, current, stack, Purpose::List, values, items)
+        }
     }
 }
 
-/// From a call by name: of an operation, or of the value that the name has before the arguments.
-fn from_call<'c, H: Host>(
+/// What the arguments of a call by name are for: an operation, or a call of the value that the name
+/// has before them.
+fn purpose_of(
     code: &Code,
     store: &Store,
     current: &Current,
     name: &Named,
+) -> Result<Purpose, MemoryFault>
+    ensures { IfOk result (IsCalled (op_named name.now.name)
+        (named_there code.now store.now current.now name.now.name)) }
+{
+    match code.operation(&name.name) {
+        Some(op) => Ok(Purpose::Ask(op)),
+        None => Ok(Purpose::Call(named(code, store, current.names, &current.locals, &name.name)?)),
+    }
+}
+
+/// From a call by name, to its arguments.
+fn from_call<'c, H: Host>(
+    code: &Code,
+    store: &Store,
+    current: &Current,
+    stack: &mut Vec<Frame<'c>>,
+    name: &Named,
     args: &'c [Expr],
 ) -> Result<Focus<'c>, Exit<H::Stop>>
-    ensures ok { IfOk result (IsCall code.now store.now current.now name.now args.entry) }
+    ensures ok { IfOk result (CallLeads H.rules code.now name.now args.now store.now current.now
+        stack.old stack.new) }
     ensures err { IfErr result (λ x. x ≡ exit.OutOfMemory) }
 {
-    let values = Vec::new(code.alloc());
-    match code.operation(&name.name) {
-        Some(op) => Ok(Focus::Row(Purpose::Ask(op), values, args)),
-        None => match named(code, store, current.names, &current.locals, &name.name) {
-            Ok(callee) => Ok(Focus::Row(Purpose::Call(callee), values, args)),
-            Err(_) => Err(Exit::OutOfMemory),
-        },
+    match purpose_of(code, store, current, name) {
+        Ok(purpose) => {
+            let values = Vec::new(code.alloc());
+            next_in_row::<H>(code, store, current, stack, purpose, values, args)
+        }
+        Err(_) => Err(Exit::OutOfMemory),
     }
 }
 

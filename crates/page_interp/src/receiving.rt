@@ -24,13 +24,13 @@ use std::alloc::Global;
 fn into_or<'c, H: Host>(
     alloc: Global,
     stack: &mut Vec<Frame<'c>>,
-    value: Value,
+    value: &Value,
     rest: &'c [Expr],
 ) -> Result<Focus<'c>, Exit<H::Stop>>
-    ensures ok { IfOk result (Takes H.rules value (waiting.Or rest.entry) stack.old stack.new) }
+    ensures ok { IfOk result (Takes H.rules value.now (waiting.Or rest.entry) stack.old stack.new) }
     ensures err { IfErr result (λ x. x ≡ exit.OutOfMemory) }
 {
-    match as_bool(&value) {
+    match as_bool(value) {
         Some(true) => Ok(Focus::Value(Value::Bool(true))),
         Some(false) => match rest.split_first() {
             Some((next, rest)) => wait(stack, Waiting::Or(rest), next),
@@ -44,13 +44,13 @@ fn into_or<'c, H: Host>(
 fn into_and<'c, H: Host>(
     alloc: Global,
     stack: &mut Vec<Frame<'c>>,
-    value: Value,
+    value: &Value,
     rest: &'c [Expr],
 ) -> Result<Focus<'c>, Exit<H::Stop>>
-    ensures ok { IfOk result (Takes H.rules value (waiting.And rest.entry) stack.old stack.new) }
+    ensures ok { IfOk result (Takes H.rules value.now (waiting.And rest.entry) stack.old stack.new) }
     ensures err { IfErr result (λ x. x ≡ exit.OutOfMemory) }
 {
-    match as_bool(&value) {
+    match as_bool(value) {
         Some(true) => match rest.split_first() {
             Some((next, rest)) => wait(stack, Waiting::And(rest), next),
             None => Ok(Focus::Value(Value::Bool(true))),
@@ -79,17 +79,17 @@ fn into_terms<'c, H: Host>(
 fn into_term<'c, H: Host>(
     alloc: Global,
     stack: &mut Vec<Frame<'c>>,
-    value: Value,
-    sum: Value,
+    value: &Value,
+    sum: &Value,
     sign: SumSign,
     rest: &'c [(SumSign, Expr)],
 ) -> Result<Focus<'c>, Exit<H::Stop>>
-    ensures ok { IfOk result (Takes H.rules value (waiting.Term sum sign rest.entry)
+    ensures ok { IfOk result (Takes H.rules value.now (waiting.Term sum.now sign rest.entry)
         stack.old stack.new) }
     ensures err { IfErr result (λ x. x ≡ exit.OutOfMemory) }
 {
     push(stack, Frame::Wait(Waiting::Terms(rest)))?;
-    come(add(alloc, sign, &sum, &value))
+    come(add(alloc, sign, sum, value))
 }
 
 /// The product so far.
@@ -112,17 +112,17 @@ fn into_factors<'c, H: Host>(
 fn into_factor<'c, H: Host>(
     alloc: Global,
     stack: &mut Vec<Frame<'c>>,
-    value: Value,
-    product: Value,
+    value: &Value,
+    product: &Value,
     sign: ProductSign,
     rest: &'c [(ProductSign, Expr)],
 ) -> Result<Focus<'c>, Exit<H::Stop>>
-    ensures ok { IfOk result (Takes H.rules value (waiting.Factor product sign rest.entry)
+    ensures ok { IfOk result (Takes H.rules value.now (waiting.Factor product.now sign rest.entry)
         stack.old stack.new) }
     ensures err { IfErr result (λ x. x ≡ exit.OutOfMemory) }
 {
     push(stack, Frame::Wait(Waiting::Factors(rest)))?;
-    come(multiply(alloc, sign, &product, &value))
+    come(multiply(alloc, sign, product, value))
 }
 
 /// The value whose items are wanted.
@@ -145,16 +145,16 @@ fn into_places<'c, H: Host>(
 fn into_place<'c, H: Host>(
     alloc: Global,
     stack: &mut Vec<Frame<'c>>,
-    value: Value,
-    list: Value,
+    value: &Value,
+    list: &Value,
     rest: &'c [Expr],
 ) -> Result<Focus<'c>, Exit<H::Stop>>
-    ensures ok { IfOk result (Takes H.rules value (waiting.Place list rest.entry)
+    ensures ok { IfOk result (Takes H.rules value.now (waiting.Place list.now rest.entry)
         stack.old stack.new) }
     ensures err { IfErr result (λ x. x ≡ exit.OutOfMemory) }
 {
     push(stack, Frame::Wait(Waiting::Places(rest)))?;
-    come(item_at(alloc, &list, &value))
+    come(item_at(alloc, list, value))
 }
 
 /// The value of an `if`'s condition: its block is next, or what comes after `else`.
@@ -202,25 +202,68 @@ pub fn receive<'c, H: Host>(
     ensures err { IfErr result (λ x. x ≡ exit.OutOfMemory) }
 {
     match waiting {
-        Waiting::Or(rest) => into_or::<H>(alloc, stack, value, rest),
-        Waiting::And(rest) => into_and::<H>(alloc, stack, value, rest),
+        Waiting::Or(rest) => {
+            let next = into_or::<H>(alloc, stack, &value, rest);
+            drop(value);
+            next
+        }
+        Waiting::And(rest) => {
+            let next = into_and::<H>(alloc, stack, &value, rest);
+            drop(value);
+            next
+        }
         Waiting::Left(sign, right) => wait(stack, Waiting::Right(sign, value), right),
-        Waiting::Right(sign, left) => come(compare(alloc, sign, &left, &value)),
+        Waiting::Right(sign, left) => {
+            let next = come(compare(alloc, sign, &left, &value));
+            drop(left);
+            drop(value);
+            next
+        }
         Waiting::Terms(terms) => into_terms::<H>(stack, value, terms),
-        Waiting::Term(sum, sign, rest) => into_term::<H>(alloc, stack, value, sum, sign, rest),
+        Waiting::Term(sum, sign, rest) => {
+            let next = into_term::<H>(alloc, stack, &value, &sum, sign, rest);
+            drop(sum);
+            drop(value);
+            next
+        }
         Waiting::Factors(factors) => into_factors::<H>(stack, value, factors),
         Waiting::Factor(product, sign, rest) => {
-            into_factor::<H>(alloc, stack, value, product, sign, rest)
+            let next = into_factor::<H>(alloc, stack, &value, &product, sign, rest);
+            drop(product);
+            drop(value);
+            next
         }
-        Waiting::Unary(sign) => come(negate(alloc, sign, &value)),
+        Waiting::Unary(sign) => {
+            let next = come(negate(alloc, sign, &value));
+            drop(value);
+            next
+        }
         Waiting::Places(places) => into_places::<H>(stack, value, places),
-        Waiting::Place(list, rest) => into_place::<H>(alloc, stack, value, list, rest),
+        Waiting::Place(list, rest) => {
+            let next = into_place::<H>(alloc, stack, &value, &list, rest);
+            drop(list);
+            drop(value);
+            next
+        }
         Waiting::Row(purpose, values, rest) => into_row::<H>(value, purpose, values, rest),
-        Waiting::Ignore => Ok(Focus::Value(Value::Unit)),
-        Waiting::If(block, others, last) => Ok(into_if(alloc, &value, block, others, last)),
+        Waiting::Ignore => {
+            drop(value);
+            Ok(Focus::Value(Value::Unit))
+        }
+        Waiting::If(block, others, last) => {
+            let next = into_if(alloc, &value, block, others, last);
+            drop(value);
+            Ok(next)
+        }
         Waiting::Return => Ok(Focus::Return(value)),
         Waiting::Throw => Ok(Focus::Throw(value)),
-        Waiting::Stmts(rest) => Ok(Focus::Block(rest)),
-        Waiting::Items(rest) => Ok(Focus::Items(rest)),
+        Waiting::Stmts(rest) => {
+            drop(value);
+            Ok(Focus::Block(rest))
+        }
+        Waiting::Items(rest) => {
+            drop(value);
+            Ok(Focus::Items(rest))
+        }
     }
 }

@@ -109,7 +109,10 @@ pub fn push<'c, S: Drop>(stack: &mut Vec<Frame<'c>>, frame: Frame<'c>) -> Result
 {
     match stack.push(frame) {
         Ok(()) => Ok(()),
-        Err(_) => Err(Exit::OutOfMemory),
+        Err(failed) => {
+            drop(failed);
+            Err(Exit::OutOfMemory)
+        }
     }
 }
 
@@ -146,6 +149,11 @@ pub fn within<'c, S: Drop>(
     ensures next { IfOk result (λ f. f ≡ next.entry) }
     ensures err { IfErr result (λ x. x ≡ exit.OutOfMemory) }
 {
-    push(stack, frame)?;
-    Ok(next)
+    match push(stack, frame) {
+        Ok(()) => Ok(next),
+        Err(exit) => {
+            drop(next);
+            Err(exit)
+        }
+    }
 }

@@ -79,7 +79,10 @@ fn from_value<'c, H: Host>(
         host.old store.old current.old stack.old host.new store.new current.new stack.new }
 {
     match pop(stack) {
-        None => Err(Exit::Return(Value::Unit)),
+        None => {
+            drop(value);
+            Err(Exit::Return(Value::Unit))
+        }
         Some(Frame::Wait(waiting)) => receive::<H>(code.alloc(), stack, waiting, value),
         Some(Frame::Assign(name)) => {
             set(code, store, current, name, value);
@@ -89,10 +92,12 @@ fn from_value<'c, H: Host>(
             into_test::<H>(code.alloc(), store, stack, value, test, block)
         }
         Some(Frame::Turn(test, block)) => {
+            drop(value);
             next_turn::<H>(code, store, current, stack, test, block)
         }
         Some(Frame::Try(_, _)) => Ok(Focus::Value(value)),
         Some(Frame::Open(names, locals)) => {
+            drop(value);
             close(current, names, locals);
             Ok(Focus::Value(Value::Unit))
         }
@@ -126,7 +131,10 @@ fn from_throw<'c, H: Host>(
 {
     match pop(stack) {
         None => Err(Exit::Throw(value)),
-        Some(Frame::Wait(_)) => Ok(Focus::Throw(value)),
+        Some(Frame::Wait(waiting)) => {
+            drop(waiting);
+            Ok(Focus::Throw(value))
+        }
         Some(Frame::Assign(_)) => Ok(Focus::Throw(value)),
         Some(Frame::Test(_, _)) => Ok(Focus::Throw(value)),
         Some(Frame::Turn(_, _)) => Ok(Focus::Throw(value)),
@@ -168,7 +176,10 @@ fn from_return<'c, H: Host>(
 {
     match pop(stack) {
         None => Err(Exit::Return(value)),
-        Some(Frame::Wait(_)) => Ok(Focus::Return(value)),
+        Some(Frame::Wait(waiting)) => {
+            drop(waiting);
+            Ok(Focus::Return(value))
+        }
         Some(Frame::Assign(_)) => Ok(Focus::Return(value)),
         Some(Frame::Test(_, _)) => Ok(Focus::Return(value)),
         Some(Frame::Turn(_, _)) => Ok(Focus::Return(value)),

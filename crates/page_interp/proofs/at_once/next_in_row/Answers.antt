@@ -1,11 +1,12 @@
-use Rattle.page_interp.proofs.AtOnce.{row_direct}
+use Rattle.std.proofs.Common.{refl}
+use Rattle.lang_ast.specs.SeenProgram.{seen_program}
+use Rattle.page_interp.specs.Frames.{stacked}
+use Rattle.page_interp.proofs.AtOnce.{brings_leads}
 use Rattle.page_interp.proofs.SmallSteps.{if_moves}
 use Rattle.page_interp.proofs.at_once.next_in_row.Goals as goal
 
-pub returns-in-Ok-Some-clause-ok : goal.returns-in-Ok-Some-clause-ok
-returns-in-Ok-Some-clause-ok g c =
-    let first = rw c.in-Ok-Some.field-0-is at c.in-Ok-Some.ensures in
-    row_direct g.H.Host.rules c.args.code.now c.args.store.now c.args.current.now _ _ _ _ _ _ first.expr _ first.first first.value c.in_ok-append-in-Ok-Some.ensures.appended
-
-pub returns-in-Ok-None-clause-ok : goal.returns-in-Ok-None-clause-ok
-returns-in-Ok-None-clause-ok g c = if_moves g.H.Host.rules _ _ _ _ _ _ _ c.from_row.ensures.ok
+pub returns-in-Ok-clause-ok : goal.returns-in-Ok-clause-ok
+returns-in-Ok-clause-ok g c =
+    brings_leads g.H.Host.rules (seen_program c.args.code.now) c.from_row.result _ _ _ _ _
+    (c.in-Ok.ensures (stacked c.args.stack.now.items) c.args.purpose c.args.exprs c.in-Ok.rest refl refl)
+    (if_moves g.H.Host.rules _ _ _ _ _ _ _ c.from_row.ensures.ok)

@@ -2,7 +2,8 @@ use Rattle.std.proofs.Common.{rules}
 use Rattle.std.proofs.lemmas.Int.{to_z-of_z}
 use mir.Val.{SFits}
 use mir.Syntax.{w64}
-use Rattle.page_interp.proofs.DirectSteps.{ok_so, compare_gives, whole_sum_gives, text_gives, true_gives, false_gives}
+use Rattle.page_interp.specs.Direct.{names_there}
+use Rattle.page_interp.proofs.DirectSteps.{ok_so, compare_gives, whole_sum_gives, text_gives, true_gives, false_gives, name_in}
 use Rattle.page_interp.proofs.direct.direct_value.Goals as goal
 
 pub returns-in-Some-int-2 : goal.returns-in-Some-int-2
@@ -24,3 +25,6 @@ returns-in-True c = true_gives _ _ c.in-True.is
 
 pub returns-in-False : goal.returns-in-False
 returns-in-False c = false_gives _ _ c.in-False.is
+
+pub returns-in-Name : goal.returns-in-Name
+returns-in-Name c = name_in (names_there c.args.code.now c.args.store.now c.args.current.now) _ _ c.named.result c.in-Name.is c.named.ensures

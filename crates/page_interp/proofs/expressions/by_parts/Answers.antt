@@ -5,7 +5,9 @@ use mir.Syntax.{w64}
 use Rattle.page_types.specs.Values.{TextValue}
 use Rattle.page_interp.proofs.SmallSteps.{pushed_moves, answer_moves, if_moves, pushes_moves, stays_moves}
 use Rattle.page_interp.proofs.ExprSteps.{or_pushes, and_pushes, sum_pushes, product_pushes, post_pushes, compare_pushes, unary_pushes, number_stays, text_stays, true_stays, false_stays, unit_stays, paren_stays, list_stays}
-use Rattle.page_interp.proofs.NameSteps.{name_goes, call_goes}
+use Rattle.page_interp.proofs.NameSteps.{name_goes}
+use Rattle.page_interp.proofs.AtOnce.{call_at}
+use Rattle.page_interp.proofs.BlockSteps.{leads_after}
 use Rattle.page_interp.proofs.expressions.by_parts.Goals as goal
 
 pub returns-in-Or-clause-ok : goal.returns-in-Or-clause-ok
@@ -48,10 +50,10 @@ pub returns-in-Name-clause-ok : goal.returns-in-Name-clause-ok
 returns-in-Name-clause-ok g c = name_goes g.H.Host.rules c.args.code.now c.args.store.now c.args.current.now _ c.come-in-Name.result _ _ _ c.in-Name.is c.come-in-Name.ensures.ok c.name_value.ensures
 
 pub returns-in-Call-clause-ok : goal.returns-in-Call-clause-ok
-returns-in-Call-clause-ok g c = call_goes g.H.Host.rules c.args.code.now c.args.store.now c.args.current.now _ c.from_call.result _ _ _ _ c.in-Call.is c.deref-in-Call.ensures.value c.from_call.ensures.ok
+returns-in-Call-clause-ok g c = call_at g.H.Host.rules c.args.code.now c.args.store.now c.args.current.now c.from_call.result _ _ _ _ _ _ c.in-Call.is c.deref-in-Call.ensures.value c.from_call.ensures.ok
 
 pub returns-in-Paren-clause-ok : goal.returns-in-Paren-clause-ok
 returns-in-Paren-clause-ok g c = (stays_moves g.H.Host.rules _ (paren_stays _ _ _ c.in-Paren.is c.deref-in-Paren.ensures)).goes _ _ _
 
 pub returns-in-List-clause-ok : goal.returns-in-List-clause-ok
-returns-in-List-clause-ok g c = (stays_moves g.H.Host.rules _ (list_stays _ _ _ _ c.in-List.is c.deref-in-List.ensures.value c.new.ensures.items)).goes _ _ _
+returns-in-List-clause-ok g c = leads_after g.H.Host.rules c.args.code.now c.args.store.now c.args.current.now c.next_in_row.result _ (stays_moves g.H.Host.rules _ (list_stays _ _ _ _ c.in-List.is c.deref-in-List.ensures.value c.new-values.ensures.items)) c.next_in_row.ensures.ok

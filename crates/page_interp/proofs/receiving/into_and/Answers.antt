@@ -9,8 +9,8 @@ returns-in-Some-false-clause-ok g c = pops_moves g.H.Host.rules _ (and_stops _ _
 pub returns-in-Some-clause-ok : goal.returns-in-Some-clause-ok
 returns-in-Some-clause-ok g c = pushed_moves _ _ _ _ _ _ c.wait.ensures.pushed c.wait.ensures.next (swaps_moves g.H.Host.rules _ (and_next _ _ _ _ (sym c.in-Some-true.ensures ∙ ap Some c.in-Some-true.field-0-test) c.in-Some.ensures.cases.0))
 
-pub returns-in-Some-true-clause-ok : goal.returns-in-Some-true-clause-ok
-returns-in-Some-true-clause-ok g c = pops_moves g.H.Host.rules _ (and_last _ _ (sym c.in-Some-true.ensures ∙ ap Some c.in-Some-true.field-0-test) (empty _ c.in-None-split_first.ensures.cases))
+pub returns-in-None-split_first-clause-ok : goal.returns-in-None-split_first-clause-ok
+returns-in-None-split_first-clause-ok g c = pops_moves g.H.Host.rules _ (and_last _ _ (sym c.in-Some-true.ensures ∙ ap Some c.in-Some-true.field-0-test) (empty _ c.in-None-split_first.ensures.cases))
 
-pub returns-clause-ok : goal.returns-clause-ok
-returns-clause-ok g c = pops_moves g.H.Host.rules _ (and_no_bool _ _ _ (sym c.in-None.ensures) c.fault.ensures)
+pub returns-in-None-clause-ok : goal.returns-in-None-clause-ok
+returns-in-None-clause-ok g c = pops_moves g.H.Host.rules _ (and_no_bool _ _ _ (sym c.in-None.ensures) c.fault.ensures)

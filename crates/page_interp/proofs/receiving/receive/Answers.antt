@@ -7,16 +7,16 @@ pub returns-in-Left-clause-ok : goal.returns-in-Left-clause-ok
 returns-in-Left-clause-ok g c = rw c.in-Left.is (pushed_moves _ _ _ _ _ _ c.wait.ensures.pushed c.wait.ensures.next (swaps_moves g.H.Host.rules _ (left_swaps _ _ _)))
 
 pub returns-in-Right-clause-ok : goal.returns-in-Right-clause-ok
-returns-in-Right-clause-ok g c = rw c.in-Right.is (answer_moves c.come.result _ _ _ _ _ c.come.ensures.ok c.compare.ensures (λ f h. pops_moves g.H.Host.rules _ (right_pops _ _ _ f h)))
+returns-in-Right-clause-ok g c = rw c.in-Right.is (answer_moves c.come-next.result _ _ _ _ _ c.come-next.ensures.ok c.compare.ensures (λ f h. pops_moves g.H.Host.rules _ (right_pops _ _ _ f h)))
 
 pub returns-in-Unary-clause-ok : goal.returns-in-Unary-clause-ok
-returns-in-Unary-clause-ok g c = rw c.in-Unary.is (answer_moves c.come-in-Unary.result _ _ _ _ _ c.come-in-Unary.ensures.ok c.negate.ensures (λ f h. pops_moves g.H.Host.rules _ (unary_pops _ _ f h)))
+returns-in-Unary-clause-ok g c = rw c.in-Unary.is (answer_moves c.come-next-in-Unary.result _ _ _ _ _ c.come-next-in-Unary.ensures.ok c.negate.ensures (λ f h. pops_moves g.H.Host.rules _ (unary_pops _ _ f h)))
 
 pub returns-in-Ignore-clause-ok : goal.returns-in-Ignore-clause-ok
 returns-in-Ignore-clause-ok g c = rw c.in-Ignore.is (pops_moves g.H.Host.rules _ (ignore_pops _))
 
 pub returns-in-If-clause-ok : goal.returns-in-If-clause-ok
-returns-in-If-clause-ok g c = rw c.in-If.is (pops_moves g.H.Host.rules _ (if_picks _ _ _ _ _ _ refl c.into_if.ensures))
+returns-in-If-clause-ok g c = rw c.in-If.is (pops_moves g.H.Host.rules _ (if_picks _ _ _ _ _ _ refl c.into_if-next.ensures))
 
 pub returns-in-Return-clause-ok : goal.returns-in-Return-clause-ok
 returns-in-Return-clause-ok g c = rw c.in-Return.is (pops_moves g.H.Host.rules _ (return_pops _))
@@ -27,5 +27,5 @@ returns-in-Throw-clause-ok g c = rw c.in-Throw.is (pops_moves g.H.Host.rules _ (
 pub returns-in-Stmts-clause-ok : goal.returns-in-Stmts-clause-ok
 returns-in-Stmts-clause-ok g c = rw c.in-Stmts.is (pops_moves g.H.Host.rules _ (stmts_pops _ _))
 
-pub returns-clause-ok : goal.returns-clause-ok
-returns-clause-ok g c = rw c.in-Items.is (pops_moves g.H.Host.rules _ (items_pops _ _))
+pub returns-in-Items-clause-ok : goal.returns-in-Items-clause-ok
+returns-in-Items-clause-ok g c = rw c.in-Items.is (pops_moves g.H.Host.rules _ (items_pops _ _))

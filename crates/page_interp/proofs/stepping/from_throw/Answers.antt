@@ -44,5 +44,5 @@ resume-requires-clause-tickets g c = let e = rw c.in-Some-Host.field-0-is at c.i
 pub resume-requires-clause-numbered : goal.resume-requires-clause-numbered
 resume-requires-clause-numbered g c = let e = rw c.in-Some-Host.field-0-is at c.in-Some-Host.ensures.some in let st = rw e at c.requires.stood.1 in st.holds.focus
 
-pub returns : goal.returns
-returns g c = let e = rw c.in-Some-Host.field-0-is at c.in-Some-Host.ensures.some in rw e (λ ts st. host_steps g.H.Host.rules g.H.Host.leaves (seen_program c.args.code.now) _ _ _ _ _ (focus.Throw c.args.value) (CallbackThrow (seen c.args.value)) _ _ _ _ _ ts refl (λ d n m. refl) c.resume.ensures.unsettled (λ n k. c.resume.ensures.leaves ts n st.tickets k) st)
+pub returns-in-Some-Host : goal.returns-in-Some-Host
+returns-in-Some-Host g c = let e = rw c.in-Some-Host.field-0-is at c.in-Some-Host.ensures.some in rw e (λ ts st. host_steps g.H.Host.rules g.H.Host.leaves (seen_program c.args.code.now) _ _ _ _ _ (focus.Throw c.args.value) (CallbackThrow (seen c.args.value)) _ _ _ _ _ ts refl (λ d n m. refl) c.resume.ensures.unsettled (λ n k. c.resume.ensures.leaves ts n st.tickets k) st)

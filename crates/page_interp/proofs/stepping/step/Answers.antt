@@ -15,7 +15,7 @@ pub returns-in-Stmt : goal.returns-in-Stmt
 returns-in-Stmt g c = rw c.in-Stmt.is (steps_moves g.H.Host.rules g.H.Host.leaves (seen_program c.args.code.now) (g.H.Host.now c.args.host.now) c.from_stmt.result _ _ _ _ _ c.from_stmt.ensures.ok c.from_stmt.ensures.err)
 
 pub returns-in-Block : goal.returns-in-Block
-returns-in-Block g c = rw c.in-Block.is (steps_leads g.H.Host.rules g.H.Host.leaves (seen_program c.args.code.now) (g.H.Host.now c.args.host.now) c.into_block.result _ _ _ _ c.into_block.ensures.ok c.into_block.ensures.err c.into_block.ensures.as_before)
+returns-in-Block g c = rw c.in-Block.is (steps_leads g.H.Host.rules g.H.Host.leaves (seen_program c.args.code.now) (g.H.Host.now c.args.host.now) c.into_block.result _ _ _ _ c.into_block.ensures.ok c.into_block.ensures.err c.into_block.ensures.kept)
 
 pub returns-in-Items : goal.returns-in-Items
 returns-in-Items g c = rw c.in-Items.is (steps_moves g.H.Host.rules g.H.Host.leaves (seen_program c.args.code.now) (g.H.Host.now c.args.host.now) c.from_items.result _ _ _ _ _ c.from_items.ensures.ok c.from_items.ensures.err)
