@@ -1,7 +1,8 @@
 -- Several steps as one, where an expression calls nothing.
-use Rattle.std.proofs.Common.{◌≡◌, ℕ, ◌<◌, ◌≤◌, List, [], ◌∷◌, ◌++◌, Result, Ok, Err, IfOk, IfErr, Some, Vec, Global, refl, ◌∙◌, arith}
+use Rattle.std.proofs.Common.{◌≡◌, ℕ, suc, ◌<◌, ◌≤◌, List, [], ◌∷◌, ◌++◌, true, Result, Ok, Err, IfOk, IfErr, Some, Vec, Global, refl, ◌∙◌, arith}
 use Rattle.std.specs.Borrow.{Bor}
 use Rattle.page_types.specs.Tree.{Program}
+use Rattle.page_parts.specs.Kinds.{bool_in}
 use Rattle.page_values.specs.declared.Value.{Value}
 use Rattle.page_values.specs.declared.Value.TheVariants as value
 use Rattle.page_values.specs.Seen.{seen}
@@ -25,16 +26,16 @@ use Rattle.page_interp.specs.declared.stack.Frame.{Frame}
 use Rattle.page_interp.specs.declared.stack.Frame.TheVariants as frame
 use Rattle.page_interp.specs.declared.stack.Waiting.TheVariants as waiting
 use Rattle.page_interp.specs.declared.stack.Purpose.{Purpose}
-use Rattle.page_interp.specs.AtOnce.{Assigns, Gives, HasFirst, Leads, Brings, IsKept, turned}
+use Rattle.page_interp.specs.AtOnce.{Assigns, Gives, HasFirst, Leads, Brings, IsKept, EndsWanting, turned, tested_at}
 use Rattle.page_interp.specs.Direct.{direct_there}
-use Rattle.page_interp.specs.Frames.{does, place, meaning_at, steps_left, named_there, Place, Holds, Goes, Arrives, Moves, Steps, IsCalled, IsSet, IsWant}
+use Rattle.page_interp.specs.Frames.{does, place, meaning_at, steps_left, named_there, Place, Holds, Goes, Arrives, Moves, Steps, IsCalled, IsSet}
 use Rattle.page_interp.specs.StackClauses.{RowBrings, BlockBrings}
 use Rattle.page_interp.proofs.Steps.{still}
 use Rattle.page_interp.proofs.SmallSteps.{pushes_moves, pops_moves, within}
 use Rattle.page_interp.proofs.StmtSteps.{block_pushes, var_moves, assign_moves}
 use Rattle.page_interp.proofs.ValueSteps.{stmts_pops, row_pops}
 use Rattle.page_interp.proofs.ExprSteps.{row_pushes}
-use Rattle.page_interp.proofs.FrameSteps.{assign_goes, turn_goes}
+use Rattle.page_interp.proofs.FrameSteps.{assign_goes, turn_goes, test_true}
 use Rattle.page_interp.proofs.NameSteps.{call_row}
 use Rattle.page_interp.proofs.DirectSteps.{direct_goes}
 use Rattle.page_interp.proofs.AskSteps.{goes_advances, memory_ends}
@@ -164,12 +165,10 @@ module _ {T : Type 0} (rules : HostRules T) (p : Code.Program) (store : Store) (
   call_at (Err x) fs fs1 n args call es q a k = tt
 
   -- the condition of a loop, after a turn
-  pub turn_tests : (fs : List Frame) (test : Bor Expr) (block : Bor (List Stmt)) (u v : Value) (b : Place) → direct_there p store current test.now ≡ Some (seen v)
-      → Leads rules (seen_program p) (place store current (frame.Test test block ∷ fs) (focus.Value v)) b → Leads rules (seen_program p) (turned store current test block fs u) b
-  turn_tests fs test block u v b d next = λ h.
+  pub turn_tests : (fs : List Frame) (test : Bor Expr) (block : Bor (List Stmt)) (u v : Value) → direct_there p store current test.now ≡ Some (seen v) → Leads rules (seen_program p) (turned store current test block fs u) (tested_at store current test block fs v)
+  turn_tests fs test block u v d = λ h.
       let one = turn_goes rules (seen_program p) store current fs test test block block u refl refl h in
-      let two = direct_goes rules p store current (frame.Test test block ∷ fs) test v d one.holds in
-      goes_trans rules (seen_program p) _ _ _ one (goes_trans rules (seen_program p) _ _ _ two (next two.holds))
+      goes_trans rules (seen_program p) _ _ _ one (direct_goes rules p store current (frame.Test test block ∷ fs) test v d one.holds)
 
 -- one more assignment of a block
 pub block_more : {T : Type 0} (rules : HostRules T) (p : Code.Program) (store store1 store2 : Store) (current current1 current2 : Current) (ss : List Stmt) (here : Bor (List Stmt)) (n : Bor Named) (v : Value) (more : List Stmt)
@@ -179,34 +178,80 @@ block_more rules p store store1 store2 current current1 current2 ss here n v mor
     let two = block_gives rules p store1 current1 fs store2 current2 here rest n v (rw e g) i one.holds in
     arrives_on rules (seen_program p) _ _ _ one two
 
--- where units are left, the want is one of memory
-pub memory_wanted : {S : Type 0} (fuel : ℕ) (x : Exit S) → 0 < fuel → IsWant fuel x → x ≡ exit.OutOfMemory
-memory_wanted fuel (exit.Throw v) h w = absurd w
-memory_wanted fuel (exit.Return v) h w = absurd w
-memory_wanted fuel exit.Fuel h w = absurd (omega (arith, h, w))
-memory_wanted fuel (exit.Host stop) h w = absurd w
-memory_wanted fuel exit.OutOfMemory h w = refl
+module _ {T : Type 0} (rules : HostRules T) (p : Program) where
+  -- a step, and then more
+  pub leads_on : {S : Type 0} (result : Result Focus (Exit S)) (a b : Place) (store : Store) (current : Current) (fs : List Frame) → Leads rules p a b → IfOk result (λ f. Leads rules p b (place store current fs f)) → IfOk result (λ f. Leads rules p a (place store current fs f))
+  leads_on (Ok f) a b store current fs g k = λ h. let one = g h in goes_trans rules p _ _ _ one (k one.holds)
+  leads_on (Err x) a b store current fs g k = tt
 
-pub test_wants : {A S : Type 0} (result : Result A (Exit S)) (fuel : ℕ) → 0 < fuel → IfErr result (IsWant fuel) → IfErr result (λ x. x ≡ exit.OutOfMemory)
-test_wants (Ok a) fuel h w = tt
-test_wants (Err x) fuel h w = memory_wanted fuel x h w
+  pub kept_on : {S : Type 0} (result : Result Focus (Exit S)) (a b : Place) (store : Store) → Leads rules p a b → IfErr result (λ _. IsKept p b store) → IfErr result (λ _. IsKept p a store)
+  kept_on (Ok f) a b store g k = tt
+  kept_on (Err x) a b store g k = λ h. let one = g h in let z = k one.holds in (z.0, within _ _ _ z.1 one.fuel)
 
-module _ {T S : Type 0} (rules : HostRules T) (p : Code.Program) (store : Store) (current : Current) (fs : List Frame) (test : Bor Expr) (block : Bor (List Stmt)) where
+module _ (p : Program) where
+  -- the same store is kept
+  pub same_kept : (a : Place) → IsKept p a a.store
+  same_kept a = λ h. (h.globals, still a.store.fuel)
+
+  pub if_kept : {A S : Type 0} (result : Result A (Exit S)) (a : Place) → IfErr result (λ _. IsKept p a a.store)
+  if_kept (Ok x) a = tt
+  if_kept (Err x) a = same_kept a
+
+  -- no memory, where the store is kept
+  pub if_wanting : {S : Type 0} (result : Result Focus (Exit S)) (a : Place) (store : Store) → IfErr result (λ x. x ≡ exit.OutOfMemory) → IfErr result (λ _. IsKept p a store) → IfErr result (EndsWanting p a store)
+  if_wanting (Ok f) a store e k = tt
+  if_wanting (Err x) a store e k = rw e k
+
+  -- where units are left, the want is one of memory
+  wanted : {S : Type 0} (a : Place) (store : Store) (x : Exit S) → 0 < a.store.fuel → EndsWanting p a store x → (x ≡ exit.OutOfMemory) × IsKept p a store
+  wanted a store (exit.Throw v) h w = absurd w
+  wanted a store (exit.Return v) h w = absurd w
+  wanted a store exit.Fuel h w = let z = w.0 in absurd (omega (arith, h, z))
+  wanted a store (exit.Host stop) h w = absurd w
+  wanted a store exit.OutOfMemory h w = (refl, w)
+
+  pub test_wants : {S : Type 0} (result : Result Focus (Exit S)) (a : Place) (store : Store) → 0 < a.store.fuel → IfErr result (EndsWanting p a store) → IfErr result (λ x. x ≡ exit.OutOfMemory)
+  test_wants (Ok f) a store h w = tt
+  test_wants (Err x) a store h w = (wanted a store x h w).0
+
+  pub test_keeps : {S : Type 0} (result : Result Focus (Exit S)) (a : Place) (store : Store) → 0 < a.store.fuel → IfErr result (EndsWanting p a store) → IfErr result (λ _. IsKept p a store)
+  test_keeps (Ok f) a store h w = tt
+  test_keeps (Err x) a store h w = (wanted a store x h w).1
+
+module _ {T : Type 0} (rules : HostRules T) (p : Code.Program) (store : Store) (current : Current) (fs : List Frame) (test : Bor Expr) (block : Bor (List Stmt)) where
   -- the condition is next, and the loop waits for it
-  pub turn_pushed : (result : Result Focus (Exit S)) (fs1 : List Frame) → IfOk result (λ _. fs1 ≡ frame.Test test block ∷ fs) → IfOk result (λ x. x ≡ focus.Expr test)
+  pub turn_pushed : {S : Type 0} (result : Result Focus (Exit S)) (fs1 : List Frame) → IfOk result (λ _. fs1 ≡ frame.Test test block ∷ fs) → IfOk result (λ x. x ≡ focus.Expr test)
       → IfOk result (λ f. (v : Value) → Leads rules (seen_program p) (turned store current test block fs v) (place store current fs1 f))
   turn_pushed (Ok x) fs1 a b = λ v. rw (a, b) (λ h. turn_goes rules (seen_program p) store current fs test test block block v refl refl h)
   turn_pushed (Err x) fs1 a b = tt
 
   -- the condition has its value at once
-  pub turn_entered : (result : Result Focus (Exit S)) (store1 : Store) (fs1 : List Frame) (value : Value) → direct_there p store current test.now ≡ Some (seen value)
-      → IfOk result (λ f. (q : Program) (now : Current) → Holds q (place store now (frame.Test test block ∷ fs) (focus.Value value)) → Goes rules q (place store now (frame.Test test block ∷ fs) (focus.Value value)) (place store1 now fs1 f))
-      → IfOk result (λ f. (v : Value) → Leads rules (seen_program p) (turned store current test block fs v) (place store1 current fs1 f))
-  turn_entered (Ok f) store1 fs1 value d m = λ v. turn_tests rules p store current fs test block v value (place store1 current fs1 f) d (m (seen_program p) current)
-  turn_entered (Err x) store1 fs1 value d m = tt
+  pub turn_leads : {S : Type 0} (result : Result Focus (Exit S)) (store1 : Store) (current1 : Current) (fs1 : List Frame) (value : Value) → direct_there p store current test.now ≡ Some (seen value)
+      → IfOk result (λ f. Leads rules (seen_program p) (tested_at store current test block fs value) (place store1 current1 fs1 f)) → IfOk result (λ f. (v : Value) → Leads rules (seen_program p) (turned store current test block fs v) (place store1 current1 fs1 f))
+  turn_leads (Ok f) store1 current1 fs1 value d k = λ v h. let one = turn_tests rules p store current fs test block v value d h in goes_trans rules (seen_program p) _ _ _ one (k one.holds)
+  turn_leads (Err x) store1 current1 fs1 value d k = tt
+
+  pub turn_keeps : {S : Type 0} (result : Result Focus (Exit S)) (store1 : Store) (value : Value) → direct_there p store current test.now ≡ Some (seen value)
+      → IfErr result (λ _. IsKept (seen_program p) (tested_at store current test block fs value) store1) → IfErr result (λ _. (v : Value) → IsKept (seen_program p) (turned store current test block fs v) store1)
+  turn_keeps (Ok f) store1 value d k = tt
+  turn_keeps (Err x) store1 value d k = λ v h. let one = turn_tests rules p store current fs test block v value d h in let z = k one.holds in (z.0, within _ _ _ z.1 one.fuel)
+
+  -- the condition holds, and a unit is taken
+  pub test_enters : (v : Value) (store1 : Store) (fs1 : List Frame) (k : ℕ) → bool_in (seen v) ≡ Some true → store.fuel ≡ suc k → store1 ≡ record store { fuel = k } → fs1 ≡ frame.Turn test block ∷ fs
+      → Leads rules (seen_program p) (tested_at store current test block fs v) (place store1 current fs1 (focus.Block block))
+  test_enters v store1 fs1 k q u s a = rw a (λ h. test_true rules (seen_program p) store current fs store1 test block v k q u s h)
 
   -- whatever value the turn ended with
-  pub turn_at : (result : Result Focus (Exit S)) (store1 : Store) (fs1 : List Frame) (v : Value) → IfOk result (λ f. (v : Value) → Leads rules (seen_program p) (turned store current test block fs v) (place store1 current fs1 f))
-      → IfOk result (λ f. Leads rules (seen_program p) (turned store current test block fs v) (place store1 current fs1 f))
-  turn_at (Ok f) store1 fs1 v h = h v
-  turn_at (Err x) store1 fs1 v h = tt
+  pub turn_at : {S : Type 0} (result : Result Focus (Exit S)) (store1 : Store) (current1 : Current) (fs1 : List Frame) (v : Value) → IfOk result (λ f. (v : Value) → Leads rules (seen_program p) (turned store current test block fs v) (place store1 current1 fs1 f))
+      → IfOk result (λ f. Leads rules (seen_program p) (turned store current test block fs v) (place store1 current1 fs1 f))
+  turn_at (Ok f) store1 current1 fs1 v k = k v
+  turn_at (Err x) store1 current1 fs1 v k = tt
+
+module _ (p : Program) (store : Store) (current : Current) (fs : List Frame) (test : Bor Expr) (block : Bor (List Stmt)) where
+  pub turn_kept : {S : Type 0} (result : Result Focus (Exit S)) → IfErr result (λ _. (v : Value) → IsKept p (turned store current test block fs v) store)
+  turn_kept (Ok f) = tt
+  turn_kept (Err x) = λ v. same_kept p (turned store current test block fs v)
+
+  pub turn_kept_at : {S : Type 0} (result : Result Focus (Exit S)) (store1 : Store) (v : Value) → IfErr result (λ _. (v : Value) → IsKept p (turned store current test block fs v) store1) → IfErr result (λ _. IsKept p (turned store current test block fs v) store1)
+  turn_kept_at (Ok f) store1 v k = tt
+  turn_kept_at (Err x) store1 v k = k v

@@ -35,11 +35,12 @@ use Rattle.page_interp.specs.declared.stack.Frame.{Frame}
 use Rattle.page_interp.specs.declared.stack.Frame.TheVariants as frame
 use Rattle.page_interp.specs.Runs.{Left, ends, refused, no_memory, gives, throws, returns, no_fuel, WhereSettled, IsUnsettled, variables_of, machine_of, IsReady, Runs, outside, moment_of, exit_left, call_left, func_of, caller_of, around_of, call_given, count_of_functions}
 use Rattle.page_interp.specs.Sizes.{program_size}
+use Rattle.page_interp.specs.AtOnce.{Leads, EndsWanting, tested_at}
 use Rattle.page_interp.specs.Frames.{does, first, goes_on, resumes, waiting_at, Leaves, IsBody, call_body, call_variables, FocusIsSound, focus_size, depth_of, after_all, meaning_at, state_at, HaveTurns, focus_weight, frames_weight, steps_left, place, Place, Holds, Goes, Moves, IsWant, Opens, IsUncalled, IsCallable, Stood, Gets, Advances, Finishes, Steps}
 use Rattle.page_interp.proofs.Steps.{still}
 use Rattle.page_interp.proofs.Calls.{given_none, given_some, deep_call, dry_call}
-use Rattle.page_interp.proofs.FrameSteps.{after_dry, turns_less, test_true}
-use Rattle.page_interp.proofs.AskSteps.{asks_trans, asks_same, asks_runs, never_settled, goes_advances, halts_finishes, memory_finishes, dry_finishes}
+use Rattle.page_interp.proofs.FrameSteps.{after_dry, turns_less}
+use Rattle.page_interp.proofs.AskSteps.{asks_trans, asks_same, asks_runs, never_settled, goes_advances, halts_finishes, memory_ends, memory_finishes, dry_finishes}
 use Rattle.page_interp.proofs.OpenSteps.{call_opens as call_opens_at, variables_numbered, body_small}
 use Rattle.page_interp.proofs.Bodies.{bound_numbered}
 use Rattle.page_interp.proofs.Numbered.{all_append}
@@ -79,24 +80,21 @@ module _ {T S : Type 0} (rules : HostRules T) (leaves : Ask → T → T → Type
       (record { means = λ ns k host. refl; own = tt; fuel = still store.fuel; dry = tt; globals = st.holds.globals; numbered = st.holds.focus; outermost = refl })
 
   -- no unit for a turn of a loop
-  test_ends : (store store1 : Store) (current : Current) (fs : List Frame) (e : Bor Expr) (b : Bor (List Stmt)) (v : Value) (x : Exit S) (ts : List ℕ) → IsWant store.fuel x → bool_in (seen v) ≡ Some true → store1.globals ≡ store.globals → store1.fuel ≤ store.fuel
-      → Stood rules leaves p ts h (place store current (frame.Test e b ∷ fs) (focus.Value v)) → Finishes rules leaves p ts (λ d. does d (focus.Value v)) h (place store current (frame.Test e b ∷ fs) (focus.Value v)) x h store1
+  test_ends : (store store1 : Store) (current : Current) (fs : List Frame) (e : Bor Expr) (b : Bor (List Stmt)) (v : Value) (x : Exit S) (ts : List ℕ) → EndsWanting p (tested_at store current e b fs v) store1 x → bool_in (seen v) ≡ Some true
+      → Stood rules leaves p ts h (tested_at store current e b fs v) → Finishes rules leaves p ts (λ d. does d (focus.Value v)) h (tested_at store current e b fs v) x h store1
   unfolding meaning_at
-  test_ends store store1 current fs e b v exit.Fuel ts w q g l st =
-      let none : store1.fuel ≡ store.fuel = omega (arith, l, w) in
-      halts_finishes rules leaves p ts h (place store current (frame.Test e b ∷ fs) (focus.Value v)) exit.Fuel store1 st
-      (record { means = λ ns k host. rw (q, w) (after_dry rules p fs (without_first ns) _ _ _ host ∙ rw (g, none, w) refl); own = tt; fuel = l; dry = omega (arith, l, w); globals = rw g st.holds.globals; numbered = tt; outermost = tt })
-  test_ends store store1 current fs e b v exit.OutOfMemory ts w q g l st = memory_finishes rules leaves p ts (λ d. does d (focus.Value v)) h (place store current (frame.Test e b ∷ fs) (focus.Value v)) store1 st.ready g l
-  test_ends store store1 current fs e b v (exit.Throw d) ts w q g l st = absurd w
-  test_ends store store1 current fs e b v (exit.Return d) ts w q g l st = absurd w
-  test_ends store store1 current fs e b v (exit.Host stop) ts w q g l st = absurd w
+  test_ends store store1 current fs e b v exit.Fuel ts w q st = rw w.1 (halts_finishes rules leaves p ts h (tested_at store current e b fs v) exit.Fuel store st
+      (record { means = λ ns k host. rw (q, w.0) (after_dry rules p fs (without_first ns) _ _ _ host); own = tt; fuel = still store.fuel; dry = w.0; globals = st.holds.globals; numbered = tt; outermost = tt }))
+  test_ends store store1 current fs e b v exit.OutOfMemory ts w q st = let k = w st.holds in memory_ends rules leaves p ts (λ d. does d (focus.Value v)) h (tested_at store current e b fs v) store1 st.ready k.0 k.1
+  test_ends store store1 current fs e b v (exit.Throw d) ts w q st = absurd w
+  test_ends store store1 current fs e b v (exit.Return d) ts w q st = absurd w
+  test_ends store store1 current fs e b v (exit.Host stop) ts w q st = absurd w
 
-  pub steps_test : (result : Result Focus (Exit S)) (store store1 : Store) (current : Current) (fs fs1 : List Frame) (e : Bor Expr) (b : Bor (List Stmt)) (v : Value)
-      → IfOk result (λ f. (p : Program) (current : Current) → Holds p (place store current (frame.Test e b ∷ fs) (focus.Value v)) → Goes rules p (place store current (frame.Test e b ∷ fs) (focus.Value v)) (place store1 current fs1 f))
-      → IfErr result (IsWant store.fuel) → IfErr result (λ _. bool_in (seen v) ≡ Some true) → store1.globals ≡ store.globals → store1.fuel ≤ store.fuel
-      → Steps rules leaves p h (place store current (frame.Test e b ∷ fs) (focus.Value v)) result h store1 current fs1
-  steps_test (Ok f) store store1 current fs fs1 e b v m w q g l = step_goes (place store current (frame.Test e b ∷ fs) (focus.Value v)) (place store1 current fs1 f) (m p current)
-  steps_test (Err x) store store1 current fs fs1 e b v m w q g l = λ ts st. test_ends store store1 current fs e b v x ts w q g l st
+  pub steps_test : (result : Result Focus (Exit S)) (store store1 : Store) (current current1 : Current) (fs fs1 : List Frame) (e : Bor Expr) (b : Bor (List Stmt)) (v : Value)
+      → IfOk result (λ f. Leads rules p (tested_at store current e b fs v) (place store1 current1 fs1 f)) → IfErr result (EndsWanting p (tested_at store current e b fs v) store1) → IfErr result (λ _. bool_in (seen v) ≡ Some true)
+      → Steps rules leaves p h (tested_at store current e b fs v) result h store1 current1 fs1
+  steps_test (Ok f) store store1 current current1 fs fs1 e b v m w q = step_goes (tested_at store current e b fs v) (place store1 current1 fs1 f) m
+  steps_test (Err x) store store1 current current1 fs fs1 e b v m w q = λ ts st. test_ends store store1 current fs e b v x ts w q st
 
   -- a call of what a name stood for
   call_ends : (store store1 : Store) (current : Current) (fs : List Frame) (o : Option Value) (vs : Vec Value Global) (x : Exit S) (ts : List ℕ) → IsWant store.fuel x → IsCallable current.depth (option_map seen o) → store1.globals ≡ store.globals → store1.fuel ≤ store.fuel
@@ -284,9 +282,3 @@ steps_ok (Err y) x P q h = tt
 pub fewer_left : {T S : Type 0} (rules : HostRules T) (leaves : Ask → T → T → Type 0) (p : Program) (ts : List ℕ) (h h1 : HostNow T S) (b c : Place) → Advances rules leaves p ts (λ d. does d b.focus) (focus_weight b.focus) h b h1 c → steps_left p c < steps_left p b
 unfolding steps_left
 fewer_left rules leaves p ts h h1 b c a = a.fewer
-
-pub test_enters : {T S : Type 0} (rules : HostRules T) (result : Result Focus (Exit S)) (store store1 : Store) (fs fs1 : List Frame) (e : Bor Expr) (b : Bor (List Stmt)) (v : Value) (k : ℕ) → bool_in (seen v) ≡ Some true → store.fuel ≡ suc k → store1 ≡ record store { fuel = k }
-    → IfOk result (λ _. fs1 ≡ frame.Turn e b ∷ fs) → IfOk result (λ x. x ≡ focus.Block b)
-    → IfOk result (λ f. (p : Program) (current : Current) → Holds p (place store current (frame.Test e b ∷ fs) (focus.Value v)) → Goes rules p (place store current (frame.Test e b ∷ fs) (focus.Value v)) (place store1 current fs1 f))
-test_enters rules (Ok x) store store1 fs fs1 e b v k q u l pu ne = λ p current h. rw (pu, ne) (test_true rules p store current fs store1 e b v k q u l h)
-test_enters rules (Err x) store store1 fs fs1 e b v k q u l pu ne = tt

@@ -11,11 +11,14 @@ use Rattle.lang_ast.specs.declared.tree.Expr.{Expr}
 use Rattle.lang_ast.specs.declared.tree.Stmt.{Stmt}
 use Rattle.lang_ast.specs.declared.tree.Stmt as S
 use Rattle.lang_meaning.specs.HostSteps.{HostRules}
+use Rattle.page_interp.specs.declared.exit.Exit.{Exit}
+use Rattle.page_interp.specs.declared.exit.Exit.TheVariants as exit
 use Rattle.page_interp.specs.declared.exit.Store.{Store}
 use Rattle.page_interp.specs.declared.stack.Current.{Current}
 use Rattle.page_interp.specs.declared.stack.Focus.TheVariants as focus
 use Rattle.page_interp.specs.declared.stack.Frame.{Frame}
 use Rattle.page_interp.specs.declared.stack.Frame.TheVariants as frame
+use Rattle.page_interp.specs.declared.stack.Waiting.{Waiting}
 use Rattle.page_interp.specs.declared.stack.Waiting.TheVariants as waiting
 use Rattle.page_interp.specs.Direct.{direct_there}
 use Rattle.page_interp.specs.Runs.{AreNumberedIn, count_of_functions, globals_in}
@@ -59,6 +62,12 @@ IsKept p a store =
     Holds p a →
     AreNumberedIn (count_of_functions p) (globals_in p store) × (store.fuel ≤ a.store.fuel)
 
+-- no unit of fuel is left and nothing has changed, or no memory
+abbrev pub EndsWanting : {S : Type 0} → Program → Place → Store → Exit S → Type 0
+EndsWanting p a store exit.Fuel = (a.store.fuel ≡ 0) × (store ≡ a.store)
+EndsWanting p a store exit.OutOfMemory = IsKept p a store
+EndsWanting p a store x = ⊥
+
 -- where a loop stands at the end of a turn
 abbrev pub turned : Store → Current → Bor Expr → Bor (List Stmt) → List Frame → Value → Place
 turned store current test block fs v =
@@ -68,6 +77,11 @@ turned store current test block fs v =
 abbrev pub tested_at : Store → Current → Bor Expr → Bor (List Stmt) → List Frame → Value → Place
 tested_at store current test block fs v =
     place store current (frame.Test test block ∷ fs) (focus.Value v)
+
+-- where something waits for a value, which is there
+abbrev pub waited_at : Store → Current → Waiting → List Frame → Value → Place
+waited_at store current waiting fs v =
+    place store current (frame.Wait waiting ∷ fs) (focus.Value v)
 
 -- the frames where these statements wait for the end of the one before them
 abbrev pub before_stmt : Bor (List Stmt) → List Frame → List Frame

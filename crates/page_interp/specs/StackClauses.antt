@@ -2,7 +2,7 @@
 use Rattle.std.specs.Prelude.{◌≡◌, ◌≤◌, ◌+◌, ◌*◌, ◌^◌, ℕ, List, ◌∷◌, map, Option, Result, Vec}
 use Rattle.std.specs.declared.alloc.Global.{Global}
 use Rattle.std.specs.Borrow.{Bor}
-use Rattle.page_types.specs.Tree.{Program, Block}
+use Rattle.page_types.specs.Tree.{Block}
 use Rattle.page_types.specs.declared.Op.{Op}
 use Rattle.page_values.specs.declared.Value.{Value}
 use Rattle.page_values.specs.Seen.{seen}
@@ -24,7 +24,7 @@ use Rattle.page_interp.specs.declared.stack.Frame.{Frame}
 use Rattle.page_interp.specs.declared.stack.Frame.TheVariants as frame
 use Rattle.page_interp.specs.declared.stack.Purpose.{Purpose}
 use Rattle.page_interp.specs.declared.stack.Waiting.{Waiting}
-use Rattle.page_interp.specs.AtOnce.{Leads, Brings, before_stmt, branches, turned, tested_at}
+use Rattle.page_interp.specs.AtOnce.{Leads, Brings, before_stmt, branches, turned, tested_at, waited_at}
 use Rattle.page_interp.specs.Clauses.{script, count_in}
 use Rattle.page_interp.specs.CodeNames.{function_at}
 use Rattle.page_interp.specs.Frames.{Place, Holds, Moves, Opens, Stood, Steps, Answering, MayCome, Leaves, Finishes, stacked, place, waiting_at, moment_at, tickets_in, does, steps_on, resumes, call_names, call_variables, call_body, AreSeenNumbered}
@@ -105,20 +105,27 @@ LeadsBefore rules code rest f store current old new = λ f'.
     Leads rules (script code) (place store current (before_stmt rest (stacked old.items)) f)
     (stand store current new f')
 
+-- it leads on from a value that comes back to what waits for it
+abbrev pub WaitLeads : {T : Type 0} → HostRules T → Code.Program → Waiting → Value
+    → Store → Current → Vec Frame Global → Store → Current → Vec Frame Global → Focus → Type 0
+WaitLeads rules code waiting v store current stack store' current' stack' = λ f'.
+    Leads rules (script code) (waited_at store current waiting (stacked stack.items) v)
+    (stand store' current' stack' f')
+
 -- it leads on from the value of a loop's condition
-abbrev pub TestLeads : {T : Type 0} → HostRules T → Bor Expr → Bor (List Stmt) → Value
-    → Store → Vec Frame Global → Store → Vec Frame Global → Focus → Type 0
-TestLeads rules test block v store stack store' stack' = λ f'. (p : Program) (current : Current) →
-    Leads rules p (tested_at store current test block (stacked stack.items) v)
-    (stand store' current stack' f')
+abbrev pub TestLeads : {T : Type 0} → HostRules T → Code.Program
+    → Bor Expr → Bor (List Stmt) → Value
+    → Store → Current → Vec Frame Global → Store → Current → Vec Frame Global → Focus → Type 0
+TestLeads rules code test block v store current stack store' current' stack' = λ f'.
+    Leads rules (script code) (tested_at store current test block (stacked stack.items) v)
+    (stand store' current' stack' f')
 
 -- it leads on from the end of a loop's turn
-abbrev pub TurnLeads : {T : Type 0} → HostRules T → Code.Program → Current
-    → Bor Expr → Bor (List Stmt)
-    → Store → Vec Frame Global → Store → Vec Frame Global → Focus → Type 0
-TurnLeads rules code current test block store stack store' stack' = λ f'. (v : Value) →
+abbrev pub TurnLeads : {T : Type 0} → HostRules T → Code.Program → Bor Expr → Bor (List Stmt)
+    → Store → Current → Vec Frame Global → Store → Current → Vec Frame Global → Focus → Type 0
+TurnLeads rules code test block store current stack store' current' stack' = λ f'. (v : Value) →
     Leads rules (script code) (turned store current test block (stacked stack.items) v)
-    (stand store' current stack' f')
+    (stand store' current' stack' f')
 
 -- ---- A call
 

@@ -1,24 +1,26 @@
-//! Steps that are done at once where an expression calls nothing: the arguments of a row, and the
-//! condition of a loop.
+//! Steps that are done at once: the arguments of a row and the condition of a loop, where they call
+//! nothing, and the beginning of a loop's block.
 
-ghost use Rattle.std.specs.Prelude.{◌≡◌, ◌≤◌, true, Some, IfOk, IfErr, IfSome};
+ghost use Rattle.std.specs.Prelude.{◌≡◌, true, Some, IfOk, IfErr, IfSome};
 ghost use Rattle.page_parts.specs.Kinds.{bool_in};
+ghost use Rattle.page_values.specs.declared.Value.{Value};
 ghost use Rattle.page_values.specs.Seen.{seen};
-ghost use Rattle.page_interp.specs.AtOnce.{HasFirst};
-ghost use Rattle.page_interp.specs.Frames.{IsWant, IsSet};
+ghost use Rattle.page_interp.specs.AtOnce.{HasFirst, IsKept, EndsWanting, tested_at, turned};
+ghost use Rattle.page_interp.specs.Clauses.{script};
+ghost use Rattle.page_interp.specs.Frames.{IsSet, stacked};
 ghost use Rattle.page_interp.specs.StackClauses.{LeadsOn, RowBrings, TestLeads, TurnLeads};
 ghost use Rattle.page_interp.specs.declared.exit.Exit.TheVariants as exit;
 ghost use Rattle.page_interp.specs.declared.stack.Focus.TheVariants as focus;
 
+use crate::blocks::into_block;
 use crate::code::Code;
 use crate::direct::direct_value;
 use crate::exit::{Exit, Store};
 use crate::expressions::from_row;
-use crate::stack::{Current, Focus, Frame, Purpose, within};
+use crate::stack::{Current, Focus, Frame, Purpose, push, within};
 use crate::variables::assign;
 use lang_ast::{Expr, Host, Named, Stmt};
 use page_values::{FaultName, MemoryFault, Value, as_bool, fault};
-use std::alloc::Global;
 
 /// A variable takes a value.
 pub fn set<'c>(
@@ -40,32 +42,34 @@ pub fn set<'c>(
     );
 }
 
-/// The condition of a loop: its block is next, with a unit less.
+/// From the value of a loop's condition: its block is done from there at once, with a unit less.
 pub fn into_test<'c, H: Host>(
-    alloc: Global,
+    code: &Code,
     store: &mut Store,
+    current: &mut Current<'c>,
     stack: &mut Vec<Frame<'c>>,
-    value: Value,
+    value: &Value,
     test: &'c Expr,
     block: &'c [Stmt],
 ) -> Result<Focus<'c>, Exit<H::Stop>>
-    ensures ok { IfOk result (TestLeads H.rules test.entry block.entry value
-        store.old stack.old store.new stack.new) }
-    ensures err { IfErr result (IsWant store.old.fuel) }
-    ensures enters { IfErr result (λ _. bool_in (seen value) ≡ Some true) }
-    ensures globals { store.new.globals ≡ store.old.globals }
-    ensures fuel { store.new.fuel ≤ store.old.fuel }
+    ensures ok { IfOk result (TestLeads H.rules code.now test.entry block.entry value.now
+        store.old current.old stack.old store.new current.new stack.new) }
+    ensures err { IfErr result (EndsWanting (script code.now)
+        (tested_at store.old current.old test.entry block.entry (stacked stack.old.items) value.now)
+        store.new) }
+    ensures enters { IfErr result (λ _. bool_in (seen value.now) ≡ Some true) }
 {
-    match as_bool(&value) {
+    match as_bool(value) {
         Some(true) => {
             if store.fuel == 0 {
                 return Err(Exit::Fuel);
             }
             store.fuel -= 1;
-            within(stack, Frame::Turn(test, block), Focus::Block(block))
+            push(stack, Frame::Turn(test, block))?;
+            into_block::<H>(code, store, current, stack, block)
         }
         Some(false) => Ok(Focus::Value(Value::Unit)),
-        None => Ok(Focus::Throw(fault(alloc, FaultName::TypeError))),
+        None => Ok(Focus::Throw(fault(code.alloc(), FaultName::TypeError))),
     }
 }
 
@@ -137,22 +141,27 @@ pub fn next_in_row<'c, H: Host>(
 pub fn next_turn<'c, H: Host>(
     code: &Code,
     store: &mut Store,
-    current: &Current,
+    current: &mut Current<'c>,
     stack: &mut Vec<Frame<'c>>,
     test: &'c Expr,
     block: &'c [Stmt],
 ) -> Result<Focus<'c>, Exit<H::Stop>>
-    ensures ok { IfOk result (TurnLeads H.rules code.now current.now test.entry block.entry
-        store.old stack.old store.new stack.new) }
+    ensures ok { IfOk result (TurnLeads H.rules code.now test.entry block.entry
+        store.old current.old stack.old store.new current.new stack.new) }
     ensures err { IfErr result (λ x. x ≡ exit.OutOfMemory) }
-    ensures globals { store.new.globals ≡ store.old.globals }
-    ensures fuel { store.new.fuel ≤ store.old.fuel }
+    ensures kept { IfErr result (λ _. (v : Value) → IsKept (script code.now)
+        (turned store.old current.old test.entry block.entry (stacked stack.old.items) v)
+        store.new) }
 {
     if store.fuel == 0 {
         return within(stack, Frame::Test(test, block), Focus::Expr(test));
     }
     match direct_value(code, store, current, test) {
-        Ok(Some(value)) => into_test::<H>(code.alloc(), store, stack, value, test, block),
+        Ok(Some(value)) => {
+            let next = into_test::<H>(code, store, current, stack, &value, test, block);
+            drop(value);
+            next
+        }
         Ok(None) => within(stack, Frame::Test(test, block), Focus::Expr(test)),
         Err(_) => Err(Exit::OutOfMemory),
     }

@@ -47,7 +47,8 @@ fn into_and<'c, H: Host>(
     value: &Value,
     rest: &'c [Expr],
 ) -> Result<Focus<'c>, Exit<H::Stop>>
-    ensures ok { IfOk result (Takes H.rules value.now (waiting.And rest.entry) stack.old stack.new) }
+    ensures ok { IfOk result (Takes H.rules value.now (waiting.And rest.entry)
+        stack.old stack.new) }
     ensures err { IfErr result (λ x. x ≡ exit.OutOfMemory) }
 {
     match as_bool(value) {

@@ -4,24 +4,24 @@ use Rattle.page_values.specs.Seen.{seen}
 use Rattle.lang_meaning.specs.HostSteps.{CallbackValue}
 use Rattle.page_interp.specs.declared.stack.Focus.TheVariants as focus
 use Rattle.page_interp.proofs.FrameSteps.{try_value, close_value, assign_goes}
-use Rattle.page_interp.proofs.AtOnce.{turn_at}
-use Rattle.page_interp.proofs.RunSteps.{steps_moves, steps_goes, step_goes, value_ends, steps_test, host_popped, host_steps}
+use Rattle.page_interp.proofs.AtOnce.{steps_leads, turn_at, turn_kept_at}
+use Rattle.page_interp.proofs.RunSteps.{step_goes, value_ends, steps_test, host_popped, host_steps}
 use Rattle.page_interp.proofs.stepping.from_value.Goals as goal
 
 pub returns-in-None : goal.returns-in-None
 returns-in-None g c = rw c.in-None.ensures.none (λ ts st. value_ends g.H.Host.rules g.H.Host.leaves (seen_program c.args.code.now) (g.H.Host.now c.args.host.now) _ _ _ ts st)
 
 pub returns-in-Some-Wait : goal.returns-in-Some-Wait
-returns-in-Some-Wait g c = let e = rw c.in-Some-Wait.field-0-is at c.in-Some-Wait.ensures.some in rw e (steps_moves g.H.Host.rules g.H.Host.leaves (seen_program c.args.code.now) (g.H.Host.now c.args.host.now) c.receive.result c.args.store.now c.args.current.now _ _ _ c.receive.ensures.ok c.receive.ensures.err)
+returns-in-Some-Wait g c = let e = rw c.in-Some-Wait.field-0-is at c.in-Some-Wait.ensures.some in rw e (steps_leads g.H.Host.rules g.H.Host.leaves (seen_program c.args.code.now) (g.H.Host.now c.args.host.now) c.from_waiting.result _ _ _ _ c.from_waiting.ensures.ok c.from_waiting.ensures.err c.from_waiting.ensures.kept)
 
 pub returns-in-Some-Assign : goal.returns-in-Some-Assign
 returns-in-Some-Assign g c = let e = rw c.in-Some-Assign.field-0-is at c.in-Some-Assign.ensures.some in rw e (step_goes g.H.Host.rules g.H.Host.leaves (seen_program c.args.code.now) (g.H.Host.now c.args.host.now) _ _ (assign_goes g.H.Host.rules _ c.args.store.now c.args.current.now _ _ _ _ _ c.set.ensures.names c.set.ensures.depth c.set.ensures.locals c.set.ensures.globals c.set.ensures.fuel))
 
 pub returns-in-Some-Test : goal.returns-in-Some-Test
-returns-in-Some-Test g c = let e = rw c.in-Some-Test.field-0-is at c.in-Some-Test.ensures.some in rw e (steps_test g.H.Host.rules g.H.Host.leaves (seen_program c.args.code.now) (g.H.Host.now c.args.host.now) c.into_test.result _ _ _ _ _ _ _ _ c.into_test.ensures.ok c.into_test.ensures.err c.into_test.ensures.enters c.into_test.ensures.globals c.into_test.ensures.fuel)
+returns-in-Some-Test g c = let e = rw c.in-Some-Test.field-0-is at c.in-Some-Test.ensures.some in rw e (steps_test g.H.Host.rules g.H.Host.leaves (seen_program c.args.code.now) (g.H.Host.now c.args.host.now) c.into_test-next.result _ _ _ _ _ _ _ _ _ c.into_test-next.ensures.ok c.into_test-next.ensures.err c.into_test-next.ensures.enters)
 
 pub returns-in-Some-Turn : goal.returns-in-Some-Turn
-returns-in-Some-Turn g c = let e = rw c.in-Some-Turn.field-0-is at c.in-Some-Turn.ensures.some in rw e (steps_goes g.H.Host.rules g.H.Host.leaves (seen_program c.args.code.now) (g.H.Host.now c.args.host.now) c.next_turn.result _ _ _ _ (turn_at g.H.Host.rules c.args.code.now c.args.store.now c.args.current.now _ _ _ c.next_turn.result _ _ c.args.value c.next_turn.ensures.ok) c.next_turn.ensures.err c.next_turn.ensures.globals c.next_turn.ensures.fuel)
+returns-in-Some-Turn g c = let e = rw c.in-Some-Turn.field-0-is at c.in-Some-Turn.ensures.some in rw e (steps_leads g.H.Host.rules g.H.Host.leaves (seen_program c.args.code.now) (g.H.Host.now c.args.host.now) c.next_turn.result _ _ _ _ (turn_at g.H.Host.rules c.args.code.now c.args.store.now c.args.current.now _ _ _ c.next_turn.result _ _ _ c.args.value c.next_turn.ensures.ok) c.next_turn.ensures.err (turn_kept_at (seen_program c.args.code.now) c.args.store.now c.args.current.now _ _ _ c.next_turn.result c.next_turn.new.store c.args.value c.next_turn.ensures.kept))
 
 pub returns-in-Some-Try : goal.returns-in-Some-Try
 returns-in-Some-Try g c = let e = rw c.in-Some-Try.field-0-is at c.in-Some-Try.ensures.some in rw e (step_goes g.H.Host.rules g.H.Host.leaves (seen_program c.args.code.now) (g.H.Host.now c.args.host.now) _ _ (try_value g.H.Host.rules _ c.args.store.now c.args.current.now _ _ _ _))
