@@ -1,6 +1,7 @@
 //! Host closures in a table: each is called at most once, and answers by the relation of its kind.
 
 use crate::answers::{GREATEST_HALF, double, fail, negate};
+use crate::rows::expect_met;
 use host_jobs::{Fired, HostKind, HostOnce, HostTable};
 use std::alloc::{AllocError, Global};
 use std::cell::Cell;
@@ -10,22 +11,9 @@ use std::test::Fail;
 
 // Fires each closure on its number.
 fn fire_each(rt: &impl Abort, table: &mut HostTable, calls: &[(u32, i64, Fired)]) {
-    for (k, x, fired) in calls {
-        assert_eq!(rt; table.fire(*k, *x), *fired, "{k} on {x}");
+    for (number, (k, x, fired)) in calls.iter().enumerate() {
+        expect_met(rt, table.fire(*k, *x) == *fired, number);
     }
-}
-
-// A table of two closures.
-fn table_of(
-    rt: &impl Abort,
-    alloc: Global,
-    first: HostOnce,
-    second: HostOnce,
-) -> Result<HostTable, Fail> {
-    let mut table = HostTable::new(alloc);
-    assert_eq!(rt; table.push(first)?, 0);
-    assert_eq!(rt; table.push(second)?, 1);
-    Ok(table)
 }
 
 fn answering_41(alloc: Global) -> Result<HostOnce, AllocError> {
@@ -39,8 +27,12 @@ fn failing(alloc: Global) -> Result<HostOnce, AllocError> {
 }
 
 // Closure 0 answers 41 on each number from -5 to 5, and closure 1 fails with its number.
-fn any_and_fail(rt: &impl Abort, alloc: Global) -> Result<HostTable, Fail> {
-    table_of(rt, alloc, answering_41(alloc)?, failing(alloc)?)
+fn any_and_fail(rt: &impl Abort, alloc: Global) -> Result<HostTable, AllocError> {
+    let mut table = HostTable::new(alloc);
+    let first = table.push(answering_41(alloc)?)?;
+    let second = table.push(failing(alloc)?)?;
+    assert!(rt; first == 0 && second == 1);
+    Ok(table)
 }
 
 #[test]
@@ -69,8 +61,12 @@ fn negating(alloc: Global) -> Result<HostOnce, AllocError> {
 }
 
 // Closure 0 doubles, and closure 1 negates.
-fn double_and_negate(rt: &impl Abort, alloc: Global) -> Result<HostTable, Fail> {
-    table_of(rt, alloc, doubling(alloc)?, negating(alloc)?)
+fn double_and_negate(rt: &impl Abort, alloc: Global) -> Result<HostTable, AllocError> {
+    let mut table = HostTable::new(alloc);
+    let first = table.push(doubling(alloc)?)?;
+    let second = table.push(negating(alloc)?)?;
+    assert!(rt; first == 0 && second == 1);
+    Ok(table)
 }
 
 #[test]
@@ -120,13 +116,26 @@ enum Step {
 
 use Step::{Calls, DropJob, Fire, Owners};
 
-fn take(rt: &impl Abort, table: &mut HostTable, calls: &Rc<Cell<u32>>, step: &Step) {
+fn take(table: &mut HostTable, calls: &Rc<Cell<u32>>, step: &Step) -> bool {
     match step {
-        Fire(k, x, fired) => assert_eq!(rt; table.fire(*k, *x), *fired),
-        DropJob(k, was_live) => assert_eq!(rt; table.drop_job(*k), *was_live),
-        Owners(n) => assert_eq!(rt; Rc::strong_count(calls), *n),
-        Calls(n) => assert_eq!(rt; calls.get(), *n),
+        Fire(k, x, fired) => table.fire(*k, *x) == *fired,
+        DropJob(k, was_live) => table.drop_job(*k) == *was_live,
+        Owners(n) => Rc::strong_count(calls) == *n,
+        Calls(n) => calls.get() == *n,
     }
+}
+
+fn take_all(
+    rt: &impl Abort,
+    alloc: Global,
+    calls: &Rc<Cell<u32>>,
+    steps: &[Step],
+) -> Result<(), Fail> {
+    let mut table = two_counting(alloc, calls)?;
+    for (number, step) in steps.iter().enumerate() {
+        expect_met(rt, take(&mut table, calls, step), number);
+    }
+    Ok(())
 }
 
 #[test]
@@ -143,9 +152,5 @@ fn a_dropped_closure_was_never_called(rt: HostRuntime) -> Result<(), Fail> {
         DropJob(2, false),
     ];
     let calls = Rc::new(rt.alloc(), Cell::new(0u32))?;
-    let mut table = two_counting(rt.alloc(), &calls)?;
-    for step in &STEPS {
-        take(&rt, &mut table, &calls, step);
-    }
-    Ok(())
+    take_all(&rt, rt.alloc(), &calls, &STEPS)
 }

@@ -1,5 +1,6 @@
 //! The frame callbacks and idle callbacks of a page, with the moments of its frames.
 
+use crate::rows::expect_met;
 use page_frames::{Micros, PageFrames};
 use std::process::Abort;
 use std::test::Fail;
@@ -14,18 +15,24 @@ enum Step {
 
 use Step::{FrameKeys, NextFrame, RequestFrame, RequestIdle};
 
-fn take(rt: &impl Abort, part: &mut PageFrames, step: &Step) -> Result<(), Fail> {
+fn take(rt: &impl Abort, part: &mut PageFrames, step: &Step) -> Result<bool, Fail> {
     match step {
         RequestFrame(registration, now, handle) => {
             assert!(rt; part.frames_made() < 1000 && *now < 1_000_000);
-            assert_eq!(rt; part.request_frame(*registration, Micros(*now))?, *handle);
+            Ok(part.request_frame(*registration, Micros(*now))? == *handle)
         }
         RequestIdle(registration, handle) => {
             assert!(rt; part.idle_made() < 1000);
-            assert_eq!(rt; part.request_idle(*registration)?, *handle);
+            Ok(part.request_idle(*registration)? == *handle)
         }
-        FrameKeys(handles) => assert_eq!(rt; part.frame_keys()?.as_slice(), *handles),
-        NextFrame(moment) => assert_eq!(rt; part.next_frame(false), Some(Micros(*moment))),
+        FrameKeys(handles) => Ok(part.frame_keys()?.as_slice() == *handles),
+        NextFrame(moment) => Ok(part.next_frame(false) == Some(Micros(*moment))),
+    }
+}
+
+fn take_all(rt: &impl Abort, part: &mut PageFrames, steps: &[Step]) -> Result<(), Fail> {
+    for (number, step) in steps.iter().enumerate() {
+        expect_met(rt, take(rt, part, step)?, number);
     }
     Ok(())
 }
@@ -39,8 +46,7 @@ fn calls_that_take_memory_succeed(rt: HostRuntime) -> Result<(), Fail> {
         NextFrame(49_998),
     ];
     let mut part = PageFrames::new(rt.alloc(), Micros(16_666));
-    for step in &STEPS {
-        take(&rt, &mut part, step)?;
-    }
-    Ok(())
+    let taken = take_all(&rt, &mut part, &STEPS);
+    drop(part);
+    taken
 }

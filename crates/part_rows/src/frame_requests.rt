@@ -1,5 +1,6 @@
 //! Frame callbacks: requested, cancelled, and called frame by frame.
 
+use crate::rows::expect_met;
 use raf_frames::Frames;
 use std::alloc::Global;
 use std::process::Abort;
@@ -22,27 +23,29 @@ enum Step {
 
 use Step::{Begin, Cancel, CancelNumber, IsEmpty, Keys, Made, Next, Request};
 
-fn take(rt: &impl Abort, frames: &mut Frames, step: &Step) -> Result<(), Fail> {
+fn take(rt: &impl Abort, frames: &mut Frames, step: &Step) -> Result<bool, Fail> {
     match step {
         Request(registration, handle) => {
             assert!(rt; frames.made() < 1000);
-            assert_eq!(rt; frames.request(*registration)?, *handle);
+            Ok(frames.request(*registration)? == *handle)
         }
-        Cancel(handle, registration) => assert_eq!(rt; frames.cancel(*handle), *registration),
-        CancelNumber(n, registration) => assert_eq!(rt; frames.cancel_number(*n), *registration),
-        Keys(handles) => assert_eq!(rt; frames.keys()?.as_slice(), *handles),
-        Begin => frames.begin_frame()?,
-        Next(registration) => assert_eq!(rt; frames.next_in_frame(), *registration),
-        IsEmpty(is_empty) => assert_eq!(rt; frames.is_empty(), *is_empty),
-        Made(made) => assert_eq!(rt; frames.made(), *made),
+        Cancel(handle, registration) => Ok(frames.cancel(*handle) == *registration),
+        CancelNumber(n, registration) => Ok(frames.cancel_number(*n) == *registration),
+        Keys(handles) => Ok(frames.keys()?.as_slice() == *handles),
+        Begin => {
+            frames.begin_frame()?;
+            Ok(true)
+        }
+        Next(registration) => Ok(frames.next_in_frame() == *registration),
+        IsEmpty(is_empty) => Ok(frames.is_empty() == *is_empty),
+        Made(made) => Ok(frames.made() == *made),
     }
-    Ok(())
 }
 
 fn take_all(rt: &impl Abort, alloc: Global, steps: &[Step]) -> Result<(), Fail> {
     let mut frames = Frames::new(alloc);
-    for step in steps {
-        take(rt, &mut frames, step)?;
+    for (number, step) in steps.iter().enumerate() {
+        expect_met(rt, take(rt, &mut frames, step)?, number);
     }
     Ok(())
 }

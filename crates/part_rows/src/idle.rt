@@ -1,5 +1,6 @@
 //! Idle callbacks in the order of their requests, and the deadline of an idle period.
 
+use crate::rows::expect_met;
 use idle_periods::{Idle, deadline};
 use page_base::Micros;
 use std::alloc::Global;
@@ -28,35 +29,37 @@ enum Seen {
 use Seen::{Made, Registration, Runnable, Waiting};
 use Step::{Cancel, CancelNumber, FindTimeout, Pop, Request, See, Start};
 
-fn take(rt: &impl Abort, idle: &mut Idle, step: &Step) -> Result<(), Fail> {
+fn take(rt: &impl Abort, idle: &mut Idle, step: &Step) -> Result<bool, Fail> {
     match step {
         Request(registration, handle) => {
             assert!(rt; idle.made() < 1000);
-            assert_eq!(rt; idle.request(*registration)?, *handle);
+            Ok(idle.request(*registration)? == *handle)
         }
-        Cancel(handle, found) => assert_eq!(rt; idle.cancel(*handle), *found),
-        CancelNumber(n, found) => assert_eq!(rt; idle.cancel_number(*n), *found),
-        FindTimeout(handle, found) => assert_eq!(rt; idle.find_timeout(*handle), *found),
-        Start => idle.start()?,
-        Pop(registration) => assert_eq!(rt; idle.pop(), *registration),
-        See(seen) => see(rt, idle, seen),
+        Cancel(handle, found) => Ok(idle.cancel(*handle) == *found),
+        CancelNumber(n, found) => Ok(idle.cancel_number(*n) == *found),
+        FindTimeout(handle, found) => Ok(idle.find_timeout(*handle) == *found),
+        Start => {
+            idle.start()?;
+            Ok(true)
+        }
+        Pop(registration) => Ok(idle.pop() == *registration),
+        See(seen) => Ok(is_seen(idle, seen)),
     }
-    Ok(())
 }
 
-fn see(rt: &impl Abort, idle: &Idle, seen: &Seen) {
+fn is_seen(idle: &Idle, seen: &Seen) -> bool {
     match seen {
-        Registration(handle, found) => assert_eq!(rt; idle.registration(*handle), *found),
-        Waiting(waits) => assert_eq!(rt; idle.waiting(), *waits),
-        Runnable(is_runnable) => assert_eq!(rt; idle.runnable(), *is_runnable),
-        Made(n) => assert_eq!(rt; idle.made(), *n),
+        Registration(handle, found) => idle.registration(*handle) == *found,
+        Waiting(waits) => idle.waiting() == *waits,
+        Runnable(is_runnable) => idle.runnable() == *is_runnable,
+        Made(n) => idle.made() == *n,
     }
 }
 
 fn take_all(rt: &impl Abort, alloc: Global, steps: &[Step]) -> Result<(), Fail> {
     let mut idle = Idle::new(alloc);
-    for step in steps {
-        take(rt, &mut idle, step)?;
+    for (number, step) in steps.iter().enumerate() {
+        expect_met(rt, take(rt, &mut idle, step)?, number);
     }
     Ok(())
 }
@@ -114,14 +117,13 @@ const PERIODS: [(u64, Option<Micros>, Option<Micros>, u64); 5] = [
     (0, Some(Micros(20_000)), Some(Micros(16_666)), 16_666),
 ];
 
+fn ends(start: u64, timer: Option<Micros>, render: Option<Micros>, end: u64) -> bool {
+    start < 1_000_000 && deadline(Micros(start), timer, render) == Micros(end)
+}
+
 #[test]
 fn a_period_ends_before_the_next_timer_and_rendering(rt: HostRuntime) {
-    for (start, timer, render, end) in PERIODS {
-        assert!(rt; start < 1_000_000);
-        assert_eq!(rt;
-            deadline(Micros(start), timer, render),
-            Micros(end),
-            "from {start}"
-        );
+    for (number, (start, timer, render, end)) in PERIODS.iter().enumerate() {
+        expect_met(&rt, ends(*start, *timer, *render, *end), number);
     }
 }

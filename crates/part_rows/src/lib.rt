@@ -35,8 +35,12 @@ mod pure_operations;
 #[cfg(test)]
 mod recorded_answers;
 #[cfg(test)]
+mod rows;
+#[cfg(test)]
 mod script_lines;
 #[cfg(test)]
 mod signals;
+#[cfg(test)]
+mod spellings;
 #[cfg(test)]
 mod timers;

@@ -3,6 +3,7 @@
 ghost use Rattle.std.specs.Prelude.{IsTrue};
 ghost use Rattle.page_values.specs.Texts.{is_text};
 
+use crate::rows::expect_met;
 use page_events::{Dispatch, Listeners, Target};
 use page_values::Str;
 use std::alloc::Global;
@@ -52,17 +53,14 @@ fn text_of(alloc: Global, name: Name) -> Result<Str, Fail> {
     }
 }
 
-// The listeners that a dispatch has still to call.
-fn expect_called(
-    rt: &impl Abort,
-    listeners: &Listeners,
-    dispatch: &mut Dispatch,
-    expected: &[u32],
-) {
+// Whether a dispatch has these listeners still to call.
+fn are_left(listeners: &Listeners, dispatch: &mut Dispatch, expected: &[u32]) -> bool {
     for registration in expected {
-        assert_eq!(rt; listeners.next(dispatch), Some(*registration));
+        if listeners.next(dispatch) != Some(*registration) {
+            return false;
+        }
     }
-    assert_eq!(rt; listeners.next(dispatch), None);
+    listeners.next(dispatch).is_none()
 }
 
 impl Page {
@@ -73,63 +71,73 @@ impl Page {
         }
     }
 
-    fn begin(&mut self, alloc: Global, target: Target, name: Name) -> Result<(), Fail> {
-        let dispatch = self.listeners.begin(target, &text_of(alloc, name)?)?;
-        self.begun.push(dispatch)?;
-        Ok(())
+    fn dispatch(&self, alloc: Global, target: Target, name: Name) -> Result<Dispatch, Fail> {
+        let name = text_of(alloc, name)?;
+        Ok(self.listeners.begin(target, &name)?)
     }
 
-    fn expect_calls(
+    fn add(
+        &mut self,
+        alloc: Global,
+        target: Target,
+        name: Name,
+        registration: u32,
+    ) -> Result<bool, Fail> {
+        let name = text_of(alloc, name)?;
+        self.listeners.add(target, &name, registration)?;
+        Ok(true)
+    }
+
+    fn begin(&mut self, alloc: Global, target: Target, name: Name) -> Result<bool, Fail> {
+        let dispatch = self.dispatch(alloc, target, name)?;
+        self.begun.push(dispatch)?;
+        Ok(true)
+    }
+
+    fn calls(
         &self,
-        rt: &impl Abort,
         alloc: Global,
         target: Target,
         name: Name,
         expected: &[u32],
-    ) -> Result<(), Fail> {
-        let mut dispatch = self.listeners.begin(target, &text_of(alloc, name)?)?;
-        expect_called(rt, &self.listeners, &mut dispatch, expected);
-        Ok(())
+    ) -> Result<bool, Fail> {
+        let mut dispatch = self.dispatch(alloc, target, name)?;
+        Ok(are_left(&self.listeners, &mut dispatch, expected))
     }
 
-    fn expect_next(&mut self, rt: &impl Abort, number: usize, expected: u32) {
+    fn calls_next(&mut self, number: usize, expected: u32) -> bool {
         let Page { listeners, begun } = self;
         match begun.get_mut(number) {
-            Some(dispatch) => assert_eq!(rt; listeners.next(dispatch), Some(expected)),
-            None => panic!(rt; "no dispatch {number}"),
+            Some(dispatch) => listeners.next(dispatch) == Some(expected),
+            None => false,
         }
     }
 
-    fn expect_left(&mut self, rt: &impl Abort, number: usize, expected: &[u32]) {
+    fn has_left(&mut self, number: usize, expected: &[u32]) -> bool {
         let Page { listeners, begun } = self;
         match begun.get_mut(number) {
-            Some(dispatch) => expect_called(rt, listeners, dispatch, expected),
-            None => panic!(rt; "no dispatch {number}"),
+            Some(dispatch) => are_left(listeners, dispatch, expected),
+            None => false,
         }
     }
 
-    fn take(&mut self, rt: &impl Abort, alloc: Global, step: &Step) -> Result<(), Fail> {
+    // Whether a call answers what is wanted.
+    fn take(&mut self, alloc: Global, step: &Step) -> Result<bool, Fail> {
         match step {
-            Add(target, name, registration) => {
-                let name = text_of(alloc, *name)?;
-                self.listeners.add(*target, &name, *registration)?;
-            }
-            Off(registration, was) => assert_eq!(rt; self.listeners.off(*registration), *was),
-            Calls(target, name, expected) => {
-                self.expect_calls(rt, alloc, *target, *name, *expected)?;
-            }
-            Begin(target, name) => self.begin(alloc, *target, *name)?,
-            Next(number, registration) => self.expect_next(rt, *number, *registration),
-            Left(number, expected) => self.expect_left(rt, *number, *expected),
+            Add(target, name, registration) => self.add(alloc, *target, *name, *registration),
+            Off(registration, was) => Ok(self.listeners.off(*registration) == *was),
+            Calls(target, name, expected) => self.calls(alloc, *target, *name, *expected),
+            Begin(target, name) => self.begin(alloc, *target, *name),
+            Next(number, registration) => Ok(self.calls_next(*number, *registration)),
+            Left(number, expected) => Ok(self.has_left(*number, *expected)),
         }
-        Ok(())
     }
 }
 
 fn take_all(rt: &impl Abort, alloc: Global, steps: &[Step]) -> Result<(), Fail> {
     let mut page = Page::new(alloc);
-    for step in steps {
-        page.take(rt, alloc, step)?;
+    for (number, step) in steps.iter().enumerate() {
+        expect_met(rt, page.take(alloc, step)?, number);
     }
     Ok(())
 }
@@ -205,13 +213,39 @@ fn a_number_that_was_added_twice_is_removed_once_for_all(rt: HostRuntime) -> Res
     take_all(&rt, rt.alloc(), &STEPS)
 }
 
-// Each of a hundred thousand listeners is removed, and added again, two to a signal.
-fn move_listeners(rt: &impl Abort, listeners: &mut Listeners, abort: &Str) -> Result<(), Fail> {
+// Each of a hundred thousand signals has a listener.
+fn add_each(listeners: &mut Listeners, abort: &Str) -> Result<(), Fail> {
     for number in 0..100_000u32 {
-        assert!(rt; listeners.off(number));
-        listeners.add(Target::Signal(number / 2), abort, number)?;
+        listeners.add(Target::Signal(number), abort, number)?;
     }
     Ok(())
+}
+
+// Each of these listeners is removed, and added again, two to a signal.
+fn move_each(listeners: &mut Listeners, abort: &Str) -> Result<bool, Fail> {
+    for number in 0..100_000u32 {
+        if !listeners.off(number) {
+            return Ok(false);
+        }
+        listeners.add(Target::Signal(number / 2), abort, number)?;
+    }
+    Ok(true)
+}
+
+fn are_moved(listeners: &Listeners, abort: &Str) -> Result<bool, Fail> {
+    for number in 0..50_000u32 {
+        let mut dispatch = listeners.begin(Target::Signal(number), abort)?;
+        let expected = [number * 2, number * 2 + 1];
+        if !are_left(listeners, &mut dispatch, &expected) {
+            return Ok(false);
+        }
+    }
+    Ok(true)
+}
+
+fn come_and_go(listeners: &mut Listeners, abort: &Str) -> Result<bool, Fail> {
+    add_each(listeners, abort)?;
+    Ok(move_each(listeners, abort)? && are_moved(listeners, abort)?)
 }
 
 #[test]
@@ -220,14 +254,8 @@ fn a_hundred_thousand_signals_have_a_listener_that_is_removed_and_added_again(
 ) -> Result<(), Fail> {
     let abort = text(rt.alloc(), b"abort")?;
     let mut listeners = Listeners::new(rt.alloc());
-    for added in 0..100_000u32 {
-        listeners.add(Target::Signal(added), &abort, added)?;
-    }
-    move_listeners(&rt, &mut listeners, &abort)?;
-    for number in 0..50_000u32 {
-        let mut dispatch = listeners.begin(Target::Signal(number), &abort)?;
-        let expected = [number * 2, number * 2 + 1];
-        expect_called(&rt, &listeners, &mut dispatch, &expected);
-    }
+    let are_moved = come_and_go(&mut listeners, &abort);
+    drop(listeners);
+    assert!(rt; are_moved?);
     Ok(())
 }

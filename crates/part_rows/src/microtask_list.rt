@@ -1,5 +1,6 @@
 //! Jobs that are queued, and the order in which they are taken out.
 
+use crate::rows::expect_met;
 use microtasks::Jobs;
 use std::alloc::Global;
 use std::process::Abort;
@@ -14,19 +15,21 @@ enum Step {
 
 use Step::{HasJob, Pop, Push};
 
-fn take(rt: &impl Abort, jobs: &mut Jobs<u32>, step: &Step) -> Result<(), Fail> {
+fn take(jobs: &mut Jobs<u32>, step: &Step) -> Result<bool, Fail> {
     match step {
-        Push(job) => jobs.push(*job)?,
-        Pop(job) => assert_eq!(rt; jobs.pop(), *job),
-        HasJob(waits) => assert_eq!(rt; jobs.has_job(), *waits),
+        Push(job) => {
+            jobs.push(*job)?;
+            Ok(true)
+        }
+        Pop(job) => Ok(jobs.pop() == *job),
+        HasJob(waits) => Ok(jobs.has_job() == *waits),
     }
-    Ok(())
 }
 
 fn take_all(rt: &impl Abort, alloc: Global, steps: &[Step]) -> Result<(), Fail> {
     let mut jobs = Jobs::<u32>::new(alloc);
-    for step in steps {
-        take(rt, &mut jobs, step)?;
+    for (number, step) in steps.iter().enumerate() {
+        expect_met(rt, take(&mut jobs, step)?, number);
     }
     Ok(())
 }

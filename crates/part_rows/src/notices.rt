@@ -3,6 +3,7 @@
 ghost use Rattle.promise_core.specs.Held.{IsMade};
 ghost use Rattle.page_notices.specs.Steps.{held};
 
+use crate::rows::{expect_bytes, expect_met};
 use page_base::Micros;
 use page_io::MemSink;
 use page_notices::{Job, NextJob, Notices, Reaction, Todo};
@@ -128,13 +129,6 @@ impl Written {
         notices.follow(into, Ok(Value::Int(n)), 0, None, AT, names, lines)
     }
 
-    // A promise that is fulfilled with a number.
-    fn resolved(&mut self, rt: &impl Abort, n: i64) -> Result<u32, Fail> {
-        let p = self.make(rt)?;
-        self.fulfil(rt, p, n)?;
-        Ok(p)
-    }
-
     // The jobs run until there is none.
     fn run_all(&mut self, rt: &impl Abort) -> Result<(), Fail> {
         for _ in 0..20 {
@@ -152,15 +146,23 @@ impl Written {
         Ok(self.notices.note_outstanding(p)?)
     }
 
-    // These are the lines that were written.
-    fn expect(self, rt: &impl Abort, written: &[u8]) {
+    fn queue_micro(
+        &mut self,
+        registration: u32,
+        level: u32,
+        state: Option<u32>,
+    ) -> Result<(), NoLine> {
+        self.notices
+            .queue_micro(registration, level, state, AT, &mut self.lines)
+    }
+
+    fn into_sink(self) -> MemSink {
         let Written {
             notices: _,
             names: _,
             lines,
         } = self;
-        let sink = lines.into_sink();
-        assert_eq!(rt; sink.bytes(), written);
+        lines.into_sink()
     }
 }
 
@@ -180,75 +182,118 @@ fn number_of(rt: &impl Abort, notices: &Notices, of: u32) -> i64 {
     }
 }
 
-// The handlers a, b, c and x have the registrations 1, 2, 3 and 4.
-fn resolve_with_a_promise(page: &mut Written, rt: &impl Abort) -> Result<(), Fail> {
-    let p = page.make(rt)?;
-    let one = page.resolved(rt, 1)?;
-    page.adopt(rt, p, one)?;
-    page.then(rt, p, 4)?;
+// A call on promises, and what it answers.
+enum Call {
+    Make(u32),
+    Fulfil(u32, i64),
+    // The promise cannot be fulfilled, since a line fails.
+    FulfilInVain(u32, i64),
+    Reject(u32, i64),
+    Adopt(u32, u32),
+    // A handler of this promise, with its registration and the promise that it leads into, and
+    // whether the promise was outstanding.
+    Handle(u32, u32, u32, bool),
+    // A handler of this promise, with its registration, and the promise that is made for it.
+    Then(u32, u32, u32),
+    IsHandled(u32),
+    Rejected(&'static [u32]),
+    Note(u32, bool),
+    // A microtask of this registration, with the level and the state that are current.
+    Micro(u32, u32, Option<u32>),
+    Next(Option<NextJob>),
+    RunAll,
+}
+
+use Call::{
+    Adopt, Fulfil, FulfilInVain, Handle, IsHandled, Make, Micro, Next, Note, Reject, Rejected,
+    RunAll, Then,
+};
+
+fn is_handled(rt: &impl Abort, notices: &Notices, p: u32) -> bool {
+    assert_made(rt, notices, p);
+    notices.handled(p)
+}
+
+fn are_rejected(notices: &mut Notices, expected: &[u32]) -> bool {
+    notices.take_rejected().as_slice() == expected
+}
+
+// Whether a call that writes no line answers what is wanted.
+fn is_met(page: &mut Written, rt: &impl Abort, call: &Call) -> Result<bool, Fail> {
+    match call {
+        Make(p) => Ok(page.make(rt)? == *p),
+        Then(p, registration, into) => Ok(page.then(rt, *p, *registration)? == *into),
+        IsHandled(p) => Ok(is_handled(rt, &page.notices, *p)),
+        Rejected(expected) => Ok(are_rejected(&mut page.notices, *expected)),
+        Note(p, was) => Ok(page.note(rt, *p)? == *was),
+        Next(job) => Ok(page.notices.next_job() == *job),
+        _ => Ok(false),
+    }
+}
+
+// Whether a call answers what is wanted.
+fn take(page: &mut Written, rt: &impl Abort, call: &Call) -> Result<bool, Fail> {
+    match call {
+        Fulfil(p, n) => page.fulfil(rt, *p, *n)?,
+        FulfilInVain(p, n) => return Ok(page.fulfil(rt, *p, *n) == Err(NoLine::Failed)),
+        Reject(p, n) => page.reject(rt, *p, *n)?,
+        Adopt(p, other) => page.adopt(rt, *p, *other)?,
+        Handle(p, registration, into, was) => {
+            return Ok(page.subscribe(rt, *p, Some(*registration), *into)? == *was);
+        }
+        Micro(registration, level, state) => page.queue_micro(*registration, *level, *state)?,
+        RunAll => page.run_all(rt)?,
+        _ => return is_met(page, rt, call),
+    }
+    Ok(true)
+}
+
+fn take_all(page: &mut Written, rt: &impl Abort, calls: &[Call]) -> Result<(), Fail> {
+    for (number, call) in calls.iter().enumerate() {
+        expect_met(rt, take(page, rt, call)?, number);
+    }
     Ok(())
 }
 
-fn chain(page: &mut Written, rt: &impl Abort) -> Result<(), Fail> {
-    let zero = page.resolved(rt, 0)?;
-    let a = page.then(rt, zero, 1)?;
-    let b = page.then(rt, a, 2)?;
-    page.then(rt, b, 3)?;
-    Ok(())
+// These calls write these lines, to a sink whose pieces of these numbers fail.
+fn expect(
+    rt: &impl Abort,
+    alloc: Global,
+    fails: Vec<(u64, usize)>,
+    calls: &[Call],
+    written: &[u8],
+) -> Result<(), Fail> {
+    let mut page = Written::new(alloc, fails)?;
+    let taken = take_all(&mut page, rt, calls);
+    let sink = page.into_sink();
+    expect_bytes(rt, sink.bytes(), written);
+    taken
 }
 
 #[test]
 fn an_adopted_promise_settles_two_jobs_later(rt: HostRuntime) -> Result<(), Fail> {
-    let alloc = rt.alloc();
-    let mut page = Written::new(alloc, Vec::new(alloc))?;
-    resolve_with_a_promise(&mut page, &rt)?;
-    chain(&mut page, &rt)?;
-    page.run_all(&rt)?;
-    page.expect(
-        &rt,
-        b"5 settle 2 ok 1\n5 job 1 adopt 1\n5 settle 4 ok 0\n5 job 2 react 4\n\
+    // The handlers a, b, c and x have the registrations 1, 2, 3 and 4. Promise 1, which adopts
+    // promise 2, has the handler x, and from promise 4 on the others are a chain.
+    const CALLS: [Call; 11] = [
+        Make(1),
+        Make(2),
+        Fulfil(2, 1),
+        Adopt(1, 2),
+        Then(1, 4, 3),
+        Make(4),
+        Fulfil(4, 0),
+        Then(4, 1, 5),
+        Then(5, 2, 6),
+        Then(6, 3, 7),
+        RunAll,
+    ];
+    const WRITTEN: &[u8] = b"5 settle 2 ok 1\n5 job 1 adopt 1\n5 settle 4 ok 0\n5 job 2 react 4\n\
           5 job 3 react 2\n\
           5 settle 5 ok unit\n5 job 4 react 5\n\
           5 settle 1 ok 1\n5 job 5 react 1\n\
           5 settle 6 ok unit\n5 job 6 react 6\n\
-          5 settle 3 ok unit\n5 settle 7 ok unit\n",
-    );
-    Ok(())
-}
-
-// A call on promises, and what it answers.
-enum Call {
-    Make(u32),
-    Reject(u32, i64),
-    // A handler of this promise, with its registration and the promise that it leads into, and
-    // whether the promise was outstanding.
-    Handle(u32, u32, u32, bool),
-    IsHandled(u32),
-    Rejected(&'static [u32]),
-    Note(u32, bool),
-}
-
-use Call::{Handle, IsHandled, Make, Note, Reject, Rejected};
-
-fn expect_handled(rt: &impl Abort, notices: &Notices, p: u32) {
-    assert_made(rt, notices, p);
-    assert!(rt; notices.handled(p));
-}
-
-fn take(page: &mut Written, rt: &impl Abort, call: &Call) -> Result<(), Fail> {
-    match call {
-        Make(p) => assert_eq!(rt; page.make(rt)?, *p),
-        Reject(p, n) => page.reject(rt, *p, *n)?,
-        Handle(p, registration, into, was) => {
-            assert_eq!(rt; page.subscribe(rt, *p, Some(*registration), *into)?, *was);
-        }
-        IsHandled(p) => expect_handled(rt, &page.notices, *p),
-        Rejected(expected) => {
-            assert_eq!(rt; page.notices.take_rejected().as_slice(), *expected);
-        }
-        Note(p, was) => assert_eq!(rt; page.note(rt, *p)?, *was),
-    }
-    Ok(())
+          5 settle 3 ok unit\n5 settle 7 ok unit\n";
+    expect(&rt, rt.alloc(), Vec::new(rt.alloc()), &CALLS, WRITTEN)
 }
 
 #[test]
@@ -268,70 +313,48 @@ fn a_rejection_is_outstanding_until_it_is_handled(rt: HostRuntime) -> Result<(),
         Handle(1, 2, 2, true),
         Handle(1, 3, 2, false),
     ];
-    let alloc = rt.alloc();
-    let mut page = Written::new(alloc, Vec::new(alloc))?;
-    for call in &CALLS {
-        take(&mut page, &rt, call)?;
-    }
-    page.expect(
-        &rt,
-        b"5 settle 1 err 7\n5 settle 2 err 8\n5 job 1 react 2\n5 job 2 react 1\n5 job 3 react 1\n",
-    );
-    Ok(())
+    const WRITTEN: &[u8] =
+        b"5 settle 1 err 7\n5 settle 2 err 8\n5 job 1 react 2\n5 job 2 react 1\n5 job 3 react 1\n";
+    expect(&rt, rt.alloc(), Vec::new(rt.alloc()), &CALLS, WRITTEN)
 }
 
 #[test]
 fn a_job_keeps_what_was_current(rt: HostRuntime) -> Result<(), Fail> {
-    let alloc = rt.alloc();
-    let mut page = Written::new(alloc, Vec::new(alloc))?;
-    page.notices
-        .queue_micro(9, 3, Some(2), AT, &mut page.lines)?;
-    let queued = NextJob {
+    const QUEUED: NextJob = NextJob {
         job: 1,
         todo: Todo::Micro(9),
         level: 3,
         state: Some(2),
     };
-    assert_eq!(rt; page.notices.next_job(), Some(queued));
-    assert_eq!(rt; page.notices.next_job(), None);
-    page.expect(&rt, b"5 job 1 micro 9\n");
-    Ok(())
-}
-
-// A promise that has two handlers.
-fn handled_twice(page: &mut Written, rt: &impl Abort) -> Result<u32, Fail> {
-    let p = page.make(rt)?;
-    page.then(rt, p, 1)?;
-    page.then(rt, p, 2)?;
-    Ok(p)
+    const CALLS: [Call; 3] = [Micro(9, 3, Some(2)), Next(Some(QUEUED)), Next(None)];
+    const WRITTEN: &[u8] = b"5 job 1 micro 9\n";
+    expect(&rt, rt.alloc(), Vec::new(rt.alloc()), &CALLS, WRITTEN)
 }
 
 #[test]
 fn a_failed_line_is_the_last(rt: HostRuntime) -> Result<(), Fail> {
-    let alloc = rt.alloc();
-    let mut page = Written::new(alloc, vec![in alloc; (2, 4)]?)?;
-    let p = handled_twice(&mut page, &rt)?;
-    assert_eq!(rt; page.fulfil(&rt, p, 3), Err(NoLine::Failed));
-    page.expect(&rt, b"5 settle 1 ok 3\n5 jo");
-    Ok(())
+    // The promise has two handlers.
+    const CALLS: [Call; 4] = [Make(1), Then(1, 1, 2), Then(1, 2, 3), FulfilInVain(1, 3)];
+    const WRITTEN: &[u8] = b"5 settle 1 ok 3\n5 jo";
+    expect(
+        &rt,
+        rt.alloc(),
+        vec![in rt.alloc(); (2, 4)]?,
+        &CALLS,
+        WRITTEN,
+    )
 }
 
 #[test]
 fn the_first_resolution_wins(rt: HostRuntime) -> Result<(), Fail> {
-    let alloc = rt.alloc();
-    let mut page = Written::new(alloc, Vec::new(alloc))?;
-    let p = page.resolved(&rt, 1)?;
-    page.reject(&rt, p, 2)?;
-    page.expect(&rt, b"5 settle 1 ok 1\n");
-    Ok(())
+    const CALLS: [Call; 3] = [Make(1), Fulfil(1, 1), Reject(1, 2)];
+    const WRITTEN: &[u8] = b"5 settle 1 ok 1\n";
+    expect(&rt, rt.alloc(), Vec::new(rt.alloc()), &CALLS, WRITTEN)
 }
 
 #[test]
 fn a_promise_resolved_with_itself_is_rejected(rt: HostRuntime) -> Result<(), Fail> {
-    let alloc = rt.alloc();
-    let mut page = Written::new(alloc, Vec::new(alloc))?;
-    let p = page.make(&rt)?;
-    page.adopt(&rt, p, p)?;
-    page.expect(&rt, b"5 settle 1 err TypeError(\"\")\n");
-    Ok(())
+    const CALLS: [Call; 2] = [Make(1), Adopt(1, 1)];
+    const WRITTEN: &[u8] = b"5 settle 1 err TypeError(\"\")\n";
+    expect(&rt, rt.alloc(), Vec::new(rt.alloc()), &CALLS, WRITTEN)
 }

@@ -1,13 +1,16 @@
 //! The host closures of a page: which it has asked, and what its port tells of each.
 
-ghost use Rattle.std.specs.Prelude.{◌≡◌, [], ◌∷◌, pos, negsuc};
+ghost use Rattle.std.specs.Prelude.{◌≡◌, [], ◌∷◌, pos, negsuc, IfOk};
 ghost use Rattle.page_types.specs.declared.HostKind.TheVariants.{Double, Any};
 ghost use Rattle.page_types.specs.declared.HostMark.TheVariants.{Live};
+ghost use Rattle.host_jobs.specs.ToldClosure.{told_once};
+ghost use Rattle.host_jobs.specs.ToldTable.{closures_of};
 
 use crate::answers::double;
+use crate::rows::expect_met;
 use host_jobs::{Fired, HostKind, HostOnce, HostPort, HostTable};
 use page_hosts::PageHosts;
-use std::alloc::Global;
+use std::alloc::{AllocError, Global};
 use std::process::Abort;
 use std::test::Fail;
 
@@ -46,51 +49,50 @@ const STEPS: [Step; 18] = [
     IsFresh(1, false),
 ];
 
-fn expect_dropped<P: HostPort>(rt: &impl Abort, hosts: &PageHosts<P>, k: u32, is: bool) {
-    assert!(rt; hosts.is_asked(k));
-    assert_eq!(rt; hosts.is_dropped(k), is);
-}
-
-fn ask<P: HostPort>(rt: &impl Abort, hosts: &mut PageHosts<P>, k: u32) -> Result<(), Fail> {
-    assert!(rt; hosts.is_fresh(k));
+fn ask<P: HostPort>(hosts: &mut PageHosts<P>, k: u32) -> Result<bool, Fail> {
+    if !hosts.is_fresh(k) {
+        return Ok(false);
+    }
     hosts.ask(k)?;
-    Ok(())
+    Ok(true)
 }
 
-fn expect_fired<P: HostPort>(
-    rt: &impl Abort,
+// Whether a closure that may be fired answers so.
+fn is_fired<P: HostPort>(
     hosts: &mut PageHosts<P>,
     k: u32,
     x: i64,
     answer: Result<i64, i64>,
-) {
-    assert!(rt; hosts.is_asked(k));
-    assert!(rt; hosts.takes(i64::from(k), x));
-    assert!(rt; !hosts.is_dropped(k));
-    assert_eq!(rt; hosts.fire(k, x), Ok(answer));
+) -> bool {
+    hosts.is_asked(k)
+        && hosts.takes(i64::from(k), x)
+        && !hosts.is_dropped(k)
+        && hosts.fire(k, x) == Ok(answer)
 }
 
-fn drop_closure<P: HostPort>(rt: &impl Abort, hosts: &mut PageHosts<P>, k: u32) {
-    assert!(rt; hosts.is_asked(k));
-    hosts.drop_closure(k);
-}
-
-fn take<P: HostPort>(rt: &impl Abort, hosts: &mut PageHosts<P>, step: &Step) -> Result<(), Fail> {
-    match step {
-        Takes(k, x, is) => assert_eq!(rt; hosts.takes(*k, *x), *is),
-        IsFresh(k, is) => assert_eq!(rt; hosts.is_fresh(*k), *is),
-        IsAsked(k, is) => assert_eq!(rt; hosts.is_asked(*k), *is),
-        IsDropped(k, is) => expect_dropped(rt, hosts, *k, *is),
-        Ask(k) => ask(rt, hosts, *k)?,
-        Fire(k, x, answer) => expect_fired(rt, hosts, *k, *x, *answer),
-        Step::Drop(k) => drop_closure(rt, hosts, *k),
+fn drop_closure<P: HostPort>(hosts: &mut PageHosts<P>, k: u32) -> bool {
+    let is_asked = hosts.is_asked(k);
+    if is_asked {
+        hosts.drop_closure(k);
     }
-    Ok(())
+    is_asked
+}
+
+fn take<P: HostPort>(hosts: &mut PageHosts<P>, step: &Step) -> Result<bool, Fail> {
+    match step {
+        Takes(k, x, is) => Ok(hosts.takes(*k, *x) == *is),
+        IsFresh(k, is) => Ok(hosts.is_fresh(*k) == *is),
+        IsAsked(k, is) => Ok(hosts.is_asked(*k) == *is),
+        IsDropped(k, is) => Ok(hosts.is_asked(*k) && hosts.is_dropped(*k) == *is),
+        Ask(k) => ask(hosts, *k),
+        Fire(k, x, answer) => Ok(is_fired(hosts, *k, *x, *answer)),
+        Step::Drop(k) => Ok(drop_closure(hosts, *k)),
+    }
 }
 
 fn take_all<P: HostPort>(rt: &impl Abort, hosts: &mut PageHosts<P>) -> Result<(), Fail> {
-    for step in &STEPS {
-        take(rt, hosts, step)?;
+    for (number, step) in STEPS.iter().enumerate() {
+        expect_met(rt, take(hosts, step)?, number);
     }
     Ok(())
 }
@@ -129,29 +131,55 @@ fn ask_so_far<P: HostPort + Drop>(rt: &impl Abort, alloc: Global, port: P) -> Re
     Ok(hosts.into_port_so_far())
 }
 
+fn doubling(alloc: Global) -> Result<HostOnce, AllocError>
+    ensures { IfOk result (λ once. told_once once
+        ≡ record { kind = Double; low = negsuc 99; high = pos 100; mark = Live }) }
+{
+    let job = Box::new(alloc, double)?;
+    Ok(HostOnce::new(HostKind::Double, -100, 100, job))
+}
+
+fn answering_7(alloc: Global) -> Result<HostOnce, AllocError>
+    ensures { IfOk result (λ once. told_once once
+        ≡ record { kind = Any; low = pos 0; high = pos 9; mark = Live }) }
+{
+    let job = Box::new(alloc, |_x: i64| Ok(7))?;
+    Ok(HostOnce::new(HostKind::Any, 0, 9, job))
+}
+
 // The first closure answers with a number's double, and the second one with 7.
+fn both(alloc: Global) -> Result<HostTable, AllocError>
+    ensures { IfOk result (λ table. closures_of table
+        ≡ record { kind = Double; low = negsuc 99; high = pos 100; mark = Live }
+        ∷ record { kind = Any; low = pos 0; high = pos 9; mark = Live }
+        ∷ []) }
+{
+    let mut table = HostTable::new(alloc);
+    table.push(doubling(alloc)?)?;
+    table.push(answering_7(alloc)?)?;
+    Ok(table)
+}
+
+fn fire_both(table: &mut HostTable) -> (Fired, Fired) {
+    (table.fire(0, 21), table.fire(1, 5))
+}
+
 #[test]
 fn a_closure_is_asked_and_then_fired_or_dropped(rt: HostRuntime) -> Result<(), Fail> {
-    let double = Box::new(rt.alloc(), double)?;
-    let any = Box::new(rt.alloc(), |_x: i64| Ok(7))?;
-    let mut table = HostTable::new(rt.alloc());
-    table.push(HostOnce::new(HostKind::Double, -100, 100, double))?;
-    table.push(HostOnce::new(HostKind::Any, 0, 9, any))?;
+    let table = both(rt.alloc())?;
     let mut table = ask_to_the_end(&rt, rt.alloc(), table)?;
-    assert_eq!(rt; table.fire(0, 21), Fired::Used);
-    assert_eq!(rt; table.fire(1, 5), Fired::Used);
+    let fired = fire_both(&mut table);
+    drop(table);
+    assert_eq!(rt; fired, (Fired::Used, Fired::Used));
     Ok(())
 }
 
 #[test]
 fn a_port_so_far_has_dropped_nothing(rt: HostRuntime) -> Result<(), Fail> {
-    let double = Box::new(rt.alloc(), double)?;
-    let any = Box::new(rt.alloc(), |_x: i64| Ok(7))?;
-    let mut table = HostTable::new(rt.alloc());
-    table.push(HostOnce::new(HostKind::Double, -100, 100, double))?;
-    table.push(HostOnce::new(HostKind::Any, 0, 9, any))?;
+    let table = both(rt.alloc())?;
     let mut table = ask_so_far(&rt, rt.alloc(), table)?;
-    assert_eq!(rt; table.fire(0, 21), Fired::Used);
-    assert_eq!(rt; table.fire(1, 5), Fired::Answer(Ok(7)));
+    let fired = fire_both(&mut table);
+    drop(table);
+    assert_eq!(rt; fired, (Fired::Used, Fired::Answer(Ok(7))));
     Ok(())
 }

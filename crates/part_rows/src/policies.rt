@@ -1,5 +1,6 @@
 //! Choices by each policy, and from a list.
 
+use crate::rows::expect_met;
 use loop_policy::{Chooser, NoChoice, Policy, PolicyChooser, RecordedChooser, View};
 use page_base::Source;
 use std::process::Abort;
@@ -39,19 +40,19 @@ enum Step {
 use Step::{Dom, Four, SchedAndTimer, User, UserAndNet};
 
 #[tactic(auto, unfolding(loop_policy::specs::Views::runnables))]
-fn take<C: Chooser>(rt: &impl Abort, chooser: &mut C, step: &Step) {
+fn take<C: Chooser>(chooser: &mut C, step: &Step) -> bool {
     match step {
-        UserAndNet(chosen) => assert_eq!(rt; chooser.choose(&USER_AND_NET), *chosen),
-        Four(chosen) => assert_eq!(rt; chooser.choose(&FOUR), *chosen),
-        SchedAndTimer(chosen) => assert_eq!(rt; chooser.choose(&SCHED_AND_TIMER), *chosen),
-        User(chosen) => assert_eq!(rt; chooser.choose(&USER), *chosen),
-        Dom(chosen) => assert_eq!(rt; chooser.choose(&DOM), *chosen),
+        UserAndNet(chosen) => chooser.choose(&USER_AND_NET) == *chosen,
+        Four(chosen) => chooser.choose(&FOUR) == *chosen,
+        SchedAndTimer(chosen) => chooser.choose(&SCHED_AND_TIMER) == *chosen,
+        User(chosen) => chooser.choose(&USER) == *chosen,
+        Dom(chosen) => chooser.choose(&DOM) == *chosen,
     }
 }
 
 fn take_all<C: Chooser>(rt: &impl Abort, chooser: &mut C, steps: &[Step]) {
-    for step in steps {
-        take(rt, chooser, step);
+    for (number, step) in steps.iter().enumerate() {
+        expect_met(rt, take(chooser, step), number);
     }
 }
 

@@ -1,195 +1,147 @@
 //! Each operation on worked arguments, with ample memory.
 
-ghost use Rattle.std.specs.Prelude.{◌≡◌, [], ◌∷◌, IsTrue, IfOk, length, map};
-ghost use Rattle.page_types.specs.Values.{TextValue, no_values};
+ghost use Rattle.std.specs.Prelude.{IfOk, map};
 ghost use Rattle.page_values.specs.Seen.{seen};
-ghost use Rattle.page_values.specs.Texts.{is_text};
-ghost use Rattle.lang_ast.specs.Operations.{count_of};
+ghost use Rattle.page_values.specs.Written.{IsNumbered};
 ghost use Rattle.lang_ast.specs.Steps.{AllNumbered};
 
-use lang_ast::{HostStep, Op};
+use crate::rows::expect_bytes;
+use crate::spellings::{names, told};
+use Args::{One, Two};
+use Sample::{Abc, Deadline, F, H, No, NoItems, Number, Promise, RangeError, Unit};
+use lang_ast::{HostStep, Op, argument_count};
 use page_pure::pure_op;
-use page_values::{FaultName, FunNames, Items, Str, Value, fault, function_value, make_list, same};
+use page_values::{FaultName, Items, Str, Value, fault, function_value};
 use std::alloc::{AllocError, Global};
 use std::process::Abort;
 use std::test::Fail;
 
-fn text(alloc: Global, bytes: &[u8]) -> Result<Value, AllocError>
-    requires { IsTrue (is_text bytes.now) }
-    ensures { IfOk result (λ v. seen v ≡ TextValue bytes.now) }
-{
-    Ok(Value::Text(Str::new(bytes.to_vec(alloc)?)))
+// A value, of which a table tells.
+#[derive(Clone, Copy)]
+enum Sample {
+    Unit,
+    Number(i64),
+    // The texts "abc" and "no".
+    Abc,
+    No,
+    NoItems,
+    // The functions f and h.
+    F,
+    H,
+    Promise,
+    // A fault with no text.
+    RangeError,
+    Deadline(Option<u64>),
 }
 
-// The names of the functions f and h.
-fn names(alloc: Global) -> Result<FunNames, AllocError>
-    ensures { IfOk result (λ names. length names ≡ 2) }
-{
-    let f = Str::new(b"f".to_vec(alloc)?);
-    let h = Str::new(b"h".to_vec(alloc)?);
-    Ok(FunNames::new(vec![in alloc; f, h]?))
+#[derive(Clone, Copy)]
+enum Args {
+    One(Sample),
+    Two(Sample, Sample),
 }
 
-fn answer(alloc: Global, op: Op, args: Vec<Value>) -> Result<Option<HostStep>, Fail>
-    requires count { length args.items ≡ count_of op }
-    requires numbered { AllNumbered 2 (map seen args.items) }
+// An operation on arguments, and what it answers.
+const ROWS: [(Op, Args, &str); 16] = [
+    (Op::TextOf, One(Number(-7)), "value \"-7\""),
+    (Op::TextOf, One(H), "value \"fn:h()\""),
+    (Op::KindOf, One(Promise), "value \"promise\""),
+    (Op::KindOf, One(Unit), "value \"unit\""),
+    (Op::Len, One(Abc), "value 3"),
+    (Op::Len, One(NoItems), "value 0"),
+    // Other values have no length and do not grow.
+    (Op::Len, One(Number(3)), "throw TypeError(\"\")"),
+    (Op::Push, Two(Unit, Unit), "throw TypeError(\"\")"),
+    (Op::Push, Two(NoItems, Number(4)), "value [4]"),
+    (Op::Bind, Two(F, NoItems), "value fn:f()"),
+    (Op::MakeFault, One(No), "value Error(\"no\")"),
+    (Op::FaultNameOf, One(RangeError), "value \"RangeError\""),
+    (Op::FaultTextOf, One(RangeError), "value \"\""),
+    // A fixed deadline is that of a timeout.
+    (Op::DidTimeout, One(Deadline(Some(5))), "value true"),
+    (Op::DidTimeout, One(Deadline(None)), "value false"),
+    // This one needs a page.
+    (Op::Log, One(Unit), "none"),
+];
+
+fn made(alloc: Global, sample: Sample) -> Result<Value, AllocError>
+    ensures { IfOk result (λ v. IsNumbered 2 (seen v)) }
 {
-    Ok(pure_op(alloc, op, &args, &names(alloc)?)?)
+    match sample {
+        Unit => Ok(Value::Unit),
+        Number(n) => Ok(Value::Int(n)),
+        Abc => Ok(Value::Text(Str::new(b"abc".to_vec(alloc)?))),
+        No => Ok(Value::Text(Str::new(b"no".to_vec(alloc)?))),
+        NoItems => Ok(Value::List(Items::new(Vec::new(alloc)))),
+        F => Ok(function_value(alloc, 0)),
+        H => Ok(function_value(alloc, 1)),
+        Promise => Ok(Value::Promise(1)),
+        RangeError => Ok(fault(alloc, FaultName::RangeError)),
+        Deadline(at) => Ok(Value::Deadline(at)),
+    }
 }
 
-fn answer_of_one(alloc: Global, op: Op, arg: Value) -> Result<Option<HostStep>, Fail>
-    requires count { 1 ≡ count_of op }
-    requires numbered { AllNumbered 2 (seen arg ∷ []) }
+fn two(alloc: Global, first: Sample, second: Sample) -> Result<Vec<Value>, AllocError>
+    ensures { IfOk result (λ values. AllNumbered 2 (map seen values.items)) }
 {
-    answer(alloc, op, vec![in alloc; arg]?)
+    let first = made(alloc, first)?;
+    let second = made(alloc, second)?;
+    Ok(vec![in alloc; first, second]?)
 }
 
-fn answer_of_two(
+fn values(alloc: Global, args: Args) -> Result<Vec<Value>, AllocError>
+    ensures { IfOk result (λ values. AllNumbered 2 (map seen values.items)) }
+{
+    match args {
+        One(first) => Ok(vec![in alloc; made(alloc, first)?]?),
+        Two(first, second) => two(alloc, first, second),
+    }
+}
+
+fn answer(alloc: Global, op: Op, args: &Vec<Value>) -> Result<Option<HostStep>, Fail>
+    requires { AllNumbered 2 (map seen args.now.items) }
+{
+    if args.len() != argument_count(op) {
+        return Err(Fail::new("another number of arguments"));
+    }
+    let names = names(alloc)?;
+    Ok(pure_op(alloc, op, args, &names)?)
+}
+
+fn spelling(alloc: Global, answer: &Option<HostStep>) -> Result<Vec<u8>, Fail> {
+    match answer {
+        None => Ok(b"none".to_vec(alloc)?),
+        Some(HostStep::Value(value)) => told(alloc, b"value ", value),
+        Some(HostStep::Throw(fault)) => told(alloc, b"throw ", fault),
+        Some(HostStep::Invoke { .. }) => Ok(b"invoke".to_vec(alloc)?),
+    }
+}
+
+fn answered(alloc: Global, op: Op, args: Args) -> Result<Vec<u8>, Fail> {
+    let values = values(alloc, args)?;
+    let answer = answer(alloc, op, &values);
+    drop(values);
+    let answer = answer?;
+    let line = spelling(alloc, &answer);
+    drop(answer);
+    line
+}
+
+fn expect_answer(
+    rt: &impl Abort,
     alloc: Global,
     op: Op,
-    first: Value,
-    second: Value,
-) -> Result<Option<HostStep>, Fail>
-    requires count { 2 ≡ count_of op }
-    requires numbered { AllNumbered 2 (seen first ∷ seen second ∷ []) }
-{
-    answer(alloc, op, vec![in alloc; first, second]?)
-}
-
-fn none(alloc: Global) -> Items
-    ensures { result ≡ no_values }
-{
-    Items::new(Vec::new(alloc))
-}
-
-fn expect_value(rt: &impl Abort, step: Option<HostStep>, wanted: &Value, what: &str) {
-    let is_it = match &step {
-        Some(HostStep::Value(v)) => same(v, wanted),
-        _ => false,
-    };
-    assert!(rt; is_it, "{what}");
-}
-
-fn expect_text(
-    rt: &impl Abort,
-    alloc: Global,
-    step: Option<HostStep>,
-    wanted: &[u8],
-    what: &str,
-) -> Result<(), Fail>
-    requires { IsTrue (is_text wanted.now) }
-{
-    expect_value(rt, step, &text(alloc, wanted)?, what);
-    Ok(())
-}
-
-fn expect_throw(
-    rt: &impl Abort,
-    alloc: Global,
-    step: Option<HostStep>,
-    wanted: FaultName,
-    what: &str,
-) {
-    let is_it = match &step {
-        Some(HostStep::Throw(v)) => same(v, &fault(alloc, wanted)),
-        _ => false,
-    };
-    assert!(rt; is_it, "{what}");
-}
-
-#[test]
-fn values_become_texts(rt: HostRuntime) -> Result<(), Fail> {
-    let alloc = rt.alloc();
-    let printed = answer_of_one(alloc, Op::TextOf, Value::Int(-7))?;
-    expect_text(&rt, alloc, printed, b"-7", "text(-7)")?;
-    let printed = answer_of_one(alloc, Op::TextOf, function_value(alloc, 1))?;
-    expect_text(&rt, alloc, printed, b"fn:h()", "text(h)")
-}
-
-#[test]
-fn values_have_a_kind(rt: HostRuntime) -> Result<(), Fail> {
-    let alloc = rt.alloc();
-    let kind = answer_of_one(alloc, Op::KindOf, Value::Promise(1))?;
-    expect_text(&rt, alloc, kind, b"promise", "kind(promise())")?;
-    let kind = answer_of_one(alloc, Op::KindOf, Value::Unit)?;
-    expect_text(&rt, alloc, kind, b"unit", "kind(unit)")
-}
-
-#[test]
-fn lists_and_texts_have_a_length(rt: HostRuntime) -> Result<(), Fail> {
-    let alloc = rt.alloc();
-    let length = answer_of_one(alloc, Op::Len, text(alloc, b"abc")?)?;
-    expect_value(&rt, length, &Value::Int(3), "len(\"abc\")");
-    let length = answer_of_one(alloc, Op::Len, Value::List(none(alloc)))?;
-    expect_value(&rt, length, &Value::Int(0), "len([])");
+    args: Args,
+    wanted: &str,
+) -> Result<(), Fail> {
+    let line = answered(alloc, op, args)?;
+    expect_bytes(rt, &line, wanted.as_bytes());
     Ok(())
 }
 
 #[test]
-fn other_values_have_no_length_and_do_not_grow(rt: HostRuntime) -> Result<(), Fail> {
-    let alloc = rt.alloc();
-    let pushed = answer_of_two(alloc, Op::Push, Value::Unit, Value::Unit)?;
-    expect_throw(&rt, alloc, pushed, FaultName::TypeError, "push(unit, unit)");
-    let length = answer_of_one(alloc, Op::Len, Value::Int(3))?;
-    expect_throw(&rt, alloc, length, FaultName::TypeError, "len(3)");
-    Ok(())
-}
-
-#[test]
-fn lists_grow_and_functions_take_arguments(rt: HostRuntime) -> Result<(), Fail> {
-    let alloc = rt.alloc();
-    let pushed = answer_of_two(alloc, Op::Push, Value::List(none(alloc)), Value::Int(4))?;
-    let four = make_list(vec![in alloc; Value::Int(4)]?)?;
-    expect_value(&rt, pushed, &four, "push([], 4)");
-    let f = function_value(alloc, 0);
-    let bound = answer_of_two(alloc, Op::Bind, f, Value::List(none(alloc)))?;
-    expect_value(&rt, bound, &function_value(alloc, 0), "bind(f, [])");
-    Ok(())
-}
-
-#[test]
-fn faults_are_made(rt: HostRuntime) -> Result<(), Fail> {
-    let alloc = rt.alloc();
-    let made = answer_of_one(alloc, Op::MakeFault, text(alloc, b"no")?)?;
-    let text_of_it = Str::new(b"no".to_vec(alloc)?);
-    expect_value(
-        &rt,
-        made,
-        &Value::Fault(FaultName::Error, text_of_it),
-        "fault(\"no\")",
-    );
-    Ok(())
-}
-
-#[test]
-fn faults_are_read(rt: HostRuntime) -> Result<(), Fail> {
-    let alloc = rt.alloc();
-    let range_error = fault(alloc, FaultName::RangeError);
-    let name = answer_of_one(alloc, Op::FaultNameOf, range_error)?;
-    expect_text(&rt, alloc, name, b"RangeError", "faultName")?;
-    let range_error = fault(alloc, FaultName::RangeError);
-    let told = answer_of_one(alloc, Op::FaultTextOf, range_error)?;
-    expect_text(&rt, alloc, told, b"", "faultText")
-}
-
-#[test]
-fn fixed_deadlines_are_of_a_timeout_and_others_have_no_answer(rt: HostRuntime) -> Result<(), Fail> {
-    let alloc = rt.alloc();
-    let fixed = answer_of_one(alloc, Op::DidTimeout, Value::Deadline(Some(5)))?;
-    expect_value(
-        &rt,
-        fixed,
-        &Value::Bool(true),
-        "didTimeout of a fixed deadline",
-    );
-    let of_period = answer_of_one(alloc, Op::DidTimeout, Value::Deadline(None))?;
-    expect_value(
-        &rt,
-        of_period,
-        &Value::Bool(false),
-        "didTimeout of a period",
-    );
-    let logged = answer_of_one(alloc, Op::Log, Value::Unit)?;
-    assert!(rt; logged.is_none(), "log is not an operation on values alone");
+fn operations_on_values_alone_have_an_answer(rt: HostRuntime) -> Result<(), Fail> {
+    for (op, args, wanted) in &ROWS {
+        expect_answer(&rt, rt.alloc(), *op, *args, *wanted)?;
+    }
     Ok(())
 }

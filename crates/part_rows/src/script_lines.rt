@@ -4,6 +4,7 @@ ghost use Rattle.std.specs.Prelude.{◌+◌, ◌^◌, ◌<◌, length};
 ghost use Rattle.promise_core.specs.Held.{IsMade};
 ghost use Rattle.page_notices.specs.Steps.{held};
 
+use crate::rows::{expect_bytes, expect_met};
 use page_io::MemSink;
 use page_script::{
     Callbacks, Kind, PageScript, PrioSource, Priority, Reaction, Registration, Role,
@@ -41,7 +42,7 @@ fn assert_made(rt: &impl Abort, page: &PageScript, p: u32)
     assert!(rt; p > 0 && p <= page.promises_made());
 }
 
-// A call that makes promises or settles them, and what it answers.
+// A call on the script of a page, and what it answers.
 enum Call {
     // A combinator `all` of so many items, with its number and that of its result.
     All(u32, u32, u32),
@@ -51,134 +52,191 @@ enum Call {
     Own(u32),
     Rejected(i64, u32),
     Lead(u32, i64),
-    // A handler of a promise that is outstanding, with its registration and the promise that it
-    // leads into.
-    Handle(u32, u32, u32),
+    // A promise that is not led into: it was settled, or never made.
+    LeadNowhere(u32),
+    // A handler of a promise that is outstanding.
+    Handle(u32, Reaction),
+    // A timeout with timer id 4.
+    Timeout,
+    // The scheduling state of a task in the background, whose abort source is signal 3.
+    Background,
+    // A message of unit to port 3.
+    Post,
+    // A promise that is told as unhandled.
+    Note(u32),
     Look(Look),
 }
 
-// A look at promises, and what is found.
+// A look at the script of a page, and what is found.
 enum Look {
     IsOwn(u32, bool),
     Ended(&'static [u32]),
-    Noted(u32),
     HasOutcome(u32, bool),
+    IsPromise(u32, bool),
+    IsRegistered(u32, bool),
+    WithTimerId(u32, Option<u32>),
+    // How many messages are taken.
+    Posts(usize),
 }
 
-use Call::{All, Element, Handle, Item, Lead, Own, Rejected};
-use Look::{Ended, HasOutcome, IsOwn, Noted};
+use Call::{
+    All, Background, Element, Handle, Item, Lead, LeadNowhere, Note, Own, Post, Rejected, Timeout,
+};
+use Look::{Ended, HasOutcome, IsOwn, IsPromise, IsRegistered, Posts, WithTimerId};
 
-fn expect_all(
+fn all(
     rt: &impl Abort,
     page: &mut PageScript,
     lines: &mut LineSink<MemSink>,
     count: u32,
     expected: (u32, u32),
-) -> Result<(), Fail> {
+) -> Result<bool, Fail> {
     assert_room(rt, page);
     let made = page.combine(Kind::All, count, lines)?;
-    assert_eq!(rt; (made.combinator, made.result), expected);
-    Ok(())
+    Ok((made.combinator, made.result) == expected)
 }
 
-fn expect_item(
+fn item(
     rt: &impl Abort,
     page: &mut PageScript,
     lines: &mut LineSink<MemSink>,
     n: i64,
     p: u32,
-) -> Result<(), Fail> {
+) -> Result<bool, Fail> {
     assert_room(rt, page);
-    assert_eq!(rt; page.item(Value::Int(n), lines)?, p);
-    Ok(())
+    Ok(page.item(Value::Int(n), lines)? == p)
 }
 
-fn expect_element(
+fn element(
     rt: &impl Abort,
     page: &mut PageScript,
     lines: &mut LineSink<MemSink>,
     combinator: u32,
     p: u32,
-) -> Result<(), Fail> {
+) -> Result<bool, Fail> {
     assert_room(rt, page);
     assert_made(rt, page, p);
-    assert!(rt; !page.element(combinator, 0, p, lines)?);
-    Ok(())
+    Ok(!page.element(combinator, 0, p, lines)?)
 }
 
-fn expect_own(rt: &impl Abort, page: &mut PageScript, p: u32) -> Result<(), Fail> {
+fn own(rt: &impl Abort, page: &mut PageScript, p: u32) -> Result<bool, Fail> {
     assert_room(rt, page);
-    assert_eq!(rt; page.script_promise()?, p);
-    Ok(())
+    Ok(page.script_promise()? == p)
 }
 
-fn expect_rejected(
+fn rejected(
     rt: &impl Abort,
     page: &mut PageScript,
     lines: &mut LineSink<MemSink>,
     n: i64,
     p: u32,
-) -> Result<(), Fail> {
+) -> Result<bool, Fail> {
     assert_room(rt, page);
-    assert_eq!(rt; page.settled_promise(Err(Value::Int(n)), lines)?, p);
-    Ok(())
+    Ok(page.settled_promise(Err(Value::Int(n)), lines)? == p)
 }
 
-fn expect_outstanding(
+fn handle(
     rt: &impl Abort,
     page: &mut PageScript,
     lines: &mut LineSink<MemSink>,
     p: u32,
-    registration: u32,
-    into: u32,
-) -> Result<(), Fail> {
-    let reaction = Reaction {
-        registration: Some(registration),
-        into,
-        state: None,
-    };
+    reaction: Reaction,
+) -> Result<bool, Fail> {
     assert_made(rt, page, p);
-    assert!(rt; page.subscribe(p, reaction, lines)?);
-    Ok(())
+    Ok(page.subscribe(p, reaction, lines)?)
 }
 
-fn take_look(rt: &impl Abort, page: &mut PageScript, look: &Look) -> Result<(), Fail> {
+fn lead(
+    page: &mut PageScript,
+    lines: &mut LineSink<MemSink>,
+    into: u32,
+    n: i64,
+) -> Result<bool, Fail> {
+    page.lead_into(into, Ok(Value::Int(n)), lines)?;
+    Ok(true)
+}
+
+fn leads_nowhere(page: &mut PageScript, lines: &mut LineSink<MemSink>, into: u32) -> bool {
+    page.lead_into(into, Ok(Value::Unit), lines).is_err()
+}
+
+fn timeout(
+    rt: &impl Abort,
+    page: &mut PageScript,
+    lines: &mut LineSink<MemSink>,
+) -> Result<bool, Fail> {
+    const REGISTRATION: Registration = Registration {
+        role: Role::Of(RegKind::Timeout),
+        callbacks: Callbacks::Absent,
+        timer_id: 4,
+        promise: 0,
+        signal: None,
+        finally: false,
+    };
+    assert_room(rt, page);
+    page.register(RegKind::Timeout, REGISTRATION, lines)?;
+    Ok(true)
+}
+
+fn background(rt: &impl Abort, page: &mut PageScript) -> Result<bool, Fail> {
+    const STATE: SchedulingState = SchedulingState {
+        abort_source: Some(3),
+        prio_source: PrioSource::Fixed(Priority::Background),
+    };
+    assert_room(rt, page);
+    let number = page.with_state(STATE)?;
+    Ok(number == 1 && page.current_state() == STATE)
+}
+
+fn post(page: &mut PageScript, lines: &mut LineSink<MemSink>) -> Result<bool, Fail> {
+    page.post(3, Value::Unit, lines)?;
+    Ok(true)
+}
+
+fn note(rt: &impl Abort, page: &mut PageScript, p: u32) -> Result<bool, Fail> {
+    assert_made(rt, page, p);
+    Ok(page.note_outstanding(p)?)
+}
+
+fn ends_with(page: &mut PageScript, rejected: &[u32]) -> bool {
+    page.checkpoint_ended(0, None).as_slice() == rejected
+}
+
+// Whether a look finds what is wanted.
+fn is_seen(page: &mut PageScript, look: &Look) -> bool {
     match look {
-        IsOwn(p, is) => {
-            assert!(rt; *p > 0);
-            assert_eq!(rt; page.is_script_promise(*p), *is);
-        }
-        Ended(rejected) => {
-            assert_eq!(rt; page.checkpoint_ended(0, None).as_slice(), *rejected);
-        }
-        Noted(p) => {
-            assert_made(rt, page, *p);
-            assert!(rt; page.note_outstanding(*p)?);
-        }
-        HasOutcome(p, has) => assert_eq!(rt; page.outcome(*p).is_some(), *has),
+        IsOwn(p, is) => *p > 0 && page.is_script_promise(*p) == *is,
+        Ended(rejected) => ends_with(page, *rejected),
+        HasOutcome(p, has) => page.outcome(*p).is_some() == *has,
+        IsPromise(p, is) => page.is_promise(*p) == *is && (*is || !page.handled(*p)),
+        IsRegistered(r, is) => page.is_registered(*r) == *is,
+        WithTimerId(id, r) => page.registration_with_timer_id(*id) == *r,
+        Posts(count) => page.take_posts().len() == *count,
     }
-    Ok(())
 }
 
+// Whether a call answers what is wanted.
 fn take(
     rt: &impl Abort,
     page: &mut PageScript,
     lines: &mut LineSink<MemSink>,
     call: &Call,
-) -> Result<(), Fail> {
+) -> Result<bool, Fail> {
     match call {
-        All(count, combinator, p) => expect_all(rt, page, lines, *count, (*combinator, *p))?,
-        Item(n, p) => expect_item(rt, page, lines, *n, *p)?,
-        Element(combinator, p) => expect_element(rt, page, lines, *combinator, *p)?,
-        Own(p) => expect_own(rt, page, *p)?,
-        Rejected(n, p) => expect_rejected(rt, page, lines, *n, *p)?,
-        Lead(into, n) => page.lead_into(*into, Ok(Value::Int(*n)), lines)?,
-        Handle(p, registration, into) => {
-            expect_outstanding(rt, page, lines, *p, *registration, *into)?;
-        }
-        Call::Look(look) => take_look(rt, page, look)?,
+        All(count, combinator, p) => all(rt, page, lines, *count, (*combinator, *p)),
+        Item(n, p) => item(rt, page, lines, *n, *p),
+        Element(combinator, p) => element(rt, page, lines, *combinator, *p),
+        Own(p) => own(rt, page, *p),
+        Rejected(n, p) => rejected(rt, page, lines, *n, *p),
+        Lead(into, n) => lead(page, lines, *into, *n),
+        LeadNowhere(into) => Ok(leads_nowhere(page, lines, *into)),
+        Handle(p, reaction) => handle(rt, page, lines, *p, *reaction),
+        Timeout => timeout(rt, page, lines),
+        Background => background(rt, page),
+        Post => post(page, lines),
+        Note(p) => note(rt, page, *p),
+        Call::Look(look) => Ok(is_seen(page, look)),
     }
-    Ok(())
 }
 
 fn take_all(
@@ -187,20 +245,40 @@ fn take_all(
     lines: &mut LineSink<MemSink>,
     calls: &[Call],
 ) -> Result<(), Fail> {
-    for call in calls {
-        take(rt, page, lines, call)?;
+    for (number, call) in calls.iter().enumerate() {
+        expect_met(rt, take(rt, page, lines, call)?, number);
     }
     Ok(())
 }
 
-// These are the lines that were written.
-fn expect_lines(rt: &impl Abort, lines: LineSink<MemSink>, written: &[u8]) {
+fn write(
+    rt: &impl Abort,
+    alloc: Global,
+    lines: &mut LineSink<MemSink>,
+    calls: &[Call],
+) -> Result<(), Fail> {
+    let mut page = first_page(alloc)?;
+    let taken = take_all(rt, &mut page, lines, calls);
+    drop(page);
+    taken
+}
+
+// A page that takes these calls writes these lines.
+fn expect(rt: &impl Abort, alloc: Global, calls: &[Call], written: &[u8]) -> Result<(), Fail> {
+    let mut lines = sink(alloc)?;
+    let taken = write(rt, alloc, &mut lines, calls);
     let sink = lines.into_sink();
-    assert_eq!(rt; sink.bytes(), written);
+    expect_bytes(rt, sink.bytes(), written);
+    taken
 }
 
 #[test]
 fn promises_write_their_lines(rt: HostRuntime) -> Result<(), Fail> {
+    const HANDLER: Reaction = Reaction {
+        registration: Some(1),
+        into: 4,
+        state: None,
+    };
     // Promise 3 is the element. Promise 5 is told as unhandled, and then it is handled.
     const CALLS: [Call; 10] = [
         All(0, 1, 1),
@@ -211,52 +289,46 @@ fn promises_write_their_lines(rt: HostRuntime) -> Result<(), Fail> {
         Call::Look(IsOwn(3, false)),
         Rejected(9, 5),
         Call::Look(Ended(&[5])),
-        Call::Look(Noted(5)),
-        Handle(5, 1, 4),
+        Note(5),
+        Handle(5, HANDLER),
     ];
-    let mut page = first_page(rt.alloc())?;
-    let mut lines = sink(rt.alloc())?;
-    take_all(&rt, &mut page, &mut lines, &CALLS)?;
-    expect_lines(
+    expect(
         &rt,
-        lines,
+        rt.alloc(),
+        &CALLS,
         b"0 settle 1 ok []\n0 settle 2 ok 7\n0 job 1 react 2\n0 settle 5 err 9\n\
         0 job 2 react 5\n",
-    );
-    Ok(())
+    )
 }
 
 #[test]
 fn an_element_reports_once(rt: HostRuntime) -> Result<(), Fail> {
     // Promise 3 is the element, which stays pending.
-    const CALLS: [Call; 6] = [
+    const CALLS: [Call; 7] = [
         All(1, 1, 1),
         Item(7, 2),
         Element(1, 2),
         Lead(3, 7),
         Call::Look(HasOutcome(1, true)),
         Call::Look(HasOutcome(3, false)),
+        LeadNowhere(3),
     ];
-    let mut page = first_page(rt.alloc())?;
-    let mut lines = sink(rt.alloc())?;
-    take_all(&rt, &mut page, &mut lines, &CALLS)?;
-    assert!(rt; page.lead_into(3, Ok(Value::Int(8)), &mut lines).is_err());
-    expect_lines(
+    expect(
         &rt,
-        lines,
+        rt.alloc(),
+        &CALLS,
         b"0 settle 2 ok 7\n0 job 1 react 2\n0 settle 1 ok [7]\n",
-    );
-    Ok(())
+    )
 }
 
 #[test]
 fn what_was_never_made_is_led_nowhere(rt: HostRuntime) -> Result<(), Fail> {
-    let mut page = first_page(rt.alloc())?;
-    let mut lines = sink(rt.alloc())?;
-    assert!(rt; !page.is_promise(1) && page.outcome(1).is_none() && !page.handled(1));
-    assert!(rt; page.lead_into(1, Ok(Value::Unit), &mut lines).is_err());
-    expect_lines(&rt, lines, b"");
-    Ok(())
+    const CALLS: [Call; 3] = [
+        Call::Look(IsPromise(1, false)),
+        Call::Look(HasOutcome(1, false)),
+        LeadNowhere(1),
+    ];
+    expect(&rt, rt.alloc(), &CALLS, b"")
 }
 
 // The first function, which has no name here.
@@ -267,72 +339,63 @@ fn unnamed(alloc: Global) -> Value {
     })
 }
 
-// Promise 1 is made and may be settled, but with no function.
-fn expect_no_function(rt: &impl Abort, page: &PageScript, unnamed: Value) {
-    assert!(rt; page.is_numbered(&Value::Int(1)) && !page.is_numbered(&unnamed));
-    assert!(rt; page.may_settle(1, &Err(Value::Unit)) && !page.may_settle(1, &Ok(unnamed)));
-    assert!(rt; !page.may_settle(2, &Ok(Value::Unit)));
+fn is_numbered(page: &PageScript, value: Value) -> bool {
+    let is = page.is_numbered(&value);
+    drop(value);
+    is
+}
+
+fn may_settle(page: &PageScript, p: u32, how: Result<Value, Value>) -> bool {
+    let may = page.may_settle(p, &how);
+    drop(how);
+    may
+}
+
+// Promise 1 may be settled, but with no function.
+fn is_without_functions(alloc: Global, page: &PageScript) -> bool {
+    is_numbered(page, Value::Int(1))
+        && !is_numbered(page, unnamed(alloc))
+        && may_settle(page, 1, Err(Value::Unit))
+        && !may_settle(page, 1, Ok(unnamed(alloc)))
+        && !may_settle(page, 2, Ok(Value::Unit))
+}
+
+fn make_promise(rt: &impl Abort, page: &mut PageScript) -> Result<u32, Fail> {
+    assert_room(rt, page);
+    Ok(page.new_promise()?)
 }
 
 #[test]
 fn names_of_functions_are_tested(rt: HostRuntime) -> Result<(), Fail> {
     let mut page = first_page(rt.alloc())?;
-    assert_room(&rt, &page);
-    assert_eq!(rt; page.new_promise()?, 1);
-    expect_no_function(&rt, &page, unnamed(rt.alloc()));
-    Ok(())
-}
-
-// A timeout that was registered, with timer id 4.
-fn register_timeout(
-    rt: &impl Abort,
-    page: &mut PageScript,
-    lines: &mut LineSink<MemSink>,
-) -> Result<(), Fail> {
-    let registration = Registration {
-        role: Role::Of(RegKind::Timeout),
-        callbacks: Callbacks::Absent,
-        timer_id: 4,
-        promise: 0,
-        signal: None,
-        finally: false,
-    };
-    assert_room(rt, page);
-    page.register(RegKind::Timeout, registration, lines)?;
+    let made = make_promise(&rt, &mut page);
+    let is_without = is_without_functions(rt.alloc(), &page);
+    drop(page);
+    assert!(rt; made? == 1 && is_without);
     Ok(())
 }
 
 #[test]
 fn the_first_registration_has_the_timer_id(rt: HostRuntime) -> Result<(), Fail> {
-    let mut page = first_page(rt.alloc())?;
-    let mut lines = sink(rt.alloc())?;
-    for _ in 0..2 {
-        register_timeout(&rt, &mut page, &mut lines)?;
-    }
-    assert!(rt; page.is_registered(3) && !page.is_registered(4) && !page.is_registered(0));
-    assert_eq!(rt; page.registration_with_timer_id(4), Some(2));
-    assert_eq!(rt; page.registration_with_timer_id(5), None);
-    Ok(())
-}
-
-fn expect_state(rt: &impl Abort, page: &mut PageScript) -> Result<(), Fail> {
-    let state = SchedulingState {
-        abort_source: Some(3),
-        prio_source: PrioSource::Fixed(Priority::Background),
-    };
-    assert_room(rt, page);
-    assert_eq!(rt; page.with_state(state)?, 1);
-    assert_eq!(rt; page.current_state(), state);
-    Ok(())
+    const CALLS: [Call; 7] = [
+        Timeout,
+        Timeout,
+        Call::Look(IsRegistered(3, true)),
+        Call::Look(IsRegistered(4, false)),
+        Call::Look(IsRegistered(0, false)),
+        Call::Look(WithTimerId(4, Some(2))),
+        Call::Look(WithTimerId(5, None)),
+    ];
+    expect(
+        &rt,
+        rt.alloc(),
+        &CALLS,
+        b"0 reg 2 timeout 0\n0 reg 3 timeout 0\n",
+    )
 }
 
 #[test]
 fn messages_and_scheduling_states(rt: HostRuntime) -> Result<(), Fail> {
-    let mut page = first_page(rt.alloc())?;
-    let mut lines = sink(rt.alloc())?;
-    expect_state(&rt, &mut page)?;
-    page.post(3, Value::Unit, &mut lines)?;
-    assert_eq!(rt; (page.take_posts().len(), page.take_posts().len()), (1, 0));
-    expect_lines(&rt, lines, b"0 send 3 unit\n");
-    Ok(())
+    const CALLS: [Call; 4] = [Background, Post, Call::Look(Posts(1)), Call::Look(Posts(0))];
+    expect(&rt, rt.alloc(), &CALLS, b"0 send 3 unit\n")
 }

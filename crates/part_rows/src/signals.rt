@@ -1,5 +1,6 @@
 //! Signals: which depend on which, what an abort marks, and the algorithms.
 
+use crate::rows::expect_met;
 use abort_graph::{MemoryFault, Signals};
 use std::alloc::Global;
 use std::process::Abort;
@@ -38,50 +39,49 @@ fn any(rt: &impl Abort, signals: &mut Signals<u32>, of: &[u32]) -> Result<u32, M
     signals.any(of)
 }
 
-// An abort marks these signals, in this order.
-fn expect_marked(
-    rt: &impl Abort,
+// Whether an abort marks these signals, in this order.
+fn marks(
     signals: &mut Signals<u32>,
     s: u32,
     reason: u32,
     expected: &[u32],
-) -> Result<(), Fail> {
+) -> Result<bool, MemoryFault> {
     let marked = signals.abort_mark(s, reason)?;
-    assert_eq!(rt; marked.signals(), expected);
-    let list = marked.into_signals();
-    assert_eq!(rt; list.len(), expected.len());
-    Ok(())
+    let are_marked = marked.signals() == expected;
+    Ok(are_marked && marked.into_signals().len() == expected.len())
 }
 
-fn expect_reason(rt: &impl Abort, signals: &Signals<u32>, s: u32, reason: Option<u32>) {
-    assert_eq!(rt; signals.reason(s).copied(), reason);
+fn has_reason(signals: &Signals<u32>, s: u32, reason: Option<u32>) -> bool {
+    signals.reason(s).copied() == reason
 }
 
-fn expect_taken(rt: &impl Abort, signals: &mut Signals<u32>, s: u32, expected: &[u64]) {
-    let taken = signals.take_algorithms(s);
-    assert_eq!(rt; taken.as_slice(), expected);
+fn add(signals: &mut Signals<u32>, s: u32, a: u64) -> Result<bool, Fail> {
+    signals.add_algorithm(s, a)?;
+    Ok(true)
 }
 
-fn take(rt: &impl Abort, signals: &mut Signals<u32>, step: &Step) -> Result<(), Fail> {
+fn are_taken(signals: &mut Signals<u32>, s: u32, expected: &[u64]) -> bool {
+    signals.take_algorithms(s).as_slice() == expected
+}
+
+// Whether a call answers what is wanted.
+fn take(rt: &impl Abort, signals: &mut Signals<u32>, step: &Step) -> Result<bool, Fail> {
     match step {
-        Make(number) => assert_eq!(rt; make(rt, signals)?, *number),
-        MakeAborted { reason, number } => {
-            assert_eq!(rt; make_aborted(rt, signals, *reason)?, *number);
-        }
-        Any(of, number) => assert_eq!(rt; any(rt, signals, *of)?, *number),
-        Mark(s, reason, expected) => expect_marked(rt, signals, *s, *reason, *expected)?,
-        Reason(s, reason) => expect_reason(rt, signals, *s, *reason),
-        Add(s, a) => signals.add_algorithm(*s, *a)?,
-        Remove(s, a, was) => assert_eq!(rt; signals.remove_algorithm(*s, *a), *was),
-        Taken(s, expected) => expect_taken(rt, signals, *s, *expected),
+        Make(number) => Ok(make(rt, signals)? == *number),
+        MakeAborted { reason, number } => Ok(make_aborted(rt, signals, *reason)? == *number),
+        Any(of, number) => Ok(any(rt, signals, *of)? == *number),
+        Mark(s, reason, expected) => Ok(marks(signals, *s, *reason, *expected)?),
+        Reason(s, reason) => Ok(has_reason(signals, *s, *reason)),
+        Add(s, a) => add(signals, *s, *a),
+        Remove(s, a, was) => Ok(signals.remove_algorithm(*s, *a) == *was),
+        Taken(s, expected) => Ok(are_taken(signals, *s, *expected)),
     }
-    Ok(())
 }
 
 fn take_all(rt: &impl Abort, alloc: Global, steps: &[Step]) -> Result<(), Fail> {
     let mut signals = Signals::new(alloc);
-    for step in steps {
-        take(rt, &mut signals, step)?;
+    for (number, step) in steps.iter().enumerate() {
+        expect_met(rt, take(rt, &mut signals, step)?, number);
     }
     Ok(())
 }
@@ -175,65 +175,95 @@ fn algorithms_are_taken_in_order_and_once(rt: HostRuntime) -> Result<(), Fail> {
     take_all(&rt, rt.alloc(), &STEPS)
 }
 
-// The algorithm is added to the signal and to the plain list, or removed from both.
+// The algorithm is added to the signal and to the plain list, or removed from both. Whether both
+// had it where it is removed.
 fn add_or_remove(
-    rt: &impl Abort,
     signals: &mut Signals<u32>,
     s: u32,
     plain: &mut Vec<u64>,
     a: u64,
     adds: bool,
-) -> Result<(), Fail> {
+) -> Result<bool, Fail> {
     if adds {
         signals.add_algorithm(s, a)?;
         plain.push(a)?;
-    } else {
-        assert_eq!(rt; signals.remove_algorithm(s, a), plain.contains(&a));
-        plain.retain(|b| *b != a);
+        return Ok(true);
     }
+    let was = plain.contains(&a);
+    plain.retain(|b| *b != a);
+    Ok(signals.remove_algorithm(s, a) == was)
+}
+
+// Whether both go on alike, as a number says.
+fn go_on(
+    signals: &mut Signals<u32>,
+    s: u32,
+    plain: &mut Vec<u64>,
+    state: u32,
+) -> Result<bool, Fail> {
+    let a = u64::from(state >> 16) % 16;
+    let is_alike = add_or_remove(signals, s, plain, a, state >> 24 < 140)?;
+    if state >> 24 > 0 {
+        return Ok(is_alike);
+    }
+    let are_alike = are_taken(signals, s, plain);
+    plain.clear();
+    Ok(is_alike && are_alike)
+}
+
+fn compare(
+    rt: &impl Abort,
+    signals: &mut Signals<u32>,
+    s: u32,
+    plain: &mut Vec<u64>,
+) -> Result<(), Fail> {
+    let mut state: u32 = 1;
+    for step in 0..2000u32 {
+        state = state.wrapping_mul(1_103_515_245).wrapping_add(12_345);
+        expect_met(rt, go_on(signals, s, plain, state)?, step as usize);
+    }
+    expect_met(rt, are_taken(signals, s, plain), 2000);
     Ok(())
 }
 
 #[test]
 fn a_plain_list_has_the_same_algorithms(rt: HostRuntime) -> Result<(), Fail> {
     let mut signals = Signals::new(rt.alloc());
-    let s = make(&rt, &mut signals)?;
     let mut plain: Vec<u64> = Vec::new(rt.alloc());
-    let mut state: u32 = 1;
-    for _ in 0..2000u32 {
-        state = state.wrapping_mul(1_103_515_245).wrapping_add(12_345);
-        let a = u64::from(state >> 16) % 16;
-        add_or_remove(&rt, &mut signals, s, &mut plain, a, state >> 24 < 140)?;
-        if state >> 24 == 0 {
-            expect_taken(&rt, &mut signals, s, &plain);
-            plain.clear();
-        }
-    }
-    expect_taken(&rt, &mut signals, s, &plain);
-    Ok(())
+    let s = make(&rt, &mut signals)?;
+    compare(&rt, &mut signals, s, &mut plain)
 }
 
 // A hundred thousand algorithms of a signal are replaced by as many others, and all of these but
 // the last are removed.
-fn replace_algorithms(rt: &impl Abort, signals: &mut Signals<u32>, s: u32) -> Result<(), Fail> {
+fn replace_algorithms(signals: &mut Signals<u32>, s: u32) -> Result<bool, Fail> {
     for a in 0..100_000u64 {
-        assert!(rt; signals.remove_algorithm(s, a));
+        signals.add_algorithm(s, a)?;
+    }
+    for a in 0..100_000u64 {
+        if !signals.remove_algorithm(s, a) {
+            return Ok(false);
+        }
         signals.add_algorithm(s, a + 100_000)?;
     }
     for a in 100_000..199_999u64 {
-        assert!(rt; signals.remove_algorithm(s, a));
+        if !signals.remove_algorithm(s, a) {
+            return Ok(false);
+        }
     }
-    Ok(())
+    Ok(true)
+}
+
+fn come_and_go(rt: &impl Abort, signals: &mut Signals<u32>) -> Result<bool, Fail> {
+    let s = make(rt, signals)?;
+    Ok(replace_algorithms(signals, s)? && are_taken(signals, s, &[199_999]))
 }
 
 #[test]
 fn a_hundred_thousand_algorithms_come_and_go(rt: HostRuntime) -> Result<(), Fail> {
     let mut signals = Signals::new(rt.alloc());
-    let s = make(&rt, &mut signals)?;
-    for a in 0..100_000u64 {
-        signals.add_algorithm(s, a)?;
-    }
-    replace_algorithms(&rt, &mut signals, s)?;
-    expect_taken(&rt, &mut signals, s, &[199_999]);
+    let is_one_left = come_and_go(&rt, &mut signals);
+    drop(signals);
+    assert!(rt; is_one_left?);
     Ok(())
 }

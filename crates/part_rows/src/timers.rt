@@ -1,5 +1,6 @@
 //! Timers: when they are due by timeout and nesting level, their ids and handles, and their order.
 
+use crate::rows::expect_met;
 use page_base::Micros;
 use std::alloc::Global;
 use std::process::Abort;
@@ -45,29 +46,23 @@ fn init_again(
     timers.init(Some(id), true, 0, nesting, Micros(0))
 }
 
-fn take(rt: &impl Abort, timers: &mut Timers, step: &Step) -> Result<(), Fail> {
+fn take(rt: &impl Abort, timers: &mut Timers, step: &Step) -> Result<bool, Fail> {
     match step {
         Init(repeat, timeout, now, armed) => {
-            assert_eq!(rt;
-                init(rt, timers, *repeat, *timeout, 0, Micros(*now))?,
-                *armed
-            );
+            Ok(init(rt, timers, *repeat, *timeout, 0, Micros(*now))? == *armed)
         }
-        Again(id, nesting, armed) => {
-            assert_eq!(rt; init_again(rt, timers, *id, *nesting)?, *armed);
-        }
-        Live(id, handle, is_live) => assert_eq!(rt; timers.live(*id, *handle), *is_live),
-        Clear(id, was) => assert_eq!(rt; timers.clear(*id), *was),
-        NextDue(due) => assert_eq!(rt; timers.next_due(), *due),
-        Complete(now, start) => assert_eq!(rt; timers.complete(Micros(*now)), *start),
+        Again(id, nesting, armed) => { Ok(init_again(rt, timers, *id, *nesting)? == *armed) }
+        Live(id, handle, is_live) => Ok(timers.live(*id, *handle) == *is_live),
+        Clear(id, was) => Ok(timers.clear(*id) == *was),
+        NextDue(due) => Ok(timers.next_due() == *due),
+        Complete(now, start) => Ok(timers.complete(Micros(*now)) == *start),
     }
-    Ok(())
 }
 
 fn take_all(rt: &impl Abort, alloc: Global, steps: &[Step]) -> Result<(), Fail> {
     let mut timers = Timers::new(alloc);
-    for step in steps {
-        take(rt, &mut timers, step)?;
+    for (number, step) in steps.iter().enumerate() {
+        expect_met(rt, take(rt, &mut timers, step)?, number);
     }
     Ok(())
 }
@@ -83,12 +78,23 @@ const TIMEOUTS: [(i64, u32, u64); 7] = [
     (5, 6, 5000),
 ];
 
+fn due_of(
+    rt: &impl Abort,
+    alloc: Global,
+    timeout: i64,
+    nesting: u32,
+) -> Result<Micros, MemoryFault> {
+    let mut timers = Timers::new(alloc);
+    let armed = init(rt, &mut timers, false, timeout, nesting, Micros(0));
+    drop(timers);
+    Ok(armed?.due)
+}
+
 #[test]
 fn a_timeout_wraps_and_is_clamped(rt: HostRuntime) -> Result<(), Fail> {
-    for (timeout, nesting, due) in TIMEOUTS {
-        let mut timers = Timers::new(rt.alloc());
-        let armed = init(&rt, &mut timers, false, timeout, nesting, Micros(0))?;
-        assert_eq!(rt; armed.due, Micros(due), "for {timeout} at {nesting}");
+    for (number, (timeout, nesting, due)) in TIMEOUTS.iter().enumerate() {
+        let found = due_of(&rt, rt.alloc(), *timeout, *nesting)?;
+        expect_met(&rt, found == Micros(*due), number);
     }
     Ok(())
 }
@@ -102,9 +108,21 @@ fn expect_due(
     due: u64,
 ) -> Result<Armed, Fail> {
     let armed = init(rt, timers, false, 0, nesting, now)?;
-    assert_eq!(rt; armed.due, Micros(due));
-    assert_eq!(rt; timers.complete(armed.due), Some(armed.start));
+    let is_due = armed.due == Micros(due) && timers.complete(armed.due) == Some(armed.start);
+    expect_met(rt, is_due, nesting as usize);
     Ok(armed)
+}
+
+// The nesting level of the last of these timers, each of which is set as the one before comes due.
+fn nest(rt: &impl Abort, timers: &mut Timers, dues: &[u64]) -> Result<u32, Fail> {
+    let mut now = Micros(0);
+    let mut nesting = 0;
+    for due in dues {
+        let armed = expect_due(rt, timers, nesting, now, *due)?;
+        now = armed.due;
+        nesting = armed.level;
+    }
+    Ok(nesting)
 }
 
 #[test]
@@ -112,14 +130,9 @@ fn nested_timers_of_0_are_due_at_0_six_times_and_then_every_4_milliseconds(
     rt: HostRuntime,
 ) -> Result<(), Fail> {
     let mut timers = Timers::new(rt.alloc());
-    let mut now = Micros(0);
-    let mut nesting = 0;
-    for due in [0, 0, 0, 0, 0, 0, 4000, 8000] {
-        let armed = expect_due(&rt, &mut timers, nesting, now, due)?;
-        now = armed.due;
-        nesting = armed.level;
-    }
-    assert_eq!(rt; nesting, 8);
+    let nesting = nest(&rt, &mut timers, &[0, 0, 0, 0, 0, 0, 4000, 8000]);
+    drop(timers);
+    assert!(rt; nesting? == 8);
     Ok(())
 }
 
@@ -185,48 +198,70 @@ fn due_in(plain: &[(u64, u64)], now: u64) -> Option<(u64, u64)> {
     if first.0 > now { None } else { Some(first) }
 }
 
+// Whether both start a timer.
 fn start_in_both(
-    rt: &impl Abort,
     timers: &mut Timers,
     plain: &mut Vec<(u64, u64)>,
     ms: u64,
     now: u64,
-) -> Result<(), Fail> {
-    assert!(rt; timers.starts_made() < 1000 && ms < 1000 && now < 1_000_000);
+) -> Result<bool, Fail> {
+    if timers.starts_made() >= 1000 || ms >= 1000 || now >= 1_000_000 {
+        return Ok(false);
+    }
     let start = timers.after(ms, Micros(now))?;
     plain.push((now + ms * 1000, start))?;
-    Ok(())
+    Ok(true)
 }
 
-fn complete_in_both(rt: &impl Abort, timers: &mut Timers, plain: &mut Vec<(u64, u64)>, now: u64) {
+// Whether both complete the same timer, or none.
+fn complete_in_both(timers: &mut Timers, plain: &mut Vec<(u64, u64)>, now: u64) -> bool {
     let due = due_in(plain, now);
-    assert_eq!(rt; timers.complete(Micros(now)), due.map(|timer| timer.1));
     if let Some(completed) = due {
         plain.retain(|timer| *timer != completed);
     }
+    timers.complete(Micros(now)) == due.map(|timer| timer.1)
 }
 
-fn expect_same_due(rt: &impl Abort, timers: &Timers, plain: &[(u64, u64)]) {
+fn are_due_alike(timers: &Timers, plain: &[(u64, u64)]) -> bool {
     let least = plain.iter().map(|timer| timer.0).min();
-    assert_eq!(rt; timers.next_due(), least.map(Micros));
+    timers.next_due() == least.map(Micros)
+}
+
+// Whether both go on alike, as a number says.
+fn go_on(
+    timers: &mut Timers,
+    plain: &mut Vec<(u64, u64)>,
+    state: u32,
+    now: u64,
+) -> Result<bool, Fail> {
+    let ms = u64::from(state >> 16) % 64;
+    let is_alike = if state >> 24 < 160 {
+        start_in_both(timers, plain, ms, now)?
+    } else {
+        complete_in_both(timers, plain, now)
+    };
+    Ok(is_alike && are_due_alike(timers, plain))
+}
+
+fn compare(rt: &impl Abort, timers: &mut Timers, plain: &mut Vec<(u64, u64)>) -> Result<(), Fail> {
+    let mut state: u32 = 1;
+    for step in 0..1000u32 {
+        state = state.wrapping_mul(1_103_515_245).wrapping_add(12_345);
+        let is_alike = go_on(timers, plain, state, u64::from(step) * 1000)?;
+        expect_met(rt, is_alike, step as usize);
+    }
+    Ok(())
 }
 
 #[test]
 fn a_plain_list_completes_the_same_timers(rt: HostRuntime) -> Result<(), Fail> {
     let mut timers = Timers::new(rt.alloc());
     let mut plain: Vec<(u64, u64)> = Vec::new(rt.alloc());
-    let mut state: u32 = 1;
-    for step in 0..1000u64 {
-        state = state.wrapping_mul(1_103_515_245).wrapping_add(12_345);
-        let ms = u64::from(state >> 16) % 64;
-        let now = step * 1000;
-        if state >> 24 < 160 {
-            start_in_both(&rt, &mut timers, &mut plain, ms, now)?;
-        } else {
-            complete_in_both(&rt, &mut timers, &mut plain, now);
-        }
-        expect_same_due(&rt, &timers, &plain);
-    }
-    assert!(rt; timers.starts_made() > 500);
+    let compared = compare(&rt, &mut timers, &mut plain);
+    let started = timers.starts_made();
+    drop(timers);
+    drop(plain);
+    compared?;
+    assert!(rt; started > 500);
     Ok(())
 }
