@@ -1,6 +1,7 @@
 //! Whole files, and the line at which each of some others is refused.
 
-use arrivals_text::{BadLine, PageFault, PageSetup, read_page};
+use crate::rows::expect_met;
+use arrivals_text::{Arrival, BadLine, PageFault, PageSetup, read_page};
 use loop_policy::Policy;
 use page_base::{Micros, Source};
 use page_values::{Value, as_text};
@@ -13,7 +14,7 @@ fn read(alloc: Global, file: &[u8]) -> Result<PageSetup, Fail> {
 }
 
 // What a file sets that is a number.
-#[derive(Clone, Copy, Debug)]
+#[derive(Clone, Copy)]
 enum Setting {
     Form,
     Trace,
@@ -37,9 +38,14 @@ fn number_of(setup: &PageSetup, of: Setting) -> u64 {
 }
 
 fn expect_numbers(rt: &impl Abort, setup: &PageSetup, numbers: &[(Setting, u64)]) {
-    for (of, n) in numbers {
-        assert_eq!(rt; number_of(setup, *of), *n, "of {of:?}");
+    for (number, (of, n)) in numbers.iter().enumerate() {
+        expect_met(rt, number_of(setup, *of) == *n, number);
     }
+}
+
+// Whether it sets this policy, how late timers are, and when hosts answer.
+fn has(setup: &PageSetup, policy: Policy, late: &[u64], hosts: &[(u32, u64)]) -> bool {
+    setup.policy == policy && setup.late.as_slice() == late && setup.hosts.as_slice() == hosts
 }
 
 #[test]
@@ -64,9 +70,7 @@ fn a_file_that_sets_nothing_has_the_defaults(rt: HostRuntime) -> Result<(), Fail
     ]);
     let setup = read(rt.alloc(), b"# nothing\n\npage 1")?;
     expect_numbers(&rt, &setup, &NUMBERS);
-    assert_eq!(rt; setup.policy, POLICY);
-    assert_eq!(rt; setup.late.len(), 0);
-    assert_eq!(rt; setup.hosts.len(), 0);
+    assert!(rt; has(&setup, POLICY, &[], &[]));
     Ok(())
 }
 
@@ -85,9 +89,7 @@ fn each_line_sets_its_own(rt: HostRuntime) -> Result<(), Fail> {
     const HOSTS: [(u32, u64); 2] = [(0, 3_000), (4_095, 1_000_000_000)];
     let setup = read(rt.alloc(), EACH_KIND)?;
     expect_numbers(&rt, &setup, &NUMBERS);
-    assert_eq!(rt; setup.policy, Policy::Fair(3));
-    assert_eq!(rt; setup.late.as_slice(), [0, 1_000_000].as_slice());
-    assert_eq!(rt; setup.hosts.as_slice(), HOSTS.as_slice());
+    assert!(rt; has(&setup, Policy::Fair(3), &[0, 1_000_000], &HOSTS));
     Ok(())
 }
 
@@ -98,28 +100,41 @@ fn is_text_of(value: &Value, bytes: &[u8]) -> bool {
     }
 }
 
-#[test]
-fn arrivals_come_with_their_values(rt: HostRuntime) -> Result<(), Fail> {
-    let setup = read(rt.alloc(), EACH_KIND)?;
-    let [first, second, third] = setup.arrivals.as_slice() else {
-        return Err("three arrivals".into());
-    };
-    assert!(rt; matches!(&first.value, Value::Unit));
-    assert!(rt; matches!(&second.value, Value::Int(i64::MIN)));
-    assert!(rt; is_text_of(&third.value, b"a\"\\\n c"));
-    Ok(())
+fn have_values(arrivals: &[Arrival]) -> bool {
+    match arrivals {
+        [first, second, third] => {
+            matches!(&first.value, Value::Unit)
+                && matches!(&second.value, Value::Int(i64::MIN))
+                && is_text_of(&third.value, b"a\"\\\n c")
+        }
+        _ => false,
+    }
+}
+
+fn have_sources_names_and_times(arrivals: &[Arrival]) -> bool {
+    match arrivals {
+        [first, second, third] => {
+            first.source == Source::Net
+                && second.name.bytes() == b"while".as_slice()
+                && third.at == Micros(1_000_000_000_000)
+        }
+        _ => false,
+    }
 }
 
 #[test]
-fn arrivals_come_with_their_sources_names_and_times(rt: HostRuntime) -> Result<(), Fail> {
+fn arrivals_come_as_they_are_told(rt: HostRuntime) -> Result<(), Fail> {
     let setup = read(rt.alloc(), EACH_KIND)?;
-    let [first, second, third] = setup.arrivals.as_slice() else {
-        return Err("three arrivals".into());
-    };
-    assert_eq!(rt; first.source, Source::Net);
-    assert_eq!(rt; second.name.bytes(), b"while".as_slice());
-    assert_eq!(rt; third.at, Micros(1_000_000_000_000));
+    let have_values = have_values(&setup.arrivals);
+    let have_others = have_sources_names_and_times(&setup.arrivals);
+    drop(setup);
+    assert!(rt; have_values && have_others);
     Ok(())
+}
+
+fn policy_of(alloc: Global, file: &[u8]) -> Result<Policy, Fail> {
+    let setup = read(alloc, file)?;
+    Ok(setup.policy)
 }
 
 #[test]
@@ -139,8 +154,8 @@ fn policies_are_read(rt: HostRuntime) -> Result<(), Fail> {
             ]),
         ),
     ];
-    for (file, policy) in POLICIES {
-        assert_eq!(rt; read(rt.alloc(), file)?.policy, policy, "of {file:?}");
+    for (number, (file, policy)) in POLICIES.iter().enumerate() {
+        expect_met(&rt, policy_of(rt.alloc(), *file)? == *policy, number);
     }
     Ok(())
 }
@@ -165,14 +180,14 @@ fn the_second_forms_are_read(rt: HostRuntime) -> Result<(), Fail> {
     Ok(())
 }
 
+// Whether a file is refused at this line.
+fn is_refused(alloc: Global, file: &[u8], line: usize) -> bool {
+    read_page(alloc, file).err() == Some(PageFault::Is(BadLine { line }))
+}
+
 fn expect_refused(rt: &impl Abort, alloc: Global, table: &[(&[u8], usize)]) {
-    for (file, line) in table {
-        let refused = read_page(alloc, file).err();
-        assert_eq!(rt;
-            refused,
-            Some(PageFault::Is(BadLine { line: *line })),
-            "of {file:?}"
-        );
+    for (number, (file, line)) in table.iter().enumerate() {
+        expect_met(rt, is_refused(alloc, *file, *line), number);
     }
 }
 
@@ -284,12 +299,17 @@ fn named(alloc: Global, length: usize) -> Result<Vec<u8>, AllocError> {
     Ok(file)
 }
 
+fn arrivals_in(alloc: Global, file: &[u8]) -> Result<usize, Fail> {
+    let setup = read(alloc, file)?;
+    Ok(setup.arrivals.len())
+}
+
 #[test]
 fn a_name_has_at_most_64_bytes(rt: HostRuntime) -> Result<(), Fail> {
     let file = named(rt.alloc(), 64)?;
-    assert_eq!(rt; read(rt.alloc(), &file)?.arrivals.len(), 1);
+    assert!(rt; arrivals_in(rt.alloc(), &file)? == 1);
     let longer = named(rt.alloc(), 65)?;
-    expect_refused(&rt, rt.alloc(), &[(longer.as_slice(), 2)]);
+    assert!(rt; is_refused(rt.alloc(), &longer, 2));
     Ok(())
 }
 
@@ -306,9 +326,8 @@ fn with_text(alloc: Global, end: &[u8]) -> Result<Vec<u8>, AllocError> {
 #[test]
 fn a_text_has_at_most_65535_bytes(rt: HostRuntime) -> Result<(), Fail> {
     let file = with_text(rt.alloc(), b"\"")?;
-    assert_eq!(rt; read(rt.alloc(), &file)?.arrivals.len(), 1);
+    assert!(rt; arrivals_in(rt.alloc(), &file)? == 1);
     let longer = with_text(rt.alloc(), b"b\"")?;
-    let refused = read_page(rt.alloc(), &longer).err();
-    assert_eq!(rt; refused, Some(PageFault::Is(BadLine { line: 2 })));
+    assert!(rt; is_refused(rt.alloc(), &longer, 2));
     Ok(())
 }

@@ -1,5 +1,6 @@
 //! Which turns of a trace are long, and which call made them so.
 
+use crate::rows::expect_bytes;
 use std::alloc::Global;
 use std::process::Abort;
 use std::test::Fail;
@@ -25,8 +26,10 @@ const NESTED: &[u8] =
 const OPEN: &[u8] = b"trace 1\n5 turn 1 dom\n5 call 1\n6 call 2\n70000 log 1\n80000 end fuel\n";
 
 fn expect_blamed(rt: &impl Abort, alloc: Global, trace: &[u8], wanted: &[u8]) -> Result<(), Fail> {
-    let text = blame(alloc, &read_trace(alloc, trace)?)?;
-    assert_eq!(rt; text.as_slice(), wanted);
+    let events = read_trace(alloc, trace)?;
+    let text = blame(alloc, &events);
+    drop(events);
+    expect_bytes(rt, &text?, wanted);
     Ok(())
 }
 

@@ -1,5 +1,6 @@
 //! What two clocks answer to waits, one after another.
 
+use crate::rows::expect_met;
 use page_base::{Clock, Micros, NoReading, RecordedClock, ScriptClock};
 use std::process::Abort;
 use std::test::Fail;
@@ -12,9 +13,9 @@ const PAST: Micros = Micros(1 << 63);
 const LAST: Micros = Micros((1 << 63) - 1);
 
 fn wait_all<C: Clock>(rt: &impl Abort, clock: &mut C, waits: &[Wait]) {
-    for (at_least, reading) in waits {
-        assert!(rt; at_least.0 < 1_000_000);
-        assert_eq!(rt; clock.wait(*at_least), *reading);
+    for (number, (at_least, reading)) in waits.iter().enumerate() {
+        let is_met = at_least.0 < 1_000_000 && clock.wait(*at_least) == *reading;
+        expect_met(rt, is_met, number);
     }
 }
 

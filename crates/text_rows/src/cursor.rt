@@ -1,5 +1,6 @@
 //! Numbers that a cursor reads, and where it stays.
 
+use crate::rows::expect_met;
 use page_base::Cursor;
 use std::process::Abort;
 
@@ -12,17 +13,17 @@ enum Step {
 
 use Step::{Left, Read};
 
-fn take(rt: &impl Abort, cursor: &mut Cursor, step: &Step) {
+fn take(cursor: &mut Cursor, step: &Step) -> bool {
     match step {
-        Read(most, number) => assert_eq!(rt; cursor.read_u64(*most), *number),
-        Left(len) => assert_eq!(rt; cursor.rest().len(), *len),
+        Read(most, number) => cursor.read_u64(*most) == *number,
+        Left(len) => cursor.rest().len() == *len,
     }
 }
 
 fn take_all(rt: &impl Abort, bytes: &[u8], steps: &[Step]) {
     let mut cursor = Cursor::new(bytes);
-    for step in steps {
-        take(rt, &mut cursor, step);
+    for (number, step) in steps.iter().enumerate() {
+        expect_met(rt, take(&mut cursor, step), number);
     }
 }
 

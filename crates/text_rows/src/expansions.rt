@@ -1,5 +1,6 @@
 //! Async scripts and what they become, worked out by hand, and scripts that are none. Memory is ample.
 
+use crate::rows::expect_met;
 use async_segments::{ExpandFault, NotAsync, expand};
 use std::alloc::Global;
 use std::test::Fail;
@@ -171,15 +172,27 @@ const EXPANDED: [(&'static [&'static [u8]], &'static [&'static [u8]]); 14] = [
     ),
 ];
 
+// Whether a script becomes these bytes.
+fn expands_to(alloc: Global, source: &[u8], wanted: &[u8]) -> bool {
+    let found = expand(alloc, source);
+    let is_it = match &found {
+        Ok(written) => written.as_slice() == wanted,
+        Err(_) => false,
+    };
+    drop(found);
+    is_it
+}
+
+fn is_expanded(alloc: Global, source: &[&[u8]], wanted: &[&[u8]]) -> Result<bool, Fail> {
+    let source = joined(alloc, source)?;
+    let wanted = joined(alloc, wanted)?;
+    Ok(expands_to(alloc, &source, &wanted))
+}
+
 #[test]
 fn scripts_are_expanded(rt: HostRuntime) -> Result<(), Fail> {
-    for (source, wanted) in EXPANDED {
-        let source = joined(rt.alloc(), source)?;
-        let wanted = joined(rt.alloc(), wanted)?;
-        match expand(rt.alloc(), &source) {
-            Ok(written) => assert_eq!(rt; written.as_slice(), wanted.as_slice()),
-            Err(_) => assert!(rt; false),
-        }
+    for (number, (source, wanted)) in EXPANDED.iter().enumerate() {
+        expect_met(&rt, is_expanded(rt.alloc(), *source, *wanted)?, number);
     }
     Ok(())
 }
@@ -222,11 +235,16 @@ const REFUSED: [&'static [u8]; 34] = [
     b"async fn f() { x = await (1; }",
 ];
 
+fn is_refused(alloc: Global, source: &[u8]) -> bool {
+    let found = expand(alloc, source);
+    let is_refused = matches!(&found, Err(ExpandFault::Is(NotAsync)));
+    drop(found);
+    is_refused
+}
+
 #[test]
-fn other_scripts_are_refused(rt: HostRuntime) -> Result<(), Fail> {
-    for source in REFUSED {
-        let found = expand(rt.alloc(), source);
-        assert!(rt; matches!(found, Err(ExpandFault::Is(NotAsync))));
+fn other_scripts_are_refused(rt: HostRuntime) {
+    for (number, source) in REFUSED.iter().enumerate() {
+        expect_met(&rt, is_refused(rt.alloc(), *source), number);
     }
-    Ok(())
 }

@@ -1,5 +1,6 @@
 //! The calls of traces as exports, and exports that are read again.
 
+use crate::rows::{expect_bytes, expect_met};
 use std::alloc::Global;
 use std::process::Abort;
 use std::test::Fail;
@@ -43,8 +44,10 @@ fn expect_exported(
     trace: &[u8],
     wanted: &[u8],
 ) -> Result<(), Fail> {
-    let text = export(alloc, &read_trace(alloc, trace)?)?;
-    assert_eq!(rt; text.as_slice(), wanted);
+    let events = read_trace(alloc, trace)?;
+    let text = export(alloc, &events);
+    drop(events);
+    expect_bytes(rt, &text?, wanted);
     Ok(())
 }
 
@@ -62,29 +65,33 @@ fn calls_are_exported_with_their_names_and_lengths(rt: HostRuntime) -> Result<()
     Ok(())
 }
 
-fn expect_call(rt: &impl Abort, call: &CallSpan, name: &[u8], begin: u64, end: u64) {
-    assert_eq!(rt; call.name.bytes(), name);
-    assert_eq!(rt; call.begin.0, begin);
-    assert_eq!(rt; call.end.0, end);
+// Whether an export has so many calls, of which the last one is this.
+fn ends_with(calls: &[CallSpan], length: usize, name: &[u8], begin: u64, end: u64) -> bool {
+    match calls.last() {
+        Some(call) => {
+            calls.len() == length
+                && call.name.bytes() == name
+                && call.begin.0 == begin
+                && call.end.0 == end
+        }
+        None => false,
+    }
 }
 
 #[test]
 fn an_export_is_read_again(rt: HostRuntime) -> Result<(), Fail> {
     let calls = read_export(rt.alloc(), NESTED_EXPORT)?;
-    assert_eq!(rt; calls.len(), 2);
-    if let Some(call) = calls.get(1) {
-        expect_call(&rt, call, b"listener 2", 5, 7);
-    }
+    assert!(rt; ends_with(&calls, 2, b"listener 2", 5, 7));
     Ok(())
 }
 
 #[test]
 fn a_name_is_read_with_its_escapes(rt: HostRuntime) -> Result<(), Fail> {
-    let quoted = b"{\"traceEvents\":[{\"dur\":0,\"name\":\"a\\\"\\\\\\n\",\"ph\":\"X\",\"pid\":1,\
+    const QUOTED: &[u8] =
+        b"{\"traceEvents\":[{\"dur\":0,\"name\":\"a\\\"\\\\\\n\",\"ph\":\"X\",\"pid\":1,\
           \"tid\":1,\"ts\":18446744073709551615}]}\n";
-    let calls = read_export(rt.alloc(), quoted)?;
-    let call = calls.get(0).ok_or("no call")?;
-    assert_eq!(rt; call.name.bytes(), b"a\"\\\n".as_slice());
+    let calls = read_export(rt.alloc(), QUOTED)?;
+    assert!(rt; ends_with(&calls, 1, b"a\"\\\n", u64::MAX, u64::MAX));
     Ok(())
 }
 
@@ -113,7 +120,7 @@ fn other_bytes_are_no_export(rt: HostRuntime) {
         b"{\"traceEvents\":[{\"dur\":1,\"name\":\"\\t\",\"ph\":\"X\",\"pid\":1,\"tid\":1,\
           \"ts\":0}]}\n",
     ];
-    for bytes in TABLE {
-        assert!(rt; is_no_export(rt.alloc(), bytes), "{bytes:?}");
+    for (number, bytes) in TABLE.iter().enumerate() {
+        expect_met(&rt, is_no_export(rt.alloc(), *bytes), number);
     }
 }

@@ -1,5 +1,6 @@
 //! How a line of text is cut into its fields.
 
+use crate::rows::expect_met;
 use page_base::{behind, cut_at, is_word};
 
 #[test]
@@ -9,16 +10,16 @@ fn a_start_is_cut_off(rt: HostRuntime) {
         (b"fuel", b"fuel ", None),
         (b"fuel 7", b"", Some(b"fuel 7")),
     ];
-    for (text, start, rest) in TABLE {
-        assert_eq!(rt; behind(text, start), rest);
+    for (number, (text, start, rest)) in TABLE.iter().enumerate() {
+        expect_met(&rt, behind(*text, *start) == *rest, number);
     }
 }
 
 #[test]
 fn a_word_is_the_whole_text(rt: HostRuntime) {
     const TABLE: [(&[u8], bool); 3] = [(b"fifo", true), (b"fifo ", false), (b"fif", false)];
-    for (text, is_fifo) in TABLE {
-        assert_eq!(rt; is_word(text, b"fifo"), is_fifo);
+    for (number, (text, is_fifo)) in TABLE.iter().enumerate() {
+        expect_met(&rt, is_word(*text, b"fifo") == *is_fifo, number);
     }
 }
 
@@ -29,7 +30,7 @@ fn cuts_a_line_into_its_fields(rt: HostRuntime) {
         (b" ", Some((b"", b""))),
         (b"abc", None),
     ];
-    for (text, parts) in TABLE {
-        assert_eq!(rt; cut_at(text, b' '), parts);
+    for (number, (text, parts)) in TABLE.iter().enumerate() {
+        expect_met(&rt, cut_at(*text, b' ') == *parts, number);
     }
 }

@@ -1,5 +1,6 @@
 //! Files that are fetched from a folder in memory.
 
+use crate::rows::expect_met;
 use page_io::{FetchFault, Fetched, Folder, MemFolder};
 use std::alloc::{AllocError, Global};
 use std::process::Abort;
@@ -15,15 +16,11 @@ pub(crate) enum Step<'a> {
 
 use Step::{Bytes, Fetch, Len};
 
-fn expect_bytes(rt: &impl Abort, into: &[u8], bytes: &[u8]) {
-    assert_eq!(rt; into, bytes);
-}
-
-fn take<F: Folder>(rt: &impl Abort, folder: &mut F, name: &str, into: &mut Vec<u8>, step: &Step) {
+fn take<F: Folder>(folder: &mut F, name: &str, into: &mut Vec<u8>, step: &Step) -> bool {
     match step {
-        Fetch(limit, fetched) => assert_eq!(rt; folder.fetch(name, *limit, into), *fetched),
-        Bytes(bytes) => expect_bytes(rt, into, *bytes),
-        Len(len) => assert_eq!(rt; into.len(), *len),
+        Fetch(limit, fetched) => folder.fetch(name, *limit, into) == *fetched,
+        Bytes(bytes) => into.as_slice() == *bytes,
+        Len(len) => into.len() == *len,
     }
 }
 
@@ -35,8 +32,8 @@ pub(crate) fn take_all<F: Folder>(
     into: &mut Vec<u8>,
     steps: &[Step],
 ) {
-    for step in steps {
-        take(rt, folder, name, into, step);
+    for (number, step) in steps.iter().enumerate() {
+        expect_met(rt, take(folder, name, into, step), number);
     }
 }
 

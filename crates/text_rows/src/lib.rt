@@ -28,6 +28,8 @@ mod operations;
 #[cfg(test)]
 mod places;
 #[cfg(test)]
+mod rows;
+#[cfg(test)]
 mod script_names;
 #[cfg(test)]
 mod scripts_read;
@@ -37,6 +39,8 @@ mod sinks;
 mod spellings;
 #[cfg(test)]
 mod storms;
+#[cfg(test)]
+mod texts;
 #[cfg(test)]
 mod tokens_read;
 #[cfg(test)]

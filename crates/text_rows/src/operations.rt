@@ -1,6 +1,7 @@
 ghost use Rattle.std.specs.Prelude.{IsTrue};
 ghost use Rattle.page_values.specs.Texts.{is_text};
 
+use crate::rows::expect_met;
 use lang_ast::{
     Host, HostStep, Item, Named, Outcome, Program, Tree, argument_count, is_busy, operation_named,
 };
@@ -78,20 +79,32 @@ impl Host for OneCall {
     }
 }
 
-// An operation of the host, whose callback gives a value.
-fn goes_on(rt: &impl Abort, host: &mut OneCall) {
+// Whether an operation of the host wants a callback, and goes on with unit where that gives a value.
+fn goes_on(host: &mut OneCall) -> bool {
     let wanted = host.op(Op::NowOp, Vec::new(host.alloc));
-    assert!(rt; matches!(&wanted, Ok(HostStep::Invoke { ticket: TICKET, .. })));
+    if !matches!(&wanted, Ok(HostStep::Invoke { ticket: TICKET, .. })) {
+        drop(wanted);
+        return false;
+    }
+    drop(wanted);
     let given = host.resume(TICKET, Outcome::Value(Value::Int(1)));
-    assert!(rt; matches!(&given, Ok(HostStep::Value(Value::Unit))));
+    let goes_on = matches!(&given, Ok(HostStep::Value(Value::Unit)));
+    drop(given);
+    goes_on
 }
 
-// An operation of the host, whose callback throws.
-fn refuses(rt: &impl Abort, host: &mut OneCall) {
+// Whether an operation of the host wants a callback, and refuses to go on where that throws.
+fn refuses(host: &mut OneCall) -> bool {
     let wanted = host.op(Op::NowOp, Vec::new(host.alloc));
-    assert!(rt; matches!(&wanted, Ok(HostStep::Invoke { ticket: TICKET, .. })));
+    if !matches!(&wanted, Ok(HostStep::Invoke { ticket: TICKET, .. })) {
+        drop(wanted);
+        return false;
+    }
+    drop(wanted);
     let refused = host.resume(TICKET, Outcome::Throw(Value::Unit));
-    assert!(rt; matches!(&refused, Err(Refused)));
+    let refuses = matches!(&refused, Err(Refused));
+    drop(refused);
+    refuses
 }
 
 #[test]
@@ -102,11 +115,10 @@ fn a_host_wants_a_callback_and_goes_on_or_refuses(rt: HostRuntime) {
         refusals: 0,
         last: None,
     };
-    goes_on(&rt, &mut host);
-    assert_eq!(rt; host.refusals, 0);
-    refuses(&rt, &mut host);
-    assert_eq!(rt; host.refusals, 1);
-    assert_eq!(rt; host.last, Some(Refused));
+    assert!(rt; goes_on(&mut host));
+    assert!(rt; host.refusals == 0 && host.last.is_none());
+    assert!(rt; refuses(&mut host));
+    assert!(rt; host.refusals == 1 && host.last == Some(Refused));
 }
 
 fn text(alloc: Global, bytes: &[u8]) -> Result<Str, Fail>
@@ -115,33 +127,32 @@ fn text(alloc: Global, bytes: &[u8]) -> Result<Str, Fail>
     Ok(Str::new(bytes.to_vec(alloc)?))
 }
 
-fn expect_taken(rt: &impl Abort, alloc: Global, bytes: &[u8], is_taken: bool) -> Result<(), Fail>
+fn is_name(alloc: Global, bytes: &[u8]) -> Result<bool, Fail>
     requires { IsTrue (is_text bytes.now) }
 {
     let named = Named::new(text(alloc, bytes)?, 7);
-    assert_eq!(rt; named.is_some(), is_taken, "of {bytes:?}");
-    Ok(())
+    Ok(named.is_some())
 }
 
 #[test]
 fn names_are_letters_and_digits(rt: HostRuntime) -> Result<(), Fail> {
-    expect_taken(&rt, rt.alloc(), b"a", true)?;
-    expect_taken(&rt, rt.alloc(), b"_", true)?;
-    expect_taken(&rt, rt.alloc(), b"Z9_z", true)
+    let alloc = rt.alloc();
+    assert!(rt; is_name(alloc, b"a")? && is_name(alloc, b"_")? && is_name(alloc, b"Z9_z")?);
+    Ok(())
 }
 
 #[test]
 fn other_bytes_are_no_names(rt: HostRuntime) -> Result<(), Fail> {
-    expect_taken(&rt, rt.alloc(), b"", false)?;
-    expect_taken(&rt, rt.alloc(), b"9a", false)?;
-    expect_taken(&rt, rt.alloc(), b"a b", false)?;
-    expect_taken(&rt, rt.alloc(), b"a-", false)
+    let alloc = rt.alloc();
+    assert!(rt; !is_name(alloc, b"")? && !is_name(alloc, b"9a")?);
+    assert!(rt; !is_name(alloc, b"a b")? && !is_name(alloc, b"a-")?);
+    Ok(())
 }
 
 #[test]
 fn names_have_at_most_64_bytes(rt: HostRuntime) -> Result<(), Fail> {
-    expect_taken(&rt, rt.alloc(), &[b'x'; 64], true)?;
-    expect_taken(&rt, rt.alloc(), &[b'x'; 65], false)
+    assert!(rt; is_name(rt.alloc(), &[b'x'; 64])? && !is_name(rt.alloc(), &[b'x'; 65])?);
+    Ok(())
 }
 
 // The operations with the number of the arguments that the table of the script language gives them.
@@ -201,33 +212,42 @@ const COUNTS: [(Op, usize); 51] = [
 
 #[test]
 fn operations_have_their_counts(rt: HostRuntime) {
-    for (op, count) in COUNTS {
-        assert_eq!(rt; argument_count(op), count, "of {op:?}");
-        assert_eq!(rt; is_busy(op), op == Op::Busy, "of {op:?}");
+    for (number, (op, count)) in COUNTS.iter().enumerate() {
+        let is_met = argument_count(*op) == *count && is_busy(*op) == (*op == Op::Busy);
+        expect_met(&rt, is_met, number);
     }
 }
 
-fn expect_operation(rt: &impl Abort, alloc: Global, name: &[u8], op: Option<Op>) -> Result<(), Fail>
+fn operation(alloc: Global, name: &[u8]) -> Result<Option<Op>, Fail>
     requires { IsTrue (is_text name.now) }
 {
-    assert_eq!(rt; operation_named(&text(alloc, name)?), op, "of {name:?}");
-    Ok(())
+    let name = text(alloc, name)?;
+    Ok(operation_named(&name))
 }
 
 #[test]
 fn operations_are_found_by_their_names(rt: HostRuntime) -> Result<(), Fail> {
-    expect_operation(&rt, rt.alloc(), b"log", Some(Op::Log))?;
-    expect_operation(&rt, rt.alloc(), b"host", Some(Op::HostOp))?;
-    expect_operation(&rt, rt.alloc(), b"allSettled", Some(Op::AllSettled))?;
-    expect_operation(&rt, rt.alloc(), b"faultText", Some(Op::FaultTextOf))
+    let alloc = rt.alloc();
+    assert!(rt; operation(alloc, b"log")? == Some(Op::Log));
+    assert!(rt; operation(alloc, b"host")? == Some(Op::HostOp));
+    assert!(rt; operation(alloc, b"allSettled")? == Some(Op::AllSettled));
+    assert!(rt; operation(alloc, b"faultText")? == Some(Op::FaultTextOf));
+    Ok(())
 }
 
 #[test]
 fn other_names_are_of_no_operation(rt: HostRuntime) -> Result<(), Fail> {
-    expect_operation(&rt, rt.alloc(), b"lgo", None)?;
-    expect_operation(&rt, rt.alloc(), b"Log", None)?;
-    expect_operation(&rt, rt.alloc(), b"every", None)?;
-    expect_operation(&rt, rt.alloc(), b"", None)
+    let alloc = rt.alloc();
+    assert!(rt; operation(alloc, b"lgo")?.is_none() && operation(alloc, b"Log")?.is_none());
+    assert!(rt; operation(alloc, b"every")?.is_none() && operation(alloc, b"")?.is_none());
+    Ok(())
+}
+
+fn is_nothing(program: &Program) -> bool {
+    program.function_count() == 0
+        && program.function(0).is_none()
+        && program.items().is_empty()
+        && program.names().names().is_empty()
 }
 
 #[test]
@@ -235,9 +255,8 @@ fn a_script_with_nothing_has_only_its_own_body(rt: HostRuntime) -> Result<(), Fa
     let alloc = rt.alloc();
     let items: Vec<Item> = Vec::new(alloc);
     let program = Program::new(alloc, Tree { items })?;
-    assert_eq!(rt; program.function_count(), 0);
-    assert!(rt; program.function(0).is_none());
-    assert!(rt; program.items().is_empty());
-    assert!(rt; program.names().names().is_empty());
+    let is_nothing = is_nothing(&program);
+    drop(program);
+    assert!(rt; is_nothing);
     Ok(())
 }

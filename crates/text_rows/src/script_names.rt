@@ -1,35 +1,42 @@
 //! What is said of the names of scripts.
 
+use crate::rows::expect_met;
 use NameFault::{Arity, Twice, Unknown};
-use lang_ast::Program;
+use lang_ast::{Function, Program};
 use lang_names::{NameFault, ResolveFault, resolve};
 use lang_parse::parse;
 use lang_tokens::tokens;
+use page_values::Str;
 use std::alloc::Global;
 use std::process::Abort;
 use std::test::Fail;
 
 fn program_of(alloc: Global, script: &str) -> Result<Result<Program, ResolveFault>, Fail> {
-    let tree = parse(alloc, &tokens(alloc, script.as_bytes())?)?;
-    Ok(resolve(alloc, tree))
+    let tokens = tokens(alloc, script.as_bytes())?;
+    let tree = parse(alloc, &tokens);
+    drop(tokens);
+    Ok(resolve(alloc, tree?))
+}
+
+// Whether the names of a script have this fault.
+fn is_told(alloc: Global, script: &str, fault: Option<NameFault>) -> Result<bool, Fail> {
+    Ok(program_of(alloc, script)?.err() == fault.map(ResolveFault::Is))
 }
 
 fn expect(rt: &impl Abort, alloc: Global, table: &[(&str, Option<NameFault>)]) -> Result<(), Fail> {
-    for (script, fault) in table {
-        let told = program_of(alloc, script)?.err();
-        assert_eq!(rt; told, fault.map(ResolveFault::Is), "in {script}");
+    for (number, (script, fault)) in table.iter().enumerate() {
+        expect_met(rt, is_told(alloc, *script, *fault)?, number);
     }
     Ok(())
 }
 
 // Scripts in which a name is given twice, and where that is told.
 fn expect_twice(rt: &impl Abort, alloc: Global, table: &[(&str, usize)]) -> Result<(), Fail> {
-    for (script, at) in table {
-        let told = program_of(alloc, script)?.err();
-        assert_eq!(rt;
-            told,
-            Some(ResolveFault::Is(Twice { at: *at })),
-            "in {script}"
+    for (number, (script, at)) in table.iter().enumerate() {
+        expect_met(
+            rt,
+            is_told(alloc, *script, Some(Twice { at: *at }))?,
+            number,
         );
     }
     Ok(())
@@ -140,32 +147,31 @@ fn the_first_fault_is_told(rt: HostRuntime) -> Result<(), Fail> {
 
 const TWO_FUNCTIONS: &str = "fn f() { } g; fn g(x) { x; }";
 
-#[test]
-fn functions_are_numbered_in_the_order_of_the_text(rt: HostRuntime) -> Result<(), Fail> {
-    let program = program_of(rt.alloc(), TWO_FUNCTIONS)??;
-    assert_eq!(rt; program.function_count(), 2);
-    let [f, g] = program.names().names() else {
-        return Err("two names".into());
-    };
-    assert_eq!(rt; f.bytes(), b"f".as_slice());
-    assert_eq!(rt; g.bytes(), b"g".as_slice());
-    Ok(())
+fn are_f_and_g(names: &[Str]) -> bool {
+    match names {
+        [f, g] => f.bytes() == b"f".as_slice() && g.bytes() == b"g".as_slice(),
+        _ => false,
+    }
+}
+
+// Functions are numbered in the order of the text; they are items of the script, and so are statements.
+fn has_three_items(program: &Program) -> bool {
+    program.function_count() == 2
+        && are_f_and_g(program.names().names())
+        && program.items().len() == 3
+        && program.function(2).is_none()
+}
+
+fn is_g(function: &Function) -> bool {
+    function.name.at == 17 && function.parameters.len() == 1 && function.body.len() == 1
 }
 
 #[test]
-fn statements_and_functions_are_the_items_of_a_script(rt: HostRuntime) -> Result<(), Fail> {
+fn functions_and_statements_are_the_items_of_a_script(rt: HostRuntime) -> Result<(), Fail> {
     let program = program_of(rt.alloc(), TWO_FUNCTIONS)??;
-    assert_eq!(rt; program.items().len(), 3);
-    assert!(rt; program.function(2).is_none());
-    Ok(())
-}
-
-#[test]
-fn a_function_has_its_parameters_and_its_body(rt: HostRuntime) -> Result<(), Fail> {
-    let program = program_of(rt.alloc(), TWO_FUNCTIONS)??;
-    let second = program.function(1).ok_or("no function")?;
-    assert_eq!(rt; second.name.at, 17);
-    assert_eq!(rt; second.parameters.len(), 1);
-    assert_eq!(rt; second.body.len(), 1);
+    let has_items = has_three_items(&program);
+    let has_parts = program.function(1).is_some_and(is_g);
+    drop(program);
+    assert!(rt; has_items && has_parts);
     Ok(())
 }

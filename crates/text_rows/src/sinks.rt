@@ -1,5 +1,6 @@
 //! A sink in memory, and what it keeps of calls that fail.
 
+use crate::rows::{expect_bytes, expect_met};
 use page_io::{Failed, MemSink, Sink};
 use std::alloc::Global;
 use std::process::Abort;
@@ -13,26 +14,23 @@ pub(crate) enum Call {
 
 use Call::{Finish, Put};
 
-fn make<S: Sink>(rt: &impl Abort, sink: &mut S, call: &Call) {
+fn make<S: Sink>(sink: &mut S, call: &Call) -> bool {
     match call {
-        Put(piece, put) => {
-            assert!(rt; !piece.is_empty());
-            assert_eq!(rt; sink.put(piece), *put, "of {piece:?}");
-        }
-        Finish(finished) => assert_eq!(rt; sink.finish(), *finished),
+        Put(piece, put) => !piece.is_empty() && sink.put(piece) == *put,
+        Finish(finished) => sink.finish() == *finished,
     }
 }
 
 pub(crate) fn make_all<S: Sink>(rt: &impl Abort, sink: &mut S, calls: &[Call]) {
-    for call in calls {
-        make(rt, sink, call);
+    for (number, call) in calls.iter().enumerate() {
+        expect_met(rt, make(sink, call), number);
     }
 }
 
 // The sink has these bytes after the calls.
 fn expect_kept(rt: &impl Abort, sink: &mut MemSink, calls: &[Call], bytes: &[u8]) {
     make_all(rt, sink, calls);
-    assert_eq!(rt; sink.bytes(), bytes);
+    expect_bytes(rt, sink.bytes(), bytes);
 }
 
 // It has room for 20 bytes. Its second call keeps three bytes, and its fourth one nine.

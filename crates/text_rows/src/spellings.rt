@@ -1,5 +1,6 @@
 //! Which bytes are the spelling of a value.
 
+use crate::rows::expect_met;
 use std::alloc::{AllocError, Global};
 use std::process::Abort;
 use std::test::Fail;
@@ -15,16 +16,20 @@ fn logging(alloc: Global, bytes: &[u8]) -> Result<Vec<u8>, AllocError> {
 
 // Whether a trace may log these bytes as a value.
 fn is_spelling(alloc: Global, bytes: &[u8]) -> Result<bool, Fail> {
-    match read_trace(alloc, &logging(alloc, bytes)?) {
+    let trace = logging(alloc, bytes)?;
+    let read = read_trace(alloc, &trace);
+    let is_taken = match &read {
         Ok(_) => Ok(true),
         Err(TraceFault::Is(_)) => Ok(false),
         Err(_) => Err(Fail::new("no memory")),
-    }
+    };
+    drop(read);
+    is_taken
 }
 
 fn expect(rt: &impl Abort, alloc: Global, table: &[&str], is_taken: bool) -> Result<(), Fail> {
-    for text in table {
-        assert_eq!(rt; is_spelling(alloc, text.as_bytes())?, is_taken, "at {text}");
+    for (number, text) in table.iter().enumerate() {
+        expect_met(rt, is_spelling(alloc, text.as_bytes())? == is_taken, number);
     }
     Ok(())
 }
@@ -107,12 +112,21 @@ fn named(alloc: Global, length: usize) -> Result<Vec<u8>, AllocError> {
     Ok(text)
 }
 
+fn is_nest_taken(alloc: Global, deep: usize) -> Result<bool, Fail> {
+    let text = nested(alloc, deep)?;
+    is_spelling(alloc, &text)
+}
+
+fn is_name_taken(alloc: Global, length: usize) -> Result<bool, Fail> {
+    let text = named(alloc, length)?;
+    is_spelling(alloc, &text)
+}
+
 #[test]
 fn lists_nest_64_deep_and_names_have_64_bytes(rt: HostRuntime) -> Result<(), Fail> {
-    let alloc = rt.alloc();
     for (number, is_taken) in [(64, true), (65, false)] {
-        assert_eq!(rt; is_spelling(alloc, &nested(alloc, number)?)?, is_taken);
-        assert_eq!(rt; is_spelling(alloc, &named(alloc, number)?)?, is_taken);
+        expect_met(&rt, is_nest_taken(rt.alloc(), number)? == is_taken, number);
+        expect_met(&rt, is_name_taken(rt.alloc(), number)? == is_taken, number);
     }
     Ok(())
 }

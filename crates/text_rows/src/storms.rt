@@ -1,15 +1,14 @@
 //! The texts of some storms, letter by letter.
 
+use crate::rows::expect_bytes;
 use page_gen::storm;
+use std::alloc::Global;
 use std::process::Abort;
 use std::test::Fail;
 
 const ARRIVALS: &[u8] = b"page 1\nfuel 10000000\nuntil 1000000000000\n";
 
-#[test]
-fn the_storm_of_one_turn(rt: HostRuntime) -> Result<(), Fail> {
-    let (script, arrivals) = storm(rt.alloc(), 1)?;
-    let text: &[u8] = b"\
+const ONE_TURN: &[u8] = b"\
 var i = 0;\n\
 var s = 1;\n\
 var k = 0;\n\
@@ -25,15 +24,8 @@ if (k == 2) { postTask(f, \"background\", unit, 0); }\n\
 if (k == 3) { c = controller(); then(postTask(f, unit, signal(c), 0), unit, g); abort(c, unit); }\n\
 i = i + 1;\n\
 }\n";
-    assert_eq!(rt; script.as_slice(), text);
-    assert_eq!(rt; arrivals.as_slice(), ARRIVALS);
-    Ok(())
-}
 
-#[test]
-fn the_storm_of_four_turns(rt: HostRuntime) -> Result<(), Fail> {
-    let (script, arrivals) = storm(rt.alloc(), 4)?;
-    let text: &[u8] = b"\
+const FOUR_TURNS: &[u8] = b"\
 var i = 0;\n\
 var s = 1;\n\
 var k = 0;\n\
@@ -49,15 +41,8 @@ if (k == 2) { postTask(f, \"background\", unit, 0); }\n\
 if (k == 3) { c = controller(); then(postTask(f, unit, signal(c), 0), unit, g); abort(c, unit); }\n\
 i = i + 1;\n\
 }\n";
-    assert_eq!(rt; script.as_slice(), text);
-    assert_eq!(rt; arrivals.as_slice(), ARRIVALS);
-    Ok(())
-}
 
-#[test]
-fn the_storm_of_ten_turns(rt: HostRuntime) -> Result<(), Fail> {
-    let (script, arrivals) = storm(rt.alloc(), 10)?;
-    let text: &[u8] = b"\
+const TEN_TURNS: &[u8] = b"\
 var i = 0;\n\
 var s = 1;\n\
 var k = 0;\n\
@@ -73,8 +58,20 @@ if (k == 2) { postTask(f, \"background\", unit, 0); }\n\
 if (k == 3) { c = controller(); then(postTask(f, unit, signal(c), 0), unit, g); abort(c, unit); }\n\
 i = i + 1;\n\
 }\n";
-    assert_eq!(rt; script.as_slice(), text);
-    assert_eq!(rt; arrivals.as_slice(), ARRIVALS);
+
+fn expect_storm(rt: &impl Abort, alloc: Global, turns: u32, text: &[u8]) -> Result<(), Fail> {
+    assert!(rt; 1 <= turns && turns <= 100_000);
+    let (script, arrivals) = storm(alloc, turns)?;
+    expect_bytes(rt, &script, text);
+    expect_bytes(rt, &arrivals, ARRIVALS);
+    Ok(())
+}
+
+#[test]
+fn storms_of_some_turns(rt: HostRuntime) -> Result<(), Fail> {
+    for (turns, text) in [(1, ONE_TURN), (4, FOUR_TURNS), (10, TEN_TURNS)] {
+        expect_storm(&rt, rt.alloc(), turns, text)?;
+    }
     Ok(())
 }
 

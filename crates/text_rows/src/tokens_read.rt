@@ -1,6 +1,7 @@
 //! The tokens of scripts.
 
-use lang_tokens::{BadByte, Token, TokenKind, Tokens, TokensFault, tokens};
+use crate::rows::expect_met;
+use lang_tokens::{BadByte, Token, TokenKind, TokensFault, tokens};
 use std::alloc::Global;
 use std::process::Abort;
 use std::test::Fail;
@@ -73,36 +74,38 @@ const SCRIPTS: [(&'static [u8], &'static [Wanted]); 8] = [
     (b"// c", &[]),
 ];
 
-fn expect_each(rt: &impl Abort, found: &Tokens, wanted: &[Wanted], script: &[u8]) {
-    assert_eq!(rt; found.items().len(), wanted.len(), "in {script:?}");
-    for (token, want) in found.items().iter().zip(wanted) {
-        assert!(rt; is_wanted(token, want), "{token:?} in {script:?}");
+fn are_wanted(found: &[Token], wanted: &[Wanted]) -> bool {
+    if found.len() != wanted.len() {
+        return false;
     }
+    for (token, want) in found.iter().zip(wanted) {
+        if !is_wanted(token, want) {
+            return false;
+        }
+    }
+    true
 }
 
-fn expect_tokens(
-    rt: &impl Abort,
-    alloc: Global,
-    script: &[u8],
-    wanted: &[Wanted],
-) -> Result<(), Fail> {
+fn has_tokens(alloc: Global, script: &[u8], wanted: &[Wanted]) -> Result<bool, Fail> {
     let found = tokens(alloc, script)?;
-    assert_eq!(rt; found.length(), script.len());
-    expect_each(rt, &found, wanted, script);
-    Ok(())
+    Ok(found.length() == script.len() && are_wanted(found.items(), wanted))
 }
 
 #[test]
 fn scripts_have_their_tokens(rt: HostRuntime) -> Result<(), Fail> {
-    for (script, wanted) in SCRIPTS {
-        expect_tokens(&rt, rt.alloc(), script, wanted)?;
+    for (number, (script, wanted)) in SCRIPTS.iter().enumerate() {
+        expect_met(&rt, has_tokens(rt.alloc(), *script, *wanted)?, number);
     }
     Ok(())
 }
 
+fn is_bad(alloc: Global, script: &[u8], at: usize) -> bool {
+    tokens(alloc, script).err() == Some(TokensFault::Is(BadByte { at }))
+}
+
 #[test]
 fn bad_bytes_are_told(rt: HostRuntime) {
-    let scripts: [(&[u8], usize); 9] = [
+    const TABLE: [(&[u8], usize); 9] = [
         (b"9223372036854775808", 18),
         (b"\"", 1),
         (b"\"a\n\"", 2),
@@ -113,11 +116,7 @@ fn bad_bytes_are_told(rt: HostRuntime) {
         (b"a # b", 2),
         (&[b'n'; 66], 64),
     ];
-    for (script, at) in scripts {
-        assert_eq!(rt;
-            tokens(rt.alloc(), script).err(),
-            Some(TokensFault::Is(BadByte { at })),
-            "in {script:?}"
-        );
+    for (number, (script, at)) in TABLE.iter().enumerate() {
+        expect_met(&rt, is_bad(rt.alloc(), *script, *at), number);
     }
 }

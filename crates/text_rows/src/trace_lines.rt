@@ -2,6 +2,7 @@
 
 ghost use Rattle.trace_text.specs.Trace.{IsPrinted};
 
+use crate::rows::{expect_bytes, expect_met};
 use page_base::{End, Micros, Source};
 use page_io::MemSink;
 use std::alloc::{AllocError, Global};
@@ -25,12 +26,20 @@ fn printed(alloc: Global, spelling: &[u8]) -> Result<Printed, AllocError>
     Ok(Printed::new(spelling.to_vec(alloc)?))
 }
 
-// The line of an event comes behind what was there.
-fn expect_line(rt: &impl Abort, alloc: Global, e: &Stamped, line: &str) -> Result<(), Fail> {
+// Whether the line of an event comes behind what was there.
+fn is_written(alloc: Global, e: &Stamped, line: &str) -> Result<bool, Fail> {
     let mut text = b">".to_vec(alloc)?;
     write_event(alloc, e, &mut text)?;
-    let written = text.strip_prefix(b">").ok_or("what was there is gone")?;
-    assert_eq!(rt; written, line.as_bytes(), "in {line}");
+    match text.strip_prefix(b">") {
+        Some(written) => Ok(written == line.as_bytes()),
+        None => Ok(false),
+    }
+}
+
+fn expect_lines(rt: &impl Abort, alloc: Global, table: &[(Stamped, &str)]) -> Result<(), Fail> {
+    for (number, (e, line)) in table.iter().enumerate() {
+        expect_met(rt, is_written(alloc, e, *line)?, number);
+    }
     Ok(())
 }
 
@@ -59,10 +68,7 @@ fn lines_of_turns(rt: HostRuntime) -> Result<(), Fail> {
         ),
         (at(10000, Event::End(End::Clock)), "10000 end clock\n"),
     ];
-    for (e, line) in &table {
-        expect_line(&rt, rt.alloc(), e, line)?;
-    }
-    Ok(())
+    expect_lines(&rt, rt.alloc(), &table)
 }
 
 #[test]
@@ -104,10 +110,7 @@ fn lines_of_registrations_and_timers(rt: HostRuntime) -> Result<(), Fail> {
         (at(10000, Event::Due { r: 2 }), "10000 due 2\n"),
         (at(20000, Event::Drop { r: 3 }), "20000 drop 3\n"),
     ];
-    for (e, line) in &table {
-        expect_line(&rt, rt.alloc(), e, line)?;
-    }
-    Ok(())
+    expect_lines(&rt, rt.alloc(), &table)
 }
 
 #[test]
@@ -149,10 +152,7 @@ fn lines_of_jobs_frames_and_periods(rt: HostRuntime) -> Result<(), Fail> {
         (at(0, Event::Unhandled { p: 1 }), "0 unhandled 1\n"),
         (at(0, Event::Handled { p: 1 }), "0 handled 1\n"),
     ];
-    for (e, line) in &table {
-        expect_line(&rt, rt.alloc(), e, line)?;
-    }
-    Ok(())
+    expect_lines(&rt, rt.alloc(), &table)
 }
 
 #[test]
@@ -196,10 +196,7 @@ fn lines_of_scheduler_tasks(rt: HostRuntime) -> Result<(), Fail> {
             "0 enq 2 s1 task 2\n",
         ),
     ];
-    for (e, line) in &table {
-        expect_line(&rt, rt.alloc(), e, line)?;
-    }
-    Ok(())
+    expect_lines(&rt, rt.alloc(), &table)
 }
 
 #[test]
@@ -239,44 +236,26 @@ fn lines_of_signals_and_hosts(rt: HostRuntime) -> Result<(), Fail> {
             "3000 host 0 -7 err -1\n",
         ),
     ];
-    for (e, line) in &table {
-        expect_line(&rt, rt.alloc(), e, line)?;
-    }
-    Ok(())
+    expect_lines(&rt, rt.alloc(), &table)
 }
 
 #[test]
 fn lines_of_logged_values(rt: HostRuntime) -> Result<(), Fail> {
     let alloc = rt.alloc();
+    let three = printed(alloc, b"3")?;
+    let a = printed(alloc, b"\"a\"")?;
     let table = [
-        (
-            at(
-                0,
-                Event::Log {
-                    v: printed(alloc, b"3")?,
-                },
-            ),
-            "0 log 3\n",
-        ),
-        (
-            at(
-                10000,
-                Event::Log {
-                    v: printed(alloc, b"\"a\"")?,
-                },
-            ),
-            "10000 log \"a\"\n",
-        ),
+        (at(0, Event::Log { v: three }), "0 log 3\n"),
+        (at(10000, Event::Log { v: a }), "10000 log \"a\"\n"),
     ];
-    for (e, line) in &table {
-        expect_line(&rt, alloc, e, line)?;
-    }
-    Ok(())
+    expect_lines(&rt, alloc, &table)
 }
 
 #[test]
 fn lines_of_promises(rt: HostRuntime) -> Result<(), Fail> {
     let alloc = rt.alloc();
+    let unit = printed(alloc, b"unit")?;
+    let x = printed(alloc, b"\"x\"")?;
     let table = [
         (
             at(
@@ -284,7 +263,7 @@ fn lines_of_promises(rt: HostRuntime) -> Result<(), Fail> {
                 Event::Settle {
                     p: 2,
                     ok: true,
-                    v: printed(alloc, b"unit")?,
+                    v: unit,
                 },
             ),
             "0 settle 2 ok unit\n",
@@ -295,35 +274,31 @@ fn lines_of_promises(rt: HostRuntime) -> Result<(), Fail> {
                 Event::Settle {
                     p: 1,
                     ok: false,
-                    v: printed(alloc, b"\"x\"")?,
+                    v: x,
                 },
             ),
             "0 settle 1 err \"x\"\n",
         ),
     ];
-    for (e, line) in &table {
-        expect_line(&rt, alloc, e, line)?;
-    }
-    Ok(())
+    expect_lines(&rt, alloc, &table)
 }
 
 #[test]
 fn lines_of_faults(rt: HostRuntime) -> Result<(), Fail> {
     let alloc = rt.alloc();
-    let thrown = at(
-        0,
-        Event::Throw {
-            v: printed(alloc, b"NotAllowedError(\"\")")?,
-        },
-    );
-    expect_line(&rt, alloc, &thrown, "0 throw NotAllowedError(\"\")\n")?;
-    let reported = at(
-        0,
-        Event::Report {
-            v: printed(alloc, b"NotAllowedError(\"\")")?,
-        },
-    );
-    expect_line(&rt, alloc, &reported, "0 report NotAllowedError(\"\")\n")
+    let thrown = printed(alloc, b"NotAllowedError(\"\")")?;
+    let reported = printed(alloc, b"NotAllowedError(\"\")")?;
+    let table = [
+        (
+            at(0, Event::Throw { v: thrown }),
+            "0 throw NotAllowedError(\"\")\n",
+        ),
+        (
+            at(0, Event::Report { v: reported }),
+            "0 report NotAllowedError(\"\")\n",
+        ),
+    ];
+    expect_lines(&rt, alloc, &table)
 }
 
 // Lines to a sink whose pieces of these numbers fail.
@@ -332,32 +307,31 @@ fn in_memory(alloc: Global, fails: &[(u64, usize)]) -> Result<LineSink<MemSink>,
     Ok(LineSink::new(alloc, sink))
 }
 
-fn expect_bytes(rt: &impl Abort, lines: LineSink<MemSink>, bytes: &[u8]) {
-    let sink = lines.into_sink();
-    assert_eq!(rt; sink.bytes(), bytes);
-}
-
 #[test]
 fn a_sink_takes_a_trace(rt: HostRuntime) -> Result<(), Fail> {
-    let turn = Event::Turn {
+    const TURN: Event = Event::Turn {
         n: 1,
         source: Some(Source::Dom),
     };
-    let events = [at(0, turn), at(0, Event::End(End::Done))];
     let mut lines = in_memory(rt.alloc(), &[])?;
-    assert_eq!(rt; lines.head(1), Ok(()));
-    for e in &events {
-        assert_eq!(rt; lines.emit(e), Ok(()));
-    }
-    expect_bytes(&rt, lines, b"trace 1\n0 turn 1 dom\n0 end done\n");
+    let are_taken = lines.head(1) == Ok(())
+        && lines.emit(&at(0, TURN)) == Ok(())
+        && lines.emit(&at(0, Event::End(End::Done))) == Ok(());
+    let sink = lines.into_sink();
+    expect_bytes(&rt, sink.bytes(), b"trace 1\n0 turn 1 dom\n0 end done\n");
+    drop(sink);
+    assert!(rt; are_taken);
     Ok(())
 }
 
 #[test]
 fn a_line_that_failed_leaves_a_start(rt: HostRuntime) -> Result<(), Fail> {
     let mut lines = in_memory(rt.alloc(), &[(2, 5)])?;
-    assert_eq!(rt; lines.head(2), Ok(()));
-    assert_eq!(rt; lines.emit(&at(0, Event::Ret)), Err(NoLine::Failed));
-    expect_bytes(&rt, lines, b"trace 2\n0 ret");
+    let is_failed = lines.head(2) == Ok(())
+        && lines.emit(&at(0, Event::Ret)) == Err(NoLine::Failed);
+    let sink = lines.into_sink();
+    expect_bytes(&rt, sink.bytes(), b"trace 2\n0 ret");
+    drop(sink);
+    assert!(rt; is_failed);
     Ok(())
 }

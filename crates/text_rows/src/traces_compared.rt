@@ -1,5 +1,6 @@
 //! Traces compared line by line, and their summaries.
 
+use crate::rows::expect_met;
 use crate::traces_read::TIMER_FIRST;
 use page_base::End;
 use std::alloc::Global;
@@ -58,35 +59,45 @@ enum Step {
 
 use Step::{Each, First, Head, Last, Matched, SecondHead};
 
-fn meet_each(rt: &impl Abort, check: &mut LineCheck, events: &Events) {
+fn meets_each(check: &mut LineCheck, events: &Events) -> bool {
     for e in events.items() {
-        assert_eq!(rt; check.emit(e), Ok(()));
+        if check.emit(e) != Ok(()) {
+            return false;
+        }
+    }
+    true
+}
+
+fn emits_first(check: &mut LineCheck, events: &Events, answer: Result<(), NoLine>) -> bool {
+    match events.items().first() {
+        Some(e) => check.emit(e) == answer,
+        None => false,
     }
 }
 
-fn take(rt: &impl Abort, check: &mut LineCheck, events: &Events, step: &Step) -> Result<(), Fail> {
-    match step {
-        Head(answer) => assert_eq!(rt; check.head(1), *answer),
-        SecondHead(answer) => assert_eq!(rt; check.head(2), *answer),
-        First(answer) => {
-            let first = events.items().first().ok_or("no event")?;
-            assert_eq!(rt; check.emit(first), *answer);
-        }
-        Last(answer) => {
-            let last = events.items().last().ok_or("no event")?;
-            assert_eq!(rt; check.emit(last), *answer);
-        }
-        Each => meet_each(rt, check, events),
-        Matched(count) => assert_eq!(rt; check.matched(), *count),
+fn emits_last(check: &mut LineCheck, events: &Events, answer: Result<(), NoLine>) -> bool {
+    match events.items().last() {
+        Some(e) => check.emit(e) == answer,
+        None => false,
     }
-    Ok(())
+}
+
+fn take(check: &mut LineCheck, events: &Events, step: &Step) -> bool {
+    match step {
+        Head(answer) => check.head(1) == *answer,
+        SecondHead(answer) => check.head(2) == *answer,
+        First(answer) => emits_first(check, events, *answer),
+        Last(answer) => emits_last(check, events, *answer),
+        Each => meets_each(check, events),
+        Matched(count) => check.matched() == *count,
+    }
 }
 
 fn take_all(rt: &impl Abort, alloc: Global, steps: &[Step]) -> Result<(), Fail> {
     let events = asked_twice(alloc)?;
     let mut check = LineCheck::new(alloc, &events);
-    for step in steps {
-        take(rt, &mut check, &events, step)?;
+    for (number, step) in steps.iter().enumerate() {
+        expect_met(rt, take(&mut check, &events, step), number);
     }
     Ok(())
 }
@@ -137,28 +148,38 @@ const OF_TIMER_FIRST: Summary = Summary {
     end: End::Done,
 };
 
+fn is_counted(alloc: Global, trace: &[u8], summary: Summary) -> Result<bool, Fail> {
+    let events = read_trace(alloc, trace)?;
+    Ok(summary_of(&events) == summary)
+}
+
 #[test]
 fn a_summary_counts_a_trace(rt: HostRuntime) -> Result<(), Fail> {
-    let events = asked_twice(rt.alloc())?;
-    assert_eq!(rt; summary_of(&events), OF_ASKED_TWICE);
-    let timer_first = read_trace(rt.alloc(), TIMER_FIRST)?;
-    assert_eq!(rt; summary_of(&timer_first), OF_TIMER_FIRST);
+    assert!(rt; is_counted(rt.alloc(), ASKED_TWICE, OF_ASKED_TWICE)?);
+    assert!(rt; is_counted(rt.alloc(), TIMER_FIRST, OF_TIMER_FIRST)?);
     Ok(())
 }
 
-fn count_each(rt: &impl Abort, count: &mut LineCount, events: &Events) {
+fn counts_each(count: &mut LineCount, events: &Events) -> bool {
     for e in events.items() {
-        assert_eq!(rt; count.emit(e), Ok(()));
+        if count.emit(e) != Ok(()) {
+            return false;
+        }
     }
+    true
+}
+
+fn is_there_at_the_end(events: &Events, summary: Summary) -> bool {
+    let mut count = LineCount::new();
+    count.head(1) == Ok(())
+        && count.summary().is_none()
+        && counts_each(&mut count, events)
+        && count.summary() == Some(summary)
 }
 
 #[test]
 fn a_summary_is_there_at_the_end_of_a_trace(rt: HostRuntime) -> Result<(), Fail> {
     let events = asked_twice(rt.alloc())?;
-    let mut count = LineCount::new();
-    assert_eq!(rt; count.head(1), Ok(()));
-    assert_eq!(rt; count.summary(), None);
-    count_each(&rt, &mut count, &events);
-    assert_eq!(rt; count.summary(), Some(OF_ASKED_TWICE));
+    assert!(rt; is_there_at_the_end(&events, OF_ASKED_TWICE));
     Ok(())
 }

@@ -1,5 +1,6 @@
 //! Whole traces, and the line at which each of some others is refused.
 
+use crate::rows::{expect_bytes, expect_met};
 use page_io::MemSink;
 use std::alloc::Global;
 use std::process::Abort;
@@ -25,11 +26,16 @@ const SECOND_FORM: &[u8] =
     b"trace 2\n0 turn 1 dom\n0 call 1\n0 reg 2 frame 1\n0 reg 3 frame 1\n0 send 3 [1,\"a\"]\n\
 0 throw TypeError(\"\")\n0 report TypeError(\"\")\n20000 reg 4 frame 2\n20000 end done\n";
 
-fn write(rt: &impl Abort, lines: &mut LineSink<MemSink>, events: &Events) {
-    assert_eq!(rt; lines.head(events.form()), Ok(()));
-    for event in events.items() {
-        assert_eq!(rt; lines.emit(event), Ok(()));
+fn are_written(lines: &mut LineSink<MemSink>, events: &Events) -> bool {
+    if lines.head(events.form()) != Ok(()) {
+        return false;
     }
+    for event in events.items() {
+        if lines.emit(event) != Ok(()) {
+            return false;
+        }
+    }
+    true
 }
 
 fn expect_written(
@@ -39,17 +45,22 @@ fn expect_written(
     trace: &[u8],
 ) -> Result<(), Fail> {
     let mut lines = LineSink::new(alloc, MemSink::new(alloc, 4000, Vec::new(alloc))?);
-    write(rt, &mut lines, events);
+    let are_written = are_written(&mut lines, events);
     let sink = lines.into_sink();
-    assert_eq!(rt; sink.bytes(), trace);
+    expect_bytes(rt, sink.bytes(), trace);
+    drop(sink);
+    assert!(rt; are_written);
     Ok(())
 }
 
 // The trace is read in its form, and its lines are written as they stand there.
 fn expect_read(rt: &impl Abort, alloc: Global, form: u32, trace: &[u8]) -> Result<(), Fail> {
     let events = read_trace(alloc, trace)?;
-    assert_eq!(rt; events.form(), form);
-    expect_written(rt, alloc, &events, trace)
+    let written = expect_written(rt, alloc, &events, trace);
+    let form_read = events.form();
+    drop(events);
+    assert!(rt; form_read == form);
+    written
 }
 
 fn refused_at(alloc: Global, bytes: &[u8]) -> Option<usize> {
@@ -60,16 +71,17 @@ fn refused_at(alloc: Global, bytes: &[u8]) -> Option<usize> {
 }
 
 fn expect_refused(rt: &impl Abort, alloc: Global, table: &[(&[u8], usize)]) {
-    for (bytes, line) in table {
-        assert_eq!(rt; refused_at(alloc, bytes), Some(*line), "of {bytes:?}");
+    for (number, (bytes, line)) in table.iter().enumerate() {
+        expect_met(rt, refused_at(alloc, *bytes) == Some(*line), number);
     }
 }
 
 #[test]
 fn traces_are_read_and_written_back(rt: HostRuntime) -> Result<(), Fail> {
-    expect_read(&rt, rt.alloc(), 1, TIMER_FIRST)?;
-    expect_read(&rt, rt.alloc(), 1, EACH_KIND)?;
-    expect_read(&rt, rt.alloc(), 2, SECOND_FORM)
+    for (form, trace) in [(1, TIMER_FIRST), (1, EACH_KIND), (2, SECOND_FORM)] {
+        expect_read(&rt, rt.alloc(), form, trace)?;
+    }
+    Ok(())
 }
 
 #[test]
@@ -77,14 +89,18 @@ fn a_start_of_a_trace_is_refused_where_it_ends(rt: HostRuntime) {
     let mut rest = TIMER_FIRST;
     while let Some((_, start)) = rest.split_last() {
         let ended = start.iter().filter(|byte| **byte == b'\n').count();
-        assert_eq!(rt; refused_at(rt.alloc(), start), ended.checked_add(1));
+        expect_met(
+            &rt,
+            refused_at(rt.alloc(), start) == ended.checked_add(1),
+            ended,
+        );
         rest = start;
     }
 }
 
 #[test]
 fn lines_stand_in_their_order(rt: HostRuntime) {
-    let table: [(&[u8], usize); 11] = [
+    const TABLE: [(&[u8], usize); 11] = [
         (b"", 1),
         (b"trace 3\n0 end done\n", 1),
         (b"trace 1\r\n0 end done\n", 1),
@@ -97,12 +113,12 @@ fn lines_stand_in_their_order(rt: HostRuntime) {
         (b"trace 1\n0 ret\n0 end done\n0 ret\n", 4),
         (b"trace 1\n0 end done\n\n", 3),
     ];
-    expect_refused(&rt, rt.alloc(), &table);
+    expect_refused(&rt, rt.alloc(), &TABLE);
 }
 
 #[test]
 fn fields_have_one_spelling(rt: HostRuntime) {
-    let table: [(&[u8], usize); 20] = [
+    const TABLE: [(&[u8], usize); 20] = [
         (b"trace 1\n0 reg 2 frame 1\n0 end done\n", 2),
         (b"trace 2\n0 reg 2 frame\n0 end done\n", 2),
         (b"trace 2\n0 reg 2 frame 01\n0 end done\n", 2),
@@ -127,5 +143,5 @@ fn fields_have_one_spelling(rt: HostRuntime) {
         ),
         (b"trace 1\n0 log -0\n0 end done\n", 2),
     ];
-    expect_refused(&rt, rt.alloc(), &table);
+    expect_refused(&rt, rt.alloc(), &TABLE);
 }

@@ -3,6 +3,7 @@
 ghost use Rattle.std.specs.Prelude.{◌≡◌, IsTrue};
 ghost use Rattle.page_values.specs.Texts.{is_text};
 
+use crate::rows::expect_met;
 use page_values::{
     FaultName, FunNames, Items, Str, TooHeavy, Value, ValueFault, as_function, as_list, as_text,
     bind, copy, copy_items, copy_text, fault, function_value, join, make_list, make_text, nesting,
@@ -29,23 +30,32 @@ fn names(alloc: Global) -> Result<FunNames, AllocError> {
     Ok(FunNames::new(vec![in alloc; f, h]?))
 }
 
-// The spelling of a value comes behind what was there.
+// Whether the spelling of a value comes behind what was there.
+fn is_spelled(alloc: Global, value: &Value, spelling: &str) -> Result<bool, Fail> {
+    let names = names(alloc)?;
+    let mut line = b"log ".to_vec(alloc)?;
+    print(alloc, value, &names, &mut line)?;
+    match line.strip_prefix(b"log ") {
+        Some(printed) => Ok(printed == spelling.as_bytes()),
+        None => Ok(false),
+    }
+}
+
 fn expect_spelling(
     rt: &impl Abort,
     alloc: Global,
-    value: &Value,
+    value: Value,
     spelling: &str,
 ) -> Result<(), Fail> {
-    let mut line = b"log ".to_vec(alloc)?;
-    print(alloc, value, &names(alloc)?, &mut line)?;
-    let printed = line.strip_prefix(b"log ").ok_or("what was there is gone")?;
-    assert_eq!(rt; printed, spelling.as_bytes(), "for {spelling}");
+    let is_spelled = is_spelled(alloc, &value, spelling);
+    drop(value);
+    assert!(rt; is_spelled?, "for {spelling}");
     Ok(())
 }
 
 fn expect_spellings(rt: &impl Abort, alloc: Global, table: &[(Value, &str)]) -> Result<(), Fail> {
-    for (value, spelling) in table {
-        expect_spelling(rt, alloc, value, spelling)?;
+    for (number, (value, spelling)) in table.iter().enumerate() {
+        expect_met(rt, is_spelled(alloc, value, *spelling)?, number);
     }
     Ok(())
 }
@@ -88,7 +98,7 @@ fn faults_are_spelled_with_an_empty_text(rt: HostRuntime) -> Result<(), Fail> {
         (FaultName::NotAllowedError, "NotAllowedError(\"\")"),
     ];
     for (name, spelling) in FAULTS {
-        expect_spelling(&rt, rt.alloc(), &fault(rt.alloc(), name), spelling)?;
+        expect_spelling(&rt, rt.alloc(), fault(rt.alloc(), name), spelling)?;
     }
     Ok(())
 }
@@ -96,18 +106,18 @@ fn faults_are_spelled_with_an_empty_text(rt: HostRuntime) -> Result<(), Fail> {
 #[test]
 fn texts_are_spelled_with_their_escapes(rt: HostRuntime) -> Result<(), Fail> {
     let alloc = rt.alloc();
-    expect_spelling(&rt, alloc, &text(alloc, b"xy")?, "\"xy\"")?;
+    expect_spelling(&rt, alloc, text(alloc, b"xy")?, "\"xy\"")?;
     expect_spelling(
         &rt,
         alloc,
-        &text(alloc, b"a\"b\\c\nd~ ")?,
+        text(alloc, b"a\"b\\c\nd~ ")?,
         "\"a\\\"b\\\\c\\nd~ \"",
     )?;
     let cause = Str::new(b"a\"".to_vec(alloc)?);
     expect_spelling(
         &rt,
         alloc,
-        &Value::Fault(FaultName::Error, cause),
+        Value::Fault(FaultName::Error, cause),
         "Error(\"a\\\"\")",
     )
 }
@@ -122,15 +132,14 @@ fn mixed(alloc: Global) -> Result<Value, Fail> {
 #[test]
 fn lists_are_spelled_with_commas_between(rt: HostRuntime) -> Result<(), Fail> {
     let alloc = rt.alloc();
-    expect_spelling(&rt, alloc, &make_list(Vec::new(alloc))?, "[]")?;
-    expect_spelling(&rt, alloc, &mixed(alloc)?, "[1,\"a\",[true]]")
+    expect_spelling(&rt, alloc, make_list(Vec::new(alloc))?, "[]")?;
+    expect_spelling(&rt, alloc, mixed(alloc)?, "[1,\"a\",[true]]")
 }
 
 #[test]
 fn a_list_weighs_more_than_its_items_and_nests_deeper(rt: HostRuntime) -> Result<(), Fail> {
     let value = mixed(rt.alloc())?;
-    assert_eq!(rt; weight(&value), 6);
-    assert_eq!(rt; nesting(&value), 2);
+    assert!(rt; weight(&value) == 6 && nesting(&value) == 2);
     Ok(())
 }
 
@@ -141,15 +150,23 @@ fn bound(alloc: Global, function: &Value, more: &Value) -> Result<Value, Fail> {
     Ok(bind(alloc, function, more)?)
 }
 
+fn bound_once(alloc: Global) -> Result<Value, Fail> {
+    let h = function_value(alloc, 1);
+    let x = list(alloc, text(alloc, b"x")?)?;
+    bound(alloc, &h, &x)
+}
+
+fn bound_twice(alloc: Global) -> Result<Value, Fail> {
+    let once = bound_once(alloc)?;
+    let y = list(alloc, Value::Int(2))?;
+    bound(alloc, &once, &y)
+}
+
 #[test]
 fn arguments_are_bound_behind_those_bound_before(rt: HostRuntime) -> Result<(), Fail> {
     let alloc = rt.alloc();
-    let h = function_value(alloc, 1);
-    let x = list(alloc, text(alloc, b"x")?)?;
-    let once = bound(alloc, &h, &x)?;
-    expect_spelling(&rt, alloc, &once, "fn:h(\"x\")")?;
-    let y = list(alloc, Value::Int(2))?;
-    expect_spelling(&rt, alloc, &bound(alloc, &once, &y)?, "fn:h(\"x\",2)")
+    expect_spelling(&rt, alloc, bound_once(alloc)?, "fn:h(\"x\")")?;
+    expect_spelling(&rt, alloc, bound_twice(alloc)?, "fn:h(\"x\",2)")
 }
 
 #[test]
@@ -157,9 +174,9 @@ fn texts_are_joined_and_lists_grow_at_their_end(rt: HostRuntime) -> Result<(), F
     let alloc = rt.alloc();
     let x = Str::new(b"x".to_vec(alloc)?);
     let y = Str::new(b"y".to_vec(alloc)?);
-    expect_spelling(&rt, alloc, &join(alloc, &x, &y)?, "\"xy\"")?;
+    expect_spelling(&rt, alloc, join(alloc, &x, &y)?, "\"xy\"")?;
     let items = Items::new(vec![in alloc; Value::Int(1)]?);
-    expect_spelling(&rt, alloc, &push(items, Value::Text(x))?, "[1,\"x\"]")
+    expect_spelling(&rt, alloc, push(items, Value::Text(x))?, "[1,\"x\"]")
 }
 
 #[test]
@@ -170,14 +187,18 @@ fn a_copy_is_the_same(rt: HostRuntime) -> Result<(), Fail> {
     Ok(())
 }
 
+// The list with unit behind its items.
+fn longer(alloc: Global, value: &Value) -> Result<Value, Fail> {
+    let items = as_list(value).ok_or("no list")?;
+    Ok(push(copy_items(alloc, items)?, Value::Unit)?)
+}
+
 #[test]
 fn a_longer_list_is_not_the_same(rt: HostRuntime) -> Result<(), Fail> {
     let alloc = rt.alloc();
     let value = list(alloc, function_value(alloc, 0))?;
-    let items = copy_items(alloc, as_list(&value).ok_or("no list")?)?;
-    let longer = push(items, Value::Unit)?;
-    assert!(rt; !same(&value, &longer));
-    assert!(rt; !same(&longer, &value));
+    let longer = longer(alloc, &value)?;
+    assert!(rt; !same(&value, &longer) && !same(&longer, &value));
     Ok(())
 }
 
@@ -198,25 +219,38 @@ fn units(alloc: Global, count: u32) -> Result<Vec<Value>, AllocError> {
     Ok(items)
 }
 
+fn is_too_heavy(alloc: Global, count: u32) -> Result<bool, Fail> {
+    let items = units(alloc, count)?;
+    Ok(make_list(items).err() == Some(ValueFault::Is(TooHeavy)))
+}
+
 #[test]
 fn the_greatest_weight_is_65536(rt: HostRuntime) -> Result<(), Fail> {
     let alloc = rt.alloc();
     let heaviest = make_list(units(alloc, 65_535)?)?;
-    assert_eq!(rt; weight(&heaviest), 65_536);
-    let refused = make_list(units(alloc, 65_536)?).err();
-    assert!(rt; refused == Some(ValueFault::Is(TooHeavy)));
+    assert!(rt; weight(&heaviest) == 65_536);
+    assert!(rt; is_too_heavy(alloc, 65_536)?);
     Ok(())
+}
+
+// Lists in one another, so deep.
+fn nested(alloc: Global, deep: u32) -> Result<Value, Fail> {
+    let mut value = Value::Unit;
+    for _ in 0..deep {
+        value = list(alloc, value)?;
+    }
+    Ok(value)
+}
+
+fn is_too_deep(alloc: Global, value: Value) -> Result<bool, Fail> {
+    let items = vec![in alloc; value]?;
+    Ok(make_list(items).err() == Some(ValueFault::Is(TooHeavy)))
 }
 
 #[test]
 fn the_deepest_nest_is_64(rt: HostRuntime) -> Result<(), Fail> {
-    let alloc = rt.alloc();
-    let mut value = Value::Unit;
-    for _ in 0..64 {
-        value = list(alloc, value)?;
-    }
-    assert_eq!(rt; nesting(&value), 64);
-    let refused = make_list(vec![in alloc; value]?).err();
-    assert!(rt; refused == Some(ValueFault::Is(TooHeavy)));
+    let value = nested(rt.alloc(), 64)?;
+    assert!(rt; nesting(&value) == 64);
+    assert!(rt; is_too_deep(rt.alloc(), value)?);
     Ok(())
 }
