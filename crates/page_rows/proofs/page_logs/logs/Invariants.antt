@@ -1,8 +1,0 @@
-use Rattle.std.proofs.Common.{length}
-use Rattle.page_rows.proofs.page_logs.logs.Given as goal
-
-abbrev pub invariant-lines : goal.invariant-lines
-invariant-lines l = Unit {0}
-
-abbrev pub decreases-lines : goal.decreases-lines
-decreases-lines l = length l.rest
