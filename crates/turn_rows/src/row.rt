@@ -132,7 +132,7 @@ pub(crate) fn with_text<P: HostPort + Drop>(
 }
 
 // The program of a script.
-fn read_script(alloc: Global, script: &str) -> Result<Program, Fail> {
+pub(crate) fn read_script(alloc: Global, script: &str) -> Result<Program, Fail> {
     let tokens = tokens(alloc, script.as_bytes())?;
     Ok(resolve(alloc, parse(alloc, &tokens)?)?)
 }
