@@ -1,5 +1,5 @@
-//! Many callbacks at once: the counts of the lines that whole runs write. Each row is worked out from its script: one turn and one call for the
-//! script itself and for each callback, and what a posted task gives settles its promise.
+//! Many callbacks at once: the counts of the lines that whole runs write. Each row is worked out from its script: one turn and one
+//! call for the script itself and for each callback, and what a posted task gives settles its promise.
 
 ghost use Rattle.std.specs.Prelude.{◌≡◌, ◌<◌};
 
