@@ -8,8 +8,8 @@ pub(crate) type CountedKeys = BuildHasherDefault<CountedHasher>;
 
 /// A hasher of numbers that are counted up, as ids and start numbers are.
 ///
-/// Four of them in a row have their place side by side, and the fours lie spread: so what is armed in a row, and comes due in a row,
-/// is found in a row, and no pattern of numbers crowds together.
+/// Four of them in a row have their place side by side, so that what is armed in a row, and comes due in a row, is found in a row. The
+/// fours lie spread, so that numbers with gaps between them do not crowd together.
 #[derive(Clone, Copy)]
 pub(crate) struct CountedHasher {
     number: u64,
