@@ -1,5 +1,5 @@
 -- What the part keeps of its timers, from call to call.
-use Rattle.std.proofs.Common.{◌≡◌, ℕ, ◌+◌, true, false, cond, not, ◌&&◌, ◌||◌, List, [], ◌∷◌, ◌++◌, map, find, Option, Some, None, nat_eq, eqb, refl, sym, subst, ◌∙◌, ap, true≢false}
+use Rattle.std.proofs.Common.{◌≡◌, ℕ, ◌+◌, true, false, cond, not, ◌&&◌, ◌||◌, List, [], ◌∷◌, ◌++◌, map, find, Option, Some, None, nat_eq, eqb, refl, sym, subst, ◌∙◌, ap}
 use Rattle.std.proofs.lemmas.List.{map-append}
 use Rattle.std.specs.List.{list_any}
 use Rattle.std.specs.List.Sorted.{IsPermutation}
@@ -21,13 +21,10 @@ use Rattle.parallel_items.specs.Kept.{HaveSteps, AreDelays, HaveOwners, AreKept}
 use Rattle.parallel_items.specs.Seen.{completion_seen, completing_seen, completings_of, owner_seen, owners_of}
 use Rattle.parallel_items.proofs.ClassLemmas.{map_without}
 use Rattle.parallel_items.proofs.MapLemmas.{key, put_numbered, put_order, removed_numbered, removed_order}
-use Rattle.parallel_items.proofs.TimerLemmas.{completion_found, starts_rise, steps_pushed, steps_left, delays_pushed, delays_left, owners_pushed, owners_again, owners_left, timer_is_first, steps_there, Completes}
+use Rattle.parallel_items.proofs.TimerLemmas.{completion_found, starts_rise, steps_pushed, steps_left, delays_pushed, delays_left, owners_pushed, owners_again, owners_left, timer_is_first, Completes}
 use Rattle.parallel_items.proofs.IdleLemmas.{Rise}
 
 -- ---- the entries of the maps, seen
-
-pub completings_reordered : (last : ℕ) (old new : List (ℕ × Completion)) → AreNumbered key last old → IsPermutation old new → completings_of last new ≡ completings_of last old
-completings_reordered last old new kept p = ap (map completing_seen) (order_permuted key last old new p kept.distinct)
 
 pub owners_reordered : (last : ℕ) (old new : List (ℕ × ℕ)) → AreNumbered key last old → IsPermutation old new → owners_of last new ≡ owners_of last old
 owners_reordered last old new kept p = ap (map owner_seen) (order_permuted key last old new p kept.distinct)
@@ -55,17 +52,6 @@ owners_removed k last old new kept p =
 -- ---- tables grow
 
 module _ (t : Timers) (comps : List (ℕ × Completion)) (set : List ℕ) (held : List (ℕ × ℕ)) (kept : AreKept t comps set held) where
-  pub kept_completions : (new : List (ℕ × Completion)) → IsPermutation comps new → AreKept t new set held
-  kept_completions new p =
-      let same = completings_reordered t.starts_made comps new kept.numbered p in
-      record {
-        numbered = numbered_permuted key t.starts_made comps new p kept.numbered;
-        steps = subst (HaveSteps t.active) (sym same) kept.steps;
-        delays = subst (AreDelays set) (sym same) kept.delays;
-        owners_numbered = kept.owners_numbered;
-        owners = kept.owners;
-      }
-
   pub kept_owners : (new : List (ℕ × ℕ)) → IsPermutation held new → AreKept t comps set new
   kept_owners new p =
       let same = owners_reordered t.ids_made held new kept.owners_numbered p in
@@ -207,14 +193,7 @@ module _ (t : Timers) (comps : List (ℕ × Completion)) (set : List ℕ) (held 
   found : completion_of (completings_of t.starts_made comps) done.timer.start ≡ option_map completion_seen (lookup (nat_eq start) comps)
   found = ap (completion_of (completings_of t.starts_made comps)) done.is_start ∙ completion_found start t.starts_made comps kept.numbered
 
-  -- its completion steps are there
-  pub has_steps : lookup (nat_eq start) comps ≡ None → ⊥
-  has_steps none =
-      let there = steps_there done.timer t.active (completings_of t.starts_made comps) kept.steps done.first in
-      let not_there : is_there (completion_of (completings_of t.starts_made comps) done.timer.start) ≡ false = ap is_there (found ∙ ap (option_map completion_seen) none) in
-      true≢false (sym there ∙ not_there)
-
-  -- and they are what is taken
+  -- its completion steps are what is taken
   pub timer_taken : (v : Completion) → lookup (nat_eq start) comps ≡ Some v
       → Some (TakenCompletion (completion_seen v)) ≡ taken_of (first_item_of (timer_items t.active)) (completings_of t.starts_made comps)
   timer_taken v there =

@@ -4,4 +4,5 @@ pub mod IdleLemmas
 pub mod InitLemmas
 pub mod KeptLemmas
 pub mod MapLemmas
+pub mod StartedLemmas
 pub mod TimerLemmas

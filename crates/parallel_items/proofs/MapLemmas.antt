@@ -36,16 +36,17 @@ module _ {V : Type 0} where
 
   -- ---- an entry with the next number is put
 
+  -- none has that number
+  pub none_there : (last next : ℕ) (old : List (ℕ × V)) → next ≡ last + 1 → AreNumbered key last old → remove_entry (nat_eq next) old ≡ old
+  none_there last next old is kept =
+      let given = recursion_from_All (λ (e : ℕ × V). Given last e.0) old kept.given in
+      removed_is_without next old kept.distinct
+      ∙ without_none (λ (e : ℕ × V). eqb e.0 next) old (none_beyond key last next (omega (arith, is)) old given)
+
   module _ (last next : ℕ) (v : V) (old new : List (ℕ × V)) (is : next ≡ last + 1) (kept : AreNumbered key last old)
       (p : IsPermutation ((next, v) ∷ remove_entry (nat_eq next) old) new) where
-    none_there : remove_entry (nat_eq next) old ≡ old
-    none_there =
-        let given = recursion_from_All (λ (e : ℕ × V). Given last e.0) old kept.given in
-        removed_is_without next old kept.distinct
-        ∙ without_none (λ (e : ℕ × V). eqb e.0 next) old (none_beyond key last next (omega (arith, is)) old given)
-
     permuted : IsPermutation ((next, v) ∷ old) new
-    permuted = subst (λ es. IsPermutation ((next, v) ∷ es) new) none_there p
+    permuted = subst (λ es. IsPermutation ((next, v) ∷ es) new) (none_there last next old is kept) p
 
     pub put_numbered : AreNumbered key next new
     put_numbered = subst (λ n. AreNumbered key n new) (sym is) (numbered_pushed key last (next, v) old new is permuted kept)

@@ -1,12 +1,12 @@
 -- The active timers and their completion steps.
 use Rattle.std.proofs.Common.{◌≡◌, ℕ, ◌+◌, ◌≤◌, Bool, true, false, cond, not, ◌&&◌, ◌||◌, List, [], ◌∷◌, ◌++◌, map, find, Option, Some, None, is_some, nat_eq, nat_lt, eqb, refl, sym, subst, ◌∙◌, ap, true≢false, arith}
-use Rattle.std.proofs.lemmas.Bool.{eq-eqb, eqb-true}
+use Rattle.std.proofs.lemmas.Bool.{eqb-true}
 use Rattle.std.proofs.lemmas.List.{map-append}
 use Rattle.std.specs.List.{AllByRecursion, list_any}
 use Rattle.std.specs.Map.{lookup}
 use Rattle.std.specs.Option.{option_map}
 use Rattle.page_parts.specs.Timers.{Timers, TimerId, ActiveTimer, first_from, first_of, first_timer, next_due, completed, has_id, with_id}
-use Rattle.page_parts.specs.Words.{is_there, without, has_number}
+use Rattle.page_parts.specs.Words.{is_there, without}
 use Rattle.page_model.specs.State.{Completing}
 use Rattle.page_model.specs.PageSignals.{is_delay_of}
 use Rattle.page_model.specs.PageTime.{completion_of}
@@ -14,7 +14,7 @@ use Rattle.page_model.specs.Parallel.{first_item_from, first_item_of}
 use Rattle.timer_map.specs.Due.{due_timer, after_due}
 use Rattle.timer_map.specs.InOrder.{in_order}
 use Rattle.timer_map.specs.Kept.{AreNumbered}
-use Rattle.timer_map.proofs.SetLemmas.{due_first, after_first}
+use Rattle.timer_map.proofs.DueLemmas.{due_first, after_timer}
 use Rattle.timer_map.proofs.OrderLemmas.{without_none}
 use Rattle.parallel_items.specs.declared.completion.Completion as code
 use Rattle.parallel_items.specs.InParallel.{TimerOwner}
@@ -63,48 +63,9 @@ pub timer_is_first : (high : ℕ) (ts : List ActiveTimer) → Rise 0 (map start_
 timer_is_first high [] rise = refl
 timer_is_first high (a ∷ ts) rise = ap Some (timer_from high a ts rise.1)
 
-either_has : (p : Bool) (a b : ActiveTimer) (ns : List ℕ) (n : ℕ) → (eqb (cond p b a).start n || has_number ns n) ≡ true
-    → (eqb a.start n || (eqb b.start n || has_number ns n)) ≡ true
-either_has true a b ns n h = side (eqb a.start n)
-  where
-    side : (x : Bool) → (x || (eqb b.start n || has_number ns n)) ≡ true
-    side true = refl
-    side false = h
-either_has false a b ns n h = side (eqb a.start n) (eqb b.start n) h
-  where
-    side : (x y : Bool) → (x || has_number ns n) ≡ true → (x || (y || has_number ns n)) ≡ true
-    side true y k = refl
-    side false true k = refl
-    side false false k = k
-
--- the first one is one of them
-first_is_one : (a : ActiveTimer) (ts : List ActiveTimer) → has_number (map start_of (a ∷ ts)) (first_from a ts).start ≡ true
-first_is_one a [] = let itself = eq-eqb a.start a.start refl in rw itself
-first_is_one a (b ∷ ts) =
-    let p = nat_lt b.due a.due || (eqb b.due a.due && nat_lt b.start a.start) in
-    either_has p a b (map start_of ts) (first_from (cond p b a) ts).start (first_is_one (cond p b a) ts)
-
-found_start : (n : ℕ) (cs : List Completing) → has_number (map start_in cs) n ≡ is_there (find (λ (c : Completing). eqb c.start n) cs)
-found_start n [] = refl
-found_start n (c ∷ cs) = by (eqb c.start n) (found_start n cs)
-  where
-    by : (b : Bool) → has_number (map start_in cs) n ≡ is_there (find (λ (c : Completing). eqb c.start n) cs)
-        → (b || has_number (map start_in cs) n) ≡ is_there (cond b (Some c) (find (λ (c : Completing). eqb c.start n) cs))
-    by true rest = refl
-    by false rest = rest
-
 there_map : {X Y : Type 0} (f : X → Y) (o : Option X) → is_there (option_map f o) ≡ is_there o
 there_map f None = refl
 there_map f (Some x) = refl
-
--- its completion steps are there
-pub steps_there : (x : ActiveTimer) (ts : List ActiveTimer) (cs : List Completing) → HaveSteps ts cs → first_of ts ≡ Some x → is_there (completion_of cs x.start) ≡ true
-steps_there x [] cs steps first = let never : ⊥ = cc in absurd never
-steps_there x (a ∷ ts) cs steps first =
-    let same : first_from a ts ≡ x = cc in
-    let has = subst (λ (t : ActiveTimer). has_number (map start_of (a ∷ ts)) t.start ≡ true) same (first_is_one a ts) in
-    there_map (λ (c : Completing). c.completion) (find (λ (c : Completing). eqb c.start x.start) cs)
-    ∙ sym (found_start x.start cs) ∙ sym (ap (λ ns. has_number ns x.start) steps) ∙ has
 
 -- ---- what completes
 
@@ -128,7 +89,7 @@ completes t due start next done = by (first_timer t) refl
         let due_is = due_first due t x e (omega (arith, same)) in
         let has : option_map (λ (x : ActiveTimer). x.start) (due_timer due t) ≡ Some x.start = ap (option_map (λ (x : ActiveTimer). x.start)) due_is in
         let start_is : x.start ≡ start = cc in
-        record { timer = x; first = e; is_start = start_is; after = after_first due t x due_is ∙ ap (λ n. completed n t) start_is }
+        record { timer = x; first = e; is_start = start_is; after = after_timer due t x due_is ∙ ap (λ n. completed n t) start_is }
 
 -- ---- completion steps in the order of start
 

@@ -12,12 +12,13 @@ use Rattle.page_parts.specs.Words.{is_there}
 use Rattle.page_model.specs.State.{Completing, IdleTimer}
 use Rattle.page_model.specs.PageSignals.{is_delay_of}
 use Rattle.arrivals_text.specs.declared.arrival.Arrival as read
-use Rattle.timer_map.specs.Kept.{AreNumbered}
+use Rattle.timer_map.specs.Kept.{AreNumbered, IsKept}
+use Rattle.timer_map.specs.Seen.{timers_in_order}
 use Rattle.parallel_items.specs.declared.completion.Completion.{Completion}
 use Rattle.parallel_items.specs.declared.idle.IdleTimeout.{IdleTimeout}
 use Rattle.parallel_items.specs.InParallel.{TimerOwner}
 use Rattle.parallel_items.specs.Steps.{owner_of}
-use Rattle.parallel_items.specs.Seen.{completings_of, owners_of, idle_timers_of, arrivals_of}
+use Rattle.parallel_items.specs.Seen.{steps_of, completings_of, owners_of, idle_timers_of, arrivals_of}
 
 -- ---- timers
 
@@ -48,6 +49,20 @@ pub record AreKept (t : Timers) (completions : List (ℕ × Completion)) (set : 
   pub delays : AreDelays set (completings_of t.starts_made completions)
   pub owners_numbered : AreNumbered (λ (entry : ℕ × ℕ). entry.0) t.ids_made held
   pub owners : HaveOwners t (owners_of t.ids_made held)
+
+-- the moments and the start numbers of the active timers of completion steps
+abbrev pub started_of : List (ℕ × (ℕ × Completion)) → List (ℕ × ℕ)
+started_of rows = map (λ (e : ℕ × (ℕ × Completion)). (e.0, e.1.0)) rows
+
+-- the completion steps stand in the order in which their active timers come due
+pub record AreInRows (t : Timers) (rows : List (ℕ × (ℕ × Completion))) : Type 0 where
+  pub started : IsKept t.starts_made (started_of rows)
+  pub active : t.active ≡ timers_in_order t.starts_made (started_of rows)
+
+-- both
+pub record AreKeptInRows (t : Timers) (rows : List (ℕ × (ℕ × Completion))) (set : List ℕ) (held : List (ℕ × ℕ)) : Type 0 where
+  pub in_rows : AreInRows t rows
+  pub parts : AreKept t (steps_of rows) set held
 
 -- ---- idle timeouts
 

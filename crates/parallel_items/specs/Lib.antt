@@ -1,5 +1,4 @@
 pub mod Codes
-pub mod Hashed
 pub mod InParallel
 pub mod Items
 pub mod Kept

@@ -28,7 +28,11 @@ completion_seen (completion.QueueSignal r s) = model.QueueSignal r s
 abbrev pub completing_seen : ℕ × Completion → model.Completing
 completing_seen entry = record { start = entry.0; completion = completion_seen entry.1 }
 
--- those of a map, in the order of start
+-- the completion steps of what comes due, each with the start number of its active timer
+abbrev pub steps_of : List (ℕ × (ℕ × Completion)) → List (ℕ × Completion)
+steps_of rows = map (λ (e : ℕ × (ℕ × Completion)). e.1) rows
+
+-- those of a list, in the order of start
 abbrev pub completings_of : (last : ℕ) → List (ℕ × Completion) → List model.Completing
 completings_of last entries = map completing_seen (in_order (λ (entry : ℕ × Completion). entry.0) last entries)
 

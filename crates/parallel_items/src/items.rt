@@ -16,27 +16,30 @@ ghost use Rattle.page_tasks.specs.Seen.{host_task};
 use crate::answers::HostAnswers;
 use crate::arrivals::Arrivals;
 use crate::delays::{forget_delay, note_delay};
-use crate::hasher::CountedKeys;
 use crate::idle::IdleTimeouts;
-use crate::maps::{put, sooner};
+use crate::moments::sooner;
 use crate::{Completion, HostAnswer, HostTask, MemoryFault, Taken, TimerTask};
 use arrivals_text::Arrival;
 use page_base::Micros;
 use std::alloc::Global;
-use std::collections::{HashMap, HashSet};
+use std::collections::HashSet;
 use std::marker::Model;
 use timer_map::counted::{self, Counted};
+use timer_map::due_rows::DueRows;
 use timer_map::{Armed, Timers};
+
+// Completion steps, with the start number of their active timer. They stand in the order in which their active timers come due.
+type Started = (u64, Completion);
 
 /// What goes on in parallel beside the script of a page (HTML, "Event loops: processing model").
 ///
 /// Times and spans are in microseconds, timeouts in milliseconds. Each call costs at most the logarithm of the number of items,
-/// but for the growth of tables, and for the answers of host closures: they are seen one after another, and a page has at most 64
-/// closures and asks each once.
+/// but for the growth of tables and rows, and for the answers of host closures: they are seen one after another, and a page has at
+/// most 64 closures and asks each once.
 #[derive(Drop)]
 pub struct ParallelItems {
     timers: Timers,
-    completions: HashMap<u64, Completion, CountedKeys>,
+    completions: DueRows<Started>,
     delayed: HashSet<u32>,
     owners: Counted<u32>,
     idle: IdleTimeouts,
@@ -52,14 +55,14 @@ impl Model for ParallelItems {
 
     ghost coded = { coded_in_parallel };
 
-    ghost use Rattle.parallel_items.specs.Seen.{completings_of, owners_of};
-    ghost use Rattle.parallel_items.specs.Kept.{AreKept};
+    ghost use Rattle.parallel_items.specs.Seen.{steps_of, completings_of, owners_of};
+    ghost use Rattle.parallel_items.specs.Kept.{AreKeptInRows};
     ghost use Rattle.timer_map.specs.Counted.{entries_of};
 
     ghost view = { λ items. record {
       waiting = record {
         timers = items.timers;
-        completions = completings_of items.timers.starts_made items.completions.entries;
+        completions = completings_of items.timers.starts_made (steps_of items.completions);
         idle_timers = items.idle.timers;
         host_answers = items.answers;
         arrivals = items.arrivals.arrivals;
@@ -70,7 +73,7 @@ impl Model for ParallelItems {
     } };
 
     ghost invariant = { λ items.
-        AreKept items.timers items.completions.entries items.delayed.keys (entries_of items.owners.items) };
+        AreKeptInRows items.timers items.completions items.delayed.keys (entries_of items.owners.items) };
 }
 
 impl ParallelItems {
@@ -85,7 +88,7 @@ impl ParallelItems {
         let arrivals = Arrivals::new(alloc, arrivals)?;
         Ok(ParallelItems {
             timers: Timers::new(alloc),
-            completions: HashMap::with_hasher(alloc, CountedKeys::new()),
+            completions: DueRows::new(alloc),
             delayed: HashSet::new(alloc),
             owners: Vec::new(alloc),
             idle: IdleTimeouts::new(alloc),
@@ -119,8 +122,7 @@ impl ParallelItems {
         ensures err { OnErr result (self.new ≡ self.old) }
     {
         counted::make_place(&mut self.owners, self.timers.made().saturating_add(1))?;
-        self.completions.reserve(1)?;
-        let armed = self.timers.init(again, repeats, timeout, nesting, now)?;
+        let armed = self.timers.would_arm(again, timeout, nesting, now);
         let task = TimerTask {
             registration,
             id: armed.id,
@@ -129,11 +131,12 @@ impl ParallelItems {
             repeats,
             timeout,
         };
-        put(
-            &mut self.completions,
-            armed.start,
-            Completion::QueueTimer(task),
-        );
+        let started = (armed.start, Completion::QueueTimer(task));
+        self.completions.add(armed.due, started)?;
+        if let Err(fault) = self.timers.init(again, repeats, timeout, nesting, now) {
+            self.completions.take_back(armed.due);
+            return Err(fault);
+        }
         if again.is_none() {
             counted::put(&mut self.owners, armed.id, registration);
         }
@@ -158,10 +161,14 @@ impl ParallelItems {
         ensures started { OnOk result (self.new ≡ delay_started ms now.0 (completion_seen completion) self.old) }
         ensures err { OnErr result (self.new ≡ self.old) }
     {
-        self.completions.reserve(1)?;
         self.delayed.reserve(1)?;
-        let start = self.timers.after(ms, now)?;
-        put(&mut self.completions, start, completion);
+        let start = self.timers.starts_made() + 1;
+        let due = Micros(now.0 + ms * 1000);
+        self.completions.add(due, (start, completion))?;
+        if let Err(fault) = self.timers.after(ms, now) {
+            self.completions.take_back(due);
+            return Err(fault);
+        }
         note_delay(&mut self.delayed, completion);
         Ok(start)
     }
@@ -389,8 +396,8 @@ impl ParallelItems {
             record self.old { waiting = left_of (first_item_of (timer_items self.old.waiting.timers.active)) self.old.waiting } }
     {
         let due = self.timers.next_due()?;
-        let start = self.timers.complete(due)?;
-        let completion = self.completions.remove(&start)?;
+        self.timers.complete(due)?;
+        let (_, completion) = self.completions.take_first()?;
         forget_delay(&mut self.delayed, completion);
         Some(completion)
     }

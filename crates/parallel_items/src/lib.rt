@@ -8,11 +8,10 @@ mod answers;
 mod arrivals;
 mod completion;
 mod delays;
-mod hasher;
 mod idle;
 mod items;
 mod laws;
-mod maps;
+mod moments;
 mod taken;
 
 pub use arrivals_text::Arrival;

@@ -13,6 +13,8 @@ mod closures;
 #[cfg(test)]
 mod combinators;
 #[cfg(test)]
+mod due_rows;
+#[cfg(test)]
 mod frame_lists;
 #[cfg(test)]
 mod frame_requests;

@@ -1,20 +1,17 @@
 -- The active timer that is first by due time and start.
-use Rattle.std.proofs.Common.{◌≡◌, ℕ, zero, suc, ◌<◌, ◌≤◌, Bool, true, false, cond, ◌&&◌, ◌||◌, ◌⊎◌, inl, inr, List, [], ◌∷◌, Some, nat_lt, nat_eq, refl, ◌∙◌, ap, arith}
+use Rattle.std.proofs.Common.{◌≡◌, ℕ, zero, suc, ◌<◌, ◌≤◌, Bool, true, false, cond, ◌⊎◌, inl, inr, List, [], ◌∷◌, Some, refl, ◌∙◌, ap, arith}
 use Rattle.std.proofs.lemmas.Bool.{eq-eqb}
 use Rattle.std.specs.List.{AllByRecursion}
 use Rattle.page_parts.specs.Timers.{ActiveTimer, first_from, first_of}
 use Rattle.timer_map.specs.InOrder.{numbered_as, in_order}
+use Rattle.timer_map.specs.Kept.{is_sooner}
 use Rattle.timer_map.proofs.OrderLemmas.{Member, member_in_order, each_in_order}
-
--- whether b completes before a
-abbrev pub before : ActiveTimer → ActiveTimer → Bool
-before b a = nat_lt b.due a.due || (nat_eq b.due a.due && nat_lt b.start a.start)
 
 -- a timer is x, or completes after it
 abbrev pub FromOn : ActiveTimer → ActiveTimer → Type 0
-FromOn x y = (y ≡ x) ⊎ (before x y ≡ true)
+FromOn x y = (y ≡ x) ⊎ (is_sooner x y ≡ true)
 
-one_way : (x y : ActiveTimer) → before x y ≡ true → before y x ≡ false
+one_way : (x y : ActiveTimer) → is_sooner x y ≡ true → is_sooner y x ≡ false
 one_way x y h = grind (arith, h)
 
 both_same : (b : Bool) (x y : ActiveTimer) → y ≡ x → cond b y x ≡ x
@@ -22,13 +19,13 @@ both_same true x y e = e
 both_same false x y e = refl
 
 -- x stays the first
-stays : (x y : ActiveTimer) → FromOn x y → cond (before y x) y x ≡ x
-stays x y (inl e) = both_same (before y x) x y e
+stays : (x y : ActiveTimer) → FromOn x y → cond (is_sooner y x) y x ≡ x
+stays x y (inl e) = both_same (is_sooner y x) x y e
 stays x y (inr h) = rw (one_way x y h)
 
 -- x becomes the first
-reached : (x y : ActiveTimer) → FromOn x y → cond (before x y) x y ≡ x
-reached x y (inl e) = by (before x y)
+reached : (x y : ActiveTimer) → FromOn x y → cond (is_sooner x y) x y ≡ x
+reached x y (inl e) = by (is_sooner x y)
   where
     by : (b : Bool) → cond b x y ≡ x
     by true = refl
@@ -46,9 +43,9 @@ either P false x y p q = q
 first_reached : (x y : ActiveTimer) (ts : List ActiveTimer) → FromOn x y → AllByRecursion (FromOn x) ts → Member x ts → first_from y ts ≡ x
 first_reached x y [] from each member = absurd member
 first_reached x y (t ∷ ts) from each (inl e) =
-    ap (λ z. first_from (cond (before z y) z y) ts) e ∙ ap (λ z. first_from z ts) (reached x y from) ∙ first_stays x ts each.1
+    ap (λ z. first_from (cond (is_sooner z y) z y) ts) e ∙ ap (λ z. first_from z ts) (reached x y from) ∙ first_stays x ts each.1
 first_reached x y (t ∷ ts) from each (inr member) =
-    first_reached x (cond (before t y) t y) ts (either (FromOn x) (before t y) t y each.0 from) each.1 member
+    first_reached x (cond (is_sooner t y) t y) ts (either (FromOn x) (is_sooner t y) t y each.0 from) each.1 member
 
 first_is : (x : ActiveTimer) (ts : List ActiveTimer) → AllByRecursion (FromOn x) ts → Member x ts → first_of ts ≡ Some x
 first_is x [] each member = absurd member

@@ -1,5 +1,7 @@
+pub mod BackLemmas
 pub mod CountedLemmas
+pub mod DueLemmas
 pub mod FirstLemmas
 pub mod IdLemmas
 pub mod OrderLemmas
-pub mod SetLemmas
+pub mod RowLemmas

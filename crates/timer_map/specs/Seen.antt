@@ -2,7 +2,6 @@
 use Rattle.std.specs.Prelude.{ℕ, List, map}
 use Rattle.page_parts.specs.Timers.{TimerId, ActiveTimer, Armed}
 use Rattle.timer_map.specs.InOrder.{in_order}
-use Rattle.timer_map.specs.declared.waiting.ActiveTimer as waiting
 use Rattle.timer_map.specs.declared.armed.Armed as code
 
 abbrev pub ids_of : List (ℕ × ℕ) → List TimerId
@@ -12,15 +11,16 @@ ids_of entries = map (λ (entry : ℕ × ℕ). record { id = entry.0; handle = e
 abbrev pub ids_in_order : ℕ → List (ℕ × ℕ) → List TimerId
 ids_in_order last entries = in_order (λ (e : TimerId). e.handle) last (ids_of entries)
 
-abbrev pub seen_timer : waiting.ActiveTimer → ActiveTimer
-seen_timer timer = record { start = timer.start; due = timer.due.0 }
+-- an active timer, of its moment and its start number
+abbrev pub seen_timer : ℕ × ℕ → ActiveTimer
+seen_timer entry = record { start = entry.1; due = entry.0 }
 
-abbrev pub timers_of : List waiting.ActiveTimer → List ActiveTimer
-timers_of timers = map seen_timer timers
+abbrev pub timers_of : List (ℕ × ℕ) → List ActiveTimer
+timers_of entries = map seen_timer entries
 
 -- the active timers in the order of start
-abbrev pub timers_in_order : ℕ → List waiting.ActiveTimer → List ActiveTimer
-timers_in_order last timers = in_order (λ (t : ActiveTimer). t.start) last (timers_of timers)
+abbrev pub timers_in_order : ℕ → List (ℕ × ℕ) → List ActiveTimer
+timers_in_order last entries = in_order (λ (t : ActiveTimer). t.start) last (timers_of entries)
 
 abbrev pub seen_armed : code.Armed → Armed
 seen_armed a = record { id = a.id; handle = a.handle; start = a.start; due = a.due.0; level = a.level }

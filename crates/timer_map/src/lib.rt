@@ -4,9 +4,9 @@
 
 mod armed;
 pub mod counted;
+pub mod due_rows;
 mod ids;
 mod timers;
-mod waiting;
 
 pub use armed::Armed;
 pub use page_base::MemoryFault;

@@ -7,11 +7,10 @@ ghost use Rattle.timer_map.specs.Seen.{seen_armed};
 use crate::MemoryFault;
 use crate::armed::{Armed, clamped, milliseconds};
 use crate::counted::{self, Counted};
+use crate::due_rows::DueRows;
 use crate::ids::id_and_last;
-use crate::waiting::{ActiveTimer, Waiting};
 use page_base::Micros;
 use std::alloc::Global;
-use std::collections::BTreeSet;
 use std::marker::Model;
 
 /// The map of setTimeout and setInterval ids, and the active timers (HTML, "Timers").
@@ -23,7 +22,7 @@ use std::marker::Model;
 #[derive(Drop)]
 pub struct Timers {
     ids: Counted<u64>,
-    active: Waiting,
+    active: DueRows<u64>,
     ids_made: u32,
     handles_made: u64,
     starts_made: u64,
@@ -40,13 +39,13 @@ impl Model for Timers {
 
     ghost view = { λ timers. record {
       ids = ids_in_order timers.handles_made (entries_of timers.ids.items);
-      active = timers_in_order timers.starts_made timers.active.keys;
+      active = timers_in_order timers.starts_made timers.active;
       ids_made = timers.ids_made;
       handles_made = timers.handles_made;
       starts_made = timers.starts_made;
     } };
 
-    ghost invariant = { λ timers. AreKept timers.handles_made (entries_of timers.ids.items) timers.starts_made timers.active.keys };
+    ghost invariant = { λ timers. AreKept timers.handles_made (entries_of timers.ids.items) timers.starts_made timers.active };
 }
 
 impl Timers {
@@ -56,10 +55,29 @@ impl Timers {
     {
         Timers {
             ids: Vec::new(alloc),
-            active: BTreeSet::new(alloc),
+            active: DueRows::new(alloc),
             ids_made: 0,
             handles_made: 0,
             starts_made: 0,
+        }
+    }
+
+    /// What initialising a timer gives now: `init` of the same gives it. Takes no memory.
+    pub fn would_arm(&self, again: Option<u32>, timeout: i64, nesting: u32, now: Micros) -> Armed
+        requires id { ForNone again (self.now.ids_made + 1 < 2 ^ 32) }
+        requires handle { self.now.handles_made + 1 < 2 ^ 64 }
+        requires start { self.now.starts_made + 1 < 2 ^ 64 }
+        requires level { nesting + 1 < 2 ^ 32 }
+        requires moment { now.0 < 2 ^ 63 }
+        ensures { seen_armed result ≡ armed_of again timeout nesting now.0 self.now }
+    {
+        let (id, _) = id_and_last(again, self.ids_made);
+        Armed {
+            id,
+            handle: self.handles_made + 1,
+            start: self.starts_made + 1,
+            due: Micros(now.0 + clamped(nesting, milliseconds(timeout)) * 1000),
+            level: nesting + 1,
         }
     }
 
@@ -87,19 +105,10 @@ impl Timers {
         ensures err { OnErr result (self.new ≡ self.old) }
     {
         let (id, ids_made) = id_and_last(again, self.ids_made);
-        let armed = Armed {
-            id,
-            handle: self.handles_made + 1,
-            start: self.starts_made + 1,
-            due: Micros(now.0 + clamped(nesting, milliseconds(timeout)) * 1000),
-            level: nesting + 1,
-        };
+        let armed = self.would_arm(again, timeout, nesting, now);
         counted::make_place(&mut self.ids, id)?;
-        self.active.insert(ActiveTimer {
-            due: armed.due,
-            start: armed.start,
-        })?;
-        counted::put(&mut self.ids, armed.id, armed.handle);
+        self.active.add(armed.due, armed.start)?;
+        counted::put(&mut self.ids, id, armed.handle);
         self.ids_made = ids_made;
         self.handles_made = armed.handle;
         self.starts_made = armed.start;
@@ -120,7 +129,7 @@ impl Timers {
     {
         let start = self.starts_made + 1;
         let due = Micros(now.0 + ms * 1000);
-        self.active.insert(ActiveTimer { due, start })?;
+        self.active.add(due, start)?;
         self.starts_made = start;
         Ok(start)
     }
@@ -164,8 +173,7 @@ impl Timers {
     pub fn next_due(&self) -> Option<Micros>
         ensures { option_map (λ moment. moment.0) result ≡ next_due_of self.now }
     {
-        let first = self.active.first()?;
-        Some(first.due)
+        self.active.next_due()
     }
 
     /// Completes the active timer that is due first, and of those that was started first: it leaves, and its start number is
@@ -179,8 +187,7 @@ impl Timers {
         if self.next_due()? > now {
             return None;
         }
-        let completed = self.active.pop_first()?;
-        Some(completed.start)
+        self.active.take_first()
     }
 
     /// How many ids were ever given. Takes no memory.

@@ -2,6 +2,7 @@ use Rattle.timer_map.specs.Counted.{entries_of}
 use Rattle.std.proofs.Common.{◌≡◌, ◌∙◌, sym, ap}
 use Rattle.parallel_items.specs.InParallel.{InParallel, Waiting}
 use Rattle.parallel_items.specs.Items.{first_waiting, due_of}
+use Rattle.parallel_items.specs.Seen.{steps_of}
 use Rattle.parallel_items.proofs.FirstLemmas.{arrival, answer, timer, is_arrival, is_answer, is_timer, is_idle, same_due, other_due, same_takes}
 use Rattle.parallel_items.proofs.KeptLemmas.{timer_due}
 use Rattle.parallel_items.proofs.items.ParallelItems.take_first.Goals as goal
@@ -28,7 +29,7 @@ returns-then-eq-3 c =
     let i = c.self.inside in
     let a = c.next_due.ensures ∙ ap (λ (s : InParallel). due_of (arrival s.waiting)) c.self.view_is in
     let b = c.next_due-else-eq.ensures ∙ ap (λ (s : InParallel). due_of (answer s.waiting)) c.self.view_is in
-    let t = c.next_due-else-eq-2.ensures ∙ timer_due i.timers i.completions.entries i.delayed.keys (entries_of i.owners.items) c.self.invariant
+    let t = c.next_due-else-eq-2.ensures ∙ timer_due i.timers (steps_of i.completions) i.delayed.keys (entries_of i.owners.items) c.self.invariant.parts
     ∙ ap (λ (s : InParallel). due_of (timer s.waiting)) c.self.view_is in
     let other : due_of (arrival w) ≡ due_of (first_waiting w) → ⊥ = λ e. other_due _ _ (sym c.eq.ensures ∙ c.if-eq.false) (a ∙ e ∙ sym c.next_due-due.ensures) in
     let another : due_of (answer w) ≡ due_of (first_waiting w) → ⊥ = λ e. other_due _ _ (sym c.eq-else-eq.ensures ∙ c.if-eq-2.false) (b ∙ e ∙ sym c.next_due-due.ensures) in
@@ -41,7 +42,7 @@ returns-else-eq-3 c =
     let i = c.self.inside in
     let a = c.next_due.ensures ∙ ap (λ (s : InParallel). due_of (arrival s.waiting)) c.self.view_is in
     let b = c.next_due-else-eq.ensures ∙ ap (λ (s : InParallel). due_of (answer s.waiting)) c.self.view_is in
-    let t = c.next_due-else-eq-2.ensures ∙ timer_due i.timers i.completions.entries i.delayed.keys (entries_of i.owners.items) c.self.invariant
+    let t = c.next_due-else-eq-2.ensures ∙ timer_due i.timers (steps_of i.completions) i.delayed.keys (entries_of i.owners.items) c.self.invariant.parts
     ∙ ap (λ (s : InParallel). due_of (timer s.waiting)) c.self.view_is in
     let other : due_of (arrival w) ≡ due_of (first_waiting w) → ⊥ = λ e. other_due _ _ (sym c.eq.ensures ∙ c.if-eq.false) (a ∙ e ∙ sym c.next_due-due.ensures) in
     let another : due_of (answer w) ≡ due_of (first_waiting w) → ⊥ = λ e. other_due _ _ (sym c.eq-else-eq.ensures ∙ c.if-eq-2.false) (b ∙ e ∙ sym c.next_due-due.ensures) in

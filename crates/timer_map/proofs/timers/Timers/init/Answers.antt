@@ -1,9 +1,14 @@
-use Rattle.std.proofs.Common.{◌≡◌, ℕ, List, ◌+◌, ◌*◌, ◌∙◌, ap, sym, subst, suc, unwrap_or, add-one, Result, Ok, Err, OnErr, refl, w64}
+use Rattle.std.proofs.Common.{◌≡◌, ℕ, List, ◌∷◌, nat_eq, ◌<◌, ◌^◌, ◌+◌, ◌∙◌, ap, sym, subst, suc, Some, None, unwrap_or, add-one, Result, Ok, Err, OnErr, refl, w64}
 use Rattle.std.proofs.lemmas.Int.{to_z-of_z}
-use Rattle.page_parts.specs.Timers.{Timers, TimerId, ActiveTimer, with_id, with_armed, armed, milliseconds}
+use Rattle.page_parts.specs.Timers.{Timers, TimerId, ActiveTimer, Armed, with_id, with_armed, armed as armed_of}
+use Rattle.page_parts.specs.Words.{and_last}
+use Rattle.std.specs.List.Sorted.{IsPermutation}
+use Rattle.std.specs.List.{IsDistinct}
+use Rattle.std.specs.Map.{remove_entry, keys_of}
 use Rattle.timer_map.specs.Kept.{IsKept, AreIdsKept}
-use Rattle.timer_map.specs.Seen.{timers_in_order, ids_in_order}
-use Rattle.timer_map.proofs.SetLemmas.{kept_inserted, timers_inserted}
+use Rattle.timer_map.specs.Rows.{with_due}
+use Rattle.timer_map.specs.Seen.{seen_armed, timers_in_order, ids_in_order}
+use Rattle.timer_map.proofs.DueLemmas.{kept_inserted, timers_inserted}
 use Rattle.timer_map.proofs.CountedLemmas.{entries_distinct}
 use Rattle.timer_map.proofs.IdLemmas.{kept_put, ids_put, last_given}
 use Rattle.timer_map.proofs.timers.Timers.init.Goals as goal
@@ -22,31 +27,68 @@ module _ (handles : ℕ) (old new : List (ℕ × ℕ)) (same : new ≡ old) wher
   ids_stay : ids_in_order handles new ≡ ids_in_order handles old
   ids_stay = ap (ids_in_order handles) same
 
-pub invariant_of-self-in_err-insert : goal.invariant_of-self-in_err-insert
-invariant_of-self-in_err-insert c =
-    let active = subst (IsKept c.self.inside.starts_made) (sym c.in_err-insert.ensures.err) c.self.invariant.active in
+pub invariant_of-self-in_err-add : goal.invariant_of-self-in_err-add
+invariant_of-self-in_err-add c =
+    let active = subst (IsKept c.self.inside.starts_made) (sym c.in_err-add.ensures.err) c.self.invariant.active in
     record { ids = placed _ _ _ c.in_ok-make_place.ensures.same c.self.invariant.ids; active = active }
 
-pub returns-in_err-insert-clause-err : goal.returns-in_err-insert-clause-err
-returns-in_err-insert-clause-err c =
+pub returns-in_err-add-clause-err : goal.returns-in_err-add-clause-err
+returns-in_err-add-clause-err c =
     let ids = ids_stay c.self.inside.handles_made _ _ c.in_ok-make_place.ensures.same in
-    let active = ap (timers_in_order c.self.inside.starts_made) c.in_err-insert.ensures.err in
+    let active = ap (timers_in_order c.self.inside.starts_made) c.in_err-add.ensures.err in
     on_err _ (same_timers _ _ _ ids active ∙ c.self.view_is)
+
+-- the next number is set
+module _ (n last : ℕ) (next : n ≡ last + 1) (old new : List (ℕ × ℕ)) where
+  put_next : (id : ℕ) → AreIdsKept last old → IsPermutation ((id, n) ∷ remove_entry (nat_eq id) old) new → IsDistinct nat_eq (keys_of new) → id < 2 ^ 32 → AreIdsKept n new
+  put_next id kept p distinct small =
+      let put = subst (λ m. IsPermutation ((id, m) ∷ remove_entry (nat_eq id) old) new) next p in
+      subst (λ m. AreIdsKept m new) (sym next) (kept_put id last old new kept put distinct small)
+
+  ids_next : (id : ℕ) → AreIdsKept last old → IsPermutation ((id, n) ∷ remove_entry (nat_eq id) old) new → ids_in_order n new ≡ with_id id n (ids_in_order last old)
+  ids_next id kept p =
+      let put = subst (λ m. IsPermutation ((id, m) ∷ remove_entry (nat_eq id) old) new) next p in
+      subst (λ m. ids_in_order m new ≡ with_id id m (ids_in_order last old)) (sym next) (ids_put id last old new kept put)
+
+  kept_next : (due : ℕ) → IsKept last old → new ≡ with_due due n old → IsKept n new
+  kept_next due kept added = subst (IsKept n) (sym added) (subst (λ m. IsKept m (with_due due m old)) (sym next) (kept_inserted last due old kept))
+
+  timers_next : (due : ℕ) → IsKept last old → new ≡ with_due due n old → timers_in_order n new ≡ and_last (timers_in_order last old) (record { start = n; due = due })
+  timers_next due kept added =
+      ap (timers_in_order n) added
+      ∙ subst (λ m. timers_in_order m (with_due due m old) ≡ and_last (timers_in_order last old) (record { start = m; due = due })) (sym next) (timers_inserted last due old kept)
 
 pub invariant_of-self-2 : goal.invariant_of-self-2
 invariant_of-self-2 c =
-    let room = placed c.self.inside.handles_made _ _ c.in_ok-make_place.ensures.same c.self.invariant.ids in
-    let active = kept_inserted c.self.inside.starts_made (c.args.now.0 + c.clamped.result * 1000) _ _ c.self.invariant.active c.in_ok-insert.ensures.keys in
-    record { ids = kept_put c.id_and_last-id.result.0 _ _ _ room c.put.ensures (entries_distinct c.put.new.places.items) c.id_and_last-id.ensures.small; active = active }
+    let handles = c.self.inside.handles_made in
+    let starts = c.self.inside.starts_made in
+    let armed = c.would_arm-armed.result in
+    let handle : armed.handle ≡ handles + 1 = ap (λ (a : Armed). a.handle) c.would_arm-armed.ensures ∙ ap (λ (t : Timers). suc t.handles_made) (sym c.self.view_is) ∙ sym (add-one handles) in
+    let start : armed.start ≡ starts + 1 = ap (λ (a : Armed). a.start) c.would_arm-armed.ensures ∙ ap (λ (t : Timers). suc t.starts_made) (sym c.self.view_is) ∙ sym (add-one starts) in
+    let room = placed handles _ _ c.in_ok-make_place.ensures.same c.self.invariant.ids in
+    record {
+      ids = put_next armed.handle handles handle _ _ c.id_and_last-id.result.0 room c.put.ensures (entries_distinct c.put.new.places.items) c.id_and_last-id.ensures.small;
+      active = kept_next armed.start starts start c.self.inside.active c.add.new.self armed.due.0 c.self.invariant.active c.in_ok-add.ensures.added;
+    }
 
 pub returns-clause-set : goal.returns-clause-set
 returns-clause-set c =
-    let inserted = timers_inserted c.self.inside.starts_made (c.args.now.0 + c.clamped.result * 1000) _ _ c.self.invariant.active c.in_ok-insert.ensures.keys in
-    let id = c.id_and_last-id.ensures.id ∙ ap (unwrap_or c.args.again) (add-one c.self.inside.ids_made) in
-    let last = c.id_and_last-id.ensures.last ∙ last_given c.args.again c.self.inside.ids_made (unwrap_or c.args.again (suc c.self.inside.ids_made)) refl in
-    let room = placed c.self.inside.handles_made _ _ c.in_ok-make_place.ensures.same c.self.invariant.ids in
-    let same = ids_stay c.self.inside.handles_made _ _ c.in_ok-make_place.ensures.same in
-    let put = ids_put c.id_and_last-id.result.0 c.self.inside.handles_made _ _ room c.put.ensures in
-    let ids = put ∙ ap (with_id c.id_and_last-id.result.0 (c.self.inside.handles_made + 1)) same in
-    let ms = c.milliseconds.ensures.value ∙ ap milliseconds (to_z-of_z w64 c.args.timeout c.ranges.timeout) in
-    rw (ids, inserted, last, id, c.clamped.ensures.value, ms, add-one, add-one) (ap (λ t. with_armed c.args.again (armed c.args.again c.args.timeout c.args.nesting c.args.now.0 t) t) c.self.view_is)
+    let handles = c.self.inside.handles_made in
+    let starts = c.self.inside.starts_made in
+    let armed = c.would_arm-armed.result in
+    let told = c.would_arm-armed.ensures in
+    let handle : armed.handle ≡ handles + 1 = ap (λ (a : Armed). a.handle) told ∙ ap (λ (t : Timers). suc t.handles_made) (sym c.self.view_is) ∙ sym (add-one handles) in
+    let start : armed.start ≡ starts + 1 = ap (λ (a : Armed). a.start) told ∙ ap (λ (t : Timers). suc t.starts_made) (sym c.self.view_is) ∙ sym (add-one starts) in
+    let id : c.id_and_last-id.result.0 ≡ armed.id =
+    c.id_and_last-id.ensures.id ∙ ap (unwrap_or c.args.again) (add-one c.self.inside.ids_made) ∙ ap (λ (t : Timers). unwrap_or c.args.again (suc t.ids_made)) c.self.view_is
+    ∙ sym (ap (λ (a : Armed). a.id) told) in
+    let own : unwrap_or c.args.again (suc c.self.inside.ids_made) ≡ armed.id = ap (λ (t : Timers). unwrap_or c.args.again (suc t.ids_made)) c.self.view_is ∙ sym (ap (λ (a : Armed). a.id) told) in
+    let last = c.id_and_last-id.ensures.last ∙ last_given c.args.again c.self.inside.ids_made (unwrap_or c.args.again (suc c.self.inside.ids_made)) refl
+    ∙ ap (λ i. elim c.args.again as (λ _. ℕ) [ None ↦ i | Some other ↦ c.self.inside.ids_made ]) own in
+    let room = placed handles _ _ c.in_ok-make_place.ensures.same c.self.invariant.ids in
+    let same = ids_stay handles _ _ c.in_ok-make_place.ensures.same in
+    let ids = ids_next armed.handle handles handle _ _ c.id_and_last-id.result.0 room c.put.ensures ∙ ap (with_id c.id_and_last-id.result.0 armed.handle) same in
+    let active = timers_next armed.start starts start c.self.inside.active c.add.new.self armed.due.0 c.self.invariant.active c.in_ok-add.ensures.added in
+    let timeout = to_z-of_z w64 c.args.timeout c.ranges.timeout in
+    rw (ids, active, last, id) (ap (with_armed c.args.again (seen_armed armed)) c.self.view_is)
+    ∙ ap (λ a. with_armed c.args.again a c.args.self.now) (told ∙ ap (λ t. armed_of c.args.again t c.args.nesting c.args.now.0 c.args.self.now) timeout)

@@ -19,5 +19,5 @@ no_ids =
 pub invariant_of-result : goal.invariant_of-result
 invariant_of-result c =
     let ids = subst (λ ps. AreIdsKept 0 (entries_of ps)) (sym c.new.ensures.items) no_ids in
-    let numbered = nothing_numbered (λ (t : ActiveTimer). t.start) in
-    record { ids = ids; active = subst (IsKept 0) (sym c.new-2.ensures.empty) numbered }
+    let none : IsKept 0 [] = record { numbered = nothing_numbered (λ (t : ActiveTimer). t.start); by_due = tt } in
+    record { ids = ids; active = subst (IsKept 0) (sym c.new-2.ensures) none }
