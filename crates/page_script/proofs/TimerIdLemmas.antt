@@ -1,7 +1,19 @@
 -- The first registration with each timer id, with one more registration.
-use Rattle.std.proofs.Common.{◌≡◌, ℕ, zero, suc, ◌+◌, ◌<◌, ◌≤◌, arith, List, [], ◌∷◌, length, Bool, true, false, cond, Option, Some, None, refl, ap, sym, ◌∙◌, inl, inr}
+use Rattle.std.proofs.Common.{◌≡◌, ℕ, zero, suc, ◌+◌, ◌<◌, ◌≤◌, arith, List, [], ◌∷◌, length, Bool, true, false, cond, Option, Some, None, nat_eq, refl, ap, sym, ◌∙◌, inl, inr}
 use Rattle.std.specs.Prelude.{◌==◌, is_some, IfSome}
+use Rattle.std.specs.List.{IsDistinct}
+use Rattle.std.specs.List.Sorted.{IsPermutation}
+use Rattle.std.specs.Map.{lookup, remove_entry, keys_of}
+use Rattle.std.proofs.lemmas.Bool.{eqb-true}
 use Rattle.std.proofs.lemmas.Bool.Decides.{eqb_tells}
+use Rattle.std.proofs.lemmas.Cmp.{nat_eq_equiv}
+use Rattle.std.proofs.lemmas.List.Sorted.{IsPermutation-sym, IsPermutation-map, Contains-permutation}
+use Rattle.std.proofs.lemmas.Map.{lookup-remove_entry}
+use Rattle.std.proofs.lemmas.Map.Keys.{IsDistinct-IsPermutation}
+use Rattle.std.proofs.lemmas.Map.Views.{Contains-from_lookup, lookup-from_Contains}
+use Rattle.timer_map.specs.Counted.{entries_of}
+use Rattle.timer_map.proofs.CountedLemmas.{entries_distinct}
+use Rattle.timer_map.proofs.OrderLemmas.{eqb_flip}
 use Rattle.page_parts.specs.Words.{and_last}
 use Rattle.page_model.specs.State.{Registration}
 use Rattle.page_model.specs.PageTime.{registration_with_id}
@@ -95,6 +107,37 @@ kept-comes kept next xs x first there puts = record { told = told }
               | inr other ↦ puts id ∙ ap (λ b. cond b (Some (length xs + 1)) (kept id)) other.0 ∙ first.told id ∙ sym (first-stays id xs x e)
             ]
         by_any false e = puts id ∙ ap (cond (x.timer_id == id) (Some (length xs + 1))) (first.told id ∙ absent (first_with_id id xs) e) ∙ sym (first-comes id xs x e)
+
+-- ---- What is kept stands at places
+
+-- one id has a number now, and each other what it had
+module _ (k r : ℕ) (old new : List (Option ℕ)) (set : IsPermutation ((k, r) ∷ remove_entry (nat_eq k) (entries_of old)) (entries_of new)) (id : ℕ) where
+  abbrev with_it : List (ℕ × ℕ)
+  with_it = (k, r) ∷ remove_entry (nat_eq k) (entries_of old)
+
+  back : IsPermutation (entries_of new) with_it
+  back = IsPermutation-sym with_it (entries_of new) set
+
+  with_it_distinct : IsDistinct nat_eq (keys_of with_it)
+  with_it_distinct = IsDistinct-IsPermutation nat_eq eqb_flip (keys_of (entries_of new)) (keys_of with_it) (IsPermutation-map (λ (e : ℕ × ℕ). e.0) (entries_of new) with_it back) (entries_distinct new)
+
+  found : (o : Option ℕ) → lookup (nat_eq id) (entries_of new) ≡ o → (p : Option ℕ) → lookup (nat_eq id) with_it ≡ p → o ≡ p
+  found (Some n) e p f =
+      sym (lookup-from_Contains nat_eq_equiv id n with_it with_it_distinct (Contains-permutation (entries_of new) with_it (id, n) back (Contains-from_lookup eqb-true id n (entries_of new) e))) ∙ f
+  found None e (Some n) f =
+      sym e ∙ lookup-from_Contains nat_eq_equiv id n (entries_of new) (entries_distinct new) (Contains-permutation with_it (entries_of new) (id, n) set (Contains-from_lookup eqb-true id n with_it f))
+  found None e None f = refl
+
+  at_once : (b : Bool) → cond b (Some r) (cond b None (lookup (nat_eq id) (entries_of old))) ≡ cond b (Some r) (lookup (nat_eq id) (entries_of old))
+  at_once true = refl
+  at_once false = refl
+
+  pub place_put : lookup (nat_eq id) (entries_of new) ≡ cond (nat_eq k id) (Some r) (lookup (nat_eq id) (entries_of old))
+  place_put =
+      found (lookup (nat_eq id) (entries_of new)) refl (lookup (nat_eq id) with_it) refl
+      ∙ ap (λ b. cond b (Some r) (lookup (nat_eq id) (remove_entry (nat_eq k) (entries_of old)))) (eqb_flip id k)
+      ∙ ap (cond (nat_eq k id) (Some r)) (lookup-remove_entry nat_eq_equiv (nat_eq k) (nat_eq_equiv.congr k) id (entries_of old) (entries_distinct old))
+      ∙ at_once (nat_eq k id)
 
 -- ---- The first one was made
 

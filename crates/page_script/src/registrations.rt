@@ -9,26 +9,28 @@ ghost use Rattle.page_script.specs.TimerIds.{first_with_id};
 use crate::parts::Registration;
 use page_values::MemoryFault;
 use std::alloc::Global;
-use std::collections::HashMap;
 use std::marker::Model;
+use timer_map::counted::{self, Counted};
 
 // The registrations in the order of their numbers, which count from 1.
 //
-// The first one with each timer id is kept, so that no call looks for it among the others. Those with none have the id 0.
+// The first one with each timer id is kept at the id's own place, so that no call looks for it among the others. There is a place
+// for each id up to the greatest one, and those with no timer id have the id 0.
 #[derive(Drop)]
 pub(crate) struct Registrations {
     list: Vec<Registration>,
-    first_by_id: HashMap<u32, u32>,
+    first_by_id: Counted<u32>,
 }
 
 impl Model for Registrations {
     ghost use Rattle.std.specs.Prelude.{List, map, nat_eq};
     ghost use Rattle.std.specs.Coded.{coded_list};
-    ghost use Rattle.std.specs.HashMap.{get};
+    ghost use Rattle.std.specs.Map.{lookup};
     ghost use Rattle.page_model.specs.State as model;
     ghost use Rattle.page_script.specs.Codes.{coded_registration};
     ghost use Rattle.page_script.specs.Seen.{registration_seen};
     ghost use Rattle.page_script.specs.TimerIds.{AreFirst};
+    ghost use Rattle.timer_map.specs.Counted.{entries_of};
 
     ghost Value = { List model.Registration };
 
@@ -36,7 +38,8 @@ impl Model for Registrations {
 
     ghost view = { λ a. map registration_seen a.list.items };
 
-    ghost invariant = { λ a. AreFirst (get nat_eq a.first_by_id) (map registration_seen a.list.items) };
+    ghost invariant = { λ a.
+        AreFirst (λ id. lookup (nat_eq id) (entries_of a.first_by_id.items)) (map registration_seen a.list.items) };
 }
 
 impl Registrations {
@@ -46,7 +49,7 @@ impl Registrations {
     {
         Registrations {
             list: Vec::new(alloc),
-            first_by_id: HashMap::new(alloc),
+            first_by_id: Vec::new(alloc),
         }
     }
 
@@ -58,18 +61,13 @@ impl Registrations {
         ensures err { OnErr result (self.new ≡ self.old) }
     {
         let id = registration.timer_id;
+        counted::make_place(&mut self.first_by_id, id)?;
         self.list.push(registration)?;
         let r = self.list.len() as u32;
-        if self.first_by_id.contains_key(&id) {
-            return Ok(r);
+        if counted::value_of(&self.first_by_id, id).is_none() {
+            counted::put(&mut self.first_by_id, id, r);
         }
-        match self.first_by_id.insert(id, r) {
-            Ok(_) => Ok(r),
-            Err(_) => {
-                let _ = self.list.pop();
-                Err(MemoryFault::OutOfMemory)
-            }
-        }
+        Ok(r)
     }
 
     // How many there are. Takes no memory.
@@ -92,6 +90,6 @@ impl Registrations {
     pub(crate) fn first_with_id(&self, id: u32) -> Option<u32>
         ensures { result ≡ first_with_id id self.now }
     {
-        self.first_by_id.get(&id).copied()
+        counted::value_of(&self.first_by_id, id)
     }
 }
