@@ -1,8 +1,7 @@
 //! Which turns of a trace are long, and which call made them so.
 
-use crate::rows::expect_bytes;
+use crate::rows::expect_met;
 use std::alloc::Global;
-use std::process::Abort;
 use std::test::Fail;
 use trace_blame::blame;
 use trace_text::read_trace;
@@ -25,12 +24,11 @@ const NESTED: &[u8] =
 // The call is open at the end.
 const OPEN: &[u8] = b"trace 1\n5 turn 1 dom\n5 call 1\n6 call 2\n70000 log 1\n80000 end fuel\n";
 
-fn expect_blamed(rt: &impl Abort, alloc: Global, trace: &[u8], wanted: &[u8]) -> Result<(), Fail> {
+fn is_blamed(alloc: Global, trace: &[u8], wanted: &[u8]) -> Result<bool, Fail> {
     let events = read_trace(alloc, trace)?;
     let text = blame(alloc, &events);
     drop(events);
-    expect_bytes(rt, &text?, wanted);
-    Ok(())
+    Ok(text?.as_slice() == wanted)
 }
 
 #[test]
@@ -43,8 +41,8 @@ fn long_turns_are_told_with_their_longest_call(rt: HostRuntime) -> Result<(), Fa
         ),
         (OPEN, b"long 1 dom 5 69995 1\ntotal 1\n"),
     ];
-    for (trace, wanted) in TABLE {
-        expect_blamed(&rt, rt.alloc(), trace, wanted)?;
+    for (number, (trace, wanted)) in TABLE.iter().enumerate() {
+        expect_met(&rt, is_blamed(rt.alloc(), *trace, *wanted)?, number);
     }
     Ok(())
 }

@@ -1,33 +1,39 @@
 //! A folder of the system, and a stream that is full at some time.
 
-use crate::folders::{self, Step};
-use crate::rows::expect_bytes;
-use crate::sinks::{Call, make_all};
+use crate::folders::{Step, takes_all};
+use crate::rows::expect_met;
+use crate::sinks::{Call, makes_all};
 use Call::{Finish, Put};
 use Step::{Bytes, Fetch, Len};
 use page_io::{Failed, FetchFault, Fetched, RealFolder, Sink, StdSink};
 use std::alloc::Global;
-use std::process::Abort;
 use std::rt::Files;
 use std::test::Fail;
 use std::{env, fs, process};
 
+const THERE: [Step<'static>; 4] = [
+    Fetch(7, Ok(Fetched::Whole)),
+    Bytes(b"log(1);"),
+    Fetch(2, Ok(Fetched::TooLong)),
+    Bytes(b"log(1);log"),
+];
+
+const GONE: [Step<'static>; 2] = [Fetch(7, Err(FetchFault::Failed)), Len(10)];
+
 // A file is there, and then no more.
-fn expect_fetched(rt: &(impl Files + Abort), alloc: Global, name: &str) -> Result<(), Fail> {
-    const THERE: [Step; 4] = [
-        Fetch(7, Ok(Fetched::Whole)),
-        Bytes(b"log(1);"),
-        Fetch(2, Ok(Fetched::TooLong)),
-        Bytes(b"log(1);log"),
-    ];
-    const GONE: [Step; 2] = [Fetch(7, Err(FetchFault::Failed)), Len(10)];
+fn is_fetched(rt: &impl Files, name: &str, into: &mut Vec<u8>) -> Result<bool, Fail> {
     let mut folder = RealFolder::new(rt);
-    let mut into = Vec::new(alloc);
     fs::write(rt, name, "log(1);")?;
-    folders::take_all(rt, &mut folder, name, &mut into, &THERE);
+    let is_there = takes_all(&mut folder, name, into, &THERE);
     fs::remove_file(rt, name)?;
-    folders::take_all(rt, &mut folder, name, &mut into, &GONE);
-    Ok(())
+    Ok(is_there && takes_all(&mut folder, name, into, &GONE))
+}
+
+fn is_fetched_by(rt: &impl Files, alloc: Global, name: &str) -> Result<bool, Fail> {
+    let mut into = Vec::new(alloc);
+    let is_fetched = is_fetched(rt, name, &mut into);
+    drop(into);
+    is_fetched
 }
 
 #[test]
@@ -35,39 +41,47 @@ fn real_folder_fetches_a_file_of_the_system(rt: HostRuntime) -> Result<(), Fail>
     let mut path = env::temp_dir(&rt)?;
     path.push(format!(in rt.alloc(); "page_io_{}", process::id(rt.process()))?)?;
     let name = path.to_str().ok_or("not text")?;
-    expect_fetched(&rt, rt.alloc(), name)
+    expect_met(&rt, is_fetched_by(&rt, rt.alloc(), name)?, 0);
+    Ok(())
+}
+
+const CALLS: [Call; 4] = [
+    Put(b"ret\n", Ok(())),
+    Finish(Ok(())),
+    Put(b"run 1\n", Ok(())),
+    Finish(Err(Failed)),
+];
+
+// It hands on at its end.
+fn hands_on(alloc: Global, page: &mut [u8]) -> Result<bool, Fail> {
+    let mut sink = StdSink::new(alloc, page)?;
+    let is_made = makes_all(&mut sink, &CALLS);
+    drop(sink);
+    Ok(is_made)
+}
+
+// A piece of 64 KiB, as much as may wait, comes behind a short one. The stream has no room for it.
+fn puts_long(alloc: Global, page: &mut [u8], long: &[u8]) -> Result<bool, Fail> {
+    let mut sink = StdSink::new(alloc, page)?;
+    let are_put = sink.put(b"ret\n") == Ok(()) && !long.is_empty() && sink.put(long) == Err(Failed);
+    drop(sink);
+    Ok(are_put)
 }
 
 #[test]
 fn std_sink_hands_on_at_its_end(rt: HostRuntime) -> Result<(), Fail> {
-    const CALLS: [Call; 4] = [
-        Put(b"ret\n", Ok(())),
-        Finish(Ok(())),
-        Put(b"run 1\n", Ok(())),
-        Finish(Err(Failed)),
-    ];
     let mut page = [0u8; 8];
-    let mut sink = StdSink::new(rt.alloc(), &mut page[..])?;
-    make_all(&rt, &mut sink, &CALLS);
-    drop(sink);
-    expect_bytes(&rt, &page, b"ret\nrun ");
-    Ok(())
-}
-
-// A piece of 64 KiB, as much as may wait, comes behind a short one. The stream has no room for it.
-fn put_long(rt: &impl Abort, alloc: Global, page: &mut [u8]) -> Result<(), Fail> {
-    let long = vec![in alloc; 32u8; 65_536]?;
-    let mut sink = StdSink::new(alloc, page)?;
-    let are_put = sink.put(b"ret\n") == Ok(()) && sink.put(&long) == Err(Failed);
-    drop(sink);
-    assert!(rt; are_put);
+    let is_made = hands_on(rt.alloc(), &mut page[..])?;
+    expect_met(&rt, is_made && page[..] == b"ret\nrun "[..], 0);
     Ok(())
 }
 
 #[test]
 fn std_sink_writes_long_pieces_at_once(rt: HostRuntime) -> Result<(), Fail> {
     let mut page = [0u8; 8];
-    put_long(&rt, rt.alloc(), &mut page[..])?;
-    expect_bytes(&rt, &page, b"ret\n    ");
+    let long = vec![in rt.alloc(); 32u8; 65_536]?;
+    let are_put = puts_long(rt.alloc(), &mut page[..], &long);
+    drop(long);
+    expect_met(&rt, are_put? && page[..] == b"ret\n    "[..], 0);
     Ok(())
 }

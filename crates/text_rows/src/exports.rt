@@ -1,8 +1,7 @@
 //! The calls of traces as exports, and exports that are read again.
 
-use crate::rows::{expect_bytes, expect_met};
+use crate::rows::expect_met;
 use std::alloc::Global;
-use std::process::Abort;
 use std::test::Fail;
 use trace_export::{CallSpan, ExportFault, NotExport, export, read_export};
 use trace_text::read_trace;
@@ -38,17 +37,11 @@ const OPEN_EXPORT: &[u8] =
     b"{\"traceEvents\":[{\"dur\":7,\"name\":\"frame 3\",\"ph\":\"X\",\"pid\":1,\"tid\":1,\"ts\":2},\
 {\"dur\":5,\"name\":\"unknown 8\",\"ph\":\"X\",\"pid\":1,\"tid\":1,\"ts\":4}]}\n";
 
-fn expect_exported(
-    rt: &impl Abort,
-    alloc: Global,
-    trace: &[u8],
-    wanted: &[u8],
-) -> Result<(), Fail> {
+fn is_exported(alloc: Global, trace: &[u8], wanted: &[u8]) -> Result<bool, Fail> {
     let events = read_trace(alloc, trace)?;
     let text = export(alloc, &events);
     drop(events);
-    expect_bytes(rt, &text?, wanted);
-    Ok(())
+    Ok(text?.as_slice() == wanted)
 }
 
 #[test]
@@ -59,14 +52,17 @@ fn calls_are_exported_with_their_names_and_lengths(rt: HostRuntime) -> Result<()
         (OPEN, OPEN_EXPORT),
         (b"trace 1\n0 end done\n", b"{\"traceEvents\":[]}\n"),
     ];
-    for (trace, wanted) in TABLE {
-        expect_exported(&rt, rt.alloc(), trace, wanted)?;
+    for (number, (trace, wanted)) in TABLE.iter().enumerate() {
+        expect_met(&rt, is_exported(rt.alloc(), *trace, *wanted)?, number);
     }
     Ok(())
 }
 
-// Whether an export has so many calls, of which the last one is this.
-fn ends_with(calls: &[CallSpan], length: usize, name: &[u8], begin: u64, end: u64) -> bool {
+// How many calls an export has, and the name, the begin and the end of the last one.
+type Last = (usize, &'static [u8], u64, u64);
+
+fn ends_with(calls: &[CallSpan], last: Last) -> bool {
+    let (length, name, begin, end) = last;
     match calls.last() {
         Some(call) => {
             calls.len() == length
@@ -78,49 +74,58 @@ fn ends_with(calls: &[CallSpan], length: usize, name: &[u8], begin: u64, end: u6
     }
 }
 
-#[test]
-fn an_export_is_read_again(rt: HostRuntime) -> Result<(), Fail> {
-    let calls = read_export(rt.alloc(), NESTED_EXPORT)?;
-    assert!(rt; ends_with(&calls, 2, b"listener 2", 5, 7));
-    Ok(())
-}
-
-#[test]
-fn a_name_is_read_with_its_escapes(rt: HostRuntime) -> Result<(), Fail> {
-    const QUOTED: &[u8] =
-        b"{\"traceEvents\":[{\"dur\":0,\"name\":\"a\\\"\\\\\\n\",\"ph\":\"X\",\"pid\":1,\
-          \"tid\":1,\"ts\":18446744073709551615}]}\n";
-    let calls = read_export(rt.alloc(), QUOTED)?;
-    assert!(rt; ends_with(&calls, 1, b"a\"\\\n", u64::MAX, u64::MAX));
-    Ok(())
-}
-
-fn is_no_export(alloc: Global, bytes: &[u8]) -> bool {
-    match read_export(alloc, bytes) {
-        Err(fault) => fault == ExportFault::Is(NotExport),
-        Ok(_) => false,
+// Whether bytes are an export that ends with this call, or no export.
+fn is_met(found: &Result<Vec<CallSpan>, ExportFault>, last: Option<Last>) -> bool {
+    match (found, last) {
+        (Ok(calls), Some(last)) => ends_with(calls, last),
+        (Err(fault), None) => *fault == ExportFault::Is(NotExport),
+        _ => false,
     }
 }
 
-#[test]
-fn other_bytes_are_no_export(rt: HostRuntime) {
-    const TABLE: [&[u8]; 6] = [
-        b"",
-        // No line feed at the end.
-        b"{\"traceEvents\":[]}",
-        // A space.
-        b"{\"traceEvents\": []}\n",
-        // A comma behind the last call.
+fn is_read(alloc: Global, bytes: &[u8], last: Option<Last>) -> bool {
+    let found = read_export(alloc, bytes);
+    let is_met = is_met(&found, last);
+    drop(found);
+    is_met
+}
+
+const EXPORTS: [(&'static [u8], Option<Last>); 8] = [
+    (NESTED_EXPORT, Some((2, b"listener 2", 5, 7))),
+    // A name is read with its escapes.
+    (
+        b"{\"traceEvents\":[{\"dur\":0,\"name\":\"a\\\"\\\\\\n\",\"ph\":\"X\",\"pid\":1,\
+          \"tid\":1,\"ts\":18446744073709551615}]}\n",
+        Some((1, b"a\"\\\n", u64::MAX, u64::MAX)),
+    ),
+    (b"", None),
+    // No line feed at the end.
+    (b"{\"traceEvents\":[]}", None),
+    // A space.
+    (b"{\"traceEvents\": []}\n", None),
+    // A comma behind the last call.
+    (
         b"{\"traceEvents\":[{\"dur\":0,\"name\":\"\",\"ph\":\"X\",\"pid\":1,\"tid\":1,\
           \"ts\":0},]}\n",
-        // An end past the numbers of 64 bits.
+        None,
+    ),
+    // An end past the numbers of 64 bits.
+    (
         b"{\"traceEvents\":[{\"dur\":1,\"name\":\"\",\"ph\":\"X\",\"pid\":1,\"tid\":1,\
           \"ts\":18446744073709551615}]}\n",
-        // A byte that no text has, and one that JSON may escape and we do not.
+        None,
+    ),
+    // A byte that no text has, and one that JSON may escape and we do not.
+    (
         b"{\"traceEvents\":[{\"dur\":1,\"name\":\"\\t\",\"ph\":\"X\",\"pid\":1,\"tid\":1,\
           \"ts\":0}]}\n",
-    ];
-    for (number, bytes) in TABLE.iter().enumerate() {
-        expect_met(&rt, is_no_export(rt.alloc(), *bytes), number);
+        None,
+    ),
+];
+
+#[test]
+fn exports_are_read_again_and_other_bytes_are_none(rt: HostRuntime) {
+    for (number, (bytes, last)) in EXPORTS.iter().enumerate() {
+        expect_met(&rt, is_read(rt.alloc(), *bytes, *last), number);
     }
 }

@@ -3,7 +3,6 @@
 use crate::rows::expect_met;
 use page_io::{FetchFault, Fetched, Folder, MemFolder};
 use std::alloc::{AllocError, Global};
-use std::process::Abort;
 use std::test::Fail;
 
 pub(crate) enum Step<'a> {
@@ -24,17 +23,19 @@ fn take<F: Folder>(folder: &mut F, name: &str, into: &mut Vec<u8>, step: &Step) 
     }
 }
 
-// The file of a name is fetched.
-pub(crate) fn take_all<F: Folder>(
-    rt: &impl Abort,
+/// The file of a name is fetched, and answers as each step says.
+pub(crate) fn takes_all<F: Folder>(
     folder: &mut F,
     name: &str,
     into: &mut Vec<u8>,
     steps: &[Step],
-) {
-    for (number, step) in steps.iter().enumerate() {
-        expect_met(rt, take(folder, name, into, step), number);
+) -> bool {
+    for step in steps {
+        if !take(folder, name, into, step) {
+            return false;
+        }
     }
+    true
 }
 
 fn file(alloc: Global, name: &str, content: &[u8]) -> Result<(String, Vec<u8>), AllocError> {
@@ -49,24 +50,34 @@ fn folder(alloc: Global) -> Result<MemFolder, Fail> {
     Ok(MemFolder::new(files, vec![in alloc; 4]?))
 }
 
+const FIRST: [Step<'static>; 4] = [
+    Fetch(7, Ok(Fetched::Whole)),
+    Bytes(b"log(1);"),
+    Fetch(2, Ok(Fetched::TooLong)),
+    Bytes(b"log(1);log"),
+];
+
+const MISSING: [Step<'static>; 1] = [Fetch(7, Err(FetchFault::Failed))];
+
+const FOURTH: [Step<'static>; 3] = [
+    Fetch(7, Err(FetchFault::Failed)),
+    Fetch(7, Ok(Fetched::Whole)),
+    Len(17),
+];
+
+fn are_met(folder: &mut MemFolder, into: &mut Vec<u8>) -> bool {
+    takes_all(folder, "s", into, &FIRST)
+        && takes_all(folder, "a", into, &MISSING)
+        && takes_all(folder, "s", into, &FOURTH)
+}
+
 #[test]
 fn gives_the_first_file_of_a_name_up_to_the_limit(rt: HostRuntime) -> Result<(), Fail> {
-    const FIRST: [Step; 4] = [
-        Fetch(7, Ok(Fetched::Whole)),
-        Bytes(b"log(1);"),
-        Fetch(2, Ok(Fetched::TooLong)),
-        Bytes(b"log(1);log"),
-    ];
-    const MISSING: [Step; 1] = [Fetch(7, Err(FetchFault::Failed))];
-    const FOURTH: [Step; 3] = [
-        Fetch(7, Err(FetchFault::Failed)),
-        Fetch(7, Ok(Fetched::Whole)),
-        Len(17),
-    ];
     let mut folder = folder(rt.alloc())?;
     let mut into = Vec::new(rt.alloc());
-    take_all(&rt, &mut folder, "s", &mut into, &FIRST);
-    take_all(&rt, &mut folder, "a", &mut into, &MISSING);
-    take_all(&rt, &mut folder, "s", &mut into, &FOURTH);
+    let are_met = are_met(&mut folder, &mut into);
+    drop(into);
+    drop(folder);
+    expect_met(&rt, are_met, 0);
     Ok(())
 }

@@ -2,19 +2,19 @@ ghost use Rattle.std.specs.Prelude.{IsTrue};
 ghost use Rattle.page_values.specs.Texts.{is_text};
 
 use crate::rows::expect_met;
+use crate::texts::text_of;
 use lang_ast::{
     Host, HostStep, Item, Named, Outcome, Program, Tree, argument_count, is_busy, operation_named,
 };
 use page_types::Op;
-use page_values::{Str, Value};
-use std::alloc::Global;
-use std::process::Abort;
+use page_values::Value;
+use std::alloc::{AllocError, Global};
 use std::test::Fail;
 
 const TICKET: u64 = 7;
 
 /// Why the host below stopped.
-#[derive(Clone, Copy, PartialEq, Eq, Debug)]
+#[derive(Clone, Copy)]
 struct Refused;
 
 /// A host that wants unit called at an operation, and refuses to go on where this is thrown back. It takes one
@@ -107,6 +107,15 @@ fn refuses(host: &mut OneCall) -> bool {
     refuses
 }
 
+fn goes_on_or_refuses(host: &mut OneCall) -> bool {
+    goes_on(host)
+        && host.refusals == 0
+        && host.last.is_none()
+        && refuses(host)
+        && host.refusals == 1
+        && host.last.is_some()
+}
+
 #[test]
 fn a_host_wants_a_callback_and_goes_on_or_refuses(rt: HostRuntime) {
     let mut host = OneCall {
@@ -115,43 +124,42 @@ fn a_host_wants_a_callback_and_goes_on_or_refuses(rt: HostRuntime) {
         refusals: 0,
         last: None,
     };
-    assert!(rt; goes_on(&mut host));
-    assert!(rt; host.refusals == 0 && host.last.is_none());
-    assert!(rt; refuses(&mut host));
-    assert!(rt; host.refusals == 1 && host.last == Some(Refused));
+    let is_met = goes_on_or_refuses(&mut host);
+    drop(host);
+    expect_met(&rt, is_met, 0);
 }
 
-fn text(alloc: Global, bytes: &[u8]) -> Result<Str, Fail>
+fn is_name(alloc: Global, bytes: &[u8]) -> Result<bool, AllocError>
     requires { IsTrue (is_text bytes.now) }
 {
-    Ok(Str::new(bytes.to_vec(alloc)?))
+    let named = Named::new(text_of(alloc, bytes)?, 7);
+    let is_name = named.is_some();
+    drop(named);
+    Ok(is_name)
 }
 
-fn is_name(alloc: Global, bytes: &[u8]) -> Result<bool, Fail>
-    requires { IsTrue (is_text bytes.now) }
-{
-    let named = Named::new(text(alloc, bytes)?, 7);
-    Ok(named.is_some())
+fn are_names(alloc: Global) -> Result<bool, AllocError> {
+    Ok(is_name(alloc, b"a")? && is_name(alloc, b"_")? && is_name(alloc, b"Z9_z")?)
+}
+
+fn are_others(alloc: Global) -> Result<bool, AllocError> {
+    let are_names = is_name(alloc, b"")?
+        || is_name(alloc, b"9a")?
+        || is_name(alloc, b"a b")?
+        || is_name(alloc, b"a-")?;
+    Ok(!are_names)
+}
+
+fn have_64_bytes(alloc: Global) -> Result<bool, AllocError> {
+    Ok(is_name(alloc, &[b'x'; 64])? && !is_name(alloc, &[b'x'; 65])?)
 }
 
 #[test]
-fn names_are_letters_and_digits(rt: HostRuntime) -> Result<(), Fail> {
+fn names_are_letters_and_digits_and_have_at_most_64_bytes(rt: HostRuntime) -> Result<(), Fail> {
     let alloc = rt.alloc();
-    assert!(rt; is_name(alloc, b"a")? && is_name(alloc, b"_")? && is_name(alloc, b"Z9_z")?);
-    Ok(())
-}
-
-#[test]
-fn other_bytes_are_no_names(rt: HostRuntime) -> Result<(), Fail> {
-    let alloc = rt.alloc();
-    assert!(rt; !is_name(alloc, b"")? && !is_name(alloc, b"9a")?);
-    assert!(rt; !is_name(alloc, b"a b")? && !is_name(alloc, b"a-")?);
-    Ok(())
-}
-
-#[test]
-fn names_have_at_most_64_bytes(rt: HostRuntime) -> Result<(), Fail> {
-    assert!(rt; is_name(rt.alloc(), &[b'x'; 64])? && !is_name(rt.alloc(), &[b'x'; 65])?);
+    expect_met(&rt, are_names(alloc)?, 0);
+    expect_met(&rt, are_others(alloc)?, 1);
+    expect_met(&rt, have_64_bytes(alloc)?, 2);
     Ok(())
 }
 
@@ -218,28 +226,38 @@ fn operations_have_their_counts(rt: HostRuntime) {
     }
 }
 
-fn operation(alloc: Global, name: &[u8]) -> Result<Option<Op>, Fail>
+// Whether the name is of this operation, or of none.
+fn is_of(alloc: Global, name: &[u8], op: Option<Op>) -> Result<bool, AllocError>
     requires { IsTrue (is_text name.now) }
 {
-    let name = text(alloc, name)?;
-    Ok(operation_named(&name))
+    let name = text_of(alloc, name)?;
+    let is_of = operation_named(&name) == op;
+    drop(name);
+    Ok(is_of)
+}
+
+fn are_found(alloc: Global) -> Result<bool, AllocError> {
+    Ok(
+        is_of(alloc, b"log", Some(Op::Log))?
+            && is_of(alloc, b"host", Some(Op::HostOp))?
+            && is_of(alloc, b"allSettled", Some(Op::AllSettled))?
+            && is_of(alloc, b"faultText", Some(Op::FaultTextOf))?,
+    )
+}
+
+fn are_none(alloc: Global) -> Result<bool, AllocError> {
+    Ok(
+        is_of(alloc, b"lgo", None)?
+            && is_of(alloc, b"Log", None)?
+            && is_of(alloc, b"every", None)?
+            && is_of(alloc, b"", None)?,
+    )
 }
 
 #[test]
-fn operations_are_found_by_their_names(rt: HostRuntime) -> Result<(), Fail> {
-    let alloc = rt.alloc();
-    assert!(rt; operation(alloc, b"log")? == Some(Op::Log));
-    assert!(rt; operation(alloc, b"host")? == Some(Op::HostOp));
-    assert!(rt; operation(alloc, b"allSettled")? == Some(Op::AllSettled));
-    assert!(rt; operation(alloc, b"faultText")? == Some(Op::FaultTextOf));
-    Ok(())
-}
-
-#[test]
-fn other_names_are_of_no_operation(rt: HostRuntime) -> Result<(), Fail> {
-    let alloc = rt.alloc();
-    assert!(rt; operation(alloc, b"lgo")?.is_none() && operation(alloc, b"Log")?.is_none());
-    assert!(rt; operation(alloc, b"every")?.is_none() && operation(alloc, b"")?.is_none());
+fn operations_are_found_by_their_names_alone(rt: HostRuntime) -> Result<(), Fail> {
+    expect_met(&rt, are_found(rt.alloc())?, 0);
+    expect_met(&rt, are_none(rt.alloc())?, 1);
     Ok(())
 }
 
@@ -257,6 +275,6 @@ fn a_script_with_nothing_has_only_its_own_body(rt: HostRuntime) -> Result<(), Fa
     let program = Program::new(alloc, Tree { items })?;
     let is_nothing = is_nothing(&program);
     drop(program);
-    assert!(rt; is_nothing);
+    expect_met(&rt, is_nothing, 0);
     Ok(())
 }

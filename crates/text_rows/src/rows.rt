@@ -6,7 +6,3 @@ use std::process::Abort;
 pub(crate) fn expect_met(rt: &impl Abort, is_met: bool, number: usize) {
     assert!(rt; is_met, "step {number}");
 }
-
-pub(crate) fn expect_bytes(rt: &impl Abort, found: &[u8], wanted: &[u8]) {
-    assert_eq!(rt; found, wanted);
-}

@@ -1,87 +1,36 @@
 //! The trees of scripts, and scripts that have none.
 
 use crate::rows::expect_met;
-use crate::texts::{add, add_globals, repeated};
+use crate::texts::{Long, long_script};
+use Long::{Globals, Pieces};
 use lang_ast::{Expr, Item, Stmt, Tree};
 use lang_parse::{ParseFault, parse};
 use lang_tokens::tokens;
-use std::alloc::{AllocError, Global};
+use std::alloc::Global;
 use std::test::Fail;
 
-fn tree_of(alloc: Global, script: &[u8]) -> Result<Tree, Fail> {
+pub(crate) fn parsed(alloc: Global, script: &[u8]) -> Result<Result<Tree, ParseFault>, Fail> {
     let tokens = tokens(alloc, script)?;
     let tree = parse(alloc, &tokens);
     drop(tokens);
-    Ok(tree?)
+    Ok(tree)
 }
 
-fn has_no_tree(alloc: Global, script: &[u8]) -> Result<bool, Fail> {
-    let tokens = tokens(alloc, script)?;
-    let found = parse(alloc, &tokens);
-    drop(tokens);
-    let has_none = matches!(&found, Err(ParseFault::Is(_)));
-    drop(found);
-    Ok(has_none)
+// What is said of a script.
+#[derive(Clone, Copy)]
+enum Said {
+    NoTree,
+    // how many items it has
+    Items(usize),
+    // a letter for the variant of each item
+    Letters(&'static [char]),
+    // its first item is a sum of three terms
+    ThreeTerms,
+    // its first item is a function with eight parameters and one statement
+    EightParameters,
 }
 
-// How many items a script has.
-fn count_items(alloc: Global, script: &[u8]) -> Result<usize, Fail> {
-    let tree = tree_of(alloc, script)?;
-    let count = tree.items.len();
-    drop(tree);
-    Ok(count)
-}
-
-// A call of `log` whose number stands in so many pairs of brackets, that of the call among them.
-fn bracketed(alloc: Global, pairs: usize) -> Result<Vec<u8>, Fail> {
-    let mut script = b"log".to_vec(alloc)?;
-    add(&mut script, b"(", pairs)?;
-    add(&mut script, b"1", 1)?;
-    add(&mut script, b")", pairs)?;
-    add(&mut script, b";", 1)?;
-    Ok(script)
-}
-
-#[test]
-fn sixty_four_brackets_are_read(rt: HostRuntime) -> Result<(), Fail> {
-    for (pairs, is_read) in [(64, true), (65, false)] {
-        let script = bracketed(rt.alloc(), pairs)?;
-        expect_met(&rt, has_no_tree(rt.alloc(), &script)? != is_read, pairs);
-    }
-    Ok(())
-}
-
-#[test]
-fn scripts_outside_the_grammar_have_no_tree(rt: HostRuntime) -> Result<(), Fail> {
-    const SCRIPTS: [&[u8]; 22] = [
-        b"log(",
-        b"log(1)",
-        b"log(1,);",
-        b"log(1;",
-        b"log(1) log(2);",
-        b"1",
-        b"a = ;",
-        b"a == b == c;",
-        b"- - 1;",
-        b"1(2);",
-        b"var if = 1;",
-        b"if (1) a;",
-        b"else { }",
-        b"if (1) { } else { } else { }",
-        b"if (1) { } else if { }",
-        b"while { }",
-        b"try { } catch { }",
-        b"fn f(a,) { }",
-        b"fn f() { fn g() { } }",
-        b"fn f(a, b, c, d, e, f, g, h, i) { }",
-        b"[1, 2;",
-        b"throw;",
-    ];
-    for (number, script) in SCRIPTS.iter().enumerate() {
-        expect_met(&rt, has_no_tree(rt.alloc(), *script)?, number);
-    }
-    Ok(())
-}
+use Said::{EightParameters, Items, Letters, NoTree, ThreeTerms};
 
 // A letter for the variant of a statement.
 fn letter_of(stmt: &Stmt) -> char {
@@ -104,97 +53,153 @@ fn letter_of(stmt: &Stmt) -> char {
     }
 }
 
-fn letters(alloc: Global, items: &[Item]) -> Result<Vec<char>, AllocError> {
-    let mut letters = Vec::new(alloc);
-    for item in items {
-        letters.push(match item {
-            Item::Fn(_) => 'f',
-            Item::Stmt(stmt) => letter_of(stmt),
-        })?;
-    }
-    Ok(letters)
-}
-
-// The variants of the items of a script.
-fn letters_of(alloc: Global, script: &[u8]) -> Result<Vec<char>, Fail> {
-    let tree = tree_of(alloc, script)?;
-    let letters = letters(alloc, &tree.items);
-    drop(tree);
-    Ok(letters?)
-}
-
-#[test]
-fn each_statement_is_read_to_its_variant(rt: HostRuntime) -> Result<(), Fail> {
-    const SCRIPT: &[u8] =
-        b"var a = 1; a = 2; log(a); if (a) { } else if (b) { } else { } while (a) { } return; return 1; throw a; try { } catch (e) { }";
-    let read = letters_of(rt.alloc(), SCRIPT)?;
-    assert!(rt; read.as_slice() == ['v', 'a', 'e', 'i', 'w', 'r', 'R', 't', 'T'].as_slice());
-    Ok(())
-}
-
-fn is_list_of_three(item: &Item) -> bool {
+fn has_letter(item: Option<&Item>, letter: char) -> bool {
     match item {
-        Item::Stmt(Stmt::Expr(Expr::Sum(first, terms))) => {
+        Some(Item::Fn(_)) => letter == 'f',
+        Some(Item::Stmt(stmt)) => letter_of(stmt) == letter,
+        None => false,
+    }
+}
+
+fn have_letters(items: &[Item], letters: &[char]) -> bool {
+    if items.len() != letters.len() {
+        return false;
+    }
+    for (number, letter) in letters.iter().enumerate() {
+        if !has_letter(items.get(number), *letter) {
+            return false;
+        }
+    }
+    true
+}
+
+// Terms are a list from the left.
+fn has_three_terms(items: &[Item]) -> bool {
+    match items {
+        [Item::Stmt(Stmt::Expr(Expr::Sum(first, terms)))] => {
             matches!(**first, Expr::Name(_)) && terms.len() == 2
         }
         _ => false,
     }
 }
 
-#[test]
-fn terms_are_a_list_from_the_left(rt: HostRuntime) -> Result<(), Fail> {
-    let tree = tree_of(rt.alloc(), b"a - b - c;")?;
-    let is_list = tree.items.first().is_some_and(is_list_of_three);
-    drop(tree);
-    assert!(rt; is_list);
-    Ok(())
-}
-
-fn has_eight_parameters(item: &Item) -> bool {
-    match item {
-        Item::Fn(function) => function.parameters.len() == 8 && function.body.len() == 1,
+fn has_eight_parameters(items: &[Item]) -> bool {
+    match items {
+        [Item::Fn(function)] => function.parameters.len() == 8 && function.body.len() == 1,
         _ => false,
     }
 }
 
-#[test]
-fn functions_have_eight_parameters_at_most(rt: HostRuntime) -> Result<(), Fail> {
-    let tree = tree_of(rt.alloc(), b"fn f(a, b, c, d, e, f, g, h) { return a; }")?;
-    let is_read = tree.items.first().is_some_and(has_eight_parameters);
+fn is_said(items: &[Item], said: Said) -> bool {
+    match said {
+        NoTree => false,
+        Items(count) => items.len() == count,
+        Letters(letters) => have_letters(items, letters),
+        ThreeTerms => has_three_terms(items),
+        EightParameters => has_eight_parameters(items),
+    }
+}
+
+fn is_met(alloc: Global, script: &[u8], said: Said) -> Result<bool, Fail> {
+    let tree = parsed(alloc, script)?;
+    let is_met = match &tree {
+        Ok(tree) => is_said(&tree.items, said),
+        Err(ParseFault::Is(_)) => matches!(said, NoTree),
+        Err(_) => false,
+    };
     drop(tree);
-    assert!(rt; is_read);
+    Ok(is_met)
+}
+
+const SCRIPTS: [(&'static [u8], Said); 25] = [
+    // Each statement is read to its variant.
+    (
+        b"var a = 1; a = 2; log(a); if (a) { } else if (b) { } else { } while (a) { } return; return 1; throw a; try { } catch (e) { }",
+        Letters(&['v', 'a', 'e', 'i', 'w', 'r', 'R', 't', 'T']),
+    ),
+    (b"a - b - c;", ThreeTerms),
+    // Functions have eight parameters at most.
+    (
+        b"fn f(a, b, c, d, e, f, g, h) { return a; }",
+        EightParameters,
+    ),
+    (b"fn f(a, b, c, d, e, f, g, h, i) { }", NoTree),
+    // Scripts outside the grammar.
+    (b"log(", NoTree),
+    (b"log(1)", NoTree),
+    (b"log(1,);", NoTree),
+    (b"log(1;", NoTree),
+    (b"log(1) log(2);", NoTree),
+    (b"1", NoTree),
+    (b"a = ;", NoTree),
+    (b"a == b == c;", NoTree),
+    (b"- - 1;", NoTree),
+    (b"1(2);", NoTree),
+    (b"var if = 1;", NoTree),
+    (b"if (1) a;", NoTree),
+    (b"else { }", NoTree),
+    (b"if (1) { } else { } else { }", NoTree),
+    (b"if (1) { } else if { }", NoTree),
+    (b"while { }", NoTree),
+    (b"try { } catch { }", NoTree),
+    (b"fn f(a,) { }", NoTree),
+    (b"fn f() { fn g() { } }", NoTree),
+    (b"[1, 2;", NoTree),
+    (b"throw;", NoTree),
+];
+
+#[test]
+fn scripts_have_their_trees_or_none(rt: HostRuntime) -> Result<(), Fail> {
+    for (number, (script, said)) in SCRIPTS.iter().enumerate() {
+        expect_met(&rt, is_met(rt.alloc(), *script, *said)?, number);
+    }
     Ok(())
 }
 
-#[test]
-fn there_are_4_096_functions_at_most(rt: HostRuntime) -> Result<(), Fail> {
-    let mut script = repeated(rt.alloc(), b"fn f() { }\n", 4096)?;
-    assert!(rt; count_items(rt.alloc(), &script)? == 4096);
-    add(&mut script, b"fn f() { }\n", 1)?;
-    assert!(rt; has_no_tree(rt.alloc(), &script)?);
-    Ok(())
+const LONG: [(Long, usize, Said); 7] = [
+    // A call of `log` whose number stands in 64 pairs of brackets, that of the call among them, and in more.
+    (
+        Pieces(&[(b"log", 1), (b"(", 64), (b"1", 1), (b")", 64), (b";", 1)]),
+        133,
+        Items(1),
+    ),
+    (
+        Pieces(&[(b"log", 1), (b"(", 65), (b"1", 1), (b")", 65), (b";", 1)]),
+        135,
+        NoTree,
+    ),
+    // There are 4,096 functions at most.
+    (Pieces(&[(b"fn f() { }\n", 4096)]), 45_056, Items(4096)),
+    (Pieces(&[(b"fn f() { }\n", 4097)]), 45_067, NoTree),
+    // A script of 1,048,576 bytes is read.
+    (
+        Pieces(&[(
+            b"log(\"01234567890123456789012345678901234567890123456789012345\");",
+            16_384,
+        )]),
+        1_048_576,
+        Items(16_384),
+    ),
+    // There are 4,096 global names at most; each is declared twice.
+    (Globals(4096, 4096), 106_496, Items(8192)),
+    (Globals(4097, 4097), 106_522, NoTree),
+];
+
+// The script has so many bytes, and this is said of it.
+fn is_long_met(alloc: Global, long: &Long, length: usize, said: Said) -> Result<bool, Fail> {
+    let script = long_script(alloc, long)?;
+    let is_met = is_met(alloc, &script, said);
+    let is_long = script.len() == length;
+    drop(script);
+    let is_met = is_met?;
+    Ok(is_long && is_met)
 }
 
-// So many variables, each declared twice.
-fn with_globals(alloc: Global, count: usize) -> Result<Vec<u8>, AllocError> {
-    let mut script = Vec::new(alloc);
-    add_globals(&mut script, count, count)?;
-    Ok(script)
-}
-
 #[test]
-fn there_are_4_096_global_names_at_most(rt: HostRuntime) -> Result<(), Fail> {
-    let script = with_globals(rt.alloc(), 4096)?;
-    assert!(rt; count_items(rt.alloc(), &script)? == 8192);
-    let longer = with_globals(rt.alloc(), 4097)?;
-    assert!(rt; has_no_tree(rt.alloc(), &longer)?);
-    Ok(())
-}
-
-#[test]
-fn a_script_of_1_048_576_bytes_is_read(rt: HostRuntime) -> Result<(), Fail> {
-    let statement = b"log(\"01234567890123456789012345678901234567890123456789012345\");";
-    let script = repeated(rt.alloc(), statement, 16_384)?;
-    assert!(rt; script.len() == 1_048_576 && count_items(rt.alloc(), &script)? == 16_384);
+fn long_scripts_are_read_up_to_their_limits(rt: HostRuntime) -> Result<(), Fail> {
+    for (number, (long, length, said)) in LONG.iter().enumerate() {
+        let is_met = is_long_met(rt.alloc(), long, *length, *said)?;
+        expect_met(&rt, is_met, number);
+    }
     Ok(())
 }

@@ -1,9 +1,8 @@
 //! A sink in memory, and what it keeps of calls that fail.
 
-use crate::rows::{expect_bytes, expect_met};
+use crate::rows::expect_met;
 use page_io::{Failed, MemSink, Sink};
 use std::alloc::Global;
-use std::process::Abort;
 use std::test::Fail;
 
 // A call on a sink, and what it answers.
@@ -21,17 +20,17 @@ fn make<S: Sink>(sink: &mut S, call: &Call) -> bool {
     }
 }
 
-pub(crate) fn make_all<S: Sink>(rt: &impl Abort, sink: &mut S, calls: &[Call]) {
-    for (number, call) in calls.iter().enumerate() {
-        expect_met(rt, make(sink, call), number);
+/// The calls are made, and answer as they say.
+pub(crate) fn makes_all<S: Sink>(sink: &mut S, calls: &[Call]) -> bool {
+    for call in calls {
+        if !make(sink, call) {
+            return false;
+        }
     }
+    true
 }
 
-// The sink has these bytes after the calls.
-fn expect_kept(rt: &impl Abort, sink: &mut MemSink, calls: &[Call], bytes: &[u8]) {
-    make_all(rt, sink, calls);
-    expect_bytes(rt, sink.bytes(), bytes);
-}
+const KEPT: &[u8] = b"pageloop 1\nturenden\n";
 
 // It has room for 20 bytes. Its second call keeps three bytes, and its fourth one nine.
 fn failing_sink(alloc: Global) -> Result<MemSink, Fail> {
@@ -39,23 +38,31 @@ fn failing_sink(alloc: Global) -> Result<MemSink, Fail> {
     Ok(MemSink::new(alloc, 20, fails)?)
 }
 
+const PUTS: [Call; 6] = [
+    Put(b"pageloop 1\n", Ok(())),
+    Put(b"turn", Err(Failed)),
+    // There is no room for all of it.
+    Put(b"call 1\n", Err(Failed)),
+    Put(b"end", Err(Failed)),
+    Put(b"en\n", Ok(())),
+    // The room is used up.
+    Put(b"d", Err(Failed)),
+];
+
+// What it keeps is told, before it fails at its end and after that.
+fn keeps(sink: MemSink) -> bool {
+    let mut sink = sink;
+    let is_kept = makes_all(&mut sink, &PUTS) && sink.bytes() == KEPT;
+    let is_finished = makes_all(&mut sink, &[Finish(Ok(()))]);
+    let mut failing = sink.failing_at_end();
+    let is_failed = makes_all(&mut failing, &[Finish(Err(Failed))]) && failing.bytes() == KEPT;
+    drop(failing);
+    is_kept && is_finished && is_failed
+}
+
 #[test]
 fn keeps_what_a_failing_put_is_told_to(rt: HostRuntime) -> Result<(), Fail> {
-    const KEPT: &[u8] = b"pageloop 1\nturenden\n";
-    const PUTS: [Call; 6] = [
-        Put(b"pageloop 1\n", Ok(())),
-        Put(b"turn", Err(Failed)),
-        // There is no room for all of it.
-        Put(b"call 1\n", Err(Failed)),
-        Put(b"end", Err(Failed)),
-        Put(b"en\n", Ok(())),
-        // The room is used up.
-        Put(b"d", Err(Failed)),
-    ];
-    let mut sink = failing_sink(rt.alloc())?;
-    expect_kept(&rt, &mut sink, &PUTS, KEPT);
-    make_all(&rt, &mut sink, &[Finish(Ok(()))]);
-    let mut sink = sink.failing_at_end();
-    expect_kept(&rt, &mut sink, &[Finish(Err(Failed))], KEPT);
+    let sink = failing_sink(rt.alloc())?;
+    expect_met(&rt, keeps(sink), 0);
     Ok(())
 }

@@ -3,14 +3,18 @@
 use crate::rows::expect_met;
 use lang_tokens::{BadByte, Token, TokenKind, TokensFault, tokens};
 use std::alloc::Global;
-use std::process::Abort;
 use std::test::Fail;
 
 type Wanted = (usize, usize, TokenKind, &'static [u8]);
 
-fn is_wanted(token: &Token, wanted: &Wanted) -> bool {
+fn is_wanted(token: Option<&Token>, wanted: &Wanted) -> bool {
     let (at, end, kind, content) = *wanted;
-    token.at() == at && token.end() == end && token.kind() == kind && token.content() == content
+    match token {
+        Some(it) => {
+            it.at() == at && it.end() == end && it.kind() == kind && it.content() == content
+        }
+        None => false,
+    }
 }
 
 // Scripts with their tokens.
@@ -78,8 +82,8 @@ fn are_wanted(found: &[Token], wanted: &[Wanted]) -> bool {
     if found.len() != wanted.len() {
         return false;
     }
-    for (token, want) in found.iter().zip(wanted) {
-        if !is_wanted(token, want) {
+    for (number, want) in wanted.iter().enumerate() {
+        if !is_wanted(found.get(number), want) {
             return false;
         }
     }
@@ -88,7 +92,9 @@ fn are_wanted(found: &[Token], wanted: &[Wanted]) -> bool {
 
 fn has_tokens(alloc: Global, script: &[u8], wanted: &[Wanted]) -> Result<bool, Fail> {
     let found = tokens(alloc, script)?;
-    Ok(found.length() == script.len() && are_wanted(found.items(), wanted))
+    let are_wanted = found.length() == script.len() && are_wanted(found.items(), wanted);
+    drop(found);
+    Ok(are_wanted)
 }
 
 #[test]

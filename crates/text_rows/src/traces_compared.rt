@@ -1,12 +1,13 @@
 //! Traces compared line by line, and their summaries.
 
 use crate::rows::expect_met;
-use crate::traces_read::TIMER_FIRST;
+use crate::traces_read::{TIMER_FIRST, takes_each};
 use page_base::End;
 use std::alloc::Global;
-use std::process::Abort;
 use std::test::Fail;
-use trace_text::{Events, LineCheck, LineCount, Lines, NoLine, Summary, read_trace, summary_of};
+use trace_text::{
+    Events, LineCheck, LineCount, Lines, NoLine, Stamped, Summary, read_trace, summary_of,
+};
 
 // A host closure is asked twice, and answers once.
 const ASKED_TWICE: &[u8] = b"trace 1\n\
@@ -37,10 +38,6 @@ const ASKED_TWICE: &[u8] = b"trace 1\n\
 3000 settle 2 ok unit\n\
 3000 end done\n";
 
-fn asked_twice(alloc: Global) -> Result<Events, Fail> {
-    Ok(read_trace(alloc, ASKED_TWICE)?)
-}
-
 // What a check is given, and what it answers.
 enum Step {
     // the head of the first form
@@ -59,24 +56,8 @@ enum Step {
 
 use Step::{Each, First, Head, Last, Matched, SecondHead};
 
-fn meets_each(check: &mut LineCheck, events: &Events) -> bool {
-    for e in events.items() {
-        if check.emit(e) != Ok(()) {
-            return false;
-        }
-    }
-    true
-}
-
-fn emits_first(check: &mut LineCheck, events: &Events, answer: Result<(), NoLine>) -> bool {
-    match events.items().first() {
-        Some(e) => check.emit(e) == answer,
-        None => false,
-    }
-}
-
-fn emits_last(check: &mut LineCheck, events: &Events, answer: Result<(), NoLine>) -> bool {
-    match events.items().last() {
+fn emits(check: &mut LineCheck, event: Option<&Stamped>, answer: Result<(), NoLine>) -> bool {
+    match event {
         Some(e) => check.emit(e) == answer,
         None => false,
     }
@@ -86,100 +67,112 @@ fn take(check: &mut LineCheck, events: &Events, step: &Step) -> bool {
     match step {
         Head(answer) => check.head(1) == *answer,
         SecondHead(answer) => check.head(2) == *answer,
-        First(answer) => emits_first(check, events, *answer),
-        Last(answer) => emits_last(check, events, *answer),
-        Each => meets_each(check, events),
+        First(answer) => emits(check, events.items().first(), *answer),
+        Last(answer) => emits(check, events.items().last(), *answer),
+        Each => takes_each(check, events),
         Matched(count) => check.matched() == *count,
     }
 }
 
-fn take_all(rt: &impl Abort, alloc: Global, steps: &[Step]) -> Result<(), Fail> {
-    let events = asked_twice(alloc)?;
-    let mut check = LineCheck::new(alloc, &events);
-    for (number, step) in steps.iter().enumerate() {
-        expect_met(rt, take(&mut check, &events, step), number);
-    }
-    Ok(())
-}
-
-#[test]
-fn lines_of_a_trace_are_met_in_order(rt: HostRuntime) -> Result<(), Fail> {
-    const STEPS: [Step; 8] = [
-        // an event before the head, and a head of another form
-        First(Err(NoLine::Differs)),
-        SecondHead(Err(NoLine::Differs)),
-        Head(Ok(())),
-        // a second head
-        Head(Err(NoLine::Differs)),
-        Each,
-        Matched(27),
-        // a line behind the last
-        First(Err(NoLine::Differs)),
-        Matched(27),
-    ];
-    take_all(&rt, rt.alloc(), &STEPS)
-}
-
-#[test]
-fn another_line_differs_and_the_next_one_is_still_met(rt: HostRuntime) -> Result<(), Fail> {
-    const STEPS: [Step; 5] = [
-        Head(Ok(())),
-        Last(Err(NoLine::Differs)),
-        Matched(1),
-        First(Ok(())),
-        Matched(2),
-    ];
-    take_all(&rt, rt.alloc(), &STEPS)
-}
-
-const OF_ASKED_TWICE: Summary = Summary {
-    turns: 2,
-    calls: 3,
-    drops: 0,
-    settles: 4,
-    end: End::Done,
-};
-
-const OF_TIMER_FIRST: Summary = Summary {
-    turns: 3,
-    calls: 3,
-    drops: 0,
-    settles: 1,
-    end: End::Done,
-};
-
-fn is_counted(alloc: Global, trace: &[u8], summary: Summary) -> Result<bool, Fail> {
-    let events = read_trace(alloc, trace)?;
-    Ok(summary_of(&events) == summary)
-}
-
-#[test]
-fn a_summary_counts_a_trace(rt: HostRuntime) -> Result<(), Fail> {
-    assert!(rt; is_counted(rt.alloc(), ASKED_TWICE, OF_ASKED_TWICE)?);
-    assert!(rt; is_counted(rt.alloc(), TIMER_FIRST, OF_TIMER_FIRST)?);
-    Ok(())
-}
-
-fn counts_each(count: &mut LineCount, events: &Events) -> bool {
-    for e in events.items() {
-        if count.emit(e) != Ok(()) {
+fn takes_all(alloc: Global, events: &Events, steps: &[Step]) -> bool {
+    let mut check = LineCheck::new(alloc, events);
+    for step in steps {
+        if !take(&mut check, events, step) {
             return false;
         }
     }
     true
 }
 
+// What is asked of a trace.
+enum Asked {
+    // its comparison
+    Steps(&'static [Step]),
+    // its summary, which counts it, and which is there at its end and not before
+    Counts(Summary),
+}
+
+use Asked::{Counts, Steps};
+
 fn is_there_at_the_end(events: &Events, summary: Summary) -> bool {
     let mut count = LineCount::new();
     count.head(1) == Ok(())
         && count.summary().is_none()
-        && counts_each(&mut count, events)
+        && takes_each(&mut count, events)
         && count.summary() == Some(summary)
 }
 
+fn is_answered(alloc: Global, events: &Events, asked: &Asked) -> bool {
+    match asked {
+        Steps(steps) => takes_all(alloc, events, *steps),
+        Counts(summary) => {
+            summary_of(events) == *summary && is_there_at_the_end(events, *summary)
+        }
+    }
+}
+
+fn is_met(alloc: Global, trace: &[u8], asked: &Asked) -> Result<bool, Fail> {
+    let events = read_trace(alloc, trace)?;
+    let is_answered = is_answered(alloc, &events, asked);
+    drop(events);
+    Ok(is_answered)
+}
+
+const TRACES: [(&'static [u8], Asked); 4] = [
+    // Lines are met in order.
+    (
+        ASKED_TWICE,
+        Steps(&[
+            // an event before the head, and a head of another form
+            First(Err(NoLine::Differs)),
+            SecondHead(Err(NoLine::Differs)),
+            Head(Ok(())),
+            // a second head
+            Head(Err(NoLine::Differs)),
+            Each,
+            Matched(27),
+            // a line behind the last
+            First(Err(NoLine::Differs)),
+            Matched(27),
+        ]),
+    ),
+    // Another line differs, and the next one is still met.
+    (
+        ASKED_TWICE,
+        Steps(&[
+            Head(Ok(())),
+            Last(Err(NoLine::Differs)),
+            Matched(1),
+            First(Ok(())),
+            Matched(2),
+        ]),
+    ),
+    (
+        ASKED_TWICE,
+        Counts(Summary {
+            turns: 2,
+            calls: 3,
+            drops: 0,
+            settles: 4,
+            end: End::Done,
+        }),
+    ),
+    (
+        TIMER_FIRST,
+        Counts(Summary {
+            turns: 3,
+            calls: 3,
+            drops: 0,
+            settles: 1,
+            end: End::Done,
+        }),
+    ),
+];
+
 #[test]
-fn a_summary_is_there_at_the_end_of_a_trace(rt: HostRuntime) -> Result<(), Fail> {
-    let events = asked_twice(rt.alloc())?;
-    assert!(rt; is_there_at_the_end(&events, OF_ASKED_TWICE));
+fn lines_are_met_in_order_and_a_summary_counts_them(rt: HostRuntime) -> Result<(), Fail> {
+    for (number, (trace, asked)) in TRACES.iter().enumerate() {
+        expect_met(&rt, is_met(rt.alloc(), *trace, asked)?, number);
+    }
     Ok(())
 }

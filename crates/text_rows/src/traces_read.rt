@@ -1,11 +1,10 @@
 //! Whole traces, and the line at which each of some others is refused.
 
-use crate::rows::{expect_bytes, expect_met};
+use crate::rows::expect_met;
 use page_io::MemSink;
 use std::alloc::Global;
-use std::process::Abort;
 use std::test::Fail;
-use trace_text::{Events, LineSink, Lines, TraceFault, read_trace};
+use trace_text::{BadLine, Events, LineSink, Lines, TraceFault, read_trace};
 
 // A timer is served before the scheduler.
 pub(crate) const TIMER_FIRST: &[u8] =
@@ -26,10 +25,8 @@ const SECOND_FORM: &[u8] =
     b"trace 2\n0 turn 1 dom\n0 call 1\n0 reg 2 frame 1\n0 reg 3 frame 1\n0 send 3 [1,\"a\"]\n\
 0 throw TypeError(\"\")\n0 report TypeError(\"\")\n20000 reg 4 frame 2\n20000 end done\n";
 
-fn are_written(lines: &mut LineSink<MemSink>, events: &Events) -> bool {
-    if lines.head(events.form()) != Ok(()) {
-        return false;
-    }
+/// Each event of the trace is taken.
+pub(crate) fn takes_each<L: Lines>(lines: &mut L, events: &Events) -> bool {
     for event in events.items() {
         if lines.emit(event) != Ok(()) {
             return false;
@@ -38,50 +35,89 @@ fn are_written(lines: &mut LineSink<MemSink>, events: &Events) -> bool {
     true
 }
 
-fn expect_written(
-    rt: &impl Abort,
-    alloc: Global,
-    events: &Events,
-    trace: &[u8],
-) -> Result<(), Fail> {
+// The lines of the trace, as they stand there, are written.
+fn are_written(alloc: Global, events: &Events, trace: &[u8]) -> Result<bool, Fail> {
     let mut lines = LineSink::new(alloc, MemSink::new(alloc, 4000, Vec::new(alloc))?);
-    let are_written = are_written(&mut lines, events);
+    let are_taken = lines.head(events.form()) == Ok(()) && takes_each(&mut lines, events);
     let sink = lines.into_sink();
-    expect_bytes(rt, sink.bytes(), trace);
+    let are_written = are_taken && sink.bytes() == trace;
     drop(sink);
-    assert!(rt; are_written);
-    Ok(())
+    Ok(are_written)
 }
 
 // The trace is read in its form, and its lines are written as they stand there.
-fn expect_read(rt: &impl Abort, alloc: Global, form: u32, trace: &[u8]) -> Result<(), Fail> {
+fn is_read(alloc: Global, form: u32, trace: &[u8]) -> Result<bool, Fail> {
     let events = read_trace(alloc, trace)?;
-    let written = expect_written(rt, alloc, &events, trace);
-    let form_read = events.form();
+    let are_written = are_written(alloc, &events, trace);
+    let is_form = events.form() == form;
     drop(events);
-    assert!(rt; form_read == form);
-    written
+    let are_written = are_written?;
+    Ok(is_form && are_written)
 }
 
-fn refused_at(alloc: Global, bytes: &[u8]) -> Option<usize> {
-    match read_trace(alloc, bytes) {
-        Err(TraceFault::Is(bad)) => Some(bad.line),
-        _ => None,
-    }
+/// The trace is refused for this, or read.
+pub(crate) fn has_fault(alloc: Global, trace: &[u8], fault: Option<TraceFault>) -> bool {
+    read_trace(alloc, trace).err() == fault
 }
 
-fn expect_refused(rt: &impl Abort, alloc: Global, table: &[(&[u8], usize)]) {
-    for (number, (bytes, line)) in table.iter().enumerate() {
-        expect_met(rt, refused_at(alloc, *bytes) == Some(*line), number);
-    }
+fn is_refused(alloc: Global, trace: &[u8], line: usize) -> bool {
+    has_fault(alloc, trace, Some(TraceFault::Is(BadLine { line })))
 }
 
 #[test]
 fn traces_are_read_and_written_back(rt: HostRuntime) -> Result<(), Fail> {
-    for (form, trace) in [(1, TIMER_FIRST), (1, EACH_KIND), (2, SECOND_FORM)] {
-        expect_read(&rt, rt.alloc(), form, trace)?;
+    const TRACES: [(u32, &[u8]); 3] = [(1, TIMER_FIRST), (1, EACH_KIND), (2, SECOND_FORM)];
+    for (number, (form, trace)) in TRACES.iter().enumerate() {
+        expect_met(&rt, is_read(rt.alloc(), *form, *trace)?, number);
     }
     Ok(())
+}
+
+// Traces, and the lines at which they are refused.
+const REFUSED: [(&'static [u8], usize); 31] = [
+    // Lines stand in their order.
+    (b"", 1),
+    (b"trace 3\n0 end done\n", 1),
+    (b"trace 1\r\n0 end done\n", 1),
+    (b"0 end done\n", 1),
+    (b"trace 1\n0 ret\n", 3),
+    (b"trace 1\n0 ret\n0 end done", 3),
+    (b"trace 1\n5 ret\n4 ret\n5 end done\n", 3),
+    (b"trace 1\n5 ret\n4 end done\n", 3),
+    (b"trace 1\n0 end done\n0 end done\n", 3),
+    (b"trace 1\n0 ret\n0 end done\n0 ret\n", 4),
+    (b"trace 1\n0 end done\n\n", 3),
+    // Fields have one spelling.
+    (b"trace 1\n0 reg 2 frame 1\n0 end done\n", 2),
+    (b"trace 2\n0 reg 2 frame\n0 end done\n", 2),
+    (b"trace 2\n0 reg 2 frame 01\n0 end done\n", 2),
+    (b"trace 1\n0 send 3\n0 end done\n", 2),
+    (b"trace 1\n00 ret\n0 end done\n", 2),
+    (b"trace 1\n0 call 01\n0 end done\n", 2),
+    (b"trace 1\n0 call +1\n0 end done\n", 2),
+    (b"trace 1\n0 call\n0 end done\n", 2),
+    (b"trace 1\n0 call 18446744073709551616\n0 end done\n", 2),
+    (b"trace 1\n0  ret\n0 end done\n", 2),
+    (b"trace 1\n0 ret \n0 end done\n", 2),
+    (b"trace 1\n0 ret\r\n0 end done\n", 2),
+    (b"trace 1\n0 Ret\n0 end done\n", 2),
+    (b"trace 1\n0 turn 1\n0 end done\n", 2),
+    (b"trace 1\n0 arm 1 1\n0 end done\n", 2),
+    (b"trace 1\n0 enq 1 background 1\n0 end done\n", 2),
+    (b"trace 1\n0 enq 1 s01 task 1\n0 end done\n", 2),
+    (b"trace 1\n0 host 0 -0 ok 1\n0 end done\n", 2),
+    (
+        b"trace 1\n0 host 0 9223372036854775808 ok 1\n0 end done\n",
+        2,
+    ),
+    (b"trace 1\n0 log -0\n0 end done\n", 2),
+];
+
+#[test]
+fn lines_have_their_order_and_fields_one_spelling(rt: HostRuntime) {
+    for (number, (trace, line)) in REFUSED.iter().enumerate() {
+        expect_met(&rt, is_refused(rt.alloc(), *trace, *line), number);
+    }
 }
 
 #[test]
@@ -89,59 +125,11 @@ fn a_start_of_a_trace_is_refused_where_it_ends(rt: HostRuntime) {
     let mut rest = TIMER_FIRST;
     while let Some((_, start)) = rest.split_last() {
         let ended = start.iter().filter(|byte| **byte == b'\n').count();
-        expect_met(
-            &rt,
-            refused_at(rt.alloc(), start) == ended.checked_add(1),
-            ended,
-        );
+        let is_met = match ended.checked_add(1) {
+            Some(line) => is_refused(rt.alloc(), start, line),
+            None => false,
+        };
+        expect_met(&rt, is_met, ended);
         rest = start;
     }
-}
-
-#[test]
-fn lines_stand_in_their_order(rt: HostRuntime) {
-    const TABLE: [(&[u8], usize); 11] = [
-        (b"", 1),
-        (b"trace 3\n0 end done\n", 1),
-        (b"trace 1\r\n0 end done\n", 1),
-        (b"0 end done\n", 1),
-        (b"trace 1\n0 ret\n", 3),
-        (b"trace 1\n0 ret\n0 end done", 3),
-        (b"trace 1\n5 ret\n4 ret\n5 end done\n", 3),
-        (b"trace 1\n5 ret\n4 end done\n", 3),
-        (b"trace 1\n0 end done\n0 end done\n", 3),
-        (b"trace 1\n0 ret\n0 end done\n0 ret\n", 4),
-        (b"trace 1\n0 end done\n\n", 3),
-    ];
-    expect_refused(&rt, rt.alloc(), &TABLE);
-}
-
-#[test]
-fn fields_have_one_spelling(rt: HostRuntime) {
-    const TABLE: [(&[u8], usize); 20] = [
-        (b"trace 1\n0 reg 2 frame 1\n0 end done\n", 2),
-        (b"trace 2\n0 reg 2 frame\n0 end done\n", 2),
-        (b"trace 2\n0 reg 2 frame 01\n0 end done\n", 2),
-        (b"trace 1\n0 send 3\n0 end done\n", 2),
-        (b"trace 1\n00 ret\n0 end done\n", 2),
-        (b"trace 1\n0 call 01\n0 end done\n", 2),
-        (b"trace 1\n0 call +1\n0 end done\n", 2),
-        (b"trace 1\n0 call\n0 end done\n", 2),
-        (b"trace 1\n0 call 18446744073709551616\n0 end done\n", 2),
-        (b"trace 1\n0  ret\n0 end done\n", 2),
-        (b"trace 1\n0 ret \n0 end done\n", 2),
-        (b"trace 1\n0 ret\r\n0 end done\n", 2),
-        (b"trace 1\n0 Ret\n0 end done\n", 2),
-        (b"trace 1\n0 turn 1\n0 end done\n", 2),
-        (b"trace 1\n0 arm 1 1\n0 end done\n", 2),
-        (b"trace 1\n0 enq 1 background 1\n0 end done\n", 2),
-        (b"trace 1\n0 enq 1 s01 task 1\n0 end done\n", 2),
-        (b"trace 1\n0 host 0 -0 ok 1\n0 end done\n", 2),
-        (
-            b"trace 1\n0 host 0 9223372036854775808 ok 1\n0 end done\n",
-            2,
-        ),
-        (b"trace 1\n0 log -0\n0 end done\n", 2),
-    ];
-    expect_refused(&rt, rt.alloc(), &TABLE);
 }

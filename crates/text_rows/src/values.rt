@@ -1,13 +1,14 @@
 //! Worked values, each call that takes memory with ample memory, and the limits from both sides.
 
-ghost use Rattle.std.specs.Prelude.{◌≡◌, IsTrue};
+ghost use Rattle.std.specs.Prelude.{IsTrue};
 ghost use Rattle.page_values.specs.Texts.{is_text};
 
 use crate::rows::expect_met;
+use crate::texts::text_of;
 use page_values::{
-    FaultName, FunNames, Items, Str, TooHeavy, Value, ValueFault, as_function, as_list, as_text,
-    bind, copy, copy_items, copy_text, fault, function_value, join, make_list, make_text, nesting,
-    print, push, same, weight,
+    FaultName, FunNames, Items, Str, TooHeavy, Value, ValueFault, as_function, as_list, bind, copy,
+    copy_items, copy_text, fault, function_value, join, make_list, make_text, nesting, print, push,
+    same, weight,
 };
 use std::alloc::{AllocError, Global};
 use std::process::Abort;
@@ -31,28 +32,37 @@ fn names(alloc: Global) -> Result<FunNames, AllocError> {
 }
 
 // Whether the spelling of a value comes behind what was there.
+fn is_behind(alloc: Global, value: &Value, names: &FunNames, spelling: &str) -> Result<bool, Fail> {
+    let mut line = b"log ".to_vec(alloc)?;
+    print(alloc, value, names, &mut line)?;
+    Ok(line.strip_prefix(b"log ") == Some(spelling.as_bytes()))
+}
+
 fn is_spelled(alloc: Global, value: &Value, spelling: &str) -> Result<bool, Fail> {
     let names = names(alloc)?;
-    let mut line = b"log ".to_vec(alloc)?;
-    print(alloc, value, &names, &mut line)?;
-    match line.strip_prefix(b"log ") {
-        Some(printed) => Ok(printed == spelling.as_bytes()),
-        None => Ok(false),
-    }
+    let is_spelled = is_behind(alloc, value, &names, spelling);
+    drop(names);
+    is_spelled
 }
 
-fn expect_spelling(
-    rt: &impl Abort,
-    alloc: Global,
-    value: Value,
-    spelling: &str,
-) -> Result<(), Fail> {
-    let is_spelled = is_spelled(alloc, &value, spelling);
-    drop(value);
-    assert!(rt; is_spelled?, "for {spelling}");
-    Ok(())
-}
+// Values with none inside, and how they are spelled. Handles are spelled with their numbers.
+const PLAIN: [(Value, &'static str); 13] = [
+    (Value::Unit, "unit"),
+    (Value::Bool(true), "true"),
+    (Value::Bool(false), "false"),
+    (Value::Int(5), "5"),
+    (Value::Int(0), "0"),
+    (Value::Int(-10), "-10"),
+    (Value::Int(i64::MAX), "9223372036854775807"),
+    (Value::Int(i64::MIN), "-9223372036854775808"),
+    (Value::Promise(3), "promise#3"),
+    (Value::Signal(1), "signal#1"),
+    (Value::Controller(4_294_967_295), "controller#4294967295"),
+    (Value::Deadline(None), "deadline"),
+    (Value::Deadline(Some(5)), "deadline@5"),
+];
 
+// The table is let go where it was made, once.
 fn expect_spellings(rt: &impl Abort, alloc: Global, table: &[(Value, &str)]) -> Result<(), Fail> {
     for (number, (value, spelling)) in table.iter().enumerate() {
         expect_met(rt, is_spelled(alloc, value, *spelling)?, number);
@@ -61,65 +71,8 @@ fn expect_spellings(rt: &impl Abort, alloc: Global, table: &[(Value, &str)]) -> 
 }
 
 #[test]
-fn plain_values_are_spelled(rt: HostRuntime) -> Result<(), Fail> {
-    let table = [
-        (Value::Unit, "unit"),
-        (Value::Bool(true), "true"),
-        (Value::Bool(false), "false"),
-        (Value::Int(5), "5"),
-        (Value::Int(0), "0"),
-        (Value::Int(-10), "-10"),
-        (Value::Int(i64::MAX), "9223372036854775807"),
-        (Value::Int(i64::MIN), "-9223372036854775808"),
-    ];
-    expect_spellings(&rt, rt.alloc(), &table)
-}
-
-#[test]
-fn handles_are_spelled_with_their_numbers(rt: HostRuntime) -> Result<(), Fail> {
-    let table = [
-        (Value::Promise(3), "promise#3"),
-        (Value::Signal(1), "signal#1"),
-        (Value::Controller(4_294_967_295), "controller#4294967295"),
-        (Value::Deadline(None), "deadline"),
-        (Value::Deadline(Some(5)), "deadline@5"),
-    ];
-    expect_spellings(&rt, rt.alloc(), &table)
-}
-
-#[test]
-fn faults_are_spelled_with_an_empty_text(rt: HostRuntime) -> Result<(), Fail> {
-    const FAULTS: [(FaultName, &str); 6] = [
-        (FaultName::Error, "Error(\"\")"),
-        (FaultName::TypeError, "TypeError(\"\")"),
-        (FaultName::RangeError, "RangeError(\"\")"),
-        (FaultName::AbortError, "AbortError(\"\")"),
-        (FaultName::TimeoutError, "TimeoutError(\"\")"),
-        (FaultName::NotAllowedError, "NotAllowedError(\"\")"),
-    ];
-    for (name, spelling) in FAULTS {
-        expect_spelling(&rt, rt.alloc(), fault(rt.alloc(), name), spelling)?;
-    }
-    Ok(())
-}
-
-#[test]
-fn texts_are_spelled_with_their_escapes(rt: HostRuntime) -> Result<(), Fail> {
-    let alloc = rt.alloc();
-    expect_spelling(&rt, alloc, text(alloc, b"xy")?, "\"xy\"")?;
-    expect_spelling(
-        &rt,
-        alloc,
-        text(alloc, b"a\"b\\c\nd~ ")?,
-        "\"a\\\"b\\\\c\\nd~ \"",
-    )?;
-    let cause = Str::new(b"a\"".to_vec(alloc)?);
-    expect_spelling(
-        &rt,
-        alloc,
-        Value::Fault(FaultName::Error, cause),
-        "Error(\"a\\\"\")",
-    )
+fn plain_values_and_handles_are_spelled(rt: HostRuntime) -> Result<(), Fail> {
+    expect_spellings(&rt, rt.alloc(), &PLAIN)
 }
 
 // A list of a number, a text and a list.
@@ -127,20 +80,6 @@ fn mixed(alloc: Global) -> Result<Value, Fail> {
     let inner = list(alloc, Value::Bool(true))?;
     let a = text(alloc, b"a")?;
     Ok(make_list(vec![in alloc; Value::Int(1), a, inner]?)?)
-}
-
-#[test]
-fn lists_are_spelled_with_commas_between(rt: HostRuntime) -> Result<(), Fail> {
-    let alloc = rt.alloc();
-    expect_spelling(&rt, alloc, make_list(Vec::new(alloc))?, "[]")?;
-    expect_spelling(&rt, alloc, mixed(alloc)?, "[1,\"a\",[true]]")
-}
-
-#[test]
-fn a_list_weighs_more_than_its_items_and_nests_deeper(rt: HostRuntime) -> Result<(), Fail> {
-    let value = mixed(rt.alloc())?;
-    assert!(rt; weight(&value) == 6 && nesting(&value) == 2);
-    Ok(())
 }
 
 // The function with the items of the list bound behind those that are bound already.
@@ -162,53 +101,18 @@ fn bound_twice(alloc: Global) -> Result<Value, Fail> {
     bound(alloc, &once, &y)
 }
 
-#[test]
-fn arguments_are_bound_behind_those_bound_before(rt: HostRuntime) -> Result<(), Fail> {
-    let alloc = rt.alloc();
-    expect_spelling(&rt, alloc, bound_once(alloc)?, "fn:h(\"x\")")?;
-    expect_spelling(&rt, alloc, bound_twice(alloc)?, "fn:h(\"x\",2)")
+// The text with another behind it.
+fn joined(alloc: Global) -> Result<Value, Fail> {
+    let x = text_of(alloc, b"x")?;
+    let y = text_of(alloc, b"y")?;
+    Ok(join(alloc, &x, &y)?)
 }
 
-#[test]
-fn texts_are_joined_and_lists_grow_at_their_end(rt: HostRuntime) -> Result<(), Fail> {
-    let alloc = rt.alloc();
-    let x = Str::new(b"x".to_vec(alloc)?);
-    let y = Str::new(b"y".to_vec(alloc)?);
-    expect_spelling(&rt, alloc, join(alloc, &x, &y)?, "\"xy\"")?;
+// The list with a text behind its items.
+fn pushed(alloc: Global) -> Result<Value, Fail> {
     let items = Items::new(vec![in alloc; Value::Int(1)]?);
-    expect_spelling(&rt, alloc, push(items, Value::Text(x))?, "[1,\"x\"]")
-}
-
-#[test]
-fn a_copy_is_the_same(rt: HostRuntime) -> Result<(), Fail> {
-    let alloc = rt.alloc();
-    let value = list(alloc, text(alloc, b"a")?)?;
-    assert!(rt; same(&value, &copy(alloc, &value)?));
-    Ok(())
-}
-
-// The list with unit behind its items.
-fn longer(alloc: Global, value: &Value) -> Result<Value, Fail> {
-    let items = as_list(value).ok_or("no list")?;
-    Ok(push(copy_items(alloc, items)?, Value::Unit)?)
-}
-
-#[test]
-fn a_longer_list_is_not_the_same(rt: HostRuntime) -> Result<(), Fail> {
-    let alloc = rt.alloc();
-    let value = list(alloc, function_value(alloc, 0))?;
-    let longer = longer(alloc, &value)?;
-    assert!(rt; !same(&value, &longer) && !same(&longer, &value));
-    Ok(())
-}
-
-#[test]
-fn a_copied_text_is_the_same(rt: HostRuntime) -> Result<(), Fail> {
-    let alloc = rt.alloc();
-    let y = text(alloc, b"y")?;
-    let copied = copy_text(alloc, as_text(&y).ok_or("no text")?)?;
-    assert!(rt; same(&y, &Value::Text(copied)));
-    Ok(())
+    let x = text_of(alloc, b"x")?;
+    Ok(push(items, Value::Text(x))?)
 }
 
 fn units(alloc: Global, count: u32) -> Result<Vec<Value>, AllocError> {
@@ -217,20 +121,6 @@ fn units(alloc: Global, count: u32) -> Result<Vec<Value>, AllocError> {
         items.push(Value::Unit)?;
     }
     Ok(items)
-}
-
-fn is_too_heavy(alloc: Global, count: u32) -> Result<bool, Fail> {
-    let items = units(alloc, count)?;
-    Ok(make_list(items).err() == Some(ValueFault::Is(TooHeavy)))
-}
-
-#[test]
-fn the_greatest_weight_is_65536(rt: HostRuntime) -> Result<(), Fail> {
-    let alloc = rt.alloc();
-    let heaviest = make_list(units(alloc, 65_535)?)?;
-    assert!(rt; weight(&heaviest) == 65_536);
-    assert!(rt; is_too_heavy(alloc, 65_536)?);
-    Ok(())
 }
 
 // Lists in one another, so deep.
@@ -242,15 +132,178 @@ fn nested(alloc: Global, deep: u32) -> Result<Value, Fail> {
     Ok(value)
 }
 
-fn is_too_deep(alloc: Global, value: Value) -> Result<bool, Fail> {
-    let items = vec![in alloc; value]?;
-    Ok(make_list(items).err() == Some(ValueFault::Is(TooHeavy)))
+fn cause(alloc: Global) -> Result<Value, Fail> {
+    Ok(Value::Fault(FaultName::Error, text_of(alloc, b"a\"")?))
+}
+
+// How a value is made.
+#[derive(Clone, Copy)]
+enum Made {
+    Fault(FaultName),
+    Text,
+    Escaped,
+    Cause,
+    Empty,
+    Mixed,
+    BoundOnce,
+    BoundTwice,
+    Joined,
+    Pushed,
+    // a list of so many units
+    Units(u32),
+    // lists in one another, so deep
+    Nested(u32),
+}
+
+fn value_of(alloc: Global, how: Made) -> Result<Value, Fail> {
+    match how {
+        Made::Fault(name) => Ok(fault(alloc, name)),
+        Made::Text => text(alloc, b"xy"),
+        Made::Escaped => text(alloc, b"a\"b\\c\nd~ "),
+        Made::Cause => cause(alloc),
+        Made::Empty => Ok(make_list(Vec::new(alloc))?),
+        Made::Mixed => mixed(alloc),
+        Made::BoundOnce => bound_once(alloc),
+        Made::BoundTwice => bound_twice(alloc),
+        Made::Joined => joined(alloc),
+        Made::Pushed => pushed(alloc),
+        Made::Units(count) => Ok(make_list(units(alloc, count)?)?),
+        Made::Nested(deep) => nested(alloc, deep),
+    }
+}
+
+const SPELLED: [(Made, &'static str); 15] = [
+    (Made::Fault(FaultName::Error), "Error(\"\")"),
+    (Made::Fault(FaultName::TypeError), "TypeError(\"\")"),
+    (Made::Fault(FaultName::RangeError), "RangeError(\"\")"),
+    (Made::Fault(FaultName::AbortError), "AbortError(\"\")"),
+    (Made::Fault(FaultName::TimeoutError), "TimeoutError(\"\")"),
+    (
+        Made::Fault(FaultName::NotAllowedError),
+        "NotAllowedError(\"\")",
+    ),
+    // Texts are spelled with their escapes.
+    (Made::Text, "\"xy\""),
+    (Made::Escaped, "\"a\\\"b\\\\c\\nd~ \""),
+    (Made::Cause, "Error(\"a\\\"\")"),
+    // Lists are spelled with commas between.
+    (Made::Empty, "[]"),
+    (Made::Mixed, "[1,\"a\",[true]]"),
+    // Arguments are bound behind those bound before.
+    (Made::BoundOnce, "fn:h(\"x\")"),
+    (Made::BoundTwice, "fn:h(\"x\",2)"),
+    // Texts are joined, and lists grow at their end.
+    (Made::Joined, "\"xy\""),
+    (Made::Pushed, "[1,\"x\"]"),
+];
+
+fn is_made_spelled(alloc: Global, how: Made, spelling: &str) -> Result<bool, Fail> {
+    let value = value_of(alloc, how)?;
+    let is_spelled = is_spelled(alloc, &value, spelling);
+    drop(value);
+    is_spelled
 }
 
 #[test]
-fn the_deepest_nest_is_64(rt: HostRuntime) -> Result<(), Fail> {
-    let value = nested(rt.alloc(), 64)?;
-    assert!(rt; nesting(&value) == 64);
-    assert!(rt; is_too_deep(rt.alloc(), value)?);
+fn made_values_are_spelled(rt: HostRuntime) -> Result<(), Fail> {
+    for (number, (how, spelling)) in SPELLED.iter().enumerate() {
+        expect_met(&rt, is_made_spelled(rt.alloc(), *how, *spelling)?, number);
+    }
+    Ok(())
+}
+
+// Values, their weights, and how deep they nest. A list weighs more than its items, and nests deeper. The last two are
+// the heaviest value and the deepest one.
+const MEASURED: [(Made, u64, u64); 3] = [
+    (Made::Mixed, 6, 2),
+    (Made::Units(65_535), 65_536, 1),
+    (Made::Nested(64), 65, 64),
+];
+
+fn measures(alloc: Global, how: Made) -> Result<(u64, u64), Fail> {
+    let value = value_of(alloc, how)?;
+    let measures = (weight(&value), nesting(&value));
+    drop(value);
+    Ok(measures)
+}
+
+#[test]
+fn lists_weigh_more_than_their_items_and_nest_deeper(rt: HostRuntime) -> Result<(), Fail> {
+    for (number, (how, weight, nesting)) in MEASURED.iter().enumerate() {
+        let is_met = measures(rt.alloc(), *how)? == (*weight, *nesting);
+        expect_met(&rt, is_met, number);
+    }
+    Ok(())
+}
+
+fn are_too_heavy(items: Vec<Value>) -> bool {
+    make_list(items).err() == Some(ValueFault::Is(TooHeavy))
+}
+
+// The deepest value as an item.
+fn too_deep(alloc: Global) -> Result<Vec<Value>, Fail> {
+    let value = nested(alloc, 64)?;
+    Ok(vec![in alloc; value]?)
+}
+
+#[test]
+fn the_greatest_weight_is_65536_and_the_deepest_nest_64(rt: HostRuntime) -> Result<(), Fail> {
+    expect_met(&rt, are_too_heavy(units(rt.alloc(), 65_536)?), 0);
+    expect_met(&rt, are_too_heavy(too_deep(rt.alloc())?), 1);
+    Ok(())
+}
+
+// The list with unit behind its items.
+fn with_unit(alloc: Global, value: &Value) -> Result<Value, Fail> {
+    let items = as_list(value).ok_or("no list")?;
+    Ok(push(copy_items(alloc, items)?, Value::Unit)?)
+}
+
+fn list_of_function(alloc: Global) -> Result<Value, Fail> {
+    list(alloc, function_value(alloc, 0))
+}
+
+fn longer(alloc: Global) -> Result<Value, Fail> {
+    let value = list_of_function(alloc)?;
+    let longer = with_unit(alloc, &value);
+    drop(value);
+    longer
+}
+
+fn list_of_text(alloc: Global) -> Result<Value, Fail> {
+    let a = text(alloc, b"a")?;
+    list(alloc, a)
+}
+
+fn copied_list(alloc: Global) -> Result<Value, Fail> {
+    let value = list_of_text(alloc)?;
+    let copied = copy(alloc, &value);
+    drop(value);
+    Ok(copied?)
+}
+
+fn copied_text(alloc: Global) -> Result<Value, Fail> {
+    let y = text_of(alloc, b"y")?;
+    let copied = copy_text(alloc, &y);
+    drop(y);
+    Ok(Value::Text(copied?))
+}
+
+// Whether they are the same, or are not, both ways.
+fn compares(a: Value, b: Result<Value, Fail>, are_same: bool) -> Result<bool, Fail> {
+    let b = b?;
+    let is_met = same(&a, &b) == are_same && same(&b, &a) == are_same;
+    drop(a);
+    drop(b);
+    Ok(is_met)
+}
+
+#[test]
+fn copies_are_the_same_and_a_longer_list_is_not(rt: HostRuntime) -> Result<(), Fail> {
+    let alloc = rt.alloc();
+    let is_list_copied = compares(list_of_text(alloc)?, copied_list(alloc), true)?;
+    let is_text_copied = compares(text(alloc, b"y")?, copied_text(alloc), true)?;
+    let is_longer = compares(list_of_function(alloc)?, longer(alloc), false)?;
+    expect_met(&rt, is_list_copied && is_text_copied && is_longer, 0);
     Ok(())
 }
