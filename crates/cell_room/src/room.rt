@@ -4,9 +4,6 @@ ghost use Rattle.std.specs.Borrow.{sem};
 ghost use Rattle.slab.specs.Slab.{get, HasRoomFor, Updates};
 ghost use Rattle.cell_room.specs.Cells.{item_at, Changes};
 
-#[cfg(test)]
-mod tests;
-
 use crate::{MemoryFault, Steps};
 use slab::Slab;
 use std::alloc::Global;

@@ -5,9 +5,6 @@ ghost use Rattle.std.specs.Ordering.{nat_cmp};
 ghost use Rattle.page_parts.specs.Words.{and_last, has_number};
 ghost use Rattle.keyed_list.specs.Listed.{AreBelow, keys_in, places_in, others, remove_each, AreOrdered};
 
-#[cfg(test)]
-mod tests;
-
 use crate::places::{Places, drop_last, has_places, note};
 use crate::{Keyed, MemoryFault, Taken};
 use std::alloc::Global;

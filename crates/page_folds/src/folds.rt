@@ -8,9 +8,6 @@ ghost use Rattle.page_folds.specs.Seen.{fold_seen, parts_of, open_of, standing};
 ghost use Rattle.page_folds.specs.AtRest.{at_rest};
 ghost use Rattle.page_folds.specs.Calls.{calls_in};
 
-#[cfg(test)]
-mod tests;
-
 use crate::changes::{Changes, Level};
 use crate::fold::{Fold, Rest};
 use crate::stage::Stage;

@@ -1,9 +1,6 @@
 ghost use Rattle.std.specs.Prelude.{◌≡◌, ◌≢◌, ℕ, ◌+◌, ◌^◌, ◌<◌, ◌≤◌, map, None, Some, IsSome, IfOk, OnOk, OnErr, IsOk, IfSome, IfNone, if◌then◌else◌, option_map, is_some, not};
 ghost use Rattle.std.specs.List.{list_all};
 
-#[cfg(test)]
-mod tests;
-
 use crate::asked::{Asked, asked_of, find_asked, forget, make_room, note};
 use crate::page_task::{PageTask, PostedTask, SchedTask, TaskSteps};
 use crate::tasks::HostTask;

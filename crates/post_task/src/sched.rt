@@ -5,9 +5,6 @@ ghost use Rattle.task_pool.specs.Lists.{Lists, list_of, entry_of, without};
 ghost use Rattle.post_task.specs.Waiting.{Waiting, Among, IsFirstOrder, IsSelected, ordered, order_of, has_cell, lacks_cell, moved};
 ghost use Rattle.post_task.specs.Levels.{all_queues, Lone, waiting, priority_in, place_of, HasRoom, Kept, AreKept, StandsNext, SameBut, ReadsAgain, Enqueues, IsTaken, task_in, moved_level, Added};
 
-#[cfg(test)]
-mod tests;
-
 use crate::PrioSource;
 use crate::heads::{place_of_list, read_first};
 use crate::level::{Level, rank};

@@ -4,9 +4,6 @@ ghost use Rattle.std.specs.List.{find};
 ghost use Rattle.task_pool.specs.Lists.{Entry, in_cell, list_of, entry_of, without, numbered, first_entry, count};
 ghost use Rattle.task_pool.specs.Taken.{taken, taken_from, Leaves};
 
-#[cfg(test)]
-mod tests;
-
 use crate::links::{Ends, First, Node, set_after, set_before};
 use cell_room::{Cell, MemoryFault, Room, Steps};
 use std::alloc::Global;

@@ -5,9 +5,6 @@ ghost use Rattle.page_types.specs.declared.Source.TheVariants.{Sched};
 ghost use Rattle.page_parts.specs.Sources.{default_list};
 ghost use Rattle.task_pool.specs.Lists.{list_of, entry_of, numbered, first_entry};
 
-#[cfg(test)]
-mod tests;
-
 use page_base::Source;
 use std::marker::PhantomData;
 use std::sync::ledger::Ledger;

@@ -3,9 +3,6 @@ ghost use Rattle.page_parts.specs.TaskSignals.{priority_of, followed as followed
 ghost use Rattle.task_signal.specs.Changes.{IsAnswer, Leaves, HasPriority};
 ghost use Rattle.task_signal.specs.Places.{place_in, signals};
 
-#[cfg(test)]
-mod tests;
-
 use crate::{ChangeFault, Changing, MemoryFault};
 use page_types::Priority;
 use std::alloc::Global;

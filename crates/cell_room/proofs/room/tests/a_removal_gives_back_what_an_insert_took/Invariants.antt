@@ -1,4 +1,0 @@
-use Rattle.cell_room.proofs.room.tests.a_removal_gives_back_what_an_insert_took.Given as goal
-
-abbrev pub ghosts-reserved : goal.ghosts-reserved
-ghosts-reserved g a = record { name = a.blank.name; parts = a.blank.parts }

@@ -1,4 +1,0 @@
-use Rattle.cell_room.proofs.room.tests.each_access_is_counted_in_the_book.Given as goal
-
-abbrev pub ghosts-counted : goal.ghosts-counted
-ghosts-counted g a = record { name = a.blank.name; parts = a.blank.parts }

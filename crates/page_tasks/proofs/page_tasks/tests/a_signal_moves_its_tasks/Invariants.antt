@@ -1,4 +1,0 @@
-use Rattle.page_tasks.proofs.page_tasks.tests.a_signal_moves_its_tasks.Given as goal
-
-abbrev pub ghosts-by_signal : goal.ghosts-by_signal
-ghosts-by_signal g a = record { name = a.blank.name; parts = a.blank.parts }

@@ -1,4 +1,0 @@
-use Rattle.post_task.proofs.sched.tests.by_signal.Goals as goal
-
-pub take-requires : goal.take-requires
-take-requires g c = c.move_priority.ensures.kept c.put-3.new.pool c.put-3.ensures.kept

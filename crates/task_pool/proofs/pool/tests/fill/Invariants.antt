@@ -1,5 +1,0 @@
-use Rattle.std.proofs.Common.{◌≡◌, length}
-use Rattle.task_pool.proofs.pool.tests.fill.Given as goal
-
-abbrev pub invariant-loop-number : goal.invariant-loop-number
-invariant-loop-number g l = (l.pool.inserts ≡ l.number) × (length l.pool.lists ≡ length l.initial.pool.lists)

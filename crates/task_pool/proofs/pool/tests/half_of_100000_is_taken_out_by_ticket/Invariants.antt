@@ -1,4 +1,0 @@
-use Rattle.task_pool.proofs.pool.tests.half_of_100000_is_taken_out_by_ticket.Given as goal
-
-abbrev pub ghosts-scattered : goal.ghosts-scattered
-ghosts-scattered g a = record { name = a.blank.name; parts = a.blank.parts }
