@@ -3,11 +3,11 @@ use Rattle.std.proofs.Common.{◌≡◌, ◌≢◌, ℕ, ◌<◌, List, [], ◌�
 use Rattle.std.specs.Prelude.{MatchOption}
 use Rattle.page_types.specs.declared.Source.{Source}
 use Rattle.page_types.specs.declared.Source.TheVariants.{User, Net, Dom, Timer, Render, Sched, Idle}
-use Rattle.task_pool.specs.Lists.{Entry, Lists, list_of}
+use Rattle.task_pool.specs.Lists.{Lists, list_of}
 use Rattle.task_queues.specs.declared.queues.Queues.{Queues}
 use Rattle.task_queues.specs.BySource.{list_number, StandIn, IsApart}
 use Rattle.post_task.specs.declared.level.Level.{Level}
-use Rattle.post_task.specs.Waiting.{Waiting, Among, Inserted, IsFirst, ordered}
+use Rattle.post_task.specs.Waiting.{Waiting, Among, Inserted, ordered}
 use Rattle.post_task.specs.Levels.{Queue, all_queues, Lone, waiting, TakesFirst}
 use Rattle.post_task.proofs.Best.{InQueues}
 use Rattle.post_task.proofs.Tasks.{lone_in}

@@ -1,5 +1,5 @@
 //! Pools: lists of numbered items, which are taken out by ticket and in order.
-ghost use Rattle.std.specs.Prelude.{◌≡◌, ◌+◌, ◌<◌, length, IfOk};
+ghost use Rattle.std.specs.Prelude.{◌≡◌, ◌+◌, ◌^◌, ◌<◌, length, IfOk};
 
 use std::alloc::Global;
 use std::marker::Brand;
@@ -79,7 +79,45 @@ fn scattered<L: Ledger>(rt: &impl Abort, alloc: Global, blank: Blank) -> Result<
     Ok(())
 }
 
+// Puts an item at the end of a list.
+fn put<L: Ledger>(
+    pool: &mut Pool<char>,
+    l: ListId,
+    number: u64,
+    item: char,
+    steps: &mut Steps<L>,
+) -> Result<Ticket, Fail>
+    requires list { l.0 < length pool.old.lists }
+    requires inserts { pool.old.inserts + 1 < 2 ^ 64 }
+    ensures lists { IfOk result (λ _. length pool.new.lists ≡ length pool.old.lists) }
+    ensures inserts { IfOk result (λ _. pool.new.inserts ≡ pool.old.inserts + 1) }
+{
+    match pool.push_back(l, number, item, steps) {
+        Ok(ticket) => Ok(ticket),
+        Err(_) => Err(Fail::from("no memory")),
+    }
+}
+
 // Two lists in one room, and an old ticket whose cell is used again.
+fn used_again<L: Ledger>(
+    rt: &impl Abort,
+    pool: &mut Pool<char>,
+    steps: &mut Steps<L>,
+) -> Result<(), Fail>
+    requires { pool.old.inserts + 2 < 2 ^ 64 }
+{
+    let first = pool.new_list()?;
+    let second = pool.new_list()?;
+    let old = put(pool, first, 1, 'a', steps)?;
+    let taken = pool.unlink(old, steps);
+    let new = put(pool, second, 2, 'b', steps)?;
+    assert_eq!(rt; (taken, new.0.key), (Some((1, 'a')), old.0.key));
+    assert_eq!(rt; pool.unlink(old, steps), None);
+    assert_eq!(rt; [pool.front(first), pool.front(second)], [None, Some(2)]);
+    assert_eq!(rt; pool.pop_front(second, steps), Some((2, 'b')));
+    Ok(())
+}
+
 fn two_lists<L: Ledger>(rt: &impl Abort, alloc: Global, blank: Blank) -> Result<(), Fail>
     requires name { blank.name ≡ L.name }
     requires parts { blank.parts ≡ L.parts }
@@ -90,21 +128,7 @@ fn two_lists<L: Ledger>(rt: &impl Abort, alloc: Global, blank: Blank) -> Result<
     let mut pool = Pool::new(alloc);
     pool.reserve(3)?;
     assert_eq!(rt; pool.spare(), 3);
-    let first = pool.new_list()?;
-    let second = pool.new_list()?;
-    let Ok(old) = pool.push_back(first, 1, 'a', &mut steps) else {
-        return Err(Fail::from("no memory"))
-    };
-    assert_eq!(rt; pool.unlink(old, &mut steps), Some((1, 'a')));
-    let Ok(new) = pool.push_back(second, 2, 'b', &mut steps) else {
-        return Err(Fail::from("no memory"))
-    };
-    assert_eq!(rt; new.0.key, old.0.key);
-    assert_eq!(rt; pool.unlink(old, &mut steps), None);
-    assert_eq!(rt; pool.front(first), None);
-    assert_eq!(rt; pool.front(second), Some(2));
-    assert_eq!(rt; pool.pop_front(second, &mut steps), Some((2, 'b')));
-    Ok(())
+    used_again(rt, &mut pool, &mut steps)
 }
 
 #[test]

@@ -49,6 +49,16 @@ fn enqueue<L: Ledger>(
     Ok(tasks.enqueue(registration, source, false)?)
 }
 
+// What is told while the task of the host closure waits.
+fn expect_asked<L: Ledger>(rt: &impl Abort, tasks: &PageTasks<L>) {
+    let told = (
+        tasks.net_task_of(7),
+        tasks.first_numbers()[4],
+        tasks.has_render(),
+    );
+    assert_eq!(rt; told, (Some(ASKED), Some(1), false));
+}
+
 fn asked<L: Ledger>(rt: &impl Abort, alloc: Global, blank: Blank) -> Result<(), Fail>
     requires name { blank.name ≡ L.name }
     requires parts { blank.parts ≡ L.parts }
@@ -58,19 +68,32 @@ fn asked<L: Ledger>(rt: &impl Abort, alloc: Global, blank: Blank) -> Result<(), 
     let mut tasks = PageTasks::new(alloc, 5, Steps::new(book, share))?;
     assert!(rt; tasks.is_empty());
     ask(rt, alloc, &mut tasks)?;
-    assert_eq!(rt; tasks.net_task_of(7), Some(ASKED));
-    assert_eq!(rt; tasks.first_numbers()[4], Some(1));
-    assert!(rt; !tasks.has_render());
-    assert_eq!(rt; take(&mut tasks, Source::Net), Some(1));
-    assert_eq!(rt; take(&mut tasks, Source::Net), None);
-    assert_eq!(rt; tasks.net_task_of(7), None);
-    assert_eq!(rt; tasks.pool().spare(), 5);
+    expect_asked(rt, &tasks);
+    let taken = [take(&mut tasks, Source::Net), take(&mut tasks, Source::Net)];
+    assert_eq!(rt; taken, [Some(1), None]);
+    assert_eq!(rt; (tasks.net_task_of(7), tasks.pool().spare()), (None, 5));
     Ok(())
 }
 
 #[test]
 fn a_host_task_waits_until_it_is_taken(rt: HostRuntime) -> Result<(), Fail> {
     asked::<Brand>(&rt, rt.alloc(), Blank::new(1))
+}
+
+// Enqueues a task of fixed priority user-visible and one of a signal, whose priority is background.
+fn enqueue_both<L: Ledger>(rt: &impl Abort, tasks: &mut PageTasks<L>) -> Result<[u64; 2], Fail> {
+    let visible = PrioSource::Fixed(Priority::UserVisible);
+    let first = enqueue(rt, tasks, 1, visible)?;
+    tasks.make_room_for(3, Priority::Background)?;
+    let second = enqueue(rt, tasks, 2, PrioSource::Signal(3))?;
+    Ok([first, second])
+}
+
+// The first scheduler task before and after the signal's priority rises.
+fn raise<L: Ledger>(tasks: &mut PageTasks<L>) -> [Option<u64>; 2] {
+    let before = tasks.first_numbers()[2];
+    tasks.set_priority(3, Priority::UserBlocking);
+    [before, tasks.first_numbers()[2]]
 }
 
 // A task of a signal goes before one of fixed priority user-visible once its signal is user-blocking.
@@ -81,16 +104,11 @@ fn by_signal<L: Ledger>(rt: &impl Abort, alloc: Global, blank: Blank) -> Result<
 {
     let (book, share) = blank.open::<L>();
     let mut tasks = PageTasks::new(alloc, 0, Steps::new(book, share))?;
-    let visible = PrioSource::Fixed(Priority::UserVisible);
-    assert_eq!(rt; enqueue(rt, &mut tasks, 1, visible)?, 1);
-    tasks.make_room_for(3, Priority::Background)?;
-    assert_eq!(rt; enqueue(rt, &mut tasks, 2, PrioSource::Signal(3))?, 2);
-    assert_eq!(rt; tasks.first_numbers()[2], Some(1));
-    tasks.set_priority(3, Priority::UserBlocking);
-    assert_eq!(rt; tasks.first_numbers()[2], Some(2));
-    assert_eq!(rt; tasks.take_sched().map(|task| task.registration), Some(2));
-    assert!(rt; tasks.drop_sched(1));
-    assert!(rt; !tasks.drop_sched(1));
+    assert_eq!(rt; enqueue_both(rt, &mut tasks)?, [1, 2]);
+    assert_eq!(rt; raise(&mut tasks), [Some(1), Some(2)]);
+    let taken = tasks.take_sched().map(|task| task.registration);
+    assert_eq!(rt; taken, Some(2));
+    assert_eq!(rt; [tasks.drop_sched(1), tasks.drop_sched(1)], [true, false]);
     Ok(())
 }
 

@@ -1,7 +1,7 @@
 //! Rooms of cells: what a name finds, and how accesses are counted.
-ghost use Rattle.std.specs.Prelude.{◌≡◌, ◌+◌, ◌<◌, ◌^◌, OnSome};
+ghost use Rattle.std.specs.Prelude.{◌≡◌, ◌+◌, ◌<◌, ◌^◌, OnOk, OnSome};
 
-use cell_room::{MemoryFault, Room, Steps};
+use cell_room::{Cell, MemoryFault, Room, Steps};
 use std::alloc::Global;
 use std::marker::Brand;
 use std::process::Abort;
@@ -31,29 +31,51 @@ fn counted<L: Ledger>(rt: &impl Abort, alloc: Global, blank: Blank)
     assert_eq!(rt; four_accesses(&mut room, &mut steps), Some(14));
 }
 
-fn old_names<L: Ledger>(rt: &impl Abort, room: &mut Room<u32>, steps: &mut Steps<L>)
-    requires { room.old.inserts + 9 < 2 ^ 64 }
+// Puts an item in, where a name is left for it.
+fn put<L: Ledger>(
+    room: &mut Room<u32>,
+    item: u32,
+    steps: &mut Steps<L>,
+) -> Result<Cell, MemoryFault>
+    requires { room.old.inserts + 1 < 2 ^ 64 }
+    ensures { OnOk result (room.new.inserts ≡ room.old.inserts + 1) }
 {
-    let Ok(first) = room.insert(10, steps) else {
-        return assert!(rt; false)
-    };
-    let Ok(second) = room.insert(20, steps) else {
-        return assert!(rt; false)
-    };
-    assert_eq!(rt; room.remove(first, steps), Some(10));
-    assert_eq!(rt; room.remove(first, steps), None);
-    let Ok(third) = room.insert(30, steps) else {
-        return assert!(rt; false)
-    };
-    assert_eq!(rt; third.key, first.key);
-    assert!(rt; room.get(first, steps).is_none());
-    assert!(rt; room.get_mut(first, steps).is_none());
-    assert_eq!(rt; room.remove(first, steps), None);
-    assert_eq!(rt; room.get(third, steps).copied(), Some(30));
-    assert_eq!(rt; room.get(second, steps).copied(), Some(20));
+    match room.insert(item, steps) {
+        Ok(cell) => Ok(cell),
+        Err(_) => Err(MemoryFault::OutOfMemory),
+    }
 }
 
-fn named<L: Ledger>(rt: &impl Abort, alloc: Global, blank: Blank)
+fn found<L: Ledger>(room: &Room<u32>, cells: [Cell; 3], steps: &mut Steps<L>) -> [Option<u32>; 3] {
+    let [first, second, third] = cells;
+    [
+        room.get(first, steps).copied(),
+        room.get(second, steps).copied(),
+        room.get(third, steps).copied(),
+    ]
+}
+
+fn old_names<L: Ledger>(
+    rt: &impl Abort,
+    room: &mut Room<u32>,
+    steps: &mut Steps<L>,
+) -> Result<(), MemoryFault>
+    requires { room.old.inserts + 9 < 2 ^ 64 }
+{
+    let first = put(room, 10, steps)?;
+    let second = put(room, 20, steps)?;
+    let removed = [room.remove(first, steps), room.remove(first, steps)];
+    assert_eq!(rt; removed, [Some(10), None]);
+    let third = put(room, 30, steps)?;
+    assert_eq!(rt; third.key, first.key);
+    assert!(rt; room.get_mut(first, steps).is_none());
+    assert_eq!(rt; room.remove(first, steps), None);
+    let there = found(room, [first, second, third], steps);
+    assert_eq!(rt; there, [None, Some(20), Some(30)]);
+    Ok(())
+}
+
+fn named<L: Ledger>(rt: &impl Abort, alloc: Global, blank: Blank) -> Result<(), MemoryFault>
     requires name { blank.name ≡ L.name }
     requires parts { blank.parts ≡ L.parts }
     requires some { 0 < blank.parts }
@@ -61,7 +83,7 @@ fn named<L: Ledger>(rt: &impl Abort, alloc: Global, blank: Blank)
     let (book, share) = blank.open::<L>();
     let mut steps = Steps::new(book, share);
     let mut room = Room::new(alloc);
-    old_names(rt, &mut room, &mut steps);
+    old_names(rt, &mut room, &mut steps)
 }
 
 fn reserved<L: Ledger>(rt: &impl Abort, alloc: Global, blank: Blank) -> Result<(), MemoryFault>
@@ -72,16 +94,13 @@ fn reserved<L: Ledger>(rt: &impl Abort, alloc: Global, blank: Blank) -> Result<(
     let (book, share) = blank.open::<L>();
     let mut steps = Steps::new(book, share);
     let mut room = Room::new(alloc);
-    assert_eq!(rt; room.spare(), 0);
+    let unreserved = room.spare();
     room.reserve(2)?;
-    assert_eq!(rt; room.spare(), 2);
-    let Ok(cell) = room.insert(1, &mut steps) else {
-        assert!(rt; false);
-        return Ok(());
-    };
-    assert_eq!(rt; room.spare(), 1);
-    assert_eq!(rt; room.remove(cell, &mut steps), Some(1));
-    assert_eq!(rt; room.spare(), 2);
+    assert_eq!(rt; [unreserved, room.spare()], [0, 2]);
+    let cell = put(&mut room, 1, &mut steps)?;
+    let with_one = room.spare();
+    let removed = room.remove(cell, &mut steps);
+    assert_eq!(rt; (with_one, removed, room.spare()), (1, Some(1), 2));
     Ok(())
 }
 
@@ -91,8 +110,8 @@ fn each_access_is_counted_in_the_book(rt: HostRuntime) {
 }
 
 #[test]
-fn an_old_name_never_finds_a_newer_item(rt: HostRuntime) {
-    named::<Brand>(&rt, rt.alloc(), Blank::new(1));
+fn an_old_name_never_finds_a_newer_item(rt: HostRuntime) -> Result<(), MemoryFault> {
+    named::<Brand>(&rt, rt.alloc(), Blank::new(1))
 }
 
 #[test]

@@ -3,7 +3,7 @@ ghost use Rattle.std.specs.Prelude.{◌≡◌, ◌≢◌, ℕ, ◌+◌, ◌^◌,
 ghost use Rattle.std.specs.List.{find};
 ghost use Rattle.post_task.specs.Waiting.{Waiting, Among, has_cell};
 ghost use Rattle.post_task.specs.Levels.{waiting, HasRoom, Kept};
-ghost use Rattle.post_task.specs.declared.level.PrioSource.TheVariants.{Fixed};
+ghost use Rattle.post_task.specs.declared.level.PrioSource.TheVariants.{Fixed, Signal};
 ghost use Rattle.page_types.specs.declared.Priority.TheVariants.{UserVisible};
 
 use post_task::{PrioSource, Priority, SchedQueues};
@@ -66,6 +66,47 @@ fn put<L: Ledger>(
     }
 }
 
+// A continuation of fixed priority.
+fn continuation(priority: Priority, order: u64, item: char) -> Posted
+    ensures source { result.source ≡ Fixed priority }
+    ensures order { result.order ≡ order }
+{
+    Posted {
+        source: PrioSource::Fixed(priority),
+        continuation: true,
+        order,
+        item,
+    }
+}
+
+fn of_signal(signal: u32, order: u64, item: char) -> Posted
+    ensures source { result.source ≡ Signal signal }
+    ensures order { result.order ≡ order }
+{
+    Posted {
+        source: PrioSource::Signal(signal),
+        continuation: false,
+        order,
+        item,
+    }
+}
+
+// Takes the first three tasks.
+fn take_three<L: Ledger>(
+    queues: &mut SchedQueues<char>,
+    pool: &mut Pool<char>,
+    steps: &mut Steps<L>,
+) -> [Option<(u64, char)>; 3]
+    requires { Kept queues.old pool.old }
+    ensures { Kept queues.new pool.new }
+{
+    [
+        queues.take(pool, steps),
+        queues.take(pool, steps),
+        queues.take(pool, steps),
+    ]
+}
+
 fn by_priority<L: Ledger>(rt: &impl Abort, alloc: Global, blank: Blank) -> Result<(), Fail>
     requires name { blank.name ≡ L.name }
     requires parts { blank.parts ≡ L.parts }
@@ -76,38 +117,28 @@ fn by_priority<L: Ledger>(rt: &impl Abort, alloc: Global, blank: Blank) -> Resul
     let mut pool = Pool::new(alloc);
     let mut queues = SchedQueues::new(alloc, &mut pool)?;
     assert_eq!(rt; queues.select(&pool), None);
-    put(rt, &mut queues, &mut pool, visible(1, 'a'), &mut steps);
-    put(rt, &mut queues, &mut pool, visible(2, 'b'), &mut steps);
+    let (queues, pool, steps) = (&mut queues, &mut pool, &mut steps);
+    put(rt, queues, pool, visible(1, 'a'), steps);
+    put(rt, queues, pool, visible(2, 'b'), steps);
     put(
         rt,
-        &mut queues,
-        &mut pool,
-        Posted {
-            source: VISIBLE,
-            continuation: true,
-            order: 3,
-            item: 'c',
-        },
-        &mut steps,
+        queues,
+        pool,
+        continuation(Priority::UserVisible, 3, 'c'),
+        steps,
     );
     let last = put(
         rt,
-        &mut queues,
-        &mut pool,
-        Posted {
-            source: PrioSource::Fixed(Priority::Background),
-            continuation: true,
-            order: 4,
-            item: 'd',
-        },
-        &mut steps,
+        queues,
+        pool,
+        continuation(Priority::Background, 4, 'd'),
+        steps,
     );
-    assert_eq!(rt; queues.remove(&mut pool, last, &mut steps), Some((4, 'd')));
-    assert_eq!(rt; queues.select(&pool), Some(3));
-    assert_eq!(rt; queues.take(&mut pool, &mut steps), Some((3, 'c')));
-    assert_eq!(rt; queues.take(&mut pool, &mut steps), Some((1, 'a')));
-    assert_eq!(rt; queues.take(&mut pool, &mut steps), Some((2, 'b')));
-    assert_eq!(rt; queues.take(&mut pool, &mut steps), None);
+    assert_eq!(rt; queues.remove(pool, last, steps), Some((4, 'd')));
+    assert_eq!(rt; queues.select(pool), Some(3));
+    let taken = take_three(queues, pool, steps);
+    assert_eq!(rt; taken, [Some((3, 'c')), Some((1, 'a')), Some((2, 'b'))]);
+    assert_eq!(rt; queues.take(pool, steps), None);
     Ok(())
 }
 
@@ -121,37 +152,14 @@ fn by_signal<L: Ledger>(rt: &impl Abort, alloc: Global, blank: Blank) -> Result<
     let mut pool = Pool::new(alloc);
     let mut queues = SchedQueues::new(alloc, &mut pool)?;
     queues.make_room_for(&mut pool, 7, Priority::Background)?;
-    let signal = PrioSource::Signal(7);
-    put(
-        rt,
-        &mut queues,
-        &mut pool,
-        Posted {
-            source: signal,
-            continuation: false,
-            order: 1,
-            item: 'a',
-        },
-        &mut steps,
-    );
-    put(
-        rt,
-        &mut queues,
-        &mut pool,
-        Posted {
-            source: signal,
-            continuation: false,
-            order: 2,
-            item: 'b',
-        },
-        &mut steps,
-    );
-    put(rt, &mut queues, &mut pool, visible(3, 'c'), &mut steps);
-    assert_eq!(rt; queues.select(&pool), Some(3));
+    let (queues, pool, steps) = (&mut queues, &mut pool, &mut steps);
+    put(rt, queues, pool, of_signal(7, 1, 'a'), steps);
+    put(rt, queues, pool, of_signal(7, 2, 'b'), steps);
+    put(rt, queues, pool, visible(3, 'c'), steps);
+    assert_eq!(rt; queues.select(pool), Some(3));
     queues.move_priority(7, Priority::UserBlocking);
-    assert_eq!(rt; queues.take(&mut pool, &mut steps), Some((1, 'a')));
-    assert_eq!(rt; queues.take(&mut pool, &mut steps), Some((2, 'b')));
-    assert_eq!(rt; queues.take(&mut pool, &mut steps), Some((3, 'c')));
+    let taken = take_three(queues, pool, steps);
+    assert_eq!(rt; taken, [Some((1, 'a')), Some((2, 'b')), Some((3, 'c'))]);
     Ok(())
 }
 
