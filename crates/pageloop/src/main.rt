@@ -1,6 +1,10 @@
 //! The program: the real folder, the standard streams and the host closures are handed to the top call.
 #![tactic(auto)]
 
+ghost use Rattle.std.specs.Prelude.{◌≡◌};
+ghost use Rattle.host_jobs.specs.ToldTable.{closures_of};
+ghost use Rattle.pageloop.specs.HostClosures.{host_closures};
+
 mod hosts;
 
 use host_jobs::{HostKind, HostOnce, HostTable};
@@ -24,8 +28,19 @@ fn words(rt: &(impl Env + AllocGlobal)) -> io::Result<Vec<String>> {
     Ok(words)
 }
 
-/// Makes the 64 host closures, runs the program, and answers its status. Want of memory for what the program starts with is
-/// the only error.
+/// Runs the program with its host closures, and answers its status. Want of memory for what it starts with is the only error.
+fn run_with(rt: &HostRuntime, words: &Vec<String>, hosts: HostTable) -> Result<u8, AllocError>
+    requires { closures_of hosts ≡ host_closures }
+{
+    let alloc = rt.alloc();
+    let mut folder = RealFolder::new(rt);
+    let out = StdSink::new(alloc, io::writer(rt))?;
+    let mut err = StdSink::new(alloc, rt.stderr())?;
+    let end = page_main(alloc, words, &mut folder, hosts, out, &mut err);
+    Ok(end.status)
+}
+
+/// Makes the 64 host closures, and runs the program with them.
 ///
 /// Number k of the closures squares, doubles, negates or fails as k modulo 4 is 0, 1, 2 or 3.
 fn run(rt: HostRuntime) -> Result<u8, AllocError> {
@@ -44,11 +59,7 @@ fn run(rt: HostRuntime) -> Result<u8, AllocError> {
         let job = Box::new(alloc, fail)?;
         hosts.push(HostOnce::new(HostKind::Fail, i64::MIN, i64::MAX, job))?;
     }
-    let mut folder = RealFolder::new(&rt);
-    let out = StdSink::new(alloc, io::writer(&rt))?;
-    let mut err = StdSink::new(alloc, rt.stderr())?;
-    let end = page_main(alloc, &words, &mut folder, hosts, out, &mut err);
-    Ok(end.status)
+    run_with(&rt, &words, hosts)
 }
 
 fn main(rt: HostRuntime) -> ExitCode {
