@@ -1,28 +1,22 @@
 -- What an index has at any name after one more name was put in.
 use Rattle.std.proofs.Common.{◌≡◌, ℕ, suc, ◌+◌, ◌<◌, ◌≤◌, Bool, true, false, cond, List, [], Vec, Global, Option, Some, None, refl, sym, ap, ◌∙◌, subst, arith, drop, get_or, length}
 use Rattle.std.specs.Option.{option_map}
-use Rattle.std.specs.Ordering.{is_eq, nat_cmp}
-use Rattle.std.specs.Cmp.{eq_by_cmp_equiv}
-use Rattle.std.specs.Cmp.Lexicographic.{slice_cmp, bytes_decides, nat_list_cmp_total, nat_list_eq_equiv}
+use Rattle.std.specs.Cmp.Lexicographic.{bytes_decides, nat_list_eq_equiv}
 use Rattle.std.specs.Str.{bytes_eq}
-use Rattle.std.specs.BTreeMap.{BTreeMap, UpdatesBy}
+use Rattle.std.specs.HashMap.{HashMap, UpdatesBy}
 use Rattle.std.specs.Map.{lookup, IsKeyTest, AreApart, KeepsOthers}
 use Rattle.std.proofs.lemmas.Bool.{cases_Bool, cond-true, cond-false}
-use Rattle.std.proofs.lemmas.Map.Text.{is_eq-slice_cmp}
 use mathlib.Core.Logic.{⊎_elim}
 use Rattle.std.proofs.lemmas.List.{drop_all}
 use Rattle.page_values.proofs.Lists.{front, same_bytes-pointwise}
 use Rattle.page_parts.specs.Words.{same_bytes}
 use Rattle.page_interp.specs.Places.{at_bytes, place_of, IsIndex}
 
-abbrev Index : Type 0
-Index = BTreeMap (Vec ℕ Global) ℕ
+abbrev pub same_key : Vec ℕ Global → Vec ℕ Global → Bool
+same_key x y = bytes_eq x.items y.items
 
-apart : (bs cs ks : List ℕ) → bytes_eq bs cs ≡ false → bytes_eq bs ks ≡ true → bytes_eq cs ks ≡ false
+pub apart : (bs cs ks : List ℕ) → bytes_eq bs cs ≡ false → bytes_eq bs ks ≡ true → bytes_eq cs ks ≡ false
 apart bs cs ks n y = nat_list_eq_equiv.symm cs ks ∙ sym (nat_list_eq_equiv.congr bs ks cs y) ∙ n
-
-pub apart_in_order : (bs cs ks : List ℕ) → bytes_eq bs cs ≡ false → is_eq (slice_cmp nat_cmp bs ks) ≡ true → is_eq (slice_cmp nat_cmp cs ks) ≡ false
-apart_in_order bs cs ks n y = is_eq-slice_cmp cs ks ∙ apart bs cs ks n (sym (is_eq-slice_cmp bs ks) ∙ y)
 
 module _ {K : Type 0} (eq : K → K → Bool) (test : K → Bool) where
   pub other_entries : {X : Type 0} (old new : List (K × X)) → KeepsOthers eq test old new → (other : K → Bool) → IsKeyTest eq other → AreApart test other → lookup other new ≡ lookup other old
@@ -37,11 +31,11 @@ by_bytes f g bs w here other cs =
     (λ n. other cs n ∙ sym (cond-false (bytes_eq bs cs) w (f cs) n))
     (cases_Bool (bytes_eq bs cs))
 
-pub put_at : (bs : List ℕ) (m n : Index) (w : Option ℕ) → UpdatesBy (λ x y. slice_cmp nat_cmp x.items y.items) (λ k. slice_cmp nat_cmp bs k.items) m n w → (cs : List ℕ) → at_bytes n cs ≡ cond (bytes_eq bs cs) w (at_bytes m cs)
-put_at bs m n w h = by_bytes (at_bytes m) (at_bytes n) bs w h.1 (λ cs e. other_entries _ _ _ _ h.3 _ (λ x y. (eq_by_cmp_equiv nat_list_cmp_total).congr cs x.items y.items) (λ k. apart_in_order bs cs k.items e))
+pub put_at : {S : Type 0} (bs : List ℕ) (m n : HashMap (Vec ℕ Global) ℕ S) (w : Option ℕ) → UpdatesBy same_key (λ k. bytes_eq bs k.items) m n w → (cs : List ℕ) → at_bytes n cs ≡ cond (bytes_eq bs cs) w (at_bytes m cs)
+put_at bs m n w h = by_bytes (at_bytes m) (at_bytes n) bs w h.1 (λ cs e. other_entries _ _ _ _ h.3 _ (λ x y. nat_list_eq_equiv.congr cs x.items y.items) (λ k. apart bs cs k.items e))
 
 -- the index of the names from the place i on
-abbrev pub IndexesFrom : ℕ → List (List ℕ) → Index → Type 0
+abbrev pub IndexesFrom : {S : Type 0} → ℕ → List (List ℕ) → HashMap (Vec ℕ Global) ℕ S → Type 0
 IndexesFrom i names places = (x : List ℕ) → at_bytes places x ≡ option_map (λ k. i + k) (place_of (drop i names) x)
 
 by_first : (i : ℕ) (b : Bool) (o : Option ℕ) → cond b (Some i) (option_map (λ k. i + 1 + k) o) ≡ option_map (λ k. i + k) (cond b (Some 0) (option_map suc o))
@@ -49,7 +43,7 @@ by_first i true o = ap Some (omega arith)
 by_first i false None = refl
 by_first i false (Some k) = ap Some (omega arith)
 
-pub one_more_name : (names : List (List ℕ)) (i j : ℕ) (name : List ℕ) (m n : Index) → name ≡ get_or names i name → i < length names → UpdatesBy (λ x y. slice_cmp nat_cmp x.items y.items) (λ k. slice_cmp nat_cmp name k.items) m n (Some i)
+pub one_more_name : {S : Type 0} (names : List (List ℕ)) (i j : ℕ) (name : List ℕ) (m n : HashMap (Vec ℕ Global) ℕ S) → name ≡ get_or names i name → i < length names → UpdatesBy same_key (λ k. bytes_eq name k.items) m n (Some i)
     → j ≡ i + 1 → IndexesFrom j names m → IndexesFrom i names n
 one_more_name names i j name m n at lt put next before = λ x.
     rw (front names i name at lt)
@@ -59,12 +53,12 @@ from_zero : (o : Option ℕ) → option_map (λ k. 0 + k) o ≡ o
 from_zero None = refl
 from_zero (Some k) = ap Some (omega arith)
 
-pub whole_index : (names : List (List ℕ)) (i : ℕ) (m : Index) → i ≤ 0 → IndexesFrom i names m → IsIndex names m
+pub whole_index : {S : Type 0} (names : List (List ℕ)) (i : ℕ) (m : HashMap (Vec ℕ Global) ℕ S) → i ≤ 0 → IndexesFrom i names m → IsIndex names m
 whole_index names i m le h =
     let none : i ≡ 0 = omega arith in
     λ x. (rw none at (h x)) ∙ from_zero (place_of names x)
 
-pub no_index : (names : List (List ℕ)) (i : ℕ) (m : Index) → i ≡ length names → m.entries ≡ [] → IndexesFrom i names m
+pub no_index : {S : Type 0} (names : List (List ℕ)) (i : ℕ) (m : HashMap (Vec ℕ Global) ℕ S) → i ≡ length names → m.entries ≡ [] → IndexesFrom i names m
 no_index names i m at e = λ x. rw (e, at, drop_all (length names) names (omega arith)) refl
 
 -- the first place of a name, as far as the places before i do not have it

@@ -1,19 +1,23 @@
 -- What an index of operations tells after one more name was put in.
-use Rattle.std.proofs.Common.{◌≡◌, ℕ, List, [], Vec, Global, Option, Some, None, IfSome, refl, sym, subst}
-use Rattle.std.specs.Ordering.{nat_cmp}
+use Rattle.std.proofs.Common.{◌≡◌, ℕ, List, [], Vec, Global, Option, Some, None, IfSome, true, false, refl, sym, subst, ◌∙◌}
+use Rattle.std.specs.Ordering.{is_eq, nat_cmp}
 use Rattle.std.specs.Cmp.{eq_by_cmp_equiv}
 use Rattle.std.specs.Cmp.Lexicographic.{slice_cmp, bytes_decides, nat_list_cmp_total}
 use Rattle.std.specs.Str.{bytes_eq}
 use Rattle.std.specs.BTreeMap.{BTreeMap, UpdatesBy}
 use Rattle.std.proofs.lemmas.Bool.{cases_Bool}
+use Rattle.std.proofs.lemmas.Map.Text.{is_eq-slice_cmp}
 use mathlib.Core.Logic.{⊎_elim}
 use Rattle.page_types.specs.declared.Op.{Op}
 use Rattle.lang_meaning.specs.OpNames.{op_named}
 use Rattle.page_interp.specs.OpIndex.{op_at, AreNamed}
-use Rattle.page_interp.proofs.NameIndex.{other_entries, apart_in_order}
+use Rattle.page_interp.proofs.NameIndex.{other_entries, apart}
 
 abbrev Index : Type 0
 Index = BTreeMap (Vec ℕ Global) (Option Op)
+
+apart_in_order : (bs cs ks : List ℕ) → bytes_eq bs cs ≡ false → is_eq (slice_cmp nat_cmp bs ks) ≡ true → is_eq (slice_cmp nat_cmp cs ks) ≡ false
+apart_in_order bs cs ks n y = is_eq-slice_cmp cs ks ∙ apart bs cs ks n (sym (is_eq-slice_cmp bs ks) ∙ y)
 
 pub no_ops : (m : Index) → m.entries ≡ [] → AreNamed m
 no_ops m e = λ x op q. let h : op_at m x ≡ None = rw e refl in cc

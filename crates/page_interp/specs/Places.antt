@@ -2,9 +2,8 @@
 use Rattle.std.specs.Prelude.{◌≡◌, ℕ, suc, if◌then◌else◌, List, [], ◌∷◌, Option, Some, None, Vec}
 use Rattle.std.specs.declared.alloc.Global.{Global}
 use Rattle.std.specs.Option.{option_map}
-use Rattle.std.specs.Ordering.{nat_cmp}
-use Rattle.std.specs.Cmp.Lexicographic.{slice_cmp}
-use Rattle.std.specs.BTreeMap.{BTreeMap, get_by}
+use Rattle.std.specs.Str.{bytes_eq}
+use Rattle.std.specs.HashMap.{HashMap, get_by}
 use Rattle.page_parts.specs.Words.{same_bytes}
 
 -- ---- Ours: names of variables and functions
@@ -15,9 +14,9 @@ place_of [] x = None
 place_of (name ∷ names) x = if same_bytes name x then Some 0 else option_map suc (place_of names x)
 
 -- what an index has at some bytes
-abbrev pub at_bytes : BTreeMap (Vec ℕ Global) ℕ → List ℕ → Option ℕ
-at_bytes places x = get_by (λ k. slice_cmp nat_cmp x k.items) places
+abbrev pub at_bytes : {S : Type 0} → HashMap (Vec ℕ Global) ℕ S → List ℕ → Option ℕ
+at_bytes places x = get_by (λ k. bytes_eq x k.items) places
 
 -- the index tells where each name stands
-abbrev pub IsIndex : List (List ℕ) → BTreeMap (Vec ℕ Global) ℕ → Type 0
+abbrev pub IsIndex : {S : Type 0} → List (List ℕ) → HashMap (Vec ℕ Global) ℕ S → Type 0
 IsIndex names places = (x : List ℕ) → at_bytes places x ≡ place_of names x

@@ -5,19 +5,18 @@ ghost use Rattle.page_interp.specs.Places.{place_of, IsIndex};
 
 use page_values::{MemoryFault, Str, same_text};
 use std::alloc::Global;
-use std::collections::BTreeMap;
+use std::collections::HashMap;
 use std::marker::Model;
 
 /// Among how many names a name is sought one after the other.
 const FEW: usize = 8;
 
 /// The names of functions or of variables, in order. A name may stand there more than once; it is
-/// found by its first place, in a number of steps that grows with the logarithm of how many there
-/// are.
+/// found by its first place: among a few one after the other, among more by its hash.
 #[derive(Drop)]
 pub struct Names {
     names: Vec<Str>,
-    places: BTreeMap<Vec<u8>, usize>,
+    places: HashMap<Vec<u8>, usize>,
 }
 
 impl Model for Names {
@@ -36,7 +35,7 @@ impl Names {
     pub fn new(alloc: Global, names: Vec<Str>) -> Result<Names, MemoryFault>
         ensures { IfOk result (λ x. x ≡ names.items) }
     {
-        let mut places = BTreeMap::new(alloc);
+        let mut places = HashMap::new(alloc);
         let mut left = names.len();
         while left > 0 {
             left -= 1;
