@@ -178,6 +178,12 @@ pub answer_moves : {T S : Type 0} {rules : HostRules T} (result : Result Focus (
 answer_moves (Ok x) l r fs0 fs1 f0 p a m = m x (p r a)
 answer_moves (Err x) l r fs0 fs1 f0 p a m = tt
 
+-- an answer that is next already
+pub each_moves : {T S : Type 0} {rules : HostRules T} (result : Result Focus (Exit S)) (r : Answer) (fs0 fs1 : List Frame) (f0 : Focus) → IfOk result (λ f. IsAnswer f r) → ((f : Focus) → IsAnswer f r → Moves rules fs0 f0 fs1 f)
+    → IfOk result (Moves rules fs0 f0 fs1)
+each_moves (Ok x) r fs0 fs1 f0 a m = m x a
+each_moves (Err x) r fs0 fs1 f0 a m = tt
+
 pub if_moves : {T S : Type 0} (rules : HostRules T) (result : Result Focus (Exit S)) (fs0 fs1 : List Frame) (f0 : Focus) (p : Program) (store : Store) (current : Current) → IfOk result (Moves rules fs0 f0 fs1)
     → IfOk result (λ f. Holds p (place store current fs0 f0) → Goes rules p (place store current fs0 f0) (place store current fs1 f))
 if_moves rules (Ok x) fs0 fs1 f0 p store current m = m.goes p store current

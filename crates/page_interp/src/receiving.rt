@@ -4,7 +4,8 @@ ghost use Rattle.std.specs.Prelude.{◌≡◌, ◌∷◌, List, IfOk, IfErr};
 ghost use Rattle.page_parts.specs.Kinds.{bool_in};
 ghost use Rattle.page_values.specs.Seen.{seen};
 ghost use Rattle.page_interp.specs.declared.stack.Frame.{Frame};
-ghost use Rattle.page_interp.specs.Frames.{Moves, IsPicked};
+ghost use Rattle.lang_meaning.specs.Evaluation.{compare_answer, unary_answer};
+ghost use Rattle.page_interp.specs.Frames.{Moves, IsAnswer, IsPicked};
 ghost use Rattle.page_interp.specs.StackClauses.{Takes};
 ghost use Rattle.page_interp.specs.declared.exit.Exit.TheVariants as exit;
 ghost use Rattle.page_interp.specs.declared.stack.Focus.TheVariants as focus;
@@ -16,7 +17,7 @@ use crate::expressions::come;
 use crate::operators::{add, compare, item_at, multiply, negate};
 use crate::stack::{Focus, Frame, Purpose, Waiting, push, wait};
 use crate::values::append;
-use lang_ast::{Expr, Host, ProductSign, Stmt, SumSign};
+use lang_ast::{CompareSign, Expr, Host, ProductSign, Stmt, SumSign, UnarySign};
 use page_values::{FaultName, Value, as_bool, fault};
 use std::alloc::Global;
 
@@ -24,13 +25,15 @@ use std::alloc::Global;
 fn into_or<'c, H: Host>(
     alloc: Global,
     stack: &mut Vec<Frame<'c>>,
-    value: &Value,
+    value: Value,
     rest: &'c [Expr],
 ) -> Result<Focus<'c>, Exit<H::Stop>>
-    ensures ok { IfOk result (Takes H.rules value.now (waiting.Or rest.entry) stack.old stack.new) }
+    ensures ok { IfOk result (Takes H.rules value (waiting.Or rest.entry) stack.old stack.new) }
     ensures err { IfErr result (λ x. x ≡ exit.OutOfMemory) }
 {
-    match as_bool(value) {
+    let told = as_bool(&value);
+    drop(value);
+    match told {
         Some(true) => Ok(Focus::Value(Value::Bool(true))),
         Some(false) => match rest.split_first() {
             Some((next, rest)) => wait(stack, Waiting::Or(rest), next),
@@ -44,14 +47,16 @@ fn into_or<'c, H: Host>(
 fn into_and<'c, H: Host>(
     alloc: Global,
     stack: &mut Vec<Frame<'c>>,
-    value: &Value,
+    value: Value,
     rest: &'c [Expr],
 ) -> Result<Focus<'c>, Exit<H::Stop>>
-    ensures ok { IfOk result (Takes H.rules value.now (waiting.And rest.entry)
+    ensures ok { IfOk result (Takes H.rules value (waiting.And rest.entry)
         stack.old stack.new) }
     ensures err { IfErr result (λ x. x ≡ exit.OutOfMemory) }
 {
-    match as_bool(value) {
+    let told = as_bool(&value);
+    drop(value);
+    match told {
         Some(true) => match rest.split_first() {
             Some((next, rest)) => wait(stack, Waiting::And(rest), next),
             None => Ok(Focus::Value(Value::Bool(true))),
@@ -80,17 +85,17 @@ fn into_terms<'c, H: Host>(
 fn into_term<'c, H: Host>(
     alloc: Global,
     stack: &mut Vec<Frame<'c>>,
-    value: &Value,
-    sum: &Value,
+    value: Value,
+    sum: Value,
     sign: SumSign,
     rest: &'c [(SumSign, Expr)],
 ) -> Result<Focus<'c>, Exit<H::Stop>>
-    ensures ok { IfOk result (Takes H.rules value.now (waiting.Term sum.now sign rest.entry)
+    ensures ok { IfOk result (Takes H.rules value (waiting.Term sum sign rest.entry)
         stack.old stack.new) }
     ensures err { IfErr result (λ x. x ≡ exit.OutOfMemory) }
 {
     push(stack, Frame::Wait(Waiting::Terms(rest)))?;
-    come(add(alloc, sign, sum, value))
+    come(add(alloc, sign, &sum, &value))
 }
 
 /// The product so far.
@@ -113,17 +118,17 @@ fn into_factors<'c, H: Host>(
 fn into_factor<'c, H: Host>(
     alloc: Global,
     stack: &mut Vec<Frame<'c>>,
-    value: &Value,
-    product: &Value,
+    value: Value,
+    product: Value,
     sign: ProductSign,
     rest: &'c [(ProductSign, Expr)],
 ) -> Result<Focus<'c>, Exit<H::Stop>>
-    ensures ok { IfOk result (Takes H.rules value.now (waiting.Factor product.now sign rest.entry)
+    ensures ok { IfOk result (Takes H.rules value (waiting.Factor product sign rest.entry)
         stack.old stack.new) }
     ensures err { IfErr result (λ x. x ≡ exit.OutOfMemory) }
 {
     push(stack, Frame::Wait(Waiting::Factors(rest)))?;
-    come(multiply(alloc, sign, product, value))
+    come(multiply(alloc, sign, &product, &value))
 }
 
 /// The value whose items are wanted.
@@ -146,30 +151,32 @@ fn into_places<'c, H: Host>(
 fn into_place<'c, H: Host>(
     alloc: Global,
     stack: &mut Vec<Frame<'c>>,
-    value: &Value,
-    list: &Value,
+    value: Value,
+    list: Value,
     rest: &'c [Expr],
 ) -> Result<Focus<'c>, Exit<H::Stop>>
-    ensures ok { IfOk result (Takes H.rules value.now (waiting.Place list.now rest.entry)
+    ensures ok { IfOk result (Takes H.rules value (waiting.Place list rest.entry)
         stack.old stack.new) }
     ensures err { IfErr result (λ x. x ≡ exit.OutOfMemory) }
 {
     push(stack, Frame::Wait(Waiting::Places(rest)))?;
-    come(item_at(alloc, list, value))
+    come(item_at(alloc, &list, &value))
 }
 
 /// The value of an `if`'s condition: its block is next, or what comes after `else`.
 fn into_if<'c>(
     alloc: Global,
-    value: &Value,
+    value: Value,
     block: &'c [Stmt],
     others: &'c [(Expr, Vec<Stmt>)],
     last: &'c Option<Vec<Stmt>>,
 ) -> Focus<'c>
-    ensures { IsPicked (bool_in (seen value.now))
+    ensures { IsPicked (bool_in (seen value))
         (focus.Block block.entry) (focus.Others others.entry last.entry) result }
 {
-    match as_bool(value) {
+    let told = as_bool(&value);
+    drop(value);
+    match told {
         Some(true) => Focus::Block(block),
         Some(false) => Focus::Others(others, last),
         None => Focus::Throw(fault(alloc, FaultName::TypeError)),
@@ -192,6 +199,39 @@ fn into_row<'c, H: Host>(
     Ok(Focus::Row(purpose, values, rest))
 }
 
+/// The right side of a comparison.
+fn into_right<'c, S: Drop>(
+    alloc: Global,
+    value: Value,
+    sign: CompareSign,
+    left: Value,
+) -> Result<Focus<'c>, Exit<S>>
+    ensures ok { IfOk result (λ f. IsAnswer f (compare_answer sign (seen left) (seen value))) }
+    ensures err { IfErr result (λ x. x ≡ exit.OutOfMemory) }
+{
+    come(compare(alloc, sign, &left, &value))
+}
+
+/// The operand of a sign in front.
+fn into_unary<'c, S: Drop>(
+    alloc: Global,
+    value: Value,
+    sign: UnarySign,
+) -> Result<Focus<'c>, Exit<S>>
+    ensures ok { IfOk result (λ f. IsAnswer f (unary_answer sign (seen value))) }
+    ensures err { IfErr result (λ x. x ≡ exit.OutOfMemory) }
+{
+    come(negate(alloc, sign, &value))
+}
+
+/// What is next in place of a value that is not needed.
+fn instead<'c>(value: Value, next: Focus<'c>) -> Focus<'c>
+    ensures { result ≡ next.entry }
+{
+    drop(value);
+    next
+}
+
 /// A value comes back to what waits for it.
 pub fn receive<'c, H: Host>(
     alloc: Global,
@@ -203,68 +243,23 @@ pub fn receive<'c, H: Host>(
     ensures err { IfErr result (λ x. x ≡ exit.OutOfMemory) }
 {
     match waiting {
-        Waiting::Or(rest) => {
-            let next = into_or::<H>(alloc, stack, &value, rest);
-            drop(value);
-            next
-        }
-        Waiting::And(rest) => {
-            let next = into_and::<H>(alloc, stack, &value, rest);
-            drop(value);
-            next
-        }
+        Waiting::Or(rest) => into_or::<H>(alloc, stack, value, rest),
+        Waiting::And(rest) => into_and::<H>(alloc, stack, value, rest),
         Waiting::Left(sign, right) => wait(stack, Waiting::Right(sign, value), right),
-        Waiting::Right(sign, left) => {
-            let next = come(compare(alloc, sign, &left, &value));
-            drop(left);
-            drop(value);
-            next
-        }
+        Waiting::Right(sign, left) => into_right(alloc, value, sign, left),
         Waiting::Terms(terms) => into_terms::<H>(stack, value, terms),
-        Waiting::Term(sum, sign, rest) => {
-            let next = into_term::<H>(alloc, stack, &value, &sum, sign, rest);
-            drop(sum);
-            drop(value);
-            next
-        }
+        Waiting::Term(sum, sign, rest) => into_term::<H>(alloc, stack, value, sum, sign, rest),
         Waiting::Factors(factors) => into_factors::<H>(stack, value, factors),
-        Waiting::Factor(product, sign, rest) => {
-            let next = into_factor::<H>(alloc, stack, &value, &product, sign, rest);
-            drop(product);
-            drop(value);
-            next
-        }
-        Waiting::Unary(sign) => {
-            let next = come(negate(alloc, sign, &value));
-            drop(value);
-            next
-        }
+        Waiting::Factor(x, sign, rest) => into_factor::<H>(alloc, stack, value, x, sign, rest),
+        Waiting::Unary(sign) => into_unary(alloc, value, sign),
         Waiting::Places(places) => into_places::<H>(stack, value, places),
-        Waiting::Place(list, rest) => {
-            let next = into_place::<H>(alloc, stack, &value, &list, rest);
-            drop(list);
-            drop(value);
-            next
-        }
+        Waiting::Place(list, rest) => into_place::<H>(alloc, stack, value, list, rest),
         Waiting::Row(purpose, values, rest) => into_row::<H>(value, purpose, values, rest),
-        Waiting::Ignore => {
-            drop(value);
-            Ok(Focus::Value(Value::Unit))
-        }
-        Waiting::If(block, others, last) => {
-            let next = into_if(alloc, &value, block, others, last);
-            drop(value);
-            Ok(next)
-        }
+        Waiting::Ignore => Ok(instead(value, Focus::Value(Value::Unit))),
+        Waiting::If(block, others, last) => Ok(into_if(alloc, value, block, others, last)),
         Waiting::Return => Ok(Focus::Return(value)),
         Waiting::Throw => Ok(Focus::Throw(value)),
-        Waiting::Stmts(rest) => {
-            drop(value);
-            Ok(Focus::Block(rest))
-        }
-        Waiting::Items(rest) => {
-            drop(value);
-            Ok(Focus::Items(rest))
-        }
+        Waiting::Stmts(rest) => Ok(instead(value, Focus::Block(rest))),
+        Waiting::Items(rest) => Ok(instead(value, Focus::Items(rest))),
     }
 }
