@@ -35,7 +35,7 @@ use Rattle.page_interp.proofs.SmallSteps.{pushes_moves, pops_moves, within}
 use Rattle.page_interp.proofs.StmtSteps.{block_pushes, var_moves, assign_moves}
 use Rattle.page_interp.proofs.ValueSteps.{stmts_pops, row_pops}
 use Rattle.page_interp.proofs.ExprSteps.{row_pushes}
-use Rattle.page_interp.proofs.FrameSteps.{assign_goes, turn_goes, test_true}
+use Rattle.page_interp.proofs.FrameSteps.{assign_goes, test_true}
 use Rattle.page_interp.proofs.NameSteps.{call_row}
 use Rattle.page_interp.proofs.DirectSteps.{direct_goes}
 use Rattle.page_interp.proofs.AskSteps.{goes_advances, memory_ends}
@@ -164,12 +164,6 @@ module _ {T : Type 0} (rules : HostRules T) (p : Code.Program) (store : Store) (
   call_at (Ok f) fs fs1 n args call es q a k = k call es q a
   call_at (Err x) fs fs1 n args call es q a k = tt
 
-  -- the condition of a loop, after a turn
-  pub turn_tests : (fs : List Frame) (test : Bor Expr) (block : Bor (List Stmt)) (u v : Value) → direct_there p store current test.now ≡ Some (seen v) → Leads rules (seen_program p) (turned store current test block fs u) (tested_at store current test block fs v)
-  turn_tests fs test block u v d = λ h.
-      let one = turn_goes rules (seen_program p) store current fs test test block block u refl refl h in
-      goes_trans rules (seen_program p) _ _ _ one (direct_goes rules p store current (frame.Test test block ∷ fs) test v d one.holds)
-
 -- one more assignment of a block
 pub block_more : {T : Type 0} (rules : HostRules T) (p : Code.Program) (store store1 store2 : Store) (current current1 current2 : Current) (ss : List Stmt) (here : Bor (List Stmt)) (n : Bor Named) (v : Value) (more : List Stmt)
     → BlockBrings rules p store current ss store1 current1 here.now → Gives p store1 current1 here.now n.now v more → IsSet p store1 current1 n.now.name v store2 current2 → BlockBrings rules p store current ss store2 current2 more
@@ -202,40 +196,7 @@ module _ (p : Program) where
   if_wanting (Ok f) a store e k = tt
   if_wanting (Err x) a store e k = rw e k
 
-  -- where units are left, the want is one of memory
-  wanted : {S : Type 0} (a : Place) (store : Store) (x : Exit S) → 0 < a.store.fuel → EndsWanting p a store x → (x ≡ exit.OutOfMemory) × IsKept p a store
-  wanted a store (exit.Throw v) h w = absurd w
-  wanted a store (exit.Return v) h w = absurd w
-  wanted a store exit.Fuel h w = let z = w.0 in absurd (omega (arith, h, z))
-  wanted a store (exit.Host stop) h w = absurd w
-  wanted a store exit.OutOfMemory h w = (refl, w)
-
-  pub test_wants : {S : Type 0} (result : Result Focus (Exit S)) (a : Place) (store : Store) → 0 < a.store.fuel → IfErr result (EndsWanting p a store) → IfErr result (λ x. x ≡ exit.OutOfMemory)
-  test_wants (Ok f) a store h w = tt
-  test_wants (Err x) a store h w = (wanted a store x h w).0
-
-  pub test_keeps : {S : Type 0} (result : Result Focus (Exit S)) (a : Place) (store : Store) → 0 < a.store.fuel → IfErr result (EndsWanting p a store) → IfErr result (λ _. IsKept p a store)
-  test_keeps (Ok f) a store h w = tt
-  test_keeps (Err x) a store h w = (wanted a store x h w).1
-
 module _ {T : Type 0} (rules : HostRules T) (p : Code.Program) (store : Store) (current : Current) (fs : List Frame) (test : Bor Expr) (block : Bor (List Stmt)) where
-  -- the condition is next, and the loop waits for it
-  pub turn_pushed : {S : Type 0} (result : Result Focus (Exit S)) (fs1 : List Frame) → IfOk result (λ _. fs1 ≡ frame.Test test block ∷ fs) → IfOk result (λ x. x ≡ focus.Expr test)
-      → IfOk result (λ f. (v : Value) → Leads rules (seen_program p) (turned store current test block fs v) (place store current fs1 f))
-  turn_pushed (Ok x) fs1 a b = λ v. rw (a, b) (λ h. turn_goes rules (seen_program p) store current fs test test block block v refl refl h)
-  turn_pushed (Err x) fs1 a b = tt
-
-  -- the condition has its value at once
-  pub turn_leads : {S : Type 0} (result : Result Focus (Exit S)) (store1 : Store) (current1 : Current) (fs1 : List Frame) (value : Value) → direct_there p store current test.now ≡ Some (seen value)
-      → IfOk result (λ f. Leads rules (seen_program p) (tested_at store current test block fs value) (place store1 current1 fs1 f)) → IfOk result (λ f. (v : Value) → Leads rules (seen_program p) (turned store current test block fs v) (place store1 current1 fs1 f))
-  turn_leads (Ok f) store1 current1 fs1 value d k = λ v h. let one = turn_tests rules p store current fs test block v value d h in goes_trans rules (seen_program p) _ _ _ one (k one.holds)
-  turn_leads (Err x) store1 current1 fs1 value d k = tt
-
-  pub turn_keeps : {S : Type 0} (result : Result Focus (Exit S)) (store1 : Store) (value : Value) → direct_there p store current test.now ≡ Some (seen value)
-      → IfErr result (λ _. IsKept (seen_program p) (tested_at store current test block fs value) store1) → IfErr result (λ _. (v : Value) → IsKept (seen_program p) (turned store current test block fs v) store1)
-  turn_keeps (Ok f) store1 value d k = tt
-  turn_keeps (Err x) store1 value d k = λ v h. let one = turn_tests rules p store current fs test block v value d h in let z = k one.holds in (z.0, within _ _ _ z.1 one.fuel)
-
   -- the condition holds, and a unit is taken
   pub test_enters : (v : Value) (store1 : Store) (fs1 : List Frame) (k : ℕ) → bool_in (seen v) ≡ Some true → store.fuel ≡ suc k → store1 ≡ record store { fuel = k } → fs1 ≡ frame.Turn test block ∷ fs
       → Leads rules (seen_program p) (tested_at store current test block fs v) (place store1 current fs1 (focus.Block block))
@@ -248,10 +209,6 @@ module _ {T : Type 0} (rules : HostRules T) (p : Code.Program) (store : Store) (
   turn_at (Err x) store1 current1 fs1 v k = tt
 
 module _ (p : Program) (store : Store) (current : Current) (fs : List Frame) (test : Bor Expr) (block : Bor (List Stmt)) where
-  pub turn_kept : {S : Type 0} (result : Result Focus (Exit S)) → IfErr result (λ _. (v : Value) → IsKept p (turned store current test block fs v) store)
-  turn_kept (Ok f) = tt
-  turn_kept (Err x) = λ v. same_kept p (turned store current test block fs v)
-
   pub turn_kept_at : {S : Type 0} (result : Result Focus (Exit S)) (store1 : Store) (v : Value) → IfErr result (λ _. (v : Value) → IsKept p (turned store current test block fs v) store1) → IfErr result (λ _. IsKept p (turned store current test block fs v) store1)
   turn_kept_at (Ok f) store1 v k = tt
   turn_kept_at (Err x) store1 v k = k v

@@ -1,5 +1,5 @@
 -- Steps from the first statement of a block, with those after it.
-use Rattle.std.proofs.Common.{◌≡◌, ℕ, ◌+◌, ◌<◌, List, [], ◌∷◌, Result, Ok, Err, Option, Some, None, Bool, IfOk, Vec, Global, refl, ap, arith}
+use Rattle.std.proofs.Common.{◌≡◌, ℕ, ◌+◌, ◌<◌, List, [], ◌∷◌, Result, Ok, Err, Option, Some, None, Bool, false, IfOk, Vec, Global, refl, ap, arith}
 use Rattle.std.specs.Borrow.{Bor}
 use Rattle.page_parts.specs.Kinds.{bool_in}
 use Rattle.page_values.specs.declared.Value.{Value}
@@ -22,17 +22,18 @@ use Rattle.page_interp.specs.declared.stack.Focus.TheVariants as focus
 use Rattle.page_interp.specs.declared.stack.Frame.{Frame}
 use Rattle.page_interp.specs.declared.stack.Frame.TheVariants as frame
 use Rattle.page_interp.specs.declared.stack.Waiting.TheVariants as waiting
-use Rattle.page_interp.specs.AtOnce.{Leads, before_stmt, branches}
+use Rattle.page_interp.specs.AtOnce.{Leads, Passes, before_stmt, branches}
 use Rattle.page_interp.specs.Direct.{direct_there}
 use Rattle.page_interp.specs.Frames.{continues, after_all, depth_of, meaning_at, steps_left, place, Moves, IsPicked}
 use Rattle.page_interp.specs.Runs.{around_of}
+use Rattle.page_interp.specs.StackClauses.{BlockBrings}
 use Rattle.page_interp.proofs.Steps.{still}
 use Rattle.page_interp.proofs.Fitting.{expr_fits, return_fits}
 use Rattle.page_interp.proofs.SmallSteps.{pushes_moves, stays_moves, pops_moves, under}
-use Rattle.page_interp.proofs.StmtSteps.{if_pushes, others_none}
+use Rattle.page_interp.proofs.StmtSteps.{block_pushes, if_pushes, others_none}
 use Rattle.page_interp.proofs.ValueSteps.{if_picks, return_pops, stmts_pops}
 use Rattle.page_interp.proofs.DirectSteps.{direct_goes}
-use Rattle.page_interp.proofs.AtOnce.{goes_trans}
+use Rattle.page_interp.proofs.AtOnce.{goes_trans, arrives_on}
 
 module _ {H : Type 0} (w : Around H) (ss : Bor (List Stmt)) where
   -- the value of an expression that is a statement
@@ -139,3 +140,20 @@ module _ {T : Type 0} (rules : HostRules T) (p : Code.Program) (store : Store) (
       let two = direct_goes rules p store current (branches b o l rest fs) test v d one.holds in
       goes_trans rules (seen_program p) _ _ _ one (goes_trans rules (seen_program p) _ _ _ two (m.goes (seen_program p) store current two.holds))
   if_direct (Err x) fs fs1 s rest t block others last b o l v q bq oq lq d m = tt
+
+-- one more condition that is passed over
+pub block_past : {T : Type 0} (rules : HostRules T) (p : Code.Program) (store store1 : Store) (current current1 : Current) (ss : List Stmt) (here : Bor (List Stmt)) (more : List Stmt)
+    → BlockBrings rules p store current ss store1 current1 here.now → Passes p store1 current1 here.now more → BlockBrings rules p store current ss store1 current1 more
+block_past rules p store store1 current current1 ss here more r g = λ fs block rest q e h.
+    let test : Bor Expr = record { ref_ptr = (0, 0); now = g.test } in
+    let side : Bor (List Stmt) = record { ref_ptr = (0, 0); now = g.block.items } in
+    let others : Bor (List (Expr × Vec Stmt Global)) = record { ref_ptr = (0, 0); now = g.others.items } in
+    let last : Bor (Option (Vec Stmt Global)) = record { ref_ptr = (0, 0); now = g.last } in
+    let v = value.Bool false in
+    let zero = r fs block here q refl h in
+    let one = (pushes_moves rules fs (block_pushes here rest g.stmt (rw e g.first))).goes (seen_program p) store1 current1 zero.holds in
+    let two = (pushes_moves rules (before_stmt rest fs) (if_pushes g.stmt test g.test g.block g.others g.last side others last g.is_if refl refl refl refl)).goes (seen_program p) store1 current1 one.holds in
+    let three = direct_goes rules p store1 current1 (branches side others last rest fs) test v g.fails two.holds in
+    let four = (side_moves rules fs v side others last rest (Some false) (focus.Others others last) refl refl).goes (seen_program p) store1 current1 three.holds in
+    let five = (else_none rules fs others last rest g.no_others g.no_else).goes (seen_program p) store1 current1 four.holds in
+    arrives_on rules (seen_program p) _ _ _ zero (goes_trans rules (seen_program p) _ _ _ one (goes_trans rules (seen_program p) _ _ _ two (goes_trans rules (seen_program p) _ _ _ three (goes_trans rules (seen_program p) _ _ _ four five))))

@@ -9,6 +9,7 @@ pub mod FrameSteps
 pub mod OpenSteps
 pub mod AskSteps
 pub mod HostTurns
+pub mod LoopTurns
 pub mod RunSteps
 pub mod NameSteps
 pub mod DirectSteps

@@ -127,6 +127,24 @@ TurnLeads rules code test block store current stack store' current' stack' = λ 
     Leads rules (script code) (turned store current test block (stacked stack.items) v)
     (stand store' current' stack' f')
 
+-- it leads on from the end of a loop's turn to where the condition is next
+abbrev pub TurnComes : {T : Type 0} → HostRules T → Code.Program → Expr → List Stmt
+    → Store → Current → Store → Current → Type 0
+TurnComes rules code e ss store current store' current' =
+    (fs : List Frame) (v : Value) (test : Bor Expr) (block : Bor (List Stmt)) →
+    test.now ≡ e → block.now ≡ ss →
+    Leads rules (script code) (turned store current test block fs v)
+    (place store' current' (frame.Test test block ∷ fs) (focus.Expr test))
+
+-- or into a turn whose block is done but for these statements
+abbrev pub TurnBegins : {T : Type 0} → HostRules T → Code.Program → Expr → List Stmt
+    → Store → Current → Store → Current → (left : List Stmt) → Type 0
+TurnBegins rules code e ss store current store' current' left =
+    (fs : List Frame) (v : Value) (test : Bor Expr) (block rest : Bor (List Stmt)) →
+    test.now ≡ e → block.now ≡ ss → rest.now ≡ left →
+    Leads rules (script code) (turned store current test block fs v)
+    (place store' current' (frame.Turn test block ∷ fs) (focus.Block rest))
+
 -- ---- A call
 
 -- what is called by a number has this body

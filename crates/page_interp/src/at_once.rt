@@ -1,18 +1,18 @@
-//! Steps that are done at once: the arguments of a row and the condition of a loop, where they call
-//! nothing, and the beginning of a loop's block.
+//! Steps that are done at once: the arguments of a row and the turns of a loop, where they call
+//! nothing.
 
-ghost use Rattle.std.specs.Prelude.{◌≡◌, true, Some, IfOk, IfErr, IfSome};
+ghost use Rattle.std.specs.Prelude.{◌≡◌, true, Some, IfOk, IfErr, IfSome, IfNone};
 ghost use Rattle.page_parts.specs.Kinds.{bool_in};
 ghost use Rattle.page_values.specs.declared.Value.{Value};
 ghost use Rattle.page_values.specs.Seen.{seen};
-ghost use Rattle.page_interp.specs.AtOnce.{HasFirst, IsKept, EndsWanting, tested_at, turned};
+ghost use Rattle.page_interp.specs.AtOnce.{HasFirst, IsBoolThere, IsKept, EndsWanting, tested_at, turned};
 ghost use Rattle.page_interp.specs.Clauses.{script};
 ghost use Rattle.page_interp.specs.Frames.{IsSet, stacked};
-ghost use Rattle.page_interp.specs.StackClauses.{LeadsOn, RowBrings, TestLeads, TurnLeads};
+ghost use Rattle.page_interp.specs.StackClauses.{LeadsOn, RowBrings, TestLeads, TurnLeads, TurnBegins, TurnComes};
 ghost use Rattle.page_interp.specs.declared.exit.Exit.TheVariants as exit;
 ghost use Rattle.page_interp.specs.declared.stack.Focus.TheVariants as focus;
 
-use crate::blocks::into_block;
+use crate::blocks::{assigned, from_block, into_block};
 use crate::code::Code;
 use crate::direct::direct_value;
 use crate::exit::{Exit, Store};
@@ -137,7 +137,48 @@ pub fn next_in_row<'c, H: Host>(
     }
 }
 
-/// A turn of a loop ends: its condition is next.
+/// Does the turns of a loop while its condition is found at once and holds, a unit is left and the
+/// block only gives variables values that are found at once. What is left is the rest of the block
+/// in the turn that has begun, or the condition where there is no such rest.
+fn turns_at_once<'c, H: Host>(
+    code: &Code,
+    store: &mut Store,
+    current: &mut Current<'c>,
+    test: &'c Expr,
+    block: &'c [Stmt],
+) -> Option<&'c [Stmt]>
+    ensures some { IfSome result (λ rest. TurnBegins H.rules code.now test.now block.now
+        store.old current.old store.new current.new rest.now) }
+    ensures none { IfNone result (TurnComes H.rules code.now test.now block.now
+        store.old current.old store.new current.new) }
+{
+    'turns: while store.fuel > 0 {
+        let Some(true) = truth(code, store, current, test) else {
+            return None;
+        };
+        store.fuel -= 1;
+        let rest = assigned::<H>(code, store, current, block);
+        if !rest.is_empty() {
+            return Some(rest);
+        }
+    }
+    None
+}
+
+/// Whether an expression is true or false, where its value is found at once and is a Bool.
+pub fn truth(code: &Code, store: &Store, current: &Current, expr: &Expr) -> Option<bool>
+    ensures { IfSome result (IsBoolThere code.now store.now current.now expr.now) }
+{
+    match direct_value(code, store, current, expr) {
+        Ok(Some(Value::Bool(b))) => Some(b),
+        Ok(_) => None,
+        // No memory for the value: the steps from this expression find that too.
+        Err(_) => None,
+    }
+}
+
+/// A turn of a loop ends: its condition is next. Turns of which all is done at once are done in one
+/// step with what comes after them.
 pub fn next_turn<'c, H: Host>(
     code: &Code,
     store: &mut Store,
@@ -153,16 +194,11 @@ pub fn next_turn<'c, H: Host>(
         (turned store.old current.old test.entry block.entry (stacked stack.old.items) v)
         store.new) }
 {
-    if store.fuel == 0 {
-        return within(stack, Frame::Test(test, block), Focus::Expr(test));
-    }
-    match direct_value(code, store, current, test) {
-        Ok(Some(value)) => {
-            let next = into_test::<H>(code, store, current, stack, &value, test, block);
-            drop(value);
-            next
+    match turns_at_once::<H>(code, store, current, test, block) {
+        Some(rest) => {
+            push(stack, Frame::Turn(test, block))?;
+            from_block::<H>(code, store, current, stack, rest)
         }
-        Ok(None) => within(stack, Frame::Test(test, block), Focus::Expr(test)),
-        Err(_) => Err(Exit::OutOfMemory),
+        None => within(stack, Frame::Test(test, block), Focus::Expr(test)),
     }
 }

@@ -4,13 +4,13 @@ ghost use Rattle.std.specs.Prelude.{◌≡◌, List, Some, IfOk, IfErr, IfSome};
 ghost use Rattle.std.specs.Borrow.{Bor};
 ghost use Rattle.lang_ast.specs.declared.tree.Stmt.{Stmt};
 ghost use Rattle.lang_ast.specs.declared.tree.Stmt.TheVariants.{Return};
-ghost use Rattle.page_interp.specs.AtOnce.{Assigns, Gives, IsKept};
+ghost use Rattle.page_interp.specs.AtOnce.{Assigns, Gives, Passes, IsKept};
 ghost use Rattle.page_interp.specs.Clauses.{script};
 ghost use Rattle.page_interp.specs.StackClauses.{stand, MovesBefore, Branches, LeadsBefore, LeadsOn, BlockBrings};
 ghost use Rattle.page_interp.specs.declared.exit.Exit.TheVariants as exit;
 ghost use Rattle.page_interp.specs.declared.stack.Focus.TheVariants as focus;
 
-use crate::at_once::set;
+use crate::at_once::{set, truth};
 use crate::code::Code;
 use crate::direct::direct_value;
 use crate::exit::{Exit, Store};
@@ -52,6 +52,29 @@ fn given<'c>(
     match direct_value(code, store, current, expr)? {
         Some(value) => Ok(Some((name, value, rest))),
         None => Ok(None),
+    }
+}
+
+/// The statements after the first one, where this is a condition with no `else` side that is found
+/// at once and does not hold.
+fn passed<'c>(
+    code: &Code,
+    store: &Store,
+    current: &Current,
+    stmts: &'c [Stmt],
+) -> Option<&'c [Stmt]>
+    ensures { IfSome result (λ rest. Passes code.now store.now current.now stmts.now rest.now) }
+{
+    let (stmt, rest) = stmts.split_first()?;
+    let Stmt::If(test, _, others, last) = stmt else {
+        return None;
+    };
+    if !others.is_empty() || last.is_some() {
+        return None;
+    }
+    match truth(code, store, current, test) {
+        Some(false) => Some(rest),
+        _ => None,
     }
 }
 
@@ -179,7 +202,7 @@ fn from_first<'c, H: Host>(
 }
 
 /// From the statements of a block of which the first one gives no variable a value at once.
-fn from_block<'c, H: Host>(
+pub fn from_block<'c, H: Host>(
     code: &Code,
     store: &Store,
     current: &Current,
@@ -197,15 +220,16 @@ fn from_block<'c, H: Host>(
 }
 
 /// Does the first statements of some while each only gives a variable a value that is found at
-/// once, and gives the statements that are left.
-fn assigned<'c, H: Host>(
+/// once, or is passed over, and gives the statements that are left.
+pub fn assigned<'c, H: Host>(
     code: &Code,
     store: &mut Store,
     current: &mut Current<'c>,
     stmts: &'c [Stmt],
 ) -> &'c [Stmt]
-    ensures { BlockBrings H.rules code.now store.old current.old stmts.now
+    ensures brings { BlockBrings H.rules code.now store.old current.old stmts.now
         store.new current.new result.now }
+    ensures fuel { store.new.fuel ≡ store.old.fuel }
 {
     let mut rest = stmts;
     'done: loop {
@@ -214,7 +238,10 @@ fn assigned<'c, H: Host>(
                 set(code, store, current, name, value);
                 rest = more;
             }
-            Ok(None) => return rest,
+            Ok(None) => match passed(code, store, current, rest) {
+                Some(more) => rest = more,
+                None => return rest,
+            },
             // No memory for the value: the steps from this statement find that too.
             Err(_) => return rest,
         }

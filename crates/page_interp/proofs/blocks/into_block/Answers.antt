@@ -7,10 +7,10 @@ use Rattle.page_interp.proofs.blocks.into_block.Goals as goal
 pub returns-clause-ok : goal.returns-clause-ok
 returns-clause-ok g c =
     brings_leads g.H.Host.rules (seen_program c.args.code.now) c.from_block.result _ _ _ _ _
-    (c.assigned-rest.ensures (stacked c.args.stack.now.items) c.args.stmts c.assigned-rest.result refl refl)
+    (c.assigned-rest.ensures.brings (stacked c.args.stack.now.items) c.args.stmts c.assigned-rest.result refl refl)
     c.from_block.ensures.ok
 
 pub returns-clause-kept : goal.returns-clause-kept
 returns-clause-kept g c =
     brings_kept g.H.Host.rules (seen_program c.args.code.now) c.from_block.result _ _
-    (c.assigned-rest.ensures (stacked c.args.stack.now.items) c.args.stmts c.assigned-rest.result refl refl)
+    (c.assigned-rest.ensures.brings (stacked c.args.stack.now.items) c.args.stmts c.assigned-rest.result refl refl)

@@ -1,0 +1,15 @@
+use Rattle.std.proofs.Common.{◌-◌, refl, arith}
+use Rattle.page_interp.proofs.LoopTurns.{comes_first, begins, comes_again, none_left, told_there}
+use Rattle.page_interp.proofs.at_once.turns_at_once.Goals as goal
+
+pub turns-init : goal.turns-init
+turns-init g c = comes_first g.H.Host.rules c.args.code.now c.args.test.now c.args.block.now c.args.store.now c.args.current.now
+
+pub returns-then-not-is_empty-clause-some : goal.returns-then-not-is_empty-clause-some
+returns-then-not-is_empty-clause-some g c = begins g.H.Host.rules c.args.code.now c.args.test.now c.args.block.now _ _ _ _ _ _ _ (c.turns.store.fuel - 1) _ c.turns.invariant
+    (told_there c.args.code.now c.turns.store c.turns.current c.args.test.now c.in-Some-true.field-0 c.in-Some-true.field-0-test c.in-Some-true.ensures) (omega arith) refl c.assigned-rest.ensures.brings
+
+pub turns-preserved : goal.turns-preserved
+turns-preserved g c = comes_again g.H.Host.rules c.args.code.now c.args.test.now c.args.block.now _ _ _ _ _ (none_left _ c.if-not-is_empty.ensures)
+    (begins g.H.Host.rules c.args.code.now c.args.test.now c.args.block.now _ _ _ _ _ _ _ (c.turns.store.fuel - 1) _ c.turns.invariant
+    (told_there c.args.code.now c.turns.store c.turns.current c.args.test.now c.in-Some-true.field-0 c.in-Some-true.field-0-test c.in-Some-true.ensures) (omega arith) refl c.assigned-rest.ensures.brings)
