@@ -26,10 +26,10 @@ use Rattle.page_interp.specs.declared.stack.Frame.{Frame}
 use Rattle.page_interp.specs.declared.stack.Frame.TheVariants as frame
 use Rattle.page_interp.specs.declared.stack.Waiting.TheVariants as waiting
 use Rattle.page_interp.specs.declared.stack.Purpose.{Purpose}
-use Rattle.page_interp.specs.AtOnce.{Assigns, Gives, HasFirst, Leads, Brings, IsKept, EndsWanting, turned, tested_at}
+use Rattle.page_interp.specs.AtOnce.{Assigns, HasFirst, Leads, Brings, IsKept, EndsWanting, turned, tested_at}
 use Rattle.page_interp.specs.Direct.{direct_there}
-use Rattle.page_interp.specs.Frames.{does, place, meaning_at, steps_left, named_there, Place, Holds, Goes, Arrives, Moves, Steps, IsCalled, IsSet}
-use Rattle.page_interp.specs.StackClauses.{RowBrings, BlockBrings}
+use Rattle.page_interp.specs.Frames.{does, place, meaning_at, steps_left, named_there, Place, Goes, Arrives, Moves, Steps, IsCalled, IsSet}
+use Rattle.page_interp.specs.StackClauses.{RowBrings, BlockBrings, TakesValue, ValueComes}
 use Rattle.page_interp.proofs.Steps.{still}
 use Rattle.page_interp.proofs.SmallSteps.{pushes_moves, pops_moves, within}
 use Rattle.page_interp.proofs.StmtSteps.{block_pushes, var_moves, assign_moves}
@@ -45,6 +45,9 @@ less_trans a b c h k = omega arith
 
 less_within : (a b c : ℕ) → a < b → b ≤ c → a < c
 less_within a b c h k = omega arith
+
+less_than : (a b c : ℕ) → a < b → c ≤ a → c < b
+less_than a b c h k = omega arith
 
 at_most : (a b : ℕ) → a < b → a ≤ b
 at_most a b h = omega arith
@@ -66,6 +69,29 @@ module _ {T : Type 0} (rules : HostRules T) (p : Program) where
     fuel = within _ _ _ y.fuel x.fuel;
     tickets = λ ts. y.tickets ts ∙ x.tickets ts;
     fewer = less_within _ _ _ y.fewer x.fewer;
+  }
+
+  -- one step is some steps
+  pub goes_arrives : (a b : Place) → Goes rules p a b → Arrives rules p a b
+  goes_arrives a b x = record { means = x.means; holds = x.holds; fuel = x.fuel; tickets = x.tickets; fewer = at_most _ _ x.fewer }
+
+  pub arrives_trans : (a b c : Place) → Arrives rules p a b → Arrives rules p b c → Arrives rules p a c
+  arrives_trans a b c x y = record {
+    means = λ ns k. let s = x.means ns k in let t = y.means s.numbers s.enough in record { numbers = t.numbers; enough = t.enough; same = λ host. s.same host ∙ t.same host };
+    holds = y.holds;
+    fuel = within _ _ _ y.fuel x.fuel;
+    tickets = λ ts. y.tickets ts ∙ x.tickets ts;
+    fewer = within _ _ _ y.fewer x.fewer;
+  }
+
+  -- a step, and then any number of steps
+  pub goes_on : (a b c : Place) → Goes rules p a b → Arrives rules p b c → Goes rules p a c
+  goes_on a b c x y = record {
+    means = λ ns k. let s = x.means ns k in let t = y.means s.numbers s.enough in record { numbers = t.numbers; enough = t.enough; same = λ host. s.same host ∙ t.same host };
+    holds = y.holds;
+    fuel = within _ _ _ y.fuel x.fuel;
+    tickets = λ ts. y.tickets ts ∙ x.tickets ts;
+    fewer = less_than _ _ _ x.fewer y.fewer;
   }
 
   -- one step more
@@ -95,21 +121,23 @@ assigns_moves rules fs s (S.Assign name f) n e q r = assign_moves rules fs s n e
 assigns_moves rules fs s x n e q r = absurd r
 
 module _ {T : Type 0} (rules : HostRules T) (p : Code.Program) (store : Store) (current : Current) where
-  given_goes : (fs : List Frame) (store1 : Store) (current1 : Current) (n : Bor Named) (e : Bor Expr) (v : Value) → direct_there p store current e.now ≡ Some (seen v) → IsSet p store current n.now.name v store1 current1
-      → Holds (seen_program p) (place store current (frame.Assign n ∷ fs) (focus.Expr e)) → Goes rules (seen_program p) (place store current (frame.Assign n ∷ fs) (focus.Expr e)) (place store1 current1 fs (focus.Value value.Unit))
-  given_goes fs store1 current1 n e v q s h =
-      let one = direct_goes rules p store current (frame.Assign n ∷ fs) e v q h in
-      goes_trans rules (seen_program p) _ _ _ one (assign_goes rules (seen_program p) store current fs store1 current1 n v s.names s.depth s.locals s.globals s.fuel one.holds)
+  -- a value that is found with no frame for the parts of its expression
+  pub direct_comes : (e : Expr) (v : Value) → direct_there p store current e ≡ Some (seen v) → ValueComes rules p e store current v store
+  direct_comes e v d = λ fs expr q h. direct_goes rules p store current fs expr v (rw q d) h
 
   -- a statement that only gives a variable a value
-  pub block_gives : (fs : List Frame) (store1 : Store) (current1 : Current) (ss rest : Bor (List Stmt)) (n : Bor Named) (v : Value) → Gives p store current ss.now n.now v rest.now → IsSet p store current n.now.name v store1 current1
-      → Leads rules (seen_program p) (place store current fs (focus.Block ss)) (place store1 current1 fs (focus.Block rest))
-  block_gives fs store1 current1 ss rest n v g i = λ h.
-      let one = (pushes_moves rules fs (block_pushes ss rest g.stmt g.first)).goes (seen_program p) store current h in
-      let two = (assigns_moves rules (frame.Wait (waiting.Stmts rest) ∷ fs) g.stmt g.stmt.now n g.expr refl g.assigns).goes (seen_program p) store current one.holds in
-      let three = given_goes (frame.Wait (waiting.Stmts rest) ∷ fs) store1 current1 n g.expr v g.value i two.holds in
-      let four = (pops_moves rules fs (stmts_pops value.Unit rest)).goes (seen_program p) store1 current1 three.holds in
-      goes_trans rules (seen_program p) _ _ _ one (goes_trans rules (seen_program p) _ _ _ two (goes_trans rules (seen_program p) _ _ _ three four))
+  pub takes_value : (store1 store2 : Store) (current2 : Current) (name : Named) (e : Expr) (v : Value) → ValueComes rules p e store current v store1 → IsSet p store1 current name.name v store2 current2 → TakesValue rules p name e store current store2 current2
+  takes_value store1 store2 current2 name e v g i = λ s more a fs block rest q r h.
+      let stmt : Bor Stmt = record { ref_ptr = (0, 0); now = s } in
+      let bound : Bor Named = record { ref_ptr = (0, 0); now = name } in
+      let expr : Bor Expr = record { ref_ptr = (0, 0); now = e } in
+      let fs1 = frame.Wait (waiting.Stmts rest) ∷ fs in
+      let one = (pushes_moves rules fs (block_pushes block rest stmt (rw r q))).goes (seen_program p) store current h in
+      let two = (assigns_moves rules fs1 stmt s bound expr refl a).goes (seen_program p) store current one.holds in
+      let three = g (frame.Assign bound ∷ fs1) expr refl two.holds in
+      let four = assign_goes rules (seen_program p) store1 current fs1 store2 current2 bound v i.names i.depth i.locals i.globals i.fuel three.holds in
+      let five = (pops_moves rules fs (stmts_pops value.Unit rest)).goes (seen_program p) store2 current2 four.holds in
+      goes_arrives rules (seen_program p) _ _ (goes_trans rules (seen_program p) _ _ _ one (goes_trans rules (seen_program p) _ _ _ two (goes_trans rules (seen_program p) _ _ _ three (goes_trans rules (seen_program p) _ _ _ four five))))
 
   -- the value of an expression in a row
   pub row_direct : (fs : List Frame) (purpose : Purpose) (vs vs1 : Vec Value Global) (row rest : Bor (List Expr)) (e : Bor Expr) (v : Value) → row.now ≡ e.now ∷ rest.now → direct_there p store current e.now ≡ Some (seen v) → vs1.items ≡ vs.items ++ v ∷ []
@@ -164,13 +192,13 @@ module _ {T : Type 0} (rules : HostRules T) (p : Code.Program) (store : Store) (
   call_at (Ok f) fs fs1 n args call es q a k = k call es q a
   call_at (Err x) fs fs1 n args call es q a k = tt
 
--- one more assignment of a block
-pub block_more : {T : Type 0} (rules : HostRules T) (p : Code.Program) (store store1 store2 : Store) (current current1 current2 : Current) (ss : List Stmt) (here : Bor (List Stmt)) (n : Bor Named) (v : Value) (more : List Stmt)
-    → BlockBrings rules p store current ss store1 current1 here.now → Gives p store1 current1 here.now n.now v more → IsSet p store1 current1 n.now.name v store2 current2 → BlockBrings rules p store current ss store2 current2 more
-block_more rules p store store1 store2 current current1 current2 ss here n v more r g i = λ fs block rest q e h.
-    let one = r fs block here q refl h in
-    let two = block_gives rules p store1 current1 fs store2 current2 here rest n v (rw e g) i one.holds in
-    arrives_on rules (seen_program p) _ _ _ one two
+-- some statements of a block, and then more of them
+pub block_on : {T : Type 0} (rules : HostRules T) (p : Code.Program) (store store1 store2 : Store) (current current1 current2 : Current) (ss ss1 ss2 : List Stmt)
+    → BlockBrings rules p store current ss store1 current1 ss1 → BlockBrings rules p store1 current1 ss1 store2 current2 ss2 → BlockBrings rules p store current ss store2 current2 ss2
+block_on rules p store store1 store2 current current1 current2 ss ss1 ss2 x y = λ fs block rest q e h.
+    let here : Bor (List Stmt) = record { ref_ptr = (0, 0); now = ss1 } in
+    let one = x fs block here q refl h in
+    arrives_trans rules (seen_program p) _ _ _ one (y fs here rest refl e one.holds)
 
 module _ {T : Type 0} (rules : HostRules T) (p : Program) where
   -- a step, and then more

@@ -22,18 +22,18 @@ use Rattle.page_interp.specs.declared.stack.Focus.TheVariants as focus
 use Rattle.page_interp.specs.declared.stack.Frame.{Frame}
 use Rattle.page_interp.specs.declared.stack.Frame.TheVariants as frame
 use Rattle.page_interp.specs.declared.stack.Waiting.TheVariants as waiting
-use Rattle.page_interp.specs.AtOnce.{Leads, Passes, before_stmt, branches}
+use Rattle.page_interp.specs.AtOnce.{Leads, IsBoolThere, before_stmt, branches}
 use Rattle.page_interp.specs.Direct.{direct_there}
 use Rattle.page_interp.specs.Frames.{continues, after_all, depth_of, meaning_at, steps_left, place, Moves, IsPicked}
 use Rattle.page_interp.specs.Runs.{around_of}
-use Rattle.page_interp.specs.StackClauses.{BlockBrings}
+use Rattle.page_interp.specs.StackClauses.{BlockBrings, ValueComes}
 use Rattle.page_interp.proofs.Steps.{still}
 use Rattle.page_interp.proofs.Fitting.{expr_fits, return_fits}
 use Rattle.page_interp.proofs.SmallSteps.{pushes_moves, stays_moves, pops_moves, under}
 use Rattle.page_interp.proofs.StmtSteps.{block_pushes, if_pushes, others_none}
 use Rattle.page_interp.proofs.ValueSteps.{if_picks, return_pops, stmts_pops}
 use Rattle.page_interp.proofs.DirectSteps.{direct_goes}
-use Rattle.page_interp.proofs.AtOnce.{goes_trans, arrives_on}
+use Rattle.page_interp.proofs.AtOnce.{goes_trans, goes_arrives}
 
 module _ {H : Type 0} (w : Around H) (ss : Bor (List Stmt)) where
   -- the value of an expression that is a statement
@@ -141,19 +141,31 @@ module _ {T : Type 0} (rules : HostRules T) (p : Code.Program) (store : Store) (
       goes_trans rules (seen_program p) _ _ _ one (goes_trans rules (seen_program p) _ _ _ two (m.goes (seen_program p) store current two.holds))
   if_direct (Err x) fs fs1 s rest t block others last b o l v q bq oq lq d m = tt
 
--- one more condition that is passed over
-pub block_past : {T : Type 0} (rules : HostRules T) (p : Code.Program) (store store1 : Store) (current current1 : Current) (ss : List Stmt) (here : Bor (List Stmt)) (more : List Stmt)
-    → BlockBrings rules p store current ss store1 current1 here.now → Passes p store1 current1 here.now more → BlockBrings rules p store current ss store1 current1 more
-block_past rules p store store1 current current1 ss here more r g = λ fs block rest q e h.
-    let test : Bor Expr = record { ref_ptr = (0, 0); now = g.test } in
-    let side : Bor (List Stmt) = record { ref_ptr = (0, 0); now = g.block.items } in
-    let others : Bor (List (Expr × Vec Stmt Global)) = record { ref_ptr = (0, 0); now = g.others.items } in
-    let last : Bor (Option (Vec Stmt Global)) = record { ref_ptr = (0, 0); now = g.last } in
-    let v = value.Bool false in
-    let zero = r fs block here q refl h in
-    let one = (pushes_moves rules fs (block_pushes here rest g.stmt (rw e g.first))).goes (seen_program p) store1 current1 zero.holds in
-    let two = (pushes_moves rules (before_stmt rest fs) (if_pushes g.stmt test g.test g.block g.others g.last side others last g.is_if refl refl refl refl)).goes (seen_program p) store1 current1 one.holds in
-    let three = direct_goes rules p store1 current1 (branches side others last rest fs) test v g.fails two.holds in
-    let four = (side_moves rules fs v side others last rest (Some false) (focus.Others others last) refl refl).goes (seen_program p) store1 current1 three.holds in
-    let five = (else_none rules fs others last rest g.no_others g.no_else).goes (seen_program p) store1 current1 four.holds in
-    arrives_on rules (seen_program p) _ _ _ zero (goes_trans rules (seen_program p) _ _ _ one (goes_trans rules (seen_program p) _ _ _ two (goes_trans rules (seen_program p) _ _ _ three (goes_trans rules (seen_program p) _ _ _ four five))))
+module _ {T : Type 0} (rules : HostRules T) (p : Code.Program) (store : Store) (current : Current) where
+  -- a condition that does not hold, with no `else` side, is passed over
+  pub if_passed : (s : Stmt) (more : List Stmt) (t : Expr) (block : Vec Stmt Global) (others : Vec (Expr × Vec Stmt Global) Global) (last : Option (Vec Stmt Global))
+      → s ≡ S.If t block others last → IsBoolThere p store current t false → others.items ≡ [] → last ≡ None → BlockBrings rules p store current (s ∷ more) store current more
+  if_passed s more t block others last is f n e = λ fs whole rest q r h.
+      let stmt : Bor Stmt = record { ref_ptr = (0, 0); now = s } in
+      let test : Bor Expr = record { ref_ptr = (0, 0); now = t } in
+      let side : Bor (List Stmt) = record { ref_ptr = (0, 0); now = block.items } in
+      let elses : Bor (List (Expr × Vec Stmt Global)) = record { ref_ptr = (0, 0); now = others.items } in
+      let end : Bor (Option (Vec Stmt Global)) = record { ref_ptr = (0, 0); now = last } in
+      let v = value.Bool false in
+      let one = (pushes_moves rules fs (block_pushes whole rest stmt (rw r q))).goes (seen_program p) store current h in
+      let two = (pushes_moves rules (before_stmt rest fs) (if_pushes stmt test t block others last side elses end is refl refl refl refl)).goes (seen_program p) store current one.holds in
+      let three = direct_goes rules p store current (branches side elses end rest fs) test v f two.holds in
+      let four = (side_moves rules fs v side elses end rest (Some false) (focus.Others elses end) refl refl).goes (seen_program p) store current three.holds in
+      let five = (else_none rules fs elses end rest n e).goes (seen_program p) store current four.holds in
+      goes_arrives rules (seen_program p) _ _ (goes_trans rules (seen_program p) _ _ _ one (goes_trans rules (seen_program p) _ _ _ two (goes_trans rules (seen_program p) _ _ _ three (goes_trans rules (seen_program p) _ _ _ four five))))
+
+  -- a statement that is an expression
+  pub expr_done : (store1 : Store) (s : Stmt) (more : List Stmt) (e : Expr) (v : Value) → s ≡ S.Expr e → ValueComes rules p e store current v store1 → BlockBrings rules p store current (s ∷ more) store1 current more
+  expr_done store1 s more e v is g = λ fs whole rest q r h.
+      let stmt : Bor Stmt = record { ref_ptr = (0, 0); now = s } in
+      let expr : Bor Expr = record { ref_ptr = (0, 0); now = e } in
+      let one = (pushes_moves rules fs (block_pushes whole rest stmt (rw r q))).goes (seen_program p) store current h in
+      let two = (expr_moves rules fs stmt rest expr e is refl).goes (seen_program p) store current one.holds in
+      let three = g (before_stmt rest fs) expr refl two.holds in
+      let four = (pops_moves rules fs (stmts_pops v rest)).goes (seen_program p) store1 current three.holds in
+      goes_arrives rules (seen_program p) _ _ (goes_trans rules (seen_program p) _ _ _ one (goes_trans rules (seen_program p) _ _ _ two (goes_trans rules (seen_program p) _ _ _ three four)))

@@ -10,8 +10,8 @@ use Rattle.page_types.specs.declared.ProductSign.{ProductSign}
 use Rattle.page_types.specs.declared.ProductSign.TheVariants.{Times, Divide, Remainder}
 use Rattle.page_types.specs.declared.CompareSign.{CompareSign}
 use Rattle.page_types.specs.Values as Model
-use Rattle.page_types.specs.Values.{IntValue}
-use Rattle.page_parts.specs.Kinds.{list_in, within_limits}
+use Rattle.page_types.specs.Values.{IntValue, FunValue, no_values}
+use Rattle.page_parts.specs.Kinds.{int_in, list_in, within_limits}
 use Rattle.page_types.specs.Tree as Tree
 use Rattle.page_types.specs.Tree.{Compare, Sum, Product, Post, Number, Name, Paren, Exprs, no_exprs, with_expr, SumParts, no_terms, with_term, ProductParts, no_factors, with_factor}
 use Rattle.page_values.specs.declared.Value.{Value}
@@ -26,7 +26,7 @@ use Rattle.lang_ast.specs.Seen.{seen_expr, seen_exprs, seen_terms, seen_factors}
 use Rattle.lang_ast.proofs.Trees.{seen-Compare, seen-Sum, seen-Product, seen-Post, seen-Number, seen-Text, seen-True, seen-False, seen-Name, seen-Paren}
 use Rattle.lang_ast.specs.Sizes.{expr_size}
 use Rattle.lang_meaning.specs.Machine.{Machine, Done, Gives, given, and_then}
-use Rattle.lang_meaning.specs.Evaluation.{Answer, Around, answered, eval, eval_places, eval_sum, eval_product, named_value, sum_answer, product_answer, compare_answer, item_answer, place_in, fits, divides}
+use Rattle.lang_meaning.specs.Evaluation.{functions_of, number_of, Answer, Around, answered, eval, eval_places, eval_sum, eval_product, named_value, sum_answer, product_answer, compare_answer, item_answer, place_in, fits, divides}
 use Rattle.lang_meaning.specs.HostSteps.{HostRules}
 use Rattle.page_interp.specs.declared.exit.Store.{Store}
 use Rattle.page_interp.specs.declared.stack.Current.{Current}
@@ -34,7 +34,8 @@ use Rattle.page_interp.specs.declared.stack.Focus.TheVariants as focus
 use Rattle.page_interp.specs.declared.stack.Frame.{Frame}
 use Rattle.page_interp.specs.Answers.{int_product}
 use Rattle.page_interp.specs.Direct.{value_of, and_so, direct, direct_item, direct_sum, direct_product, names_there, direct_there}
-use Rattle.page_interp.specs.Runs.{AnswerIsNumbered, SomeIsNumbered, around_of}
+use Rattle.page_interp.specs.Runs.{AnswerIsNumbered, SomeIsNumbered, around_of, global_names}
+use Rattle.page_interp.specs.Variables.{value_at}
 use Rattle.page_interp.specs.Frames.{depth_of, state_at, place, Holds, Goes}
 use Rattle.page_interp.proofs.Numbered.{sum_numbered, product_numbered, compare_numbered, item_numbered}
 use Rattle.page_interp.proofs.NameSteps.{name_numbered}
@@ -225,11 +226,15 @@ module _ (look : List ℕ → Option Model.Value) where
       → direct look (seen_expr first) ≡ Some v → direct_product look (seen_factors factors) v ≡ Some u → direct look (seen_expr x) ≡ Some u
   product_gives x first e es factors v u q a b h k = rw (q, seen-Product, ← a, ← b) (so_is (direct look (seen_expr first)) (direct_product look (seen_factors factors)) v h ∙ k)
 
-  pub compare_gives : (x left right : Expr) (a : Box Expr Global) (sign : CompareSign) (b : Box Expr Global) (v u r : Model.Value) → x ≡ E.Compare a sign b → left ≡ a.value → right ≡ b.value
-      → direct look (seen_expr left) ≡ Some v → direct look (seen_expr right) ≡ Some u → compare_answer sign v u ≡ Ok r → direct look (seen_expr x) ≡ Some r
-  compare_gives x left right a sign b v u r q p s h k o = rw (q, seen-Compare, ← p, ← s)
-      (so_is (direct look (seen_expr left)) (λ x. and_so (direct look (seen_expr right)) (λ y. value_of (compare_answer sign x y))) v h
-      ∙ (so_is (direct look (seen_expr right)) (λ y. value_of (compare_answer sign v y)) u k ∙ ap value_of o))
+  pub compares : (left right : Expr) (sign : CompareSign) (v u r : Model.Value) → direct look (seen_expr left) ≡ Some v → direct look (seen_expr right) ≡ Some u → compare_answer sign v u ≡ Ok r
+      → and_so (direct look (seen_expr left)) (λ x. and_so (direct look (seen_expr right)) (λ y. value_of (compare_answer sign x y))) ≡ Some r
+  compares left right sign v u r h k o =
+      so_is (direct look (seen_expr left)) (λ x. and_so (direct look (seen_expr right)) (λ y. value_of (compare_answer sign x y))) v h
+      ∙ (so_is (direct look (seen_expr right)) (λ y. value_of (compare_answer sign v y)) u k ∙ ap value_of o)
+
+  pub compare_gives : (x left right : Expr) (a : Box Expr Global) (sign : CompareSign) (b : Box Expr Global) (r : Model.Value) → x ≡ E.Compare a sign b → left ≡ a.value → right ≡ b.value
+      → and_so (direct look (seen_expr left)) (λ x. and_so (direct look (seen_expr right)) (λ y. value_of (compare_answer sign x y))) ≡ Some r → direct look (seen_expr x) ≡ Some r
+  compare_gives x left right a sign b r q p s h = rw (q, seen-Compare, ← p, ← s) h
 
   pub item_gives : (rest more : List Expr) (place : Expr) (i v u : Model.Value) → rest ≡ place ∷ more → direct look (seen_expr place) ≡ Some i → item_answer v i ≡ Ok u
       → direct_item look (seen_exprs rest) v ≡ direct_item look (seen_exprs more) u
@@ -274,3 +279,13 @@ name_stands look x n (Some v) q h = name_gives look x n (seen v) q (sym h)
 pub name_in : {F : Type 0} (look : List ℕ → Option Model.Value) (x : Expr) (n : Named) (r : Result (Option Value) F) → x ≡ E.Name n → IfOk r (λ o. option_map seen o ≡ look n.name) → IfOk r (λ o. IfSome o (λ v. direct look (seen_expr x) ≡ Some (seen v)))
 name_in look x n (Ok o) q h = name_stands look x n o q h
 name_in look x n (Err e) q h = tt
+
+-- an integer that a variable holds
+pub int_there : (look : List ℕ → Option Model.Value) (x : Expr) (n : Named) (v : Model.Value) (o : Option ℤ) → x ≡ E.Name n → look n.name ≡ Some v → o ≡ int_in v → IfSome o (λ i. direct look (seen_expr x) ≡ Some (IntValue i))
+int_there look x n (IntValue i) o q h r = rw r (name_gives look x n (IntValue i) q h)
+int_there look x n v o q h r = rw r tt
+
+-- a name that is no variable's stands for a function
+pub function_there : (p : Program) (store : Store) (current : Current) (x : List ℕ) (n : ℕ) → value_at current.names.now current.locals x ≡ None → value_at (global_names (seen_program p)) store.globals x ≡ None → number_of (functions_of (seen_program p).items) x ≡ Some n
+    → names_there p store current x ≡ Some (FunValue n no_values)
+function_there p store current x n a b q = rw (a, b, q) refl

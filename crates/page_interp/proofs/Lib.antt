@@ -24,4 +24,5 @@ pub mod NumberTests
 pub mod FromOutside
 pub mod AtOnce
 pub mod BlockSteps
+pub mod SimpleCalls
 pub mod StackClauses

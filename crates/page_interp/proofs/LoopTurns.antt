@@ -1,9 +1,7 @@
 -- Turns of a loop of which all is done at once.
-use Rattle.std.proofs.Common.{◌≡◌, ℕ, suc, ◌<◌, ◌≤◌, ◌==◌, List, [], ◌∷◌, length, Bool, true, false, true≢false, Option, None, Result, Ok, Err, IfOk, IfErr, Some, refl, sym, ◌∙◌, arith}
+use Rattle.std.proofs.Common.{◌≡◌, ℕ, suc, ◌==◌, List, [], ◌∷◌, length, Bool, true, Result, Ok, Err, IfOk, IfErr, refl, sym, arith}
 use Rattle.std.specs.Borrow.{Bor}
-use Rattle.std.specs.Option.{is_some}
 use borrow.Author.Tests.{eqb-true}
-use Rattle.page_types.specs.Tree.{Program}
 use Rattle.page_values.specs.declared.Value.{Value}
 use Rattle.page_values.specs.declared.Value.TheVariants as value
 use Rattle.lang_ast.specs.SeenProgram.{seen_program}
@@ -19,34 +17,17 @@ use Rattle.page_interp.specs.declared.stack.Focus.TheVariants as focus
 use Rattle.page_interp.specs.declared.stack.Frame.{Frame}
 use Rattle.page_interp.specs.declared.stack.Frame.TheVariants as frame
 use Rattle.page_interp.specs.AtOnce.{IsBoolThere, IsKept, Leads, turned}
-use Rattle.page_interp.specs.Frames.{place, Place, Goes, Arrives}
+use Rattle.page_interp.specs.Frames.{place}
 use Rattle.page_interp.specs.StackClauses.{BlockBrings, TurnComes, TurnBegins}
-use Rattle.page_interp.proofs.SmallSteps.{stays_moves, within}
+use Rattle.page_interp.proofs.SmallSteps.{stays_moves}
 use Rattle.page_interp.proofs.StmtSteps.{block_stays}
 use Rattle.page_interp.proofs.FrameSteps.{turn_goes}
 use Rattle.page_interp.proofs.DirectSteps.{direct_goes}
-use Rattle.page_interp.proofs.AtOnce.{goes_trans, test_enters}
-
-less_than : (a b c : ℕ) → a < b → c ≤ a → c < b
-less_than a b c h k = omega arith
-
--- a step, and then any number of steps
-goes_arrives : {T : Type 0} (rules : HostRules T) (p : Program) (a b c : Place) → Goes rules p a b → Arrives rules p b c → Goes rules p a c
-goes_arrives rules p a b c x y = record {
-  means = λ ns k. let s = x.means ns k in let t = y.means s.numbers s.enough in record { numbers = t.numbers; enough = t.enough; same = λ host. s.same host ∙ t.same host };
-  holds = y.holds;
-  fuel = within _ _ _ y.fuel x.fuel;
-  tickets = λ ts. y.tickets ts ∙ x.tickets ts;
-  fewer = less_than _ _ _ x.fewer y.fewer;
-}
+use Rattle.page_interp.proofs.AtOnce.{goes_trans, goes_on, test_enters}
 
 pub none_left : {X : Type 0} (xs : List X) → true ≡ (length xs == 0) → xs ≡ []
 none_left [] q = refl
 none_left (x ∷ xs) q = absurd (omega (arith, eqb-true (suc (length xs)) 0 (sym q)))
-
-pub none_there : {X : Type 0} (o : Option X) → is_some o ≡ false → o ≡ None
-none_there None q = refl
-none_there (Some x) q = absurd (true≢false q)
 
 pub told_there : (p : Code.Program) (store : Store) (current : Current) (e : Expr) (b : Bool) {c : Bool} → b ≡ c → IsBoolThere p store current e b → IsBoolThere p store current e c
 told_there p store current e b q h = rw q at h
@@ -65,7 +46,7 @@ module _ {T : Type 0} (rules : HostRules T) (p : Code.Program) (e : Expr) (ss : 
       let two = direct_goes rules p store1 current1 (frame.Test test block ∷ fs) test (value.Bool true) (rw q d) one.holds in
       let three = test_enters rules p store1 current1 fs test block (value.Bool true) store2 (frame.Turn test block ∷ fs) k refl u s refl two.holds in
       let four = b (frame.Turn test block ∷ fs) block rest r t three.holds in
-      goes_trans rules (seen_program p) _ _ _ one (goes_trans rules (seen_program p) _ _ _ two (goes_arrives rules (seen_program p) _ _ _ three four))
+      goes_trans rules (seen_program p) _ _ _ one (goes_trans rules (seen_program p) _ _ _ two (goes_on rules (seen_program p) _ _ _ three four))
 
   -- the block of a turn is done, and the condition is next
   pub comes_again : (store store1 : Store) (current current1 : Current) (left : List Stmt) → left ≡ [] → TurnBegins rules p e ss store current store1 current1 left → TurnComes rules p e ss store current store1 current1

@@ -1,6 +1,6 @@
 -- What an index has at any name after one more name was put in.
-use Rattle.std.proofs.Common.{◌≡◌, ℕ, suc, ◌+◌, ◌<◌, ◌≤◌, Bool, true, false, cond, List, [], Vec, Global, Option, Some, None, refl, sym, ap, ◌∙◌, subst, arith, drop, get_or, length}
-use Rattle.std.specs.Option.{option_map}
+use Rattle.std.proofs.Common.{◌≡◌, ℕ, zero, suc, ◌+◌, ◌<◌, ◌≤◌, Bool, true, false, true≢false, cond, List, [], ◌∷◌, Vec, Global, Option, Some, None, refl, sym, ap, ◌∙◌, subst, arith, drop, get_or, length}
+use Rattle.std.specs.Option.{option_map, is_some}
 use Rattle.std.specs.Cmp.Lexicographic.{bytes_decides, nat_list_eq_equiv}
 use Rattle.std.specs.Str.{bytes_eq}
 use Rattle.std.specs.HashMap.{HashMap, UpdatesBy}
@@ -10,7 +10,7 @@ use mathlib.Core.Logic.{⊎_elim}
 use Rattle.std.proofs.lemmas.List.{drop_all}
 use Rattle.page_values.proofs.Lists.{front, same_bytes-pointwise}
 use Rattle.page_parts.specs.Words.{same_bytes}
-use Rattle.page_interp.specs.Places.{at_bytes, place_of, IsIndex}
+use Rattle.page_interp.specs.Places.{at_bytes, place_of, IsIndex, AreOnce}
 
 abbrev pub same_key : Vec ℕ Global → Vec ℕ Global → Bool
 same_key x y = bytes_eq x.items y.items
@@ -80,3 +80,47 @@ sought_on names i name x at lt q h = h ∙ rw (front names i name at lt, q) (sym
 pub sought_all : (names : List (List ℕ)) (i : ℕ) (x : List ℕ) → length names ≤ i → IsSoughtTo i names x → place_of names x ≡ None
 unfolding IsSoughtTo
 sought_all names i x le h = h ∙ rw (drop_all i names le) refl
+
+-- ---- names of which each stands there once
+
+other_first : (n x : List ℕ) (ns : List (List ℕ)) (k : ℕ) (b : Bool) → place_of ns n ≡ None → place_of ns x ≡ Some k → same_bytes n x ≡ b → b ≡ false
+other_first n x ns k false none there q = refl
+other_first n x ns k true none there q =
+    let e : n ≡ x = (bytes_decides n x).0 (sym (same_bytes-pointwise n x) ∙ q) in
+    let no : place_of ns x ≡ None = rw e at none in
+    cc
+
+pub once_place : (names : List (List ℕ)) (i : ℕ) (y x : List ℕ) → AreOnce names → y ≡ get_or names i y → i < length names → same_bytes y x ≡ true → place_of names x ≡ Some i
+once_place [] i y x once at lt q = absurd (omega arith)
+once_place (n ∷ ns) zero y x once at lt q = rw (rw at at q) refl
+once_place (n ∷ ns) (suc k) y x once at lt q =
+    let there = once_place ns k y x once.1 at (omega arith) q in
+    rw (other_first n x ns k (same_bytes n x) once.0 there refl, there) refl
+
+-- the names from a place on stand there once, if the flag says so
+abbrev pub AreOnceFrom : ℕ → List (List ℕ) → Bool → Type 0
+AreOnceFrom i names once = once ≡ true → AreOnce (drop i names)
+
+pub none_once : (i : ℕ) (names : List (List ℕ)) (once : Bool) → length names ≤ i → AreOnceFrom i names once
+none_once i names once le q = rw (drop_all i names le) tt
+
+pub one_once : (i j : ℕ) (names : List (List ℕ)) (name : List ℕ) (once : Bool) → name ≡ get_or names i name → i < length names → j ≡ i + 1 → place_of (drop j names) name ≡ None → AreOnceFrom j names once → AreOnceFrom i names once
+one_once i j names name once at lt next none h q = rw (front names i name at lt) (rw next at none, rw next at (h q))
+
+pub not_once : (i : ℕ) (names : List (List ℕ)) → AreOnceFrom i names false
+not_once i names q = cc
+
+pub whole_once : (i : ℕ) (names : List (List ℕ)) (once : Bool) → i ≤ 0 → AreOnceFrom i names once → once ≡ true → AreOnce names
+whole_once i names once le h q = let none : i ≡ 0 = omega arith in rw none at (h q)
+
+pub none_there : {X : Type 0} (o : Option X) → is_some o ≡ false → o ≡ None
+none_there None q = refl
+none_there (Some x) q = absurd (true≢false q)
+
+no_map : (i : ℕ) (o : Option ℕ) → option_map (λ k. i + k) o ≡ None → o ≡ None
+no_map i None q = refl
+no_map i (Some k) q = cc
+
+-- a name that the index of those from a place on does not have
+pub absent_from : {S : Type 0} (i : ℕ) (names : List (List ℕ)) (places : HashMap (Vec ℕ Global) ℕ S) (x : List ℕ) → IndexesFrom i names places → at_bytes places x ≡ None → place_of (drop i names) x ≡ None
+absent_from i names places x h q = no_map i (place_of (drop i names) x) (sym (h x) ∙ q)

@@ -121,7 +121,7 @@ opened_less fuel less size w fs f h = let z : fuel * (2 * size + 8) ≡ less * (
 
 module _ {T : Type 0} (rules : HostRules T) (p : Program) (store : Store) (current : Current) (fs : List Frame) where
   -- the body of what is called is next
-  call_opens : (o : Option Value) (vs : Vec Value Global) (called : Func) (all : List Model.Value) (b : Place) → func_of (option_map seen o) ≡ Some called → all ≡ items_of called.bound ++ map seen vs.items
+  pub call_opens : (o : Option Value) (vs : Vec Value Global) (called : Func) (all : List Model.Value) (b : Place) → func_of (option_map seen o) ≡ Some called → all ≡ items_of called.bound ++ map seen vs.items
       → Opens rules p called.function all (place store current fs (focus.Call o vs)) b → Goes rules p (place store current fs (focus.Call o vs)) b
   unfolding meaning_at steps_left around_of
   call_opens o vs called all b q e op = record {

@@ -1,5 +1,5 @@
 -- What is done in one step where an expression calls nothing.
-use Rattle.std.specs.Prelude.{◌≡◌, ◌≤◌, Bool, false, [], None, List, ◌∷◌, Option, Some, Vec}
+use Rattle.std.specs.Prelude.{◌≡◌, ◌≤◌, Bool, List, ◌∷◌, Option, Some, Vec}
 use Rattle.std.specs.declared.alloc.Global.{Global}
 use Rattle.std.specs.Borrow.{Bor}
 use Rattle.page_types.specs.Tree.{Program}
@@ -31,34 +31,9 @@ Assigns (S.Var x e) name expr = (x ≡ name) × (e ≡ expr)
 Assigns (S.Assign x e) name expr = (x ≡ name) × (e ≡ expr)
 Assigns s name expr = ⊥
 
--- the first of some statements only gives the variable of this name this value, and these come
--- after it
-pub record Gives (p : Code.Program) (store : Store) (current : Current)
-    (ss : List Stmt) (name : Named) (v : Value) (rest : List Stmt) : Type 0 where
-  pub stmt : Bor Stmt
-  pub expr : Bor Expr
-  pub first : ss ≡ stmt.now ∷ rest
-  pub assigns : Assigns stmt.now name expr.now
-  pub value : direct_there p store current expr.now ≡ Some (seen v)
-
 -- an expression has this Bool as its value there
 abbrev pub IsBoolThere : Code.Program → Store → Current → Expr → Bool → Type 0
 IsBoolThere p store current expr b = direct_there p store current expr ≡ Some (BoolValue b)
-
--- the first of some statements is a condition with no `else` side that does not hold, and these
--- come after it
-pub record Passes (p : Code.Program) (store : Store) (current : Current)
-    (ss rest : List Stmt) : Type 0 where
-  pub stmt : Bor Stmt
-  pub test : Expr
-  pub block : Vec Stmt Global
-  pub others : Vec (Expr × Vec Stmt Global) Global
-  pub first : ss ≡ stmt.now ∷ rest
-  pub last : Option (Vec Stmt Global)
-  pub is_if : stmt.now ≡ S.If test block others last
-  pub no_others : others.items ≡ []
-  pub no_else : last ≡ None
-  pub fails : IsBoolThere p store current test false
 
 -- the first of some expressions has this value, and these come after it
 pub record HasFirst (p : Code.Program) (store : Store) (current : Current)

@@ -1,8 +1,9 @@
 -- What an expression gives where it calls nothing and nothing is thrown.
-use Rattle.std.specs.Prelude.{◌≡◌, ℕ, ℤ, true, false, List, Option, Some, None, Ok, Err}
+use Rattle.std.specs.Prelude.{◌≡◌, ℕ, ℤ, Bool, true, false, List, Option, Some, None, Ok, Err}
 use Rattle.std.specs.Option.{option_and_then}
 use Rattle.page_types.specs.Values.{Value, IntValue, BoolValue, TextValue}
 use Rattle.page_types.specs.Tree.{Expr, Compare, Sum, Product, Post, Number, TextLiteral, TrueLiteral, FalseLiteral, Name, Paren, Exprs, no_exprs, with_expr, SumParts, no_terms, with_term, ProductParts, no_factors, with_factor}
+use Rattle.page_types.specs.declared.CompareSign.{CompareSign}
 use Rattle.page_types.specs.declared.SumSign.{SumSign}
 use Rattle.page_types.specs.declared.ProductSign.{ProductSign}
 use Rattle.lang_meaning.specs.Evaluation.{Answer, sum_answer, product_answer, compare_answer, item_answer}
@@ -102,3 +103,12 @@ SumGives script store current first terms v =
     and_so (direct_there script store current first)
     (direct_sum (names_there script store current) (seen_terms terms))
     ≡ Some v
+
+-- the two expressions compare so
+abbrev pub ComparesTo : Code.Program → Store → Current → (left : Syntax.Expr) → CompareSign
+    → (right : Syntax.Expr) → Bool → Type 0
+ComparesTo script store current left sign right b =
+    and_so (direct_there script store current left)
+    (λ x. and_so (direct_there script store current right)
+    (λ y. value_of (compare_answer sign x y)))
+    ≡ Some (BoolValue b)

@@ -1,8 +1,10 @@
 -- What the functions of the machine promise of a step, with the stack that they work on.
-use Rattle.std.specs.Prelude.{◌≡◌, ◌≤◌, ◌+◌, ◌*◌, ◌^◌, ℕ, List, ◌∷◌, map, Option, Result, Vec}
+use Rattle.std.specs.Prelude.{◌≡◌, ◌≤◌, ◌+◌, ◌*◌, ◌^◌, ℕ, List, [], ◌∷◌, map, Option, Some, Result, Vec}
+use Rattle.std.specs.Option.{option_map}
 use Rattle.std.specs.declared.alloc.Global.{Global}
 use Rattle.std.specs.Borrow.{Bor}
 use Rattle.page_types.specs.Tree.{Block}
+use Rattle.page_types.specs.Values.{FunValue, no_values}
 use Rattle.page_types.specs.declared.Op.{Op}
 use Rattle.page_values.specs.declared.Value.{Value}
 use Rattle.page_values.specs.Seen.{seen}
@@ -24,7 +26,7 @@ use Rattle.page_interp.specs.declared.stack.Frame.{Frame}
 use Rattle.page_interp.specs.declared.stack.Frame.TheVariants as frame
 use Rattle.page_interp.specs.declared.stack.Purpose.{Purpose}
 use Rattle.page_interp.specs.declared.stack.Waiting.{Waiting}
-use Rattle.page_interp.specs.AtOnce.{Leads, Brings, before_stmt, branches, turned, tested_at, waited_at}
+use Rattle.page_interp.specs.AtOnce.{Assigns, Leads, Brings, before_stmt, branches, turned, tested_at, waited_at}
 use Rattle.page_interp.specs.Clauses.{script, count_in}
 use Rattle.page_interp.specs.CodeNames.{function_at}
 use Rattle.page_interp.specs.Frames.{Place, Holds, Moves, Opens, Stood, Steps, Answering, MayCome, Leaves, Finishes, stacked, place, waiting_at, moment_at, tickets_in, does, steps_on, resumes, call_names, call_variables, call_body, AreSeenNumbered}
@@ -97,6 +99,46 @@ BlockBrings rules code store current ss store' current' ss' =
     (fs : List Frame) (block rest : Bor (List Stmt)) → block.now ≡ ss → rest.now ≡ ss' →
     Brings rules (script code) (place store current fs (focus.Block block))
     (place store' current' fs (focus.Block rest))
+
+-- a statement that gives the variable of this name the value of this expression is done
+abbrev pub TakesValue : {T : Type 0} → HostRules T → Code.Program → Named → Expr
+    → Store → Current → Store → Current → Type 0
+TakesValue rules code name e store current store' current' =
+    (s : Stmt) (rest : List Stmt) → Assigns s name e →
+    BlockBrings rules code store current (s ∷ rest) store' current' rest
+
+-- the statements return this value, and nothing else changes
+abbrev pub ReturnsValue : {T : Type 0} → HostRules T → Code.Program
+    → Store → Current → List Stmt → Value → Type 0
+ReturnsValue rules code store current ss v =
+    (fs : List Frame) (block : Bor (List Stmt)) → block.now ≡ ss →
+    Leads rules (script code) (place store current fs (focus.Block block))
+    (place store current fs (focus.Return v))
+
+-- the expression comes to this value, and the store alone changes
+abbrev pub ValueComes : {T : Type 0} → HostRules T → Code.Program → Expr
+    → Store → Current → Value → Store → Type 0
+ValueComes rules code e store current v store' =
+    (fs : List Frame) (expr : Bor Expr) → expr.now ≡ e →
+    Leads rules (script code) (place store current fs (focus.Expr expr))
+    (place store' current fs (focus.Value v))
+
+-- the expressions of a row have become these values
+pub record AreFound {T : Type 0} (rules : HostRules T) (code : Code.Program)
+    (store : Store) (current : Current) (es : List Expr) (vs : Vec Value Global) : Type 0 where
+  pub none : Vec Value Global
+  pub empty : none.items ≡ []
+  pub brings : RowBrings rules code store current none es vs []
+
+-- a call of this function with these arguments comes to this value, with a unit less
+abbrev pub CallReturns : {T : Type 0} → HostRules T → Code.Program
+    → (function : ℕ) → (args : Vec Value Global) → (less : Store) → Current → Value → Type 0
+CallReturns rules code function args less current v =
+    (fs : List Frame) (callee : Option Value) →
+    option_map seen callee ≡ Some (FunValue function no_values) →
+    Leads rules (script code)
+    (place (record less { fuel = less.fuel + 1 }) current fs (focus.Call callee args))
+    (place less current fs (focus.Value v))
 
 -- the same where these statements wait for its end
 abbrev pub LeadsBefore : {T : Type 0} → HostRules T → Code.Program → Bor (List Stmt) → Focus

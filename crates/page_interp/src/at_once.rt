@@ -1,7 +1,7 @@
 //! Steps that are done at once: the arguments of a row and the turns of a loop, where they call
 //! nothing.
 
-ghost use Rattle.std.specs.Prelude.{◌≡◌, true, Some, IfOk, IfErr, IfSome, IfNone};
+ghost use Rattle.std.specs.Prelude.{◌≡◌, [], true, false, Some, None, IfOk, IfErr, IfSome, IfNone};
 ghost use Rattle.page_parts.specs.Kinds.{bool_in};
 ghost use Rattle.page_values.specs.declared.Value.{Value};
 ghost use Rattle.page_values.specs.Seen.{seen};
@@ -14,7 +14,7 @@ ghost use Rattle.page_interp.specs.declared.stack.Focus.TheVariants as focus;
 
 use crate::blocks::{assigned, from_block, into_block};
 use crate::code::Code;
-use crate::direct::direct_value;
+use crate::direct::{direct_compare, direct_value};
 use crate::exit::{Exit, Store};
 use crate::expressions::from_row;
 use crate::stack::{Current, Focus, Frame, Purpose, push, within};
@@ -32,19 +32,12 @@ pub fn set<'c>(
 )
     ensures { IsSet code.now store.old current.old name.now.name value store.new current.new }
 {
-    assign(
-        code,
-        store,
-        current.names,
-        &mut current.locals,
-        &name.name,
-        value,
-    );
+    assign(code, store, current.names, &mut current.locals, name, value);
 }
 
 /// From the value of a loop's condition: its block is done from there at once, with a unit less.
 pub fn into_test<'c, H: Host>(
-    code: &Code,
+    code: &'c Code,
     store: &mut Store,
     current: &mut Current<'c>,
     stack: &mut Vec<Frame<'c>>,
@@ -95,7 +88,7 @@ fn first_value<'c>(
 
 /// Takes the first expressions of some while their values are found at once: puts these behind the
 /// values so far, and gives the expressions that are left.
-fn first_values<'c, H: Host>(
+pub fn first_values<'c, H: Host>(
     code: &Code,
     store: &Store,
     current: &Current,
@@ -141,7 +134,7 @@ pub fn next_in_row<'c, H: Host>(
 /// block only gives variables values that are found at once. What is left is the rest of the block
 /// in the turn that has begun, or the condition where there is no such rest.
 fn turns_at_once<'c, H: Host>(
-    code: &Code,
+    code: &'c Code,
     store: &mut Store,
     current: &mut Current<'c>,
     test: &'c Expr,
@@ -169,6 +162,9 @@ fn turns_at_once<'c, H: Host>(
 pub fn truth(code: &Code, store: &Store, current: &Current, expr: &Expr) -> Option<bool>
     ensures { IfSome result (IsBoolThere code.now store.now current.now expr.now) }
 {
+    if let Expr::Compare(left, sign, right) = expr {
+        return direct_compare(code, store, current, left, *sign, right);
+    }
     match direct_value(code, store, current, expr) {
         Ok(Some(Value::Bool(b))) => Some(b),
         Ok(_) => None,
@@ -177,10 +173,26 @@ pub fn truth(code: &Code, store: &Store, current: &Current, expr: &Expr) -> Opti
     }
 }
 
+/// Whether a condition with no `else` side is found at once and does not hold.
+pub fn passes(
+    code: &Code,
+    store: &Store,
+    current: &Current,
+    test: &Expr,
+    others: &[(Expr, Vec<Stmt>)],
+    last: &Option<Vec<Stmt>>,
+) -> bool
+    ensures fails { result ≡ true → IsBoolThere code.now store.now current.now test.now false }
+    ensures no_others { result ≡ true → others.now ≡ [] }
+    ensures no_else { result ≡ true → last.now ≡ None }
+{
+    others.is_empty() && last.is_none() && truth(code, store, current, test) == Some(false)
+}
+
 /// A turn of a loop ends: its condition is next. Turns of which all is done at once are done in one
 /// step with what comes after them.
 pub fn next_turn<'c, H: Host>(
-    code: &Code,
+    code: &'c Code,
     store: &mut Store,
     current: &mut Current<'c>,
     stack: &mut Vec<Frame<'c>>,

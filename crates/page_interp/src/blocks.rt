@@ -1,81 +1,124 @@
 //! From the statements of a block. What calls nothing is done at once, with no frame of its own.
 
-ghost use Rattle.std.specs.Prelude.{◌≡◌, List, Some, IfOk, IfErr, IfSome};
+ghost use Rattle.std.specs.Prelude.{◌≡◌, ◌<◌, ◌≤◌, List, true, false, Some, IfOk, IfErr, IfSome, IfNone, length};
 ghost use Rattle.std.specs.Borrow.{Bor};
+ghost use Rattle.page_values.specs.declared.Value.{Value};
 ghost use Rattle.lang_ast.specs.declared.tree.Stmt.{Stmt};
 ghost use Rattle.lang_ast.specs.declared.tree.Stmt.TheVariants.{Return};
-ghost use Rattle.page_interp.specs.AtOnce.{Assigns, Gives, Passes, IsKept};
+ghost use Rattle.page_interp.specs.AtOnce.{IsKept};
 ghost use Rattle.page_interp.specs.Clauses.{script};
-ghost use Rattle.page_interp.specs.StackClauses.{stand, MovesBefore, Branches, LeadsBefore, LeadsOn, BlockBrings};
+ghost use Rattle.page_interp.specs.StackClauses.{stand, MovesBefore, Branches, LeadsBefore, LeadsOn, BlockBrings, TakesValue, ValueComes};
 ghost use Rattle.page_interp.specs.declared.exit.Exit.TheVariants as exit;
 ghost use Rattle.page_interp.specs.declared.stack.Focus.TheVariants as focus;
 
-use crate::at_once::{set, truth};
+use crate::at_once::{passes, set};
 use crate::code::Code;
-use crate::direct::direct_value;
+use crate::direct::{direct_int, direct_other, direct_value};
 use crate::exit::{Exit, Store};
 use crate::expressions::from_expr;
+use crate::simple::{call_value, returned};
 use crate::stack::{Current, Focus, Frame, Waiting, push, wait, within};
 use crate::statements::from_stmt;
 use lang_ast::{Expr, Host, Named, Stmt};
-use page_values::{FaultName, MemoryFault, Value, as_bool, fault};
+use page_values::{FaultName, Value, as_bool, fault};
 use std::alloc::Global;
 
-/// The variable that a statement gives a value, and the expression of that value.
-fn assignment(stmt: &Stmt) -> Option<(&Named, &Expr)>
-    ensures { IfSome result (λ a. Assigns stmt.now a.0.now a.1.now) }
+/// Gives a variable the value of an expression, where it is found at once.
+fn takes<'c, H: Host>(
+    code: &'c Code,
+    store: &mut Store,
+    current: &mut Current<'c>,
+    name: &Named,
+    expr: &'c Expr,
+) -> bool
+    ensures done { result ≡ true → TakesValue H.rules code.now name.now expr.now
+        store.old current.old store.new current.new }
+    ensures same_store { result ≡ false → store.new ≡ store.old }
+    ensures same_variables { result ≡ false → current.new ≡ current.old }
+    ensures fuel { store.new.fuel ≤ store.old.fuel }
 {
-    match stmt {
-        Stmt::Var(name, expr) => Some((name, expr)),
-        Stmt::Assign(name, expr) => Some((name, expr)),
-        _ => None,
+    if let Some(n) = direct_int(code, store, current, expr) {
+        set(code, store, current, name, Value::Int(n));
+        return true;
+    }
+    match direct_other(code, store, current, expr) {
+        Ok(Some(value)) => {
+            set(code, store, current, name, value);
+            true
+        }
+        Ok(None) => takes_call::<H>(code, store, current, name, expr),
+        // No memory for the value: the steps from this statement find that too.
+        Err(_) => false,
     }
 }
 
-/// The variable and its value, where the first statement only gives a variable a value that is
-/// found at once, and the statements after it.
-fn given<'c>(
-    code: &Code,
-    store: &Store,
-    current: &Current,
-    stmts: &'c [Stmt],
-) -> Result<Option<(&'c Named, Value, &'c [Stmt])>, MemoryFault>
-    ensures { IfOk result (λ o. IfSome o (λ g.
-        Gives code.now store.now current.now stmts.now g.0.now g.1 g.2.now)) }
+/// Gives a variable the value of a call that is done at once.
+fn takes_call<'c, H: Host>(
+    code: &'c Code,
+    store: &mut Store,
+    current: &mut Current<'c>,
+    name: &Named,
+    expr: &'c Expr,
+) -> bool
+    ensures done { result ≡ true → TakesValue H.rules code.now name.now expr.now
+        store.old current.old store.new current.new }
+    ensures same_store { result ≡ false → store.new ≡ store.old }
+    ensures same_variables { result ≡ false → current.new ≡ current.old }
+    ensures fuel { store.new.fuel ≤ store.old.fuel }
 {
-    let Some((stmt, rest)) = stmts.split_first() else {
-        return Ok(None);
-    };
-    let Some((name, expr)) = assignment(stmt) else {
-        return Ok(None);
-    };
-    match direct_value(code, store, current, expr)? {
-        Some(value) => Ok(Some((name, value, rest))),
-        None => Ok(None),
+    match call_value::<H>(code, store, current, expr) {
+        Some(value) => {
+            set(code, store, current, name, value);
+            true
+        }
+        None => false,
     }
 }
 
-/// The statements after the first one, where this is a condition with no `else` side that is found
-/// at once and does not hold.
-fn passed<'c>(
-    code: &Code,
-    store: &Store,
-    current: &Current,
+/// Does a call at once whose value is not needed.
+fn calls<'c, H: Host>(
+    code: &'c Code,
+    store: &mut Store,
+    current: &Current<'c>,
+    expr: &'c Expr,
+) -> bool
+    ensures done { result ≡ true → (v : Value) × ValueComes H.rules code.now expr.now
+        store.old current.now v store.new }
+    ensures same_store { result ≡ false → store.new ≡ store.old }
+    ensures fuel { store.new.fuel ≤ store.old.fuel }
+{
+    match call_value::<H>(code, store, current, expr) {
+        Some(value) => {
+            drop(value);
+            true
+        }
+        None => false,
+    }
+}
+
+/// Does the first statement of some where all of it is done at once, and gives those after it.
+fn first_done<'c, H: Host>(
+    code: &'c Code,
+    store: &mut Store,
+    current: &mut Current<'c>,
     stmts: &'c [Stmt],
 ) -> Option<&'c [Stmt]>
-    ensures { IfSome result (λ rest. Passes code.now store.now current.now stmts.now rest.now) }
+    ensures done { IfSome result (λ rest. BlockBrings H.rules code.now
+        store.old current.old stmts.now store.new current.new rest.now) }
+    ensures shorter { IfSome result (λ rest. length rest.now < length stmts.now) }
+    ensures same_store { IfNone result (store.new ≡ store.old) }
+    ensures same_variables { IfNone result (current.new ≡ current.old) }
+    ensures fuel { store.new.fuel ≤ store.old.fuel }
 {
     let (stmt, rest) = stmts.split_first()?;
-    let Stmt::If(test, _, others, last) = stmt else {
-        return None;
+    let done = match stmt {
+        Stmt::Var(name, expr) => takes::<H>(code, store, current, name, expr),
+        Stmt::Assign(name, expr) => takes::<H>(code, store, current, name, expr),
+        Stmt::If(test, _, others, last) => passes(code, store, current, test, others, last),
+        Stmt::Expr(expr) => calls::<H>(code, store, current, expr),
+        _ => false,
     };
-    if !others.is_empty() || last.is_some() {
-        return None;
-    }
-    match truth(code, store, current, test) {
-        Some(false) => Some(rest),
-        _ => None,
-    }
+    if done { Some(rest) } else { None }
 }
 
 /// A statement of which no part is done at once: the statements after it wait for its end.
@@ -222,36 +265,26 @@ pub fn from_block<'c, H: Host>(
 /// Does the first statements of some while each only gives a variable a value that is found at
 /// once, or is passed over, and gives the statements that are left.
 pub fn assigned<'c, H: Host>(
-    code: &Code,
+    code: &'c Code,
     store: &mut Store,
     current: &mut Current<'c>,
     stmts: &'c [Stmt],
 ) -> &'c [Stmt]
     ensures brings { BlockBrings H.rules code.now store.old current.old stmts.now
         store.new current.new result.now }
-    ensures fuel { store.new.fuel ≡ store.old.fuel }
+    ensures fuel { store.new.fuel ≤ store.old.fuel }
 {
     let mut rest = stmts;
-    'done: loop {
-        match given(code, store, current, rest) {
-            Ok(Some((name, value, more))) => {
-                set(code, store, current, name, value);
-                rest = more;
-            }
-            Ok(None) => match passed(code, store, current, rest) {
-                Some(more) => rest = more,
-                None => return rest,
-            },
-            // No memory for the value: the steps from this statement find that too.
-            Err(_) => return rest,
-        }
+    'done: while let Some(more) = first_done::<H>(code, store, current, rest) {
+        rest = more;
     }
+    rest
 }
 
 /// From the statements of a block. Assignments in front whose values are found at once are done in
 /// one step with what comes after them.
 pub fn into_block<'c, H: Host>(
-    code: &Code,
+    code: &'c Code,
     store: &mut Store,
     current: &mut Current<'c>,
     stack: &mut Vec<Frame<'c>>,
@@ -264,5 +297,8 @@ pub fn into_block<'c, H: Host>(
         (stand store.old current.old stack.old (focus.Block stmts.entry)) store.new) }
 {
     let rest = assigned::<H>(code, store, current, stmts);
-    from_block::<H>(code, store, current, stack, rest)
+    match returned::<H>(code, store, current, rest) {
+        Some(value) => Ok(Focus::Return(value)),
+        None => from_block::<H>(code, store, current, stack, rest),
+    }
 }

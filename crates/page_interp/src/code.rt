@@ -1,6 +1,6 @@
 //! A script as the machine has it: with an index of its names.
 
-ghost use Rattle.std.specs.Prelude.{◌≡◌, ◌<◌, [], IfOk, IfSome, Some, slice_get};
+ghost use Rattle.std.specs.Prelude.{◌≡◌, ◌<◌, [], IfOk, IfSome, Some, None, slice_get};
 ghost use Rattle.std.specs.Option.{option_map};
 ghost use Rattle.lang_meaning.specs.Evaluation.{functions_of, number_of, own_body};
 ghost use Rattle.lang_ast.specs.SeenProgram.{seen_program};
@@ -8,17 +8,18 @@ ghost use Rattle.lang_meaning.specs.OpNames.{op_named};
 ghost use Rattle.page_interp.specs.Runs.{global_names, count_of_functions};
 ghost use Rattle.page_interp.specs.CodeNames.{function_at, names_of_frames};
 
-use crate::called::called_names;
+use crate::found::called_names;
 use crate::gathering::{all_frame_names, global_names, same_names};
+use crate::guesses::Guesses;
 use crate::names::Names;
 use crate::operations::Operations;
-use lang_ast::{Function, Item, Op, Program};
+use lang_ast::{Function, Item, Named, Op, Program};
 use page_values::{MemoryFault, Str};
 use std::alloc::Global;
 use std::marker::Model;
 
 /// A script, and the names of its functions, of its global variables, of the variables of each
-/// function, and of what it calls.
+/// function, and of what it calls, with guesses that spare a search.
 #[derive(Drop)]
 pub struct Code<'p> {
     alloc: Global,
@@ -28,6 +29,7 @@ pub struct Code<'p> {
     no_names: Names,
     locals: Vec<Names>,
     operations: Operations,
+    guesses: Guesses,
 }
 
 impl<'p> Model for Code<'p> {
@@ -55,6 +57,7 @@ impl<'p> Code<'p> {
         let no_names = Names::new(alloc, Vec::new(alloc))?;
         let locals = all_frame_names(alloc, program.items())?;
         let operations = Operations::new(alloc, &called_names(alloc, program.items())?)?;
+        let guesses = Guesses::new(alloc, program.items(), &locals, &globals)?;
         let _count = program.function_count();
         Ok(Code {
             alloc,
@@ -64,6 +67,7 @@ impl<'p> Code<'p> {
             no_names,
             locals,
             operations,
+            guesses,
         })
     }
 }
@@ -108,6 +112,26 @@ impl Code<'_> {
             Some(place) => Some(place as u32),
             None => None,
         }
+    }
+
+    /// The place at which the variable of this name likely stands, among those of its call or among
+    /// the global ones.
+    pub fn likely_place(&self, name: &Named) -> usize {
+        self.guesses.place(name)
+    }
+
+    /// The number of the function with this name, where it is likely simple and no operation has
+    /// the name.
+    pub fn simple(&self, name: &Str) -> Option<u32>
+        ensures operation { IfSome result (λ _. op_named name.now ≡ None) }
+        ensures number { IfSome result (λ n.
+            number_of (functions_of (seen_program self.now).items) name.now ≡ Some n) }
+    {
+        let number = self.number_of(name)?;
+        if !self.guesses.is_simple(number as usize) || self.operation(name).is_some() {
+            return None;
+        }
+        Some(number)
     }
 
     /// The operation with this name.

@@ -7,7 +7,7 @@ ghost use Rattle.std.specs.Option.{option_map};
 ghost use Rattle.page_types.specs.Values.{BoolValue, IntValue, TextValue};
 ghost use Rattle.lang_meaning.specs.Evaluation.{compare_answer, sum_answer, product_answer};
 ghost use Rattle.page_values.specs.Seen.{seen};
-ghost use Rattle.page_interp.specs.Direct.{NameHolds, HasValue, PlacesGive, TermsGive, FactorsGive, SumGives};
+ghost use Rattle.page_interp.specs.Direct.{NameHolds, HasValue, ComparesTo, PlacesGive, TermsGive, FactorsGive, SumGives};
 
 use crate::code::Code;
 use crate::exit::Store;
@@ -15,7 +15,7 @@ use crate::operators::{int_product, item_of};
 use crate::stack::Current;
 use crate::values::copied;
 use crate::variables::{find, named};
-use lang_ast::{CompareSign, Expr, ProductSign, SumSign};
+use lang_ast::{CompareSign, Expr, Named, ProductSign, SumSign};
 use page_values::{MemoryFault, Str, Value, ValueFault, as_int, as_list, as_text, copy_text, join};
 
 /// How deep the parts of an expression may nest that is evaluated at once.
@@ -26,14 +26,15 @@ fn variable<'a>(
     code: &'a Code,
     store: &'a Store,
     current: &'a Current,
-    name: &Str,
+    name: &Named,
 ) -> Option<&'a Value>
-    ensures { IfSome result (λ v. NameHolds code.now store.now current.now name.now (seen v.now)) }
+    ensures { IfSome result (λ v. NameHolds code.now store.now current.now name.now.name (seen v.now)) }
 {
-    if let Some(value) = find(current.names, &current.locals, name) {
+    let near = code.likely_place(name);
+    if let Some(value) = find(current.names, &current.locals, &name.name, near) {
         return Some(value);
     }
-    find(code.globals(), &store.globals, name)
+    find(code.globals(), &store.globals, &name.name, near)
 }
 
 /// The variable that an expression names, or an item in it.
@@ -51,7 +52,7 @@ fn item<'a>(
         return None;
     }
     match expr {
-        Expr::Name(x) => variable(code, store, current, &x.name),
+        Expr::Name(x) => variable(code, store, current, x),
         Expr::Paren(inner) => item(code, store, current, inner, levels - 1),
         Expr::Post(first, places) => {
             let list = item(code, store, current, first, levels - 1)?;
@@ -104,7 +105,7 @@ fn int(code: &Code, store: &Store, current: &Current, expr: &Expr, levels: u32) 
             let total = int(code, store, current, first, levels - 1)?;
             product_in(code, store, current, total, parts, levels - 1)
         }
-        Expr::Name(_) => as_int(item(code, store, current, expr, levels - 1)?),
+        Expr::Name(x) => as_int(variable(code, store, current, x)?),
         Expr::Post(_, _) => as_int(item(code, store, current, expr, levels - 1)?),
         _ => None,
     }
@@ -225,6 +226,29 @@ fn text_sum(
     }
 }
 
+/// An integer that is found at once.
+pub fn direct_int(code: &Code, store: &Store, current: &Current, expr: &Expr) -> Option<i64>
+    ensures { IfSome result (λ n. HasValue code.now store.now current.now expr.now (IntValue n)) }
+{
+    int(code, store, current, expr, LEVELS)
+}
+
+/// Whether two integers that are found at once compare so.
+pub fn direct_compare(
+    code: &Code,
+    store: &Store,
+    current: &Current,
+    left: &Expr,
+    sign: CompareSign,
+    right: &Expr,
+) -> Option<bool>
+    ensures { IfSome result (ComparesTo code.now store.now current.now left.now sign right.now) }
+{
+    let x = direct_int(code, store, current, left)?;
+    let y = direct_int(code, store, current, right)?;
+    Some(compared(sign, x, y))
+}
+
 /// The value of an expression of integers, of two texts in a row, of a literal, of a name or of an
 /// item, where it calls nothing and throws nothing.
 pub fn direct_value(
@@ -236,40 +260,38 @@ pub fn direct_value(
     ensures { IfOk result (λ o. IfSome o (λ v.
         HasValue code.now store.now current.now expr.now (seen v))) }
 {
+    match direct_int(code, store, current, expr) {
+        Some(n) => Ok(Some(Value::Int(n))),
+        None => direct_other(code, store, current, expr),
+    }
+}
+
+/// The same, where no integer was found.
+pub fn direct_other(
+    code: &Code,
+    store: &Store,
+    current: &Current,
+    expr: &Expr,
+) -> Result<Option<Value>, MemoryFault>
+    ensures { IfOk result (λ o. IfSome o (λ v.
+        HasValue code.now store.now current.now expr.now (seen v))) }
+{
     match expr {
-        Expr::Number(_) | Expr::Product(_, _) => {
-            Ok(int_value(int(code, store, current, expr, LEVELS)))
-        }
-        Expr::Sum(first, terms) => match int(code, store, current, expr, LEVELS) {
-            Some(n) => Ok(Some(Value::Int(n))),
-            None => text_sum(code, store, current, first, terms),
-        },
+        Expr::Sum(first, terms) => text_sum(code, store, current, first, terms),
         Expr::Text(text) => Ok(Some(Value::Text(copy_text(code.alloc(), text)?))),
         Expr::True => Ok(Some(Value::Bool(true))),
         Expr::False => Ok(Some(Value::Bool(false))),
         Expr::Compare(left, sign, right) => {
-            let Some(x) = int(code, store, current, left, LEVELS) else {
-                return Ok(None);
-            };
-            let Some(y) = int(code, store, current, right, LEVELS) else {
-                return Ok(None);
-            };
-            Ok(Some(Value::Bool(compared(*sign, x, y))))
+            match direct_compare(code, store, current, left, *sign, right) {
+                Some(b) => Ok(Some(Value::Bool(b))),
+                None => Ok(None),
+            }
         }
-        Expr::Name(x) => named(code, store, current.names, &current.locals, &x.name),
+        Expr::Name(x) => named(code, store, current.names, &current.locals, x),
         Expr::Post(_, _) => match item(code, store, current, expr, LEVELS) {
             Some(value) => Ok(Some(copied(code.alloc(), value)?)),
             None => Ok(None),
         },
         _ => Ok(None),
-    }
-}
-
-fn int_value(n: Option<i64>) -> Option<Value>
-    ensures { option_map seen result ≡ option_map IntValue n }
-{
-    match n {
-        Some(n) => Some(Value::Int(n)),
-        None => None,
     }
 }

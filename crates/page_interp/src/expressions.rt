@@ -81,7 +81,7 @@ fn by_parts<'c, H: Host>(
         Expr::True => Ok(Focus::Value(Value::Bool(true))),
         Expr::False => Ok(Focus::Value(Value::Bool(false))),
         Expr::Unit => Ok(Focus::Value(Value::Unit)),
-        Expr::Name(x) => come(name_value(code, store, current.names, &current.locals, &x.name)),
+        Expr::Name(x) => come(name_value(code, store, current.names, &current.locals, x)),
         Expr::Call(x, args) => from_call::<H>(code, store, current, stack, x, args),
         Expr::Paren(inner) => Ok(Focus::Expr(inner)),
         Expr::List(items) => {
@@ -104,7 +104,7 @@ fn purpose_of(
 {
     match code.operation(&name.name) {
         Some(op) => Ok(Purpose::Ask(op)),
-        None => Ok(Purpose::Call(named(code, store, current.names, &current.locals, &name.name)?)),
+        None => Ok(Purpose::Call(named(code, store, current.names, &current.locals, name)?)),
     }
 }
 

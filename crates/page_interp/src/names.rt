@@ -1,7 +1,7 @@
 //! Names, and where each stands.
 
 ghost use Rattle.std.specs.Prelude.{◌≡◌, ◌≤◌, IfOk, length};
-ghost use Rattle.page_interp.specs.Places.{place_of, IsIndex};
+ghost use Rattle.page_interp.specs.Places.{place_of};
 
 use page_values::{MemoryFault, Str, same_text};
 use std::alloc::Global;
@@ -17,17 +17,19 @@ const FEW: usize = 8;
 pub struct Names {
     names: Vec<Str>,
     places: HashMap<Vec<u8>, usize>,
+    /// Where this holds, none of them stands there twice.
+    once: bool,
 }
 
 impl Model for Names {
     ghost use Rattle.std.specs.Prelude.{List, ℕ};
-    ghost use Rattle.page_interp.specs.Places.{IsIndex};
+    ghost use Rattle.page_interp.specs.Places.{AreKept};
 
     ghost Value = { List (List ℕ) };
 
     ghost view = { λ a. a.names.items };
 
-    ghost invariant = { λ a. IsIndex a.names.items a.places };
+    ghost invariant = { λ a. AreKept a.names.items a.places a.once };
 }
 
 impl Names {
@@ -36,13 +38,20 @@ impl Names {
         ensures { IfOk result (λ x. x ≡ names.items) }
     {
         let mut places = HashMap::new(alloc);
+        let mut once = true;
         let mut left = names.len();
         while left > 0 {
             left -= 1;
             let name = Vec::from_slice(alloc, names[left].bytes())?;
-            places.insert(name, left)?;
+            if places.insert(name, left)?.is_some() {
+                once = false;
+            }
         }
-        Ok(Names { names, places })
+        Ok(Names {
+            names,
+            places,
+            once,
+        })
     }
 
     /// How many there are.
@@ -60,6 +69,16 @@ impl Names {
             return first_place(&self.names, name);
         }
         self.places.get(name.bytes()).copied()
+    }
+
+    /// The same, where the name likely stands at the given place: it is sought nowhere else then.
+    pub fn place_near(&self, name: &Str, near: usize) -> Option<usize>
+        ensures { result ≡ place_of self.now name.now }
+    {
+        if self.once && near < self.names.len() && same_text(&self.names[near], name) {
+            return Some(near);
+        }
+        self.place(name)
     }
 }
 

@@ -20,7 +20,7 @@ use lang_ast::Host;
 use page_values::{FaultName, Func, MemoryFault, Value};
 
 /// How many calls may be open at once.
-const OPEN_CALLS: u64 = 256;
+pub const OPEN_CALLS: u64 = 256;
 
 /// The function that a value is, where it can be called with so many open calls.
 pub fn callable(depth: u64, value: Option<Value>) -> Result<Func, FaultName>

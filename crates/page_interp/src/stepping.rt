@@ -69,7 +69,7 @@ fn call<'c, H: Host>(
 /// A value comes back to what waits for it. Statements that wait for the end of the one before them
 /// are done from there at once.
 fn from_waiting<'c, H: Host>(
-    code: &Code,
+    code: &'c Code,
     store: &mut Store,
     current: &mut Current<'c>,
     stack: &mut Vec<Frame<'c>>,

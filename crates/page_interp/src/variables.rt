@@ -1,8 +1,9 @@
 //! Variables.
 
-ghost use Rattle.std.specs.Prelude.{◌≡◌, None, IfOk, IfSome, true, false};
+ghost use Rattle.std.specs.Prelude.{◌≡◌, ◌<◌, Some, None, IfOk, IfSome, IfNone, true, false, length};
 ghost use Rattle.std.specs.Option.{option_map};
 ghost use Rattle.page_values.specs.Seen.{seen};
+ghost use Rattle.page_interp.specs.Places.{place_of};
 ghost use Rattle.page_interp.specs.Runs.{value_left};
 ghost use Rattle.page_interp.specs.Variables.{value_at, has_variable, IsWritten, SetsLocal, SetsGlobal, StandsFor, NameGives, AreFilled};
 
@@ -10,20 +11,34 @@ use crate::code::Code;
 use crate::exit::{Exit, Store};
 use crate::names::Names;
 use crate::values::copied;
+use lang_ast::Named;
 use page_values::{FaultName, MemoryFault, Str, Value, fault, function_value};
 use std::alloc::Global;
 
-/// The value of the variable of this name.
-pub fn find<'a>(names: &Names, values: &'a Vec<Value>, name: &Str) -> Option<&'a Value>
-    ensures { option_map (λ v. seen v.now) result ≡ value_at names.now values.now name.now }
+/// Where the variable of this name stands, likely at the given place. None exactly where there is no
+/// such variable.
+fn place_in(names: &Names, values: &Vec<Value>, name: &Str, near: usize) -> Option<usize>
+    ensures some { IfSome result (λ place. place_of names.now name.now ≡ Some place) }
+    ensures within { IfSome result (λ place. place < length values.now.items) }
+    ensures none { IfNone result (value_at names.now values.now name.now ≡ None) }
 {
-    let Some(place) = names.place(name) else {
+    let Some(place) = names.place_near(name, near) else {
         return None;
     };
     if place < values.len() {
-        return Some(&values[place]);
+        return Some(place);
     }
     None
+}
+
+/// The value of the variable of this name, which likely stands at the given place.
+pub fn find<'a>(names: &Names, values: &'a Vec<Value>, name: &Str, near: usize) -> Option<&'a Value>
+    ensures { option_map (λ v. seen v.now) result ≡ value_at names.now values.now name.now }
+{
+    match place_in(names, values, name, near) {
+        Some(place) => Some(&values[place]),
+        None => None,
+    }
 }
 
 /// What a variable of this name holds.
@@ -32,31 +47,14 @@ fn read(
     names: &Names,
     values: &Vec<Value>,
     name: &Str,
+    near: usize,
 ) -> Result<Option<Value>, MemoryFault>
     ensures { IfOk result (λ o. option_map seen o ≡ value_at names.now values.now name.now) }
 {
-    match find(names, values, name) {
+    match find(names, values, name, near) {
         Some(value) => Ok(Some(copied(alloc, value)?)),
         None => Ok(None),
     }
-}
-
-/// Puts a value into the variable of this name, and gives it back where there is none.
-fn write(names: &Names, values: &mut Vec<Value>, name: &Str, value: Value) -> Option<Value>
-    ensures after { IsWritten names.now values.old name.now value values.new }
-    ensures written { result ≡ None → has_variable names.now values.old name.now ≡ true }
-    ensures absent { IfSome result (λ _. has_variable names.now values.old name.now ≡ false) }
-    ensures given_back { IfSome result (λ v. v ≡ value) }
-    ensures as_before { IfSome result (λ _. values.new.items ≡ values.old.items) }
-{
-    let Some(place) = names.place(name) else {
-        return Some(value);
-    };
-    if place < values.len() {
-        values[place] = value;
-        return None;
-    }
-    Some(value)
 }
 
 /// The variable takes the value: a local one, or else a global one.
@@ -65,15 +63,20 @@ pub fn assign(
     store: &mut Store,
     names: &Names,
     locals: &mut Vec<Value>,
-    name: &Str,
+    name: &Named,
     value: Value,
 )
-    ensures locals { SetsLocal names.now locals.old name.now value locals.new }
-    ensures globals { SetsGlobal code.now names.now locals.old store.old name.now value store.new }
+    ensures locals { SetsLocal names.now locals.old name.now.name value locals.new }
+    ensures globals { SetsGlobal code.now names.now locals.old store.old name.now.name value store.new }
     ensures fuel { store.new.fuel ≡ store.old.fuel }
 {
-    if let Some(value) = write(names, locals, name, value) {
-        write(code.globals(), &mut store.globals, name, value);
+    let near = code.likely_place(name);
+    match place_in(names, locals, &name.name, near) {
+        Some(place) => locals[place] = value,
+        None => match place_in(code.globals(), &store.globals, &name.name, near) {
+            Some(place) => store.globals[place] = value,
+            None => drop(value),
+        },
     }
 }
 
@@ -83,17 +86,24 @@ pub fn named(
     store: &Store,
     names: &Names,
     locals: &Vec<Value>,
-    name: &Str,
+    name: &Named,
 ) -> Result<Option<Value>, MemoryFault>
-    ensures { IfOk result (StandsFor code.now store.now names.now locals.now name.now) }
+    ensures { IfOk result (StandsFor code.now store.now names.now locals.now name.now.name) }
 {
-    if let Some(value) = read(code.alloc(), names, locals, name)? {
+    let near = code.likely_place(name);
+    if let Some(value) = read(code.alloc(), names, locals, &name.name, near)? {
         return Ok(Some(value));
     }
-    if let Some(value) = read(code.alloc(), code.globals(), &store.globals, name)? {
+    if let Some(value) = read(
+        code.alloc(),
+        code.globals(),
+        &store.globals,
+        &name.name,
+        near,
+    )? {
         return Ok(Some(value));
     }
-    match code.number_of(name) {
+    match code.number_of(&name.name) {
         Some(function) => Ok(Some(function_value(code.alloc(), function))),
         None => Ok(None),
     }
@@ -105,9 +115,9 @@ pub fn name_value<S: Drop>(
     store: &Store,
     names: &Names,
     locals: &Vec<Value>,
-    name: &Str,
+    name: &Named,
 ) -> Result<Value, Exit<S>>
-    ensures { NameGives code.now store.now names.now locals.now name.now (value_left result) }
+    ensures { NameGives code.now store.now names.now locals.now name.now.name (value_left result) }
 {
     match named(code, store, names, locals, name) {
         Ok(Some(v)) => Ok(v),
@@ -131,4 +141,28 @@ pub fn locals_for(
         locals.push(Value::Unit)?;
     }
     Ok(locals)
+}
+
+/// A variable of the innermost call takes the value, where it has one of this name. Whether it has.
+pub fn set_own(
+    code: &Code,
+    names: &Names,
+    locals: &mut Vec<Value>,
+    name: &Named,
+    value: Value,
+) -> bool
+    ensures written { result ≡ true → IsWritten names.now locals.old name.now.name value locals.new }
+    ensures there { result ≡ true → has_variable names.now locals.old name.now.name ≡ true }
+    ensures not { result ≡ false → locals.new ≡ locals.old }
+{
+    match place_in(names, locals, &name.name, code.likely_place(name)) {
+        Some(place) => {
+            locals[place] = value;
+            true
+        }
+        None => {
+            drop(value);
+            false
+        }
+    }
 }

@@ -8,7 +8,7 @@ use Rattle.lang_meaning.specs.Evaluation.{place_in, sum_answer}
 use Rattle.page_values.specs.Seen.{seen, seen_all}
 use Rattle.page_interp.specs.Answers.{int_product}
 use Rattle.page_interp.specs.Direct.{names_there}
-use Rattle.page_interp.proofs.DirectSteps.{if_so, number_gives, name_gives, paren_gives, post_gives, sum_gives, product_gives, item_gives, term_gives, factor_gives, item_is, product_is}
+use Rattle.page_interp.proofs.DirectSteps.{if_so, number_gives, name_gives, paren_gives, post_gives, sum_gives, product_gives, item_gives, term_gives, factor_gives, item_is, product_is, int_there}
 use Rattle.page_interp.proofs.direct.+direct.Goals as goal
 
 pub int-returns-in-Number : goal.int-returns-in-Number
@@ -61,3 +61,6 @@ product_in-loop-factor-preserved t c =
     let e : Some c.in_ok-total.total ≡ int_product c.in-Some.factor.now.0 (to_z w64 c.loop-factor.total-bits) c.in_ok-n.n = rw to_z-of_z at c.in_ok-total.ensures in
     c.loop-factor.invariant ∙ factor_gives (names_there c.args.code.now c.args.store.now c.args.current.now) _ _ c.in-Some.factor.now (IntValue c.in_ok-n.n) (IntValue (to_z w64 c.loop-factor.total-bits)) (IntValue (to_z w64 (of_z w64 c.in_ok-total.total)))
     c.in-Some.ensures.cases.0 c.in_ok-n.ensures (rw to_z-of_z (product_is c.in-Some.factor.now.0 (to_z w64 c.loop-factor.total-bits) c.in_ok-n.n _ e))
+
+pub int-returns-in_ok-variable-in-Name : goal.int-returns-in_ok-variable-in-Name
+int-returns-in_ok-variable-in-Name t c = int_there (names_there c.args.code.now c.args.store.now c.args.current.now) _ _ _ c.as_int.result c.in-Name.is c.in_ok-variable-in-Name.ensures c.as_int.ensures

@@ -1,12 +1,23 @@
-//! The names by which a script calls.
+//! What stands in a script: the names by which it calls, and the variables.
 
-use lang_ast::{Expr, Item, ProductSign, Stmt, SumSign};
+use lang_ast::{Expr, Item, Named, ProductSign, Stmt, SumSign};
 use page_values::{MemoryFault, Str};
 use std::alloc::Global;
 
+/// What stands in a part of a script.
+#[derive(Drop)]
+pub struct Found<'a> {
+    /// The names by which it calls, as often as it does.
+    pub called: Vec<&'a Str>,
+    /// The variables that it reads and those that it gives, as often as it does.
+    pub variables: Vec<&'a Named>,
+    /// Whether it only gives variables values, has conditions and returns.
+    pub straight: bool,
+}
+
 /// Adds the names that are called in an expression.
 #[cycle(exprs)]
-fn in_expr<'a>(expr: &'a Expr, into: &mut Vec<&'a Str>) -> Result<(), MemoryFault> {
+fn in_expr<'a>(expr: &'a Expr, into: &mut Found<'a>) -> Result<(), MemoryFault> {
     match expr {
         Expr::Or(first, others) => {
             in_expr(first, into)?;
@@ -38,9 +49,9 @@ fn in_expr<'a>(expr: &'a Expr, into: &mut Vec<&'a Str>) -> Result<(), MemoryFaul
         Expr::True => Ok(()),
         Expr::False => Ok(()),
         Expr::Unit => Ok(()),
-        Expr::Name(_) => Ok(()),
+        Expr::Name(name) => into.variable(name),
         Expr::Call(name, args) => {
-            into.push(&name.name)?;
+            into.called.push(&name.name)?;
             in_exprs(args, into)
         }
         Expr::Paren(inner) => in_expr(inner, into),
@@ -49,7 +60,7 @@ fn in_expr<'a>(expr: &'a Expr, into: &mut Vec<&'a Str>) -> Result<(), MemoryFaul
 }
 
 #[cycle(exprs)]
-fn in_exprs<'a>(exprs: &'a Vec<Expr>, into: &mut Vec<&'a Str>) -> Result<(), MemoryFault> {
+fn in_exprs<'a>(exprs: &'a Vec<Expr>, into: &mut Found<'a>) -> Result<(), MemoryFault> {
     for expr in exprs {
         in_expr(expr, into)?;
     }
@@ -57,10 +68,7 @@ fn in_exprs<'a>(exprs: &'a Vec<Expr>, into: &mut Vec<&'a Str>) -> Result<(), Mem
 }
 
 #[cycle(exprs)]
-fn in_terms<'a>(
-    parts: &'a Vec<(SumSign, Expr)>,
-    into: &mut Vec<&'a Str>,
-) -> Result<(), MemoryFault> {
+fn in_terms<'a>(parts: &'a Vec<(SumSign, Expr)>, into: &mut Found<'a>) -> Result<(), MemoryFault> {
     for part in parts {
         in_expr(&part.1, into)?;
     }
@@ -70,7 +78,7 @@ fn in_terms<'a>(
 #[cycle(exprs)]
 fn in_factors<'a>(
     parts: &'a Vec<(ProductSign, Expr)>,
-    into: &mut Vec<&'a Str>,
+    into: &mut Found<'a>,
 ) -> Result<(), MemoryFault> {
     for part in parts {
         in_expr(&part.1, into)?;
@@ -78,7 +86,7 @@ fn in_factors<'a>(
     Ok(())
 }
 
-fn in_returned<'a>(value: &'a Option<Expr>, into: &mut Vec<&'a Str>) -> Result<(), MemoryFault> {
+fn in_returned<'a>(value: &'a Option<Expr>, into: &mut Found<'a>) -> Result<(), MemoryFault> {
     match value {
         Some(value) => in_expr(value, into),
         None => Ok(()),
@@ -87,10 +95,16 @@ fn in_returned<'a>(value: &'a Option<Expr>, into: &mut Vec<&'a Str>) -> Result<(
 
 /// Adds the names that are called in a statement.
 #[cycle(stmts)]
-fn in_stmt<'a>(stmt: &'a Stmt, into: &mut Vec<&'a Str>) -> Result<(), MemoryFault> {
+fn in_stmt<'a>(stmt: &'a Stmt, into: &mut Found<'a>) -> Result<(), MemoryFault> {
     match stmt {
-        Stmt::Var(_, value) => in_expr(value, into),
-        Stmt::Assign(_, value) => in_expr(value, into),
+        Stmt::Var(name, value) => {
+            into.variable(name)?;
+            in_expr(value, into)
+        }
+        Stmt::Assign(name, value) => {
+            into.variable(name)?;
+            in_expr(value, into)
+        }
         Stmt::Expr(expr) => in_expr(expr, into),
         Stmt::If(condition, block, others, last) => {
             in_expr(condition, into)?;
@@ -99,12 +113,18 @@ fn in_stmt<'a>(stmt: &'a Stmt, into: &mut Vec<&'a Str>) -> Result<(), MemoryFaul
             in_else(last, into)
         }
         Stmt::While(condition, block) => {
+            into.straight = false;
             in_expr(condition, into)?;
             in_block(block, into)
         }
         Stmt::Return(value) => in_returned(value, into),
-        Stmt::Throw(value) => in_expr(value, into),
-        Stmt::Try(block, _, handler) => {
+        Stmt::Throw(value) => {
+            into.straight = false;
+            in_expr(value, into)
+        }
+        Stmt::Try(block, name, handler) => {
+            into.straight = false;
+            into.variable(name)?;
             in_block(block, into)?;
             in_block(handler, into)
         }
@@ -112,7 +132,7 @@ fn in_stmt<'a>(stmt: &'a Stmt, into: &mut Vec<&'a Str>) -> Result<(), MemoryFaul
 }
 
 #[cycle(stmts)]
-fn in_block<'a>(block: &'a Vec<Stmt>, into: &mut Vec<&'a Str>) -> Result<(), MemoryFault> {
+fn in_block<'a>(block: &'a Vec<Stmt>, into: &mut Found<'a>) -> Result<(), MemoryFault> {
     for stmt in block {
         in_stmt(stmt, into)?;
     }
@@ -122,7 +142,7 @@ fn in_block<'a>(block: &'a Vec<Stmt>, into: &mut Vec<&'a Str>) -> Result<(), Mem
 #[cycle(stmts)]
 fn in_others<'a>(
     others: &'a Vec<(Expr, Vec<Stmt>)>,
-    into: &mut Vec<&'a Str>,
+    into: &mut Found<'a>,
 ) -> Result<(), MemoryFault> {
     for other in others {
         in_expr(&other.0, into)?;
@@ -132,21 +152,49 @@ fn in_others<'a>(
 }
 
 #[cycle(stmts)]
-fn in_else<'a>(last: &'a Option<Vec<Stmt>>, into: &mut Vec<&'a Str>) -> Result<(), MemoryFault> {
+fn in_else<'a>(last: &'a Option<Vec<Stmt>>, into: &mut Found<'a>) -> Result<(), MemoryFault> {
     match last {
         Some(block) => in_block(block, into),
         None => Ok(()),
     }
 }
 
-/// The names by which the items of a script call, as often as they do.
-pub fn called_names(alloc: Global, items: &[Item]) -> Result<Vec<&Str>, MemoryFault> {
-    let mut names = Vec::new(alloc);
-    for item in items {
-        match item {
-            Item::Fn(function) => in_block(&function.body, &mut names)?,
-            Item::Stmt(stmt) => in_stmt(stmt, &mut names)?,
+impl<'a> Found<'a> {
+    /// Nothing.
+    fn new(alloc: Global) -> Found<'a> {
+        Found {
+            called: Vec::new(alloc),
+            variables: Vec::new(alloc),
+            straight: true,
         }
     }
-    Ok(names)
+
+    fn variable(&mut self, name: &'a Named) -> Result<(), MemoryFault> {
+        self.variables.push(name)?;
+        Ok(())
+    }
+}
+
+// Adds what stands in an item.
+fn in_item<'a>(item: &'a Item, into: &mut Found<'a>) -> Result<(), MemoryFault> {
+    match item {
+        Item::Fn(function) => in_block(&function.body, into),
+        Item::Stmt(stmt) => in_stmt(stmt, into),
+    }
+}
+
+/// What stands in an item.
+pub fn found_in(alloc: Global, item: &Item) -> Result<Found<'_>, MemoryFault> {
+    let mut found = Found::new(alloc);
+    in_item(item, &mut found)?;
+    Ok(found)
+}
+
+/// The names by which the items of a script call, as often as they do.
+pub fn called_names(alloc: Global, items: &[Item]) -> Result<Vec<&Str>, MemoryFault> {
+    let mut found = Found::new(alloc);
+    for item in items {
+        in_item(item, &mut found)?;
+    }
+    Ok(found.called)
 }

@@ -1,6 +1,6 @@
 use Rattle.lang_ast.specs.Seen.{seen_stmt, seen_block, seen_others, seen_else}
 use Rattle.lang_ast.specs.Sizes.{stmt_size, block_size, others_size, else_size}
-use Rattle.page_interp.proofs.called.+stmts.Given as goal
+use Rattle.page_interp.proofs.found.+stmts.Given as goal
 
 abbrev pub decreases-in_stmt : goal.decreases-in_stmt
 decreases-in_stmt l = stmt_size (seen_stmt l.stmt.now)

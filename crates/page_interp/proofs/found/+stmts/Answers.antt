@@ -3,7 +3,7 @@ use Rattle.lang_ast.specs.Seen.{seen_stmt, seen_block, seen_others, seen_else}
 use Rattle.lang_ast.specs.Sizes.{stmt_size, block_size, others_size, else_size}
 use Rattle.lang_ast.proofs.Sizes as sizes
 use Rattle.lang_ast.proofs.Trees.{seen-If, seen-While, seen-Try}
-use Rattle.page_interp.proofs.called.+stmts.Goals as goal
+use Rattle.page_interp.proofs.found.+stmts.Goals as goal
 
 pub in_block-in_stmt-requires : goal.in_block-in_stmt-requires
 in_block-in_stmt-requires t c =

@@ -1,0 +1,5 @@
+use Rattle.page_interp.proofs.LoopTurns.{none_left}
+use Rattle.page_interp.proofs.simple.found_args.Goals as goal
+
+pub returns-in-Ok : goal.returns-in-Ok
+returns-in-Ok g c = record { none = c.new-values.result; empty = c.new-values.ensures.items; brings = rw (none_left _ c.if-is_empty.ensures) at c.in-Ok.ensures }

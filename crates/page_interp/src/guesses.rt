@@ -1,0 +1,92 @@
+//! What is guessed of a script before it runs, to spare a search. No answer depends on a guess: each
+//! is tested where it is used.
+
+use crate::found::{Found, found_in};
+use crate::names::Names;
+use lang_ast::{Item, Named};
+use page_values::MemoryFault;
+use std::alloc::Global;
+
+/// So many bytes of a script have guesses. A name further behind is found without one.
+const GUESSED: usize = 1 << 20;
+
+/// Where the variables that a script names likely stand among those of their call or among the
+/// global ones, and which of its functions likely return with no loop and no call.
+#[derive(Drop)]
+pub struct Guesses {
+    /// By the byte of the script at which the name stands.
+    places: Vec<usize>,
+    /// By the number of the function.
+    simple: Vec<bool>,
+}
+
+impl Guesses {
+    /// The guesses for a script, by the names of its functions' variables and its global ones.
+    pub fn new(
+        alloc: Global,
+        items: &[Item],
+        locals: &[Names],
+        globals: &Names,
+    ) -> Result<Guesses, MemoryFault> {
+        let mut guesses = Guesses {
+            places: Vec::new(alloc),
+            simple: Vec::new(alloc),
+        };
+        let mut functions = locals.iter();
+        for item in items {
+            let found = found_in(alloc, item)?;
+            let own = match item {
+                Item::Fn(_) => {
+                    guesses
+                        .simple
+                        .push(found.straight && found.called.is_empty())?;
+                    functions.next()
+                }
+                Item::Stmt(_) => None,
+            };
+            guesses.note(own.unwrap_or(globals), globals, &found)?;
+        }
+        Ok(guesses)
+    }
+
+    // Notes the place of each variable.
+    fn note(&mut self, own: &Names, globals: &Names, found: &Found) -> Result<(), MemoryFault> {
+        for &name in &found.variables {
+            match own.place(&name.name) {
+                Some(place) => self.put(name.at, place)?,
+                None => match globals.place(&name.name) {
+                    Some(place) => self.put(name.at, place)?,
+                    None => {}
+                },
+            }
+        }
+        Ok(())
+    }
+
+    fn put(&mut self, at: usize, place: usize) -> Result<(), MemoryFault> {
+        if at >= GUESSED {
+            return Ok(());
+        }
+        while self.places.len() <= at {
+            self.places.push(0)?;
+        }
+        self.places[at] = place;
+        Ok(())
+    }
+
+    /// Where the variable of this name stands, likely.
+    pub fn place(&self, name: &Named) -> usize {
+        match self.places.get(name.at) {
+            Some(place) => *place,
+            None => 0,
+        }
+    }
+
+    /// Whether the function with this number is likely simple.
+    pub fn is_simple(&self, number: usize) -> bool {
+        match self.simple.get(number) {
+            Some(simple) => *simple,
+            None => false,
+        }
+    }
+}
