@@ -227,6 +227,93 @@ fn fuel_and_open_calls_end_where_the_rules_say(rt: HostRuntime) -> Result<(), Fa
 }
 
 #[test]
+fn calls_of_small_functions_keep_their_order_and_their_fuel(rt: HostRuntime) -> Result<(), Fail> {
+    let examples = [
+        ends(
+            "fn f(x) { return x + 1; } var s = 0; var i = 0; while (i < 3) { s = s + i; f(s); i = f(i); } log(s); log(i);",
+            "3\n3\n",
+            990,
+        ),
+        ends(
+            "fn f(x) { var y = x * 2; x = y + 1; if (x > 5) { if (y > 6) { return \"big\"; } } return x; } \
+             var a = f(1); var b = f(4); log(a); log(b);",
+            "3\n\"big\"\n",
+            997,
+        ),
+        ends(
+            "var g = 1; fn f() { g = g + 1; return g; } var a = f(); f(); log(g); log(a);",
+            "3\n2\n",
+            997,
+        ),
+        ends(
+            "fn one() { return 1; } fn two() { return 2; } fn h(k) { var a = k(); return a; } log(h(two)); var k = one; log(k());",
+            "2\n1\n",
+            996,
+        ),
+        ends(
+            "fn f(x, y) { return y; } var a = f(1); var b = f(1, 2, 3); log(a); log(b);",
+            "unit\n2\n",
+            997,
+        ),
+        ends(
+            "fn f(x) { return 1 / x; } var a = 0; try { a = f(0); } catch (e) { a = 7; } log(a);",
+            "7\n",
+            998,
+        ),
+        Example {
+            fuel: 8,
+            end: "fuel",
+            ..ends(
+                "fn f(x) { return x; } var i = 0; while (i < 5) { f(i); i = i + 1; }",
+                "",
+                0,
+            )
+        },
+        ends(
+            "fn f() { return 5; } fn r(n) { if (n == 0) { var x = f(); return x; } return r(n - 1); } log(r(253));",
+            "5\n",
+            744,
+        ),
+        Example {
+            end: RANGE_ERROR,
+            ..ends(
+                "fn f() { return 5; } fn r(n) { if (n == 0) { var x = f(); return x; } return r(n - 1); } log(r(254));",
+                "",
+                744,
+            )
+        },
+    ];
+    for example in examples {
+        let outcome = run(rt.alloc(), &example)?;
+        assert!(rt; meets(&outcome, &example), "{}", example.script);
+    }
+    Ok(())
+}
+
+#[test]
+fn names_are_found_among_many_and_where_one_stands_twice(rt: HostRuntime) -> Result<(), Fail> {
+    let examples = [
+        ends(
+            "var a = 1; var b = 2; var c = 3; var d = 4; var e = 5; var f = 6; var g = 7; var h = 8; var i = 9; \
+             i = a + h; b = i * c; log(b); log(i); log(d + e + f + g);",
+            "27\n9\n22\n",
+            999,
+        ),
+        ends(
+            "var a = 1; var b = 2; var c = 3; var d = 4; var f = 6; var g = 7; var h = 8; var i = 9; \
+             try { throw 10; } catch (e) { log(e); } try { throw 11; } catch (e) { log(e + i); } log(e);",
+            "10\n20\n11\n",
+            999,
+        ),
+    ];
+    for example in examples {
+        let outcome = run(rt.alloc(), &example)?;
+        assert!(rt; meets(&outcome, &example), "{}", example.script);
+    }
+    Ok(())
+}
+
+#[test]
 fn callbacks_nest_and_stops_pass_through(rt: HostRuntime) -> Result<(), Fail> {
     let examples = [
         ends(
