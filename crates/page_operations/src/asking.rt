@@ -6,6 +6,7 @@ ghost use Rattle.lang_ast.specs.Operations.{count_of};
 ghost use Rattle.lang_ast.specs.Steps.{AllNumbered, EndIsNumbered, StepIsNumbered, seen_outcome, seen_step};
 ghost use Rattle.page_values.specs.Seen.{seen};
 ghost use Rattle.page_model.specs.Operations as model;
+ghost use Rattle.trace_text.specs.Given.{Seen};
 ghost use Rattle.page_state.specs.PageActs.{at};
 ghost use Rattle.page_state.specs.Standing.{page_of};
 ghost use Rattle.page_operations.specs.Asked.{Asked, functions_of};
@@ -18,6 +19,7 @@ use page_answers::{first_two, may_operate, throw};
 use page_hosts::HostPort;
 use page_state::PageState;
 use page_values::{FaultName, Value};
+use promise_operations::pure_operation;
 use std::sync::ledger::Ledger;
 use trace_text::{Lines, NoLine};
 
@@ -37,11 +39,41 @@ pub fn answer<P: HostPort, L: Lines, M: Ledger>(
     if !may_operate(page, op, &args) {
         return Ok(throw(page.alloc(), FaultName::TypeError));
     }
-    let done = answer_known(page, op, args, lines);
-    where_numbered(page, done)
+    match op {
+        Op::TextOf
+        | Op::KindOf
+        | Op::Len
+        | Op::Push
+        | Op::Bind
+        | Op::MakeFault
+        | Op::FaultNameOf
+        | Op::FaultTextOf
+        | Op::DidTimeout => answer_purely::<P, L, M>(page, op, args),
+        _ => {
+            let done = answer_known(page, op, args, lines);
+            where_numbered(page, done)
+        }
+    }
 }
 
-// The same where the arguments name nothing that was never made.
+// The answer of an operation on values alone, where the arguments name nothing that was never made. It names only functions that the
+// arguments name, so it is not looked through.
+fn answer_purely<P: HostPort, L: Lines, M: Ledger>(
+    page: &PageState<P, M>,
+    op: Op,
+    args: Vec<Value>,
+) -> Result<HostStep, NoLine>
+    requires plain { IsTrue (is_plain op) }
+    requires known { IsTrue (model.may_operate (page_of page.now) op (map seen args.items)) }
+    requires count { length args.items ≡ count_of op }
+    requires numbered { AllNumbered (functions_of page.now) (map seen args.items) }
+    ensures asked { (s : Seen L.Told) → Asked L.keeping (at page.now s) (ask_op op args) result (at page.now s) }
+    ensures numbered { IfOk result (λ step. StepIsNumbered (functions_of page.now) (seen_step step)) }
+{
+    pure_operation::<P, M, L>(page, op, args)
+}
+
+// The answer of any other operation, where the arguments name nothing that was never made.
 fn answer_known<P: HostPort, L: Lines, M: Ledger>(
     page: &mut PageState<P, M>,
     op: Op,
@@ -49,8 +81,6 @@ fn answer_known<P: HostPort, L: Lines, M: Ledger>(
     lines: &mut L,
 ) -> Result<HostStep, NoLine>
     requires known { IsTrue (model.may_operate (page_of page.old) op (map seen args.items)) }
-    requires count { length args.items ≡ count_of op }
-    requires numbered { AllNumbered (functions_of page.old) (map seen args.items) }
     ensures { Asked L.keeping (at page.old (L.seen lines.old)) (ask_op op args) result (at page.new (L.seen lines.new)) }
 {
     match op {
@@ -75,8 +105,6 @@ fn answer_plainly<P: HostPort, L: Lines, M: Ledger>(
 ) -> Result<HostStep, NoLine>
     requires plain { IsTrue (is_plain op) }
     requires known { IsTrue (model.may_operate (page_of page.old) op (map seen args.items)) }
-    requires count { length args.items ≡ count_of op }
-    requires numbered { AllNumbered (functions_of page.old) (map seen args.items) }
     ensures { Asked L.keeping (at page.old (L.seen lines.old)) (ask_op op args) result (at page.new (L.seen lines.new)) }
 {
     operate(page, op, args, lines)

@@ -1,12 +1,9 @@
 //! What an operation that calls nothing back answers.
 
-ghost use Rattle.std.specs.Prelude.{◌≡◌, length, map};
-ghost use Rattle.lang_ast.specs.Operations.{count_of};
-ghost use Rattle.lang_ast.specs.Steps.{AllNumbered};
+ghost use Rattle.std.specs.Prelude.{map};
 ghost use Rattle.page_values.specs.Seen.{seen};
 ghost use Rattle.page_answers.specs.Answers.{Answers};
 ghost use Rattle.page_state.specs.PageActs.{at};
-ghost use Rattle.page_operations.specs.Asked.{functions_of};
 ghost use Rattle.page_operations.specs.Plain.{plain_operation};
 
 use crate::promises::of_promises;
@@ -15,33 +12,22 @@ use page_answers::first;
 use page_hosts::HostPort;
 use page_state::PageState;
 use page_values::Value;
-use promise_operations::{log, pure_operation};
+use promise_operations::log;
 use std::sync::ledger::Ledger;
 use trace_text::{Lines, NoLine};
 
-/// The answer of an operation that calls nothing back, to as many arguments as it has, with its lines. An operation that calls back has
-/// no answer here, only an error.
+/// The answer of an operation that calls nothing back, with its lines. An operation that calls back, or one on values alone, has no
+/// answer here, only an error.
 pub(crate) fn operate<P: HostPort, M: Ledger, L: Lines>(
     page: &mut PageState<P, M>,
     op: Op,
     args: Vec<Value>,
     lines: &mut L,
 ) -> Result<HostStep, NoLine>
-    requires count { length args.items ≡ count_of op }
-    requires numbered { AllNumbered (functions_of page.old) (map seen args.items) }
     ensures { Answers L.keeping (at page.old (L.seen lines.old)) (plain_operation op (map seen args.items)) result
         (at page.new (L.seen lines.new)) }
 {
     match op {
-        Op::TextOf
-        | Op::KindOf
-        | Op::Len
-        | Op::Push
-        | Op::Bind
-        | Op::MakeFault
-        | Op::FaultNameOf
-        | Op::FaultTextOf
-        | Op::DidTimeout => pure_operation::<P, M, L>(page, op, args),
         Op::Log => log(page, first(args), lines),
         _ => of_promises(page, op, args, lines),
     }

@@ -39,7 +39,7 @@ joined_numbered count no_values no_values g h = tt
 joined_numbered count no_values (with_value w ws) g h = (h.0, joined_numbered count no_values ws tt h.1)
 joined_numbered count (with_value v vs) ws g h = (g.0, joined_numbered count vs ws g.1 h)
 
-push_numbered : (count : ℕ) (l v : Value) → IsNumbered count l → IsNumbered count v → AnswerIsNumbered count (push_answer l v)
+pub push_numbered : (count : ℕ) (l v : Value) → IsNumbered count l → IsNumbered count v → AnswerIsNumbered count (push_answer l v)
 push_numbered count (ListValue vs) v h n = limited_by count (ListValue (values_of (and_last (items_of vs) v))) _ (last_numbered count vs v h n)
 push_numbered count l v h n = tt
 

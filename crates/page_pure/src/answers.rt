@@ -24,6 +24,17 @@ pub fn argument(args: &Vec<Value>, place: usize) -> &Value
     &args[place]
 }
 
+/// The first two arguments, unit where one is missing. No item is copied.
+pub fn both(args: Vec<Value>) -> (Value, Value)
+    ensures first { seen result.0 ≡ argument (map seen args.items) 0 }
+    ensures second { seen result.1 ≡ argument (map seen args.items) 1 }
+{
+    let mut args = args.into_iter();
+    let first = args.next().unwrap_or(Value::Unit);
+    let second = args.next().unwrap_or(Value::Unit);
+    (first, second)
+}
+
 /// A fault with an empty text is thrown.
 pub fn throw(alloc: Global, name: FaultName) -> HostStep
     ensures { seen_step result ≡ StepThrow (FaultValue name []) }

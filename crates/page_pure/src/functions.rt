@@ -41,6 +41,16 @@ pub fn push_item(alloc: Global, list: &Value, value: &Value) -> Result<HostStep,
     }
 }
 
+/// The same with list and value handed over: the list is kept, and the value put at its end. No item is copied.
+pub fn push_onto(alloc: Global, list: Value, value: Value) -> Result<HostStep, MemoryFault>
+    ensures { IsStepOf result (push_answer (seen list) (seen value)) }
+{
+    match list {
+        Value::List(items) => made(alloc, push(items, value)),
+        _ => Ok(throw(alloc, FaultName::TypeError)),
+    }
+}
+
 /// `bind`: the function with the items of a list bound behind the arguments that it has. TypeError where it is no function
 /// or the other one no list, RangeError where it would be too heavy.
 pub fn bind_more(alloc: Global, function: &Value, list: &Value) -> Result<HostStep, MemoryFault>

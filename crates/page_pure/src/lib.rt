@@ -9,16 +9,15 @@ mod functions;
 mod texts;
 
 ghost use Rattle.std.specs.Prelude.{◌≡◌, length, map, IfOk, IfSome};
-ghost use Rattle.std.specs.Option.{option_map};
 ghost use Rattle.lang_meaning.specs.PureOperations.{pure_answer};
 ghost use Rattle.lang_ast.specs.Operations.{count_of};
 ghost use Rattle.lang_ast.specs.Steps.{seen_step, AllNumbered, StepIsNumbered};
 ghost use Rattle.page_values.specs.Seen.{seen};
-ghost use Rattle.page_pure.specs.PureSteps.{step_of};
+ghost use Rattle.page_pure.specs.PureSteps.{IsPureStepOf};
 
-use answers::argument;
+use answers::{argument, both};
 use faults::{fault_name, fault_text, make_fault};
-use functions::{bind_more, count, did_timeout, push_item};
+use functions::{bind_more, count, did_timeout, push_item, push_onto};
 use lang_ast::{HostStep, Op};
 use page_values::{FunNames, MemoryFault, Value};
 use std::alloc::Global;
@@ -35,11 +34,32 @@ pub fn pure_op(
 ) -> Result<Option<HostStep>, MemoryFault>
     requires count { length args.now.items ≡ count_of op }
     requires numbered { AllNumbered (length names.now) (map seen args.now.items) }
-    ensures answer { IfOk result (λ step. option_map seen_step step
-        ≡ option_map step_of (pure_answer names.now op (map seen args.now.items))) }
+    ensures answer { IsPureStepOf result (pure_answer names.now op (map seen args.now.items)) }
     ensures numbered { IfOk result (λ step. IfSome step (λ s. StepIsNumbered (length names.now) (seen_step s))) }
 {
     answer(alloc, op, args, names)
+}
+
+/// The same with the arguments handed over. `push` keeps the list that it is given, and puts the value at its end. No item is copied
+/// there.
+pub fn pure_op_of(
+    alloc: Global,
+    op: Op,
+    args: Vec<Value>,
+    names: &FunNames,
+) -> Result<Option<HostStep>, MemoryFault>
+    requires count { length args.items ≡ count_of op }
+    requires numbered { AllNumbered (length names.now) (map seen args.items) }
+    ensures answer { IsPureStepOf result (pure_answer names.now op (map seen args.items)) }
+    ensures numbered { IfOk result (λ step. IfSome step (λ s. StepIsNumbered (length names.now) (seen_step s))) }
+{
+    match op {
+        Op::Push => {
+            let (list, value) = both(args);
+            Ok(Some(push_onto(alloc, list, value)?))
+        }
+        _ => pure_op(alloc, op, &args, names),
+    }
 }
 
 fn answer(
@@ -50,7 +70,7 @@ fn answer(
 ) -> Result<Option<HostStep>, MemoryFault>
     requires count { length args.now.items ≡ count_of op }
     requires numbered { AllNumbered (length names.now) (map seen args.now.items) }
-    ensures { IfOk result (λ step. option_map seen_step step ≡ option_map step_of (pure_answer names.now op (map seen args.now.items))) }
+    ensures { IsPureStepOf result (pure_answer names.now op (map seen args.now.items)) }
 {
     let step = match op {
         Op::TextOf => spelling(alloc, argument(args, 0), names)?,

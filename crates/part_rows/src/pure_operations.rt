@@ -10,7 +10,7 @@ use crate::spellings::{names, told};
 use Args::{One, Two};
 use Sample::{Abc, Deadline, F, H, No, NoItems, Number, Promise, RangeError, Unit};
 use lang_ast::{HostStep, Op, argument_count};
-use page_pure::pure_op;
+use page_pure::{pure_op, pure_op_of};
 use page_values::{FaultName, Items, Str, Value, fault, function_value};
 use std::alloc::{AllocError, Global};
 use std::process::Abort;
@@ -107,6 +107,17 @@ fn answer(alloc: Global, op: Op, args: &Vec<Value>) -> Result<Option<HostStep>, 
     Ok(pure_op(alloc, op, args, &names)?)
 }
 
+// The same with the arguments handed over.
+fn answer_handed(alloc: Global, op: Op, args: Vec<Value>) -> Result<Option<HostStep>, Fail>
+    requires { AllNumbered 2 (map seen args.items) }
+{
+    if args.len() != argument_count(op) {
+        return Err(Fail::new("another number of arguments"));
+    }
+    let names = names(alloc)?;
+    Ok(pure_op_of(alloc, op, args, &names)?)
+}
+
 fn spelling(alloc: Global, answer: &Option<HostStep>) -> Result<Vec<u8>, Fail> {
     match answer {
         None => Ok(b"none".to_vec(alloc)?),
@@ -126,6 +137,14 @@ fn answered(alloc: Global, op: Op, args: Args) -> Result<Vec<u8>, Fail> {
     line
 }
 
+fn answered_handed(alloc: Global, op: Op, args: Args) -> Result<Vec<u8>, Fail> {
+    let values = values(alloc, args)?;
+    let answer = answer_handed(alloc, op, values)?;
+    let line = spelling(alloc, &answer);
+    drop(answer);
+    line
+}
+
 fn expect_answer(
     rt: &impl Abort,
     alloc: Global,
@@ -134,6 +153,8 @@ fn expect_answer(
     wanted: &str,
 ) -> Result<(), Fail> {
     let line = answered(alloc, op, args)?;
+    expect_bytes(rt, &line, wanted.as_bytes());
+    let line = answered_handed(alloc, op, args)?;
     expect_bytes(rt, &line, wanted.as_bytes());
     Ok(())
 }

@@ -14,7 +14,7 @@ ghost use Rattle.page_answers.specs.Answers.{Answers};
 use lang_ast::{HostStep, Op};
 use page_answers::give_unit;
 use page_hosts::HostPort;
-use page_pure::pure_op;
+use page_pure::pure_op_of;
 use page_state::PageState;
 use page_values::Value;
 use std::sync::ledger::Ledger;
@@ -35,7 +35,7 @@ pub fn log<P: HostPort, M: Ledger, L: Lines>(
 }
 
 /// What an operation on values alone answers to its arguments. It does nothing to the page and writes no line. Any other operation
-/// has no answer here, only an error.
+/// has no answer here, only an error. `push` copies no item of its list.
 ///
 /// A function that an argument names has a number below the number of names, and so has one that the answer names.
 pub fn pure_operation<P: HostPort, M: Ledger, L: Lines>(
@@ -49,7 +49,7 @@ pub fn pure_operation<P: HostPort, M: Ledger, L: Lines>(
         (model.operation w op (map seen args.items)) result (at page.now lines) }
     ensures numbered { IfOk result (λ step. StepIsNumbered (length page.now.script.names) (seen_step step)) }
 {
-    let Ok(answer) = pure_op(page.alloc(), op, &args, page.names()) else {
+    let Ok(answer) = pure_op_of(page.alloc(), op, args, page.names()) else {
         return Err(NoLine::OutOfMemory);
     };
     let Some(step) = answer else {

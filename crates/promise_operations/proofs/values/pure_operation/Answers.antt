@@ -12,8 +12,8 @@ use Rattle.page_answers.proofs.Answering.{Answers-wants}
 use Rattle.promise_operations.proofs.Pure.{Answers-pure}
 use Rattle.promise_operations.proofs.values.pure_operation.Goals as goal
 
-pub pure_op-requires-clause-numbered : goal.pure_op-requires-clause-numbered
-pure_op-requires-clause-numbered g c =
+pub pure_op_of-requires-clause-numbered : goal.pure_op_of-requires-clause-numbered
+pure_op_of-requires-clause-numbered g c =
     let P : List (List ℕ) → Type 0 = λ ns. AllNumbered (length ns) (map seen c.args.args.items) in
     subst P (sym c.names.ensures) c.requires.numbered
 
