@@ -29,7 +29,7 @@ use Rattle.page_interp.specs.declared.stack.Purpose.{Purpose}
 use Rattle.page_interp.specs.AtOnce.{Assigns, HasFirst, Leads, Brings, IsKept, EndsWanting, turned, tested_at}
 use Rattle.page_interp.specs.Direct.{direct_there}
 use Rattle.page_interp.specs.Frames.{does, place, meaning_at, steps_left, named_there, Place, Goes, Arrives, Moves, Steps, IsCalled, IsSet}
-use Rattle.page_interp.specs.StackClauses.{RowBrings, BlockBrings, TakesValue, ValueComes}
+use Rattle.page_interp.specs.StackClauses.{RowBrings, BlockBrings, Sets, ValueComes}
 use Rattle.page_interp.proofs.Steps.{still}
 use Rattle.page_interp.proofs.SmallSteps.{pushes_moves, pops_moves, within}
 use Rattle.page_interp.proofs.StmtSteps.{block_pushes, var_moves, assign_moves}
@@ -126,7 +126,7 @@ module _ {T : Type 0} (rules : HostRules T) (p : Code.Program) (store : Store) (
   direct_comes e v d = λ fs expr q h. direct_goes rules p store current fs expr v (rw q d) h
 
   -- a statement that only gives a variable a value
-  pub takes_value : (store1 store2 : Store) (current2 : Current) (name : Named) (e : Expr) (v : Value) → ValueComes rules p e store current v store1 → IsSet p store1 current name.name v store2 current2 → TakesValue rules p name e store current store2 current2
+  pub takes_value : (store1 store2 : Store) (current2 : Current) (name : Named) (e : Expr) (v : Value) → ValueComes rules p e store current v store1 → IsSet p store1 current name.name v store2 current2 → Sets rules p name e store current store2 current2
   takes_value store1 store2 current2 name e v g i = λ s more a fs block rest q r h.
       let stmt : Bor Stmt = record { ref_ptr = (0, 0); now = s } in
       let bound : Bor Named = record { ref_ptr = (0, 0); now = name } in
@@ -219,6 +219,11 @@ module _ (p : Program) where
   if_kept (Ok x) a = tt
   if_kept (Err x) a = same_kept a
 
+  -- another name of the store that is kept
+  pub kept_as : {A S : Type 0} (result : Result A (Exit S)) (a : Place) (store store1 : Store) → IfErr result (λ _. store1 ≡ store) → IfErr result (λ _. IsKept p a store) → IfErr result (λ _. IsKept p a store1)
+  kept_as (Ok x) a store store1 e k = tt
+  kept_as (Err x) a store store1 e k = rw e k
+
   -- no memory, where the store is kept
   pub if_wanting : {S : Type 0} (result : Result Focus (Exit S)) (a : Place) (store : Store) → IfErr result (λ x. x ≡ exit.OutOfMemory) → IfErr result (λ _. IsKept p a store) → IfErr result (EndsWanting p a store)
   if_wanting (Ok f) a store e k = tt
@@ -240,3 +245,7 @@ module _ (p : Program) (store : Store) (current : Current) (fs : List Frame) (te
   pub turn_kept_at : {S : Type 0} (result : Result Focus (Exit S)) (store1 : Store) (v : Value) → IfErr result (λ _. (v : Value) → IsKept p (turned store current test block fs v) store1) → IfErr result (λ _. IsKept p (turned store current test block fs v) store1)
   turn_kept_at (Ok f) store1 v k = tt
   turn_kept_at (Err x) store1 v k = k v
+
+-- a store whose units came back
+pub unit_back : (store store1 : Store) → store1.globals ≡ store.globals → record store1 { fuel = store.fuel } ≡ store
+unit_back store store1 q = rw q refl

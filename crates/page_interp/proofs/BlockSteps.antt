@@ -1,5 +1,5 @@
 -- Steps from the first statement of a block, with those after it.
-use Rattle.std.proofs.Common.{◌≡◌, ℕ, ◌+◌, ◌<◌, List, [], ◌∷◌, Result, Ok, Err, Option, Some, None, Bool, false, IfOk, Vec, Global, refl, ap, arith}
+use Rattle.std.proofs.Common.{◌≡◌, ℕ, ◌+◌, ◌<◌, List, [], ◌∷◌, Result, Ok, Err, Option, Some, None, Bool, false, IfOk, IfErr, Vec, Global, refl, ap, ◌∙◌, arith}
 use Rattle.std.specs.Borrow.{Bor}
 use Rattle.page_parts.specs.Kinds.{bool_in}
 use Rattle.page_values.specs.declared.Value.{Value}
@@ -98,15 +98,15 @@ module _ {T : Type 0} (rules : HostRules T) (fs : List Frame) where
   side_moves v block others last rest o f q h = pops_moves rules (before_stmt rest fs) (if_picks v block others last o f q h)
 
 module _ {T : Type 0} (rules : HostRules T) (p : Code.Program) (store : Store) (current : Current) where
-  pub leads_after : {X : Type 0} {fs0 fs1 : List Frame} {f0 f1 : Focus} (result : Result Focus (Exit X)) (fs2 : List Frame) → Moves rules fs0 f0 fs1 f1 → IfOk result (λ f. Leads rules (seen_program p) (place store current fs1 f1) (place store current fs2 f))
-      → IfOk result (λ f. Leads rules (seen_program p) (place store current fs0 f0) (place store current fs2 f))
-  leads_after (Ok f) fs2 m k = λ h. let one = m.goes (seen_program p) store current h in goes_trans rules (seen_program p) _ _ _ one (k one.holds)
-  leads_after (Err x) fs2 m k = tt
+  pub leads_after : {X : Type 0} {fs0 fs1 : List Frame} {f0 f1 : Focus} (result : Result Focus (Exit X)) (store1 : Store) (fs2 : List Frame) → Moves rules fs0 f0 fs1 f1 → IfOk result (λ f. Leads rules (seen_program p) (place store current fs1 f1) (place store1 current fs2 f))
+      → IfOk result (λ f. Leads rules (seen_program p) (place store current fs0 f0) (place store1 current fs2 f))
+  leads_after (Ok f) store1 fs2 m k = λ h. let one = m.goes (seen_program p) store current h in goes_trans rules (seen_program p) _ _ _ one (k one.holds)
+  leads_after (Err x) store1 fs2 m k = tt
 
   -- a statement that is an expression, for whose end those after it wait
-  pub expr_leads : {X : Type 0} (result : Result Focus (Exit X)) (fs fs1 fs2 : List Frame) (s : Bor Stmt) (rest : Bor (List Stmt)) (e : Bor Expr) (f : Expr) → s.now ≡ S.Expr f → e.now ≡ f → fs1 ≡ before_stmt rest fs
-      → IfOk result (λ g. Leads rules (seen_program p) (place store current fs1 (focus.Expr e)) (place store current fs2 g)) → IfOk result (λ g. Leads rules (seen_program p) (place store current (before_stmt rest fs) (focus.Stmt s)) (place store current fs2 g))
-  expr_leads result fs fs1 fs2 s rest e f q a b k = leads_after result fs2 (expr_moves rules fs s rest e f q a) (rw b at k)
+  pub expr_leads : {X : Type 0} (result : Result Focus (Exit X)) (store1 : Store) (fs fs1 fs2 : List Frame) (s : Bor Stmt) (rest : Bor (List Stmt)) (e : Bor Expr) (f : Expr) → s.now ≡ S.Expr f → e.now ≡ f → fs1 ≡ before_stmt rest fs
+      → IfOk result (λ g. Leads rules (seen_program p) (place store current fs1 (focus.Expr e)) (place store1 current fs2 g)) → IfOk result (λ g. Leads rules (seen_program p) (place store current (before_stmt rest fs) (focus.Stmt s)) (place store1 current fs2 g))
+  expr_leads result store1 fs fs1 fs2 s rest e f q a b k = leads_after result store1 fs2 (expr_moves rules fs s rest e f q a) (rw b at k)
 
   -- a `return` whose value is found at once
   pub return_direct : (fs : List Frame) (s : Bor Stmt) (rest : Bor (List Stmt)) (e : Bor Expr) (v : Value) → s.now ≡ S.Return (Some e.now) → direct_there p store current e.now ≡ Some (seen v)
@@ -169,3 +169,8 @@ module _ {T : Type 0} (rules : HostRules T) (p : Code.Program) (store : Store) (
       let three = g (before_stmt rest fs) expr refl two.holds in
       let four = (pops_moves rules fs (stmts_pops v rest)).goes (seen_program p) store1 current three.holds in
       goes_arrives rules (seen_program p) _ _ (goes_trans rules (seen_program p) _ _ _ one (goes_trans rules (seen_program p) _ _ _ two (goes_trans rules (seen_program p) _ _ _ three four)))
+
+-- the same store, by another name of it
+pub same_then : {A E : Type 0} (result : Result A E) (a b c : Store) → IfErr result (λ _. a ≡ b) → b ≡ c → IfErr result (λ _. a ≡ c)
+same_then (Ok x) a b c h q = tt
+same_then (Err x) a b c h q = h ∙ q

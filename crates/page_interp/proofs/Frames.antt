@@ -27,6 +27,11 @@ no_variable [] vs x e = refl
 no_variable (n ∷ ns) [] x e = refl
 no_variable (n ∷ ns) (v ∷ vs) x e = none_by (same_bytes n x) (place_of ns x) (seen v) (value_in (variables_of ns vs) x) (sym e) (λ o. no_variable ns vs x (sym o))
 
+pub no_values_held : (names : List (List ℕ)) (vs : List Value) (x : List ℕ) → vs ≡ [] → value_in (variables_of names vs) x ≡ None
+no_values_held [] vs x e = refl
+no_values_held (n ∷ ns) [] x e = refl
+no_values_held (n ∷ ns) (v ∷ vs) x e = cc
+
 past_by : {X : Type 0} (b : Bool) (o : Option ℕ) (i : ℕ) (first : X) (tail : Option X) → cond b (Some 0) (option_map suc o) ≡ Some i → (i ≡ 0 → tail ≡ Some first) → ((k : ℕ) → i ≡ suc k → o ≡ Some k → tail ≡ None) → (0 < i) → cond b (Some first) tail ≡ None
 past_by true o i first tail e none next lt = let z : 0 ≡ i = cc in absurd (omega arith)
 past_by false None i first tail e none next lt = cc

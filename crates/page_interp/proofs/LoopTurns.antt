@@ -1,7 +1,6 @@
 -- Turns of a loop of which all is done at once.
-use Rattle.std.proofs.Common.{◌≡◌, ℕ, suc, ◌==◌, List, [], ◌∷◌, length, Bool, true, Result, Ok, Err, IfOk, IfErr, refl, sym, arith}
+use Rattle.std.proofs.Common.{◌≡◌, ℕ, suc, List, [], ◌∷◌, Bool, true, Result, Ok, Err, IfOk, IfErr, refl}
 use Rattle.std.specs.Borrow.{Bor}
-use borrow.Author.Tests.{eqb-true}
 use Rattle.page_values.specs.declared.Value.{Value}
 use Rattle.page_values.specs.declared.Value.TheVariants as value
 use Rattle.lang_ast.specs.SeenProgram.{seen_program}
@@ -24,10 +23,6 @@ use Rattle.page_interp.proofs.StmtSteps.{block_stays}
 use Rattle.page_interp.proofs.FrameSteps.{turn_goes}
 use Rattle.page_interp.proofs.DirectSteps.{direct_goes}
 use Rattle.page_interp.proofs.AtOnce.{goes_trans, goes_on, test_enters}
-
-pub none_left : {X : Type 0} (xs : List X) → true ≡ (length xs == 0) → xs ≡ []
-none_left [] q = refl
-none_left (x ∷ xs) q = absurd (omega (arith, eqb-true (suc (length xs)) 0 (sym q)))
 
 pub told_there : (p : Code.Program) (store : Store) (current : Current) (e : Expr) (b : Bool) {c : Bool} → b ≡ c → IsBoolThere p store current e b → IsBoolThere p store current e c
 told_there p store current e b q h = rw q at h
@@ -59,15 +54,16 @@ module _ {T : Type 0} (rules : HostRules T) (p : Code.Program) (e : Expr) (ss : 
 
 module _ {T : Type 0} (rules : HostRules T) (p : Code.Program) (test : Bor Expr) (block : Bor (List Stmt)) (store store1 : Store) (current current1 : Current) (fs : List Frame) where
   -- the rest of a turn, and the frame of its loop on top
-  pub begun_leads : {S : Type 0} (result : Result Focus (Exit S)) (fs1 fs2 : List Frame) (left : Bor (List Stmt)) → TurnBegins rules p test.now block.now store current store1 current1 left.now → fs1 ≡ frame.Turn test block ∷ fs
-      → IfOk result (λ f. Leads rules (seen_program p) (place store1 current1 fs1 (focus.Block left)) (place store1 current1 fs2 f))
-      → IfOk result (λ f. (v : Value) → Leads rules (seen_program p) (turned store current test block fs v) (place store1 current1 fs2 f))
-  begun_leads (Ok f) fs1 fs2 left b a k = λ v h. let one = b fs v test block left refl refl refl h in goes_trans rules (seen_program p) _ _ _ one (rw a at k one.holds)
-  begun_leads (Err x) fs1 fs2 left b a k = tt
+  pub begun_leads : {S : Type 0} (result : Result Focus (Exit S)) (store2 : Store) (fs1 fs2 : List Frame) (left : Bor (List Stmt)) → TurnBegins rules p test.now block.now store current store1 current1 left.now → fs1 ≡ frame.Turn test block ∷ fs
+      → IfOk result (λ f. Leads rules (seen_program p) (place store1 current1 fs1 (focus.Block left)) (place store2 current1 fs2 f))
+      → IfOk result (λ f. (v : Value) → Leads rules (seen_program p) (turned store current test block fs v) (place store2 current1 fs2 f))
+  begun_leads (Ok f) store2 fs1 fs2 left b a k = λ v h. let one = b fs v test block left refl refl refl h in goes_trans rules (seen_program p) _ _ _ one (rw a at k one.holds)
+  begun_leads (Err x) store2 fs1 fs2 left b a k = tt
 
-  pub begun_kept : {A : Type 0} (result : Result Focus A) (left : Bor (List Stmt)) → TurnBegins rules p test.now block.now store current store1 current1 left.now → IfErr result (λ _. (v : Value) → IsKept (seen_program p) (turned store current test block fs v) store1)
-  begun_kept (Ok f) left b = tt
-  begun_kept (Err x) left b = λ v h. let one = b fs v test block left refl refl refl h in (one.holds.globals, one.fuel)
+  pub begun_kept : {A : Type 0} (result : Result Focus A) (store2 : Store) (left : Bor (List Stmt)) → TurnBegins rules p test.now block.now store current store1 current1 left.now → IfErr result (λ _. store2 ≡ store1)
+      → IfErr result (λ _. (v : Value) → IsKept (seen_program p) (turned store current test block fs v) store2)
+  begun_kept (Ok f) store2 left b e = tt
+  begun_kept (Err x) store2 left b e = λ v h. let one = b fs v test block left refl refl refl h in rw e (one.holds.globals, one.fuel)
 
   -- the condition is next, and the loop waits for it
   pub come_leads : {S : Type 0} (result : Result Focus (Exit S)) (fs1 : List Frame) → TurnComes rules p test.now block.now store current store1 current1 → IfOk result (λ _. fs1 ≡ frame.Test test block ∷ fs) → IfOk result (λ x. x ≡ focus.Expr test)

@@ -1,6 +1,7 @@
 -- What an index has at any name after one more name was put in.
-use Rattle.std.proofs.Common.{◌≡◌, ℕ, zero, suc, ◌+◌, ◌<◌, ◌≤◌, Bool, true, false, true≢false, cond, List, [], ◌∷◌, Vec, Global, Option, Some, None, refl, sym, ap, ◌∙◌, subst, arith, drop, get_or, length}
+use Rattle.std.proofs.Common.{◌≡◌, ℕ, zero, suc, ◌+◌, ◌<◌, ◌≤◌, ◌==◌, Bool, true, false, true≢false, cond, List, [], ◌∷◌, Vec, Global, Option, Some, None, refl, sym, ap, ◌∙◌, subst, arith, drop, get_or, length}
 use Rattle.std.specs.Option.{option_map, is_some}
+use borrow.Author.Tests.{eqb-true}
 use Rattle.std.specs.Cmp.Lexicographic.{bytes_decides, nat_list_eq_equiv}
 use Rattle.std.specs.Str.{bytes_eq}
 use Rattle.std.specs.HashMap.{HashMap, UpdatesBy}
@@ -112,6 +113,10 @@ not_once i names q = cc
 
 pub whole_once : (i : ℕ) (names : List (List ℕ)) (once : Bool) → i ≤ 0 → AreOnceFrom i names once → once ≡ true → AreOnce names
 whole_once i names once le h q = let none : i ≡ 0 = omega arith in rw none at (h q)
+
+pub none_left : {X : Type 0} (xs : List X) → true ≡ (length xs == 0) → xs ≡ []
+none_left [] q = refl
+none_left (x ∷ xs) q = absurd (omega (arith, eqb-true (suc (length xs)) 0 (sym q)))
 
 pub none_there : {X : Type 0} (o : Option X) → is_some o ≡ false → o ≡ None
 none_there None q = refl

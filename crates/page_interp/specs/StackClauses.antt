@@ -1,11 +1,13 @@
 -- What the functions of the machine promise of a step, with the stack that they work on.
-use Rattle.std.specs.Prelude.{◌≡◌, ◌≤◌, ◌+◌, ◌*◌, ◌^◌, ℕ, List, [], ◌∷◌, map, Option, Some, Result, Vec}
+use Rattle.std.specs.Prelude.{◌≡◌, ◌≤◌, ◌+◌, ◌*◌, ◌^◌, ℕ, List, [], ◌∷◌, map, Option, Some, None, Result, Vec}
 use Rattle.std.specs.Option.{option_map}
 use Rattle.std.specs.declared.alloc.Global.{Global}
 use Rattle.std.specs.Borrow.{Bor}
 use Rattle.page_types.specs.Tree.{Block}
 use Rattle.page_types.specs.Values.{FunValue, no_values}
 use Rattle.page_types.specs.declared.Op.{Op}
+use Rattle.page_types.specs.declared.ProductSign.{ProductSign}
+use Rattle.page_types.specs.declared.SumSign.{SumSign}
 use Rattle.page_values.specs.declared.Value.{Value}
 use Rattle.page_values.specs.Seen.{seen}
 use Rattle.lang_ast.specs.declared.program.Program as Code
@@ -16,6 +18,7 @@ use Rattle.lang_ast.specs.declared.tree.Stmt.{Stmt}
 use Rattle.lang_ast.specs.Hosts.{HostNow}
 use Rattle.lang_meaning.specs.Evaluation.{Function}
 use Rattle.lang_meaning.specs.HostSteps.{HostRules, HostStep, Ask, CallbackEnd, asked_by}
+use Rattle.lang_meaning.specs.OpNames.{op_named}
 use Rattle.lang_meaning.specs.Asks.{ask_limited}
 use Rattle.page_interp.specs.declared.exit.Exit.{Exit}
 use Rattle.page_interp.specs.declared.exit.Store.{Store}
@@ -26,6 +29,8 @@ use Rattle.page_interp.specs.declared.stack.Frame.{Frame}
 use Rattle.page_interp.specs.declared.stack.Frame.TheVariants as frame
 use Rattle.page_interp.specs.declared.stack.Purpose.{Purpose}
 use Rattle.page_interp.specs.declared.stack.Waiting.{Waiting}
+use Rattle.page_interp.specs.declared.stack.Waiting.TheVariants as waiting
+use Rattle.page_interp.specs.Direct.{NameHolds}
 use Rattle.page_interp.specs.AtOnce.{Assigns, Leads, Brings, before_stmt, branches, turned, tested_at, waited_at}
 use Rattle.page_interp.specs.Clauses.{script, count_in}
 use Rattle.page_interp.specs.CodeNames.{function_at}
@@ -100,20 +105,26 @@ BlockBrings rules code store current ss store' current' ss' =
     Brings rules (script code) (place store current fs (focus.Block block))
     (place store' current' fs (focus.Block rest))
 
+-- the same, where these statements are left
+abbrev pub BlockLeaves : {T : Type 0} → HostRules T → Code.Program
+    → Store → Current → List Stmt → Store → Current → Bor (List Stmt) → Type 0
+BlockLeaves rules code store current ss store' current' = λ rest.
+    BlockBrings rules code store current ss store' current' rest.now
+
 -- a statement that gives the variable of this name the value of this expression is done
-abbrev pub TakesValue : {T : Type 0} → HostRules T → Code.Program → Named → Expr
+abbrev pub Sets : {T : Type 0} → HostRules T → Code.Program → Named → Expr
     → Store → Current → Store → Current → Type 0
-TakesValue rules code name e store current store' current' =
+Sets rules code name e store current store' current' =
     (s : Stmt) (rest : List Stmt) → Assigns s name e →
     BlockBrings rules code store current (s ∷ rest) store' current' rest
 
--- the statements return this value, and nothing else changes
+-- the statements return this value, and the store alone changes
 abbrev pub ReturnsValue : {T : Type 0} → HostRules T → Code.Program
-    → Store → Current → List Stmt → Value → Type 0
-ReturnsValue rules code store current ss v =
+    → Store → Current → List Stmt → Value → Store → Type 0
+ReturnsValue rules code store current ss v store' =
     (fs : List Frame) (block : Bor (List Stmt)) → block.now ≡ ss →
     Leads rules (script code) (place store current fs (focus.Block block))
-    (place store current fs (focus.Return v))
+    (place store' current fs (focus.Return v))
 
 -- the expression comes to this value, and the store alone changes
 abbrev pub ValueComes : {T : Type 0} → HostRules T → Code.Program → Expr
@@ -130,22 +141,46 @@ pub record AreFound {T : Type 0} (rules : HostRules T) (code : Code.Program)
   pub empty : none.items ≡ []
   pub brings : RowBrings rules code store current none es vs []
 
--- a call of this function with these arguments comes to this value, with a unit less
+-- the further terms bring a sum so far to this value
+abbrev pub TermsCome : {T : Type 0} → HostRules T → Code.Program → List (SumSign × Expr)
+    → Store → Current → (first v : Value) → Store → Type 0
+TermsCome rules code ts store current first v store' =
+    (fs : List Frame) (terms : Bor (List (SumSign × Expr))) → terms.now ≡ ts →
+    Leads rules (script code) (waited_at store current (waiting.Terms terms) fs first)
+    (place store' current fs (focus.Value v))
+
+-- the further factors bring a product so far to this value
+abbrev pub FactorsCome : {T : Type 0} → HostRules T → Code.Program → List (ProductSign × Expr)
+    → Store → Current → (first v : Value) → Store → Type 0
+FactorsCome rules code ts store current first v store' =
+    (fs : List Frame) (factors : Bor (List (ProductSign × Expr))) → factors.now ≡ ts →
+    Leads rules (script code) (waited_at store current (waiting.Factors factors) fs first)
+    (place store' current fs (focus.Value v))
+
+-- a call of this function with these arguments, which takes a unit, comes to this value
 abbrev pub CallReturns : {T : Type 0} → HostRules T → Code.Program
-    → (function : ℕ) → (args : Vec Value Global) → (less : Store) → Current → Value → Type 0
-CallReturns rules code function args less current v =
+    → (function : ℕ) → (args : Vec Value Global) → (less : Store) → Current → Value → Store → Type 0
+CallReturns rules code function args less current v store' =
     (fs : List Frame) (callee : Option Value) →
     option_map seen callee ≡ Some (FunValue function no_values) →
     Leads rules (script code)
     (place (record less { fuel = less.fuel + 1 }) current fs (focus.Call callee args))
-    (place less current fs (focus.Value v))
+    (place store' current fs (focus.Value v))
+
+-- a call by the name of this function with these expressions comes to this value
+abbrev pub CallComes : {T : Type 0} → HostRules T → Code.Program
+    → (function : ℕ) → (args : List Expr) → Store → Current → Value → Store → Type 0
+CallComes rules code function args store current v store' =
+    (e : Expr) (name : Named) (es : Vec Expr Global) → e ≡ E.Call name es → args ≡ es.items →
+    op_named name.name ≡ None → NameHolds code store current name.name (FunValue function no_values) →
+    ValueComes rules code e store current v store'
 
 -- the same where these statements wait for its end
 abbrev pub LeadsBefore : {T : Type 0} → HostRules T → Code.Program → Bor (List Stmt) → Focus
-    → Store → Current → (old new : Vec Frame Global) → Focus → Type 0
-LeadsBefore rules code rest f store current old new = λ f'.
+    → Store → Current → Vec Frame Global → Store → Vec Frame Global → Focus → Type 0
+LeadsBefore rules code rest f store current old store' new = λ f'.
     Leads rules (script code) (place store current (before_stmt rest (stacked old.items)) f)
-    (stand store current new f')
+    (stand store' current new f')
 
 -- it leads on from a value that comes back to what waits for it
 abbrev pub WaitLeads : {T : Type 0} → HostRules T → Code.Program → Waiting → Value

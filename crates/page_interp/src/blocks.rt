@@ -7,7 +7,7 @@ ghost use Rattle.lang_ast.specs.declared.tree.Stmt.{Stmt};
 ghost use Rattle.lang_ast.specs.declared.tree.Stmt.TheVariants.{Return};
 ghost use Rattle.page_interp.specs.AtOnce.{IsKept};
 ghost use Rattle.page_interp.specs.Clauses.{script};
-ghost use Rattle.page_interp.specs.StackClauses.{stand, MovesBefore, Branches, LeadsBefore, LeadsOn, BlockBrings, TakesValue, ValueComes};
+ghost use Rattle.page_interp.specs.StackClauses.{stand, MovesBefore, Branches, LeadsBefore, LeadsOn, BlockBrings, BlockLeaves, Sets, ValueComes};
 ghost use Rattle.page_interp.specs.declared.exit.Exit.TheVariants as exit;
 ghost use Rattle.page_interp.specs.declared.stack.Focus.TheVariants as focus;
 
@@ -16,7 +16,7 @@ use crate::code::Code;
 use crate::direct::{direct_int, direct_other, direct_value};
 use crate::exit::{Exit, Store};
 use crate::expressions::from_expr;
-use crate::simple::{call_value, returned};
+use crate::simple::{NO_CALLS, call_value, returned};
 use crate::stack::{Current, Focus, Frame, Waiting, push, wait, within};
 use crate::statements::from_stmt;
 use lang_ast::{Expr, Host, Named, Stmt};
@@ -31,7 +31,7 @@ fn takes<'c, H: Host>(
     name: &Named,
     expr: &'c Expr,
 ) -> bool
-    ensures done { result ≡ true → TakesValue H.rules code.now name.now expr.now
+    ensures done { result ≡ true → Sets H.rules code.now name.now expr.now
         store.old current.old store.new current.new }
     ensures same_store { result ≡ false → store.new ≡ store.old }
     ensures same_variables { result ≡ false → current.new ≡ current.old }
@@ -60,7 +60,7 @@ fn takes_call<'c, H: Host>(
     name: &Named,
     expr: &'c Expr,
 ) -> bool
-    ensures done { result ≡ true → TakesValue H.rules code.now name.now expr.now
+    ensures done { result ≡ true → Sets H.rules code.now name.now expr.now
         store.old current.old store.new current.new }
     ensures same_store { result ≡ false → store.new ≡ store.old }
     ensures same_variables { result ≡ false → current.new ≡ current.old }
@@ -103,8 +103,8 @@ fn first_done<'c, H: Host>(
     current: &mut Current<'c>,
     stmts: &'c [Stmt],
 ) -> Option<&'c [Stmt]>
-    ensures done { IfSome result (λ rest. BlockBrings H.rules code.now
-        store.old current.old stmts.now store.new current.new rest.now) }
+    ensures done { IfSome result (BlockLeaves H.rules code.now
+        store.old current.old stmts.now store.new current.new) }
     ensures shorter { IfSome result (λ rest. length rest.now < length stmts.now) }
     ensures same_store { IfNone result (store.new ≡ store.old) }
     ensures same_variables { IfNone result (current.new ≡ current.old) }
@@ -201,7 +201,7 @@ fn into_return<'c, H: Host>(
     ensures ok { IfOk result (λ f. (stmt : Bor Stmt) (rest : Bor (List Stmt)) →
         stmt.now ≡ Return (Some expr.now) →
         LeadsBefore H.rules code.now rest (focus.Stmt stmt)
-        store.now current.now stack.old stack.new f) }
+        store.now current.now stack.old store.now stack.new f) }
     ensures err { IfErr result (λ x. x ≡ exit.OutOfMemory) }
 {
     match direct_value(code, store, current, expr) {
@@ -213,16 +213,17 @@ fn into_return<'c, H: Host>(
 
 /// From the first statement of some, where these come after it.
 fn from_first<'c, H: Host>(
-    code: &Code,
-    store: &Store,
-    current: &Current,
+    code: &'c Code,
+    store: &mut Store,
+    current: &Current<'c>,
     stack: &mut Vec<Frame<'c>>,
     stmt: &'c Stmt,
     rest: &'c [Stmt],
 ) -> Result<Focus<'c>, Exit<H::Stop>>
     ensures ok { IfOk result (LeadsBefore H.rules code.now rest.entry (focus.Stmt stmt.entry)
-        store.now current.now stack.old stack.new) }
+        store.old current.now stack.old store.new stack.new) }
     ensures err { IfErr result (λ x. x ≡ exit.OutOfMemory) }
+    ensures same { IfErr result (λ _. store.new ≡ store.old) }
 {
     match stmt {
         Stmt::Expr(expr) => {
@@ -246,15 +247,16 @@ fn from_first<'c, H: Host>(
 
 /// From the statements of a block of which the first one gives no variable a value at once.
 pub fn from_block<'c, H: Host>(
-    code: &Code,
-    store: &Store,
-    current: &Current,
+    code: &'c Code,
+    store: &mut Store,
+    current: &Current<'c>,
     stack: &mut Vec<Frame<'c>>,
     stmts: &'c [Stmt],
 ) -> Result<Focus<'c>, Exit<H::Stop>>
     ensures ok { IfOk result (LeadsOn H.rules code.now (focus.Block stmts.entry)
-        store.now current.now stack.old store.now current.now stack.new) }
+        store.old current.now stack.old store.new current.now stack.new) }
     ensures err { IfErr result (λ x. x ≡ exit.OutOfMemory) }
+    ensures same { IfErr result (λ _. store.new ≡ store.old) }
 {
     match stmts.split_first() {
         Some((stmt, rest)) => from_first::<H>(code, store, current, stack, stmt, rest),
@@ -297,8 +299,12 @@ pub fn into_block<'c, H: Host>(
         (stand store.old current.old stack.old (focus.Block stmts.entry)) store.new) }
 {
     let rest = assigned::<H>(code, store, current, stmts);
-    match returned::<H>(code, store, current, rest) {
+    let before = store.fuel;
+    match returned::<H>(code, store, current, rest, NO_CALLS) {
         Some(value) => Ok(Focus::Return(value)),
-        None => from_block::<H>(code, store, current, stack, rest),
+        None => {
+            store.fuel = before;
+            from_block::<H>(code, store, current, stack, rest)
+        }
     }
 }

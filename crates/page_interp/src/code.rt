@@ -134,6 +134,11 @@ impl Code<'_> {
         Some(number)
     }
 
+    /// The function with this number is not simple: a call of it could not be done at once.
+    pub fn doubt(&self, function: u32) {
+        self.guesses.doubt(function as usize);
+    }
+
     /// The operation with this name.
     pub fn operation(&self, name: &Str) -> Option<Op>
         ensures { result ≡ op_named name.now }

@@ -1,6 +1,6 @@
 //! Steps from an expression, and from expressions in a row.
 
-ghost use Rattle.std.specs.Prelude.{◌≡◌, IfOk, IfErr};
+ghost use Rattle.std.specs.Prelude.{◌≡◌, ◌≤◌, IfOk, IfErr};
 ghost use Rattle.page_interp.specs.Answers.{Answers};
 ghost use Rattle.page_interp.specs.Frames.{IsAnswer, IsCalled, named_there};
 ghost use Rattle.page_interp.specs.StackClauses.{MovesOn, LeadsOn, CallLeads};
@@ -14,6 +14,7 @@ use crate::at_once::next_in_row;
 use crate::code::Code;
 use crate::direct::direct_value;
 use crate::exit::{Exit, Store};
+use crate::simple::call_value;
 use crate::stack::{Current, Focus, Frame, Purpose, Waiting, wait};
 use crate::values::{list, text};
 use crate::variables::{name_value, named};
@@ -37,18 +38,25 @@ pub fn come<'c, S: Drop>(done: Result<Value, Exit<S>>) -> Result<Focus<'c>, Exit
     }
 }
 
-/// From an expression. One that calls nothing has its value at once, where it is simple enough.
+/// From an expression. One that calls nothing has its value at once, where it is simple enough, and
+/// so has a call that is done at once.
 pub fn from_expr<'c, H: Host>(
-    code: &Code,
-    store: &Store,
-    current: &Current,
+    code: &'c Code,
+    store: &mut Store,
+    current: &Current<'c>,
     stack: &mut Vec<Frame<'c>>,
     expr: &'c Expr,
 ) -> Result<Focus<'c>, Exit<H::Stop>>
     ensures ok { IfOk result (LeadsOn H.rules code.now (focus.Expr expr.entry)
-        store.now current.now stack.old store.now current.now stack.new) }
+        store.old current.now stack.old store.new current.now stack.new) }
     ensures err { IfErr result (λ x. x ≡ exit.OutOfMemory) }
+    ensures same { IfErr result (λ _. store.new ≡ store.old) }
+    ensures globals { store.new.globals ≡ store.old.globals }
+    ensures fuel { store.new.fuel ≤ store.old.fuel }
 {
+    if let Some(value) = call_value::<H>(code, store, current, expr) {
+        return Ok(Focus::Value(value));
+    }
     match direct_value(code, store, current, expr) {
         Ok(Some(value)) => Ok(Focus::Value(value)),
         Ok(None) => by_parts::<H>(code, store, current, stack, expr),

@@ -3,21 +3,24 @@
 
 use crate::found::{Found, found_in};
 use crate::names::Names;
-use lang_ast::{Item, Named};
+use lang_ast::{Item, Named, operation_named};
 use page_values::MemoryFault;
 use std::alloc::Global;
+use std::cell::Cell;
 
 /// So many bytes of a script have guesses. A name further behind is found without one.
 const GUESSED: usize = 1 << 20;
 
 /// Where the variables that a script names likely stand among those of their call or among the
-/// global ones, and which of its functions likely return with no loop and no call.
+/// global ones, and which of its functions are likely simple: they return with no loop, and ask the
+/// host for nothing.
 #[derive(Drop)]
 pub struct Guesses {
     /// By the byte of the script at which the name stands.
     places: Vec<usize>,
-    /// By the number of the function.
-    simple: Vec<bool>,
+    /// By the number of the function. A function of which a call could not be done at once is not taken
+    /// for a simple one again, so that no call is tried in vain more than once.
+    simple: Vec<Cell<bool>>,
 }
 
 impl Guesses {
@@ -37,9 +40,7 @@ impl Guesses {
             let found = found_in(alloc, item)?;
             let own = match item {
                 Item::Fn(_) => {
-                    guesses
-                        .simple
-                        .push(found.straight && found.called.is_empty())?;
+                    guesses.simple.push(Cell::new(seems_simple(&found)))?;
                     functions.next()
                 }
                 Item::Stmt(_) => None,
@@ -85,8 +86,25 @@ impl Guesses {
     /// Whether the function with this number is likely simple.
     pub fn is_simple(&self, number: usize) -> bool {
         match self.simple.get(number) {
-            Some(simple) => *simple,
+            Some(simple) => simple.get(),
             None => false,
         }
     }
+
+    /// The function with this number is no simple one: a call of it could not be done at once.
+    pub fn doubt(&self, number: usize) {
+        if let Some(simple) = self.simple.get(number) {
+            simple.set(false);
+        }
+    }
+}
+
+// Whether a function has no loop and calls no operation.
+fn seems_simple(found: &Found) -> bool {
+    for &name in &found.called {
+        if operation_named(name).is_some() {
+            return false;
+        }
+    }
+    found.straight
 }

@@ -22,6 +22,9 @@ fn place_in(names: &Names, values: &Vec<Value>, name: &Str, near: usize) -> Opti
     ensures within { IfSome result (λ place. place < length values.now.items) }
     ensures none { IfNone result (value_at names.now values.now name.now ≡ None) }
 {
+    if values.is_empty() {
+        return None;
+    }
     let Some(place) = names.place_near(name, near) else {
         return None;
     };

@@ -291,6 +291,54 @@ fn calls_of_small_functions_keep_their_order_and_their_fuel(rt: HostRuntime) -> 
 }
 
 #[test]
+fn calls_inside_of_calls_keep_their_order_and_their_fuel(rt: HostRuntime) -> Result<(), Fail> {
+    let fib = ends(
+        "fn fib(n) { if (n < 2) { return n; } return fib(n - 1) + fib(n - 2); } log(fib(10));",
+        "55\n",
+        822,
+    );
+    let examples = [
+        fib,
+        Example {
+            fuel: 100,
+            logs: "",
+            end: "fuel",
+            left: 0,
+            ..fib
+        },
+        ends(
+            "fn fact(n) { if (n == 0) { return 1; } return n * fact(n - 1); } log(fact(10));",
+            "3628800\n",
+            988,
+        ),
+        Example {
+            end: RANGE_ERROR,
+            ..ends(
+                "fn fact(n) { if (n == 0) { return 1; } return n * fact(n - 1); } log(fact(21));",
+                "",
+                977,
+            )
+        },
+        ends(
+            "fn sq(x) { return x * x; } fn f(a, b) { var c = sq(a); return (c + sq(b)) * 2 - sq(1); } log(f(2, 3));",
+            "25\n",
+            995,
+        ),
+        ends(
+            "fn h(x) { return 10 / x; } fn g(x) { return h(x) + h(x - 1); } log(g(3)); \
+             try { g(1); } catch (e) { log(7); } log(g(2));",
+            "8\n7\n15\n",
+            990,
+        ),
+    ];
+    for example in examples {
+        let outcome = run(rt.alloc(), &example)?;
+        assert!(rt; meets(&outcome, &example), "{}", example.script);
+    }
+    Ok(())
+}
+
+#[test]
 fn names_are_found_among_many_and_where_one_stands_twice(rt: HostRuntime) -> Result<(), Fail> {
     let examples = [
         ends(

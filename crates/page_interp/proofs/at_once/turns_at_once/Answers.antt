@@ -1,5 +1,6 @@
 use Rattle.std.proofs.Common.{◌-◌, refl, arith}
-use Rattle.page_interp.proofs.LoopTurns.{comes_first, begins, comes_again, none_left, told_there}
+use Rattle.page_interp.proofs.NameIndex.{none_left}
+use Rattle.page_interp.proofs.LoopTurns.{comes_first, begins, comes_again, told_there}
 use Rattle.page_interp.proofs.at_once.turns_at_once.Goals as goal
 
 pub turns-init : goal.turns-init

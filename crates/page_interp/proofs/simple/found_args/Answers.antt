@@ -1,4 +1,4 @@
-use Rattle.page_interp.proofs.LoopTurns.{none_left}
+use Rattle.page_interp.proofs.NameIndex.{none_left}
 use Rattle.page_interp.proofs.simple.found_args.Goals as goal
 
 pub returns-in-Ok : goal.returns-in-Ok

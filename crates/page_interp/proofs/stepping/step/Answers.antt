@@ -6,7 +6,7 @@ use Rattle.page_interp.proofs.RunSteps.{steps_goes, steps_moves, steps_call}
 use Rattle.page_interp.proofs.stepping.step.Goals as goal
 
 pub returns-in-Expr : goal.returns-in-Expr
-returns-in-Expr g c = rw c.in-Expr.is (steps_goes g.H.Host.rules g.H.Host.leaves (seen_program c.args.code.now) (g.H.Host.now c.args.host.now) c.from_expr.result _ _ _ _ c.from_expr.ensures.ok c.from_expr.ensures.err refl (still _))
+returns-in-Expr g c = rw c.in-Expr.is (steps_goes g.H.Host.rules g.H.Host.leaves (seen_program c.args.code.now) (g.H.Host.now c.args.host.now) c.from_expr.result _ _ _ _ c.from_expr.ensures.ok c.from_expr.ensures.err c.from_expr.ensures.globals c.from_expr.ensures.fuel)
 
 pub returns-in-Row : goal.returns-in-Row
 returns-in-Row g c = rw c.in-Row.is (steps_goes g.H.Host.rules g.H.Host.leaves (seen_program c.args.code.now) (g.H.Host.now c.args.host.now) c.next_in_row.result _ _ _ _ c.next_in_row.ensures.ok c.next_in_row.ensures.err refl (still _))
