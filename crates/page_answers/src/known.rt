@@ -13,7 +13,7 @@ use page_values::{Items, Value};
 use std::sync::ledger::Ledger;
 
 /// Whether an operation may look at its arguments: none of them holds a promise, a signal or a controller that was never made.
-/// `busy` asks for no such thing. Takes no memory, and costs at most the weight of the arguments.
+/// `busy` asks for no such thing. Takes no memory, and costs at most the weight of the arguments; a list that is plain costs one step.
 pub fn may_operate<P: HostPort, M: Ledger>(page: &PageState<P, M>, op: Op, args: &[Value]) -> bool
     ensures { result ≡ read_by (λ p. model.may_operate p op (map seen args.now)) page.now }
 {
@@ -62,6 +62,9 @@ fn is_known(promises: u32, signals: u32, value: &Value) -> bool
 fn are_known(promises: u32, signals: u32, items: &Items) -> bool
     ensures { result ≡ model.are_known promises signals items.now }
 {
+    if items.is_plain() {
+        return true;
+    }
     for value in items.items() {
         if !is_known(promises, signals, value) {
             return false;

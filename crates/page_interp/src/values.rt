@@ -45,36 +45,14 @@ pub fn text<S: Drop>(alloc: Global, text: &Str) -> Result<Value, Exit<S>>
     }
 }
 
-/// A value equal to this one.
+/// A value equal to this one. Most values are integers.
 pub fn copied(alloc: Global, value: &Value) -> Result<Value, MemoryFault>
-    ensures { IfOk result (λ v. v ≡ value.now) }
-{
-    match value {
-        Value::List(items) => Ok(Value::List(copied_items(alloc, items)?)),
-        _ => copied_item(alloc, value),
-    }
-}
-
-/// The same, where most values are integers.
-fn copied_item(alloc: Global, value: &Value) -> Result<Value, MemoryFault>
     ensures { IfOk result (λ v. v ≡ value.now) }
 {
     match value {
         Value::Int(n) => Ok(Value::Int(*n)),
         _ => copy(alloc, value),
     }
-}
-
-/// The same items.
-fn copied_items(alloc: Global, items: &Items) -> Result<Items, MemoryFault>
-    ensures { IfOk result (λ vs. vs ≡ items.now) }
-{
-    let from = items.items();
-    let mut copies = Vec::with_capacity(alloc, from.len())?;
-    for item in from {
-        copies.push(copied_item(alloc, item)?)?;
-    }
-    Ok(Items::new(copies))
 }
 
 /// One more value at the end.

@@ -7,7 +7,7 @@ ghost use Rattle.page_values.specs.Written.{IsNumbered, AreNumbered};
 use page_values::{Items, Value};
 
 // Whether the number of each function that a value names is below `count`. Takes no memory, and costs at most the weight of
-// the value.
+// the value; a list that is plain costs one step.
 #[cycle(numbered)]
 pub(crate) fn is_numbered(value: &Value, count: usize) -> bool
     ensures { IsTrue result ↔ IsNumbered count (seen value.now) }
@@ -34,6 +34,9 @@ pub(crate) fn is_numbered(value: &Value, count: usize) -> bool
 fn are_numbered(items: &Items, count: usize) -> bool
     ensures { IsTrue result ↔ AreNumbered count items.now }
 {
+    if items.is_plain() {
+        return true;
+    }
     for value in items.items() {
         if !is_numbered(value, count) {
             return false;

@@ -6,3 +6,5 @@ pub mod Falls
 pub mod Made
 pub mod Spellings
 pub mod Written
+pub mod Plain
+pub mod Measured

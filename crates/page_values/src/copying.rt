@@ -36,14 +36,17 @@ pub fn copy_text(alloc: Global, text: &Str) -> Result<Str, MemoryFault>
     Ok(Str { bytes })
 }
 
-/// The same items.
+/// The same items, and what is kept beside them.
 #[cycle(copy)]
 pub fn copy_items(alloc: Global, items: &Items) -> Result<Items, MemoryFault>
     ensures { IfOk result (λ vs. vs ≡ items.now) }
 {
     let mut copies = Vec::with_capacity(alloc, items.items.len())?;
     append_copies(alloc, &items.items, &mut copies)?;
-    Ok(Items { items: copies })
+    Ok(Items {
+        items: copies,
+        measure: items.measure,
+    })
 }
 
 /// Appends a copy of each item.

@@ -4,10 +4,14 @@
 //! themselves stands in `specs/Texts.antt`, `specs/Limits.antt` and `specs/Names.antt`.
 #![tactic(auto)]
 
-ghost use Rattle.std.specs.Prelude.{◌≡◌, IsTrue};
+ghost use Rattle.std.specs.Prelude.{◌≡◌, ℕ, IsTrue};
+ghost use Rattle.page_types.specs.Values.{no_values};
 ghost use Rattle.page_values.specs.Limits.{AreLight};
+ghost use Rattle.page_values.specs.Measured.{AreMeasured};
+ghost use Rattle.page_values.specs.Plain.{are_plain};
 ghost use Rattle.page_values.specs.Seen.{seen_all};
 ghost use Rattle.page_values.specs.Texts.{is_text};
+ghost use Rattle.page_values.specs.Written.{AreNumbered};
 
 mod comparing;
 mod copying;
@@ -30,7 +34,9 @@ pub use limits::{
 pub use page_base::MemoryFault;
 pub use page_types::FaultName;
 pub use printing::{FunNames, print, print_int, print_number, print_quoted};
+use std::alloc::Global;
 use std::marker::Model;
+use weighing::{Measure, measure_of};
 pub use weighing::{nesting, weight};
 
 /// A text. Each of its bytes is LF or from 0x20 to 0x7E.
@@ -51,11 +57,13 @@ impl Model for Str {
 }
 
 /// The items of a list, or the arguments bound to a function. Together they weigh at most 65,535, and in each of them
-/// lists and bound lists nest at most 63 deep.
+/// lists and bound lists nest at most 63 deep. What they weigh, how deep they nest and whether they are plain is kept
+/// beside them.
 #[cycle(value)]
 #[derive(Drop)]
 pub struct Items {
     items: Vec<Value>,
+    measure: Measure,
 }
 
 /// A function by its number, counted from 0 in the order of the script's text, and the arguments bound to it.
@@ -89,7 +97,7 @@ impl Model for Items {
     ghost use Rattle.page_types.specs.Values.{Values, values_of};
     ghost use Rattle.page_types.specs.ValueCode.{coded_values};
     ghost use Rattle.page_parts.specs.Kinds.{all_weights};
-    ghost use Rattle.page_values.specs.Limits.{AreLight};
+    ghost use Rattle.page_values.specs.Measured.{AreMeasured};
 
     ghost Value = { Values };
 
@@ -99,7 +107,7 @@ impl Model for Items {
 
     ghost view = { λ a. seen_all a.items.items };
 
-    ghost invariant = { λ a. AreLight (seen_all a.items.items) };
+    ghost invariant = { λ a. AreMeasured (seen_all a.items.items) a.measure };
 
     ghost size = { all_weights };
 
@@ -135,12 +143,23 @@ impl Str {
 }
 
 impl Items {
-    /// These items. It takes no memory. [`make_list`] tests the condition.
+    /// These items. It takes no memory, and costs a step for each item. [`make_list`] tests the condition.
     pub fn new(items: Vec<Value>) -> Items
         requires { AreLight (seen_all items.items) }
         ensures { result ≡ seen_all items.items }
     {
-        Items { items }
+        let measure = measure_of(&items).unwrap();
+        Items { items, measure }
+    }
+
+    /// No items. It takes no memory.
+    fn none(alloc: Global) -> Items
+        ensures { result ≡ no_values }
+    {
+        Items {
+            items: Vec::new(alloc),
+            measure: Measure::of_none(),
+        }
     }
 
     pub fn items(&self) -> &[Value]
@@ -156,5 +175,21 @@ impl Items {
         ensures light { AreLight self }
     {
         self.items
+    }
+
+    fn measure(&self) -> Measure
+        ensures { AreMeasured self.now result }
+    {
+        self.measure
+    }
+
+    /// Whether none of the items is or holds a function, a promise, a signal or a controller. It costs one step.
+    pub fn is_plain(&self) -> bool
+        ensures plain { result ≡ are_plain self.now }
+
+        // Each function that they name is there, however few there are.
+        ensures numbered { IsTrue result → (count : ℕ) → AreNumbered count self.now }
+    {
+        self.measure.plain
     }
 }

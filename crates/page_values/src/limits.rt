@@ -1,16 +1,15 @@
 //! Values within the limits.
 
-ghost use Rattle.std.specs.Prelude.{◌≡◌, ◌≢◌, ◌++◌, ◌∷◌, [], true, false, IsTrue, ◌↔◌, Err};
+ghost use Rattle.std.specs.Prelude.{◌≡◌, ◌≢◌, ◌++◌, ◌∷◌, [], IsTrue, Err};
 ghost use Rattle.page_types.specs.Values.{ListValue, TextValue, FaultValue, FunValue, no_values, values_of, items_of};
 ghost use Rattle.page_parts.specs.Kinds.{within_limits};
-ghost use Rattle.page_values.specs.Limits.{AreLight};
 ghost use Rattle.page_values.specs.Made.{IsMade};
 ghost use Rattle.page_values.specs.Seen.{seen, seen_all};
 ghost use Rattle.page_values.specs.Texts.{is_text};
 
 use crate::copying::append_copies;
 use crate::faults::{TooHeavy, ValueFault};
-use crate::weighing::{nesting, weight, weight_of_all};
+use crate::weighing::measure_of;
 use crate::{FaultName, Func, Items, Str, Value};
 use std::alloc::Global;
 
@@ -20,30 +19,15 @@ pub const WEIGHT_LIMIT: u64 = 65_536;
 /// The deepest that lists and bound lists may nest in a value.
 pub const NESTING_LIMIT: u64 = 64;
 
-/// A list of these items. It takes no memory.
+/// A list of these items. It takes no memory, and costs a step for each item.
 pub fn make_list(items: Vec<Value>) -> Result<Value, ValueFault>
     ensures made { IsMade result (within_limits (ListValue (seen_all items.items))) }
     ensures memory { result ≢ Err ValueFault.OutOfMemory }
 {
-    if are_light(&items) {
-        Ok(Value::List(Items { items }))
-    } else {
-        Err(ValueFault::Is(TooHeavy))
+    match measure_of(&items) {
+        Some(measure) => Ok(Value::List(Items { items, measure })),
+        None => Err(ValueFault::Is(TooHeavy)),
     }
-}
-
-fn are_light(items: &[Value]) -> bool
-    ensures { IsTrue result ↔ AreLight (seen_all items.now) }
-{
-    let mut room = WEIGHT_LIMIT - 1;
-    for item in items {
-        let taken = weight(item);
-        if room < taken || nesting(item) >= NESTING_LIMIT {
-            return false;
-        }
-        room -= taken;
-    }
-    true
 }
 
 /// A text of these bytes. It takes no memory.
@@ -63,25 +47,31 @@ pub fn bind(alloc: Global, function: &Func, more: &Items) -> Result<Value, Value
     ensures { IsMade result (within_limits (FunValue function.now.function
         (values_of (items_of function.now.bound ++ items_of more.now)))) }
 {
-    if weight_of_all(&function.bound) + weight_of_all(more) >= WEIGHT_LIMIT {
+    let Some(measure) = function.bound.measure().and_all(more.measure()) else {
         return Err(ValueFault::Is(TooHeavy));
-    }
+    };
     let mut bound = Vec::new(alloc);
     append_copies(alloc, function.bound.items(), &mut bound)?;
     append_copies(alloc, more.items(), &mut bound)?;
     Ok(Value::Fun(Func {
         function: function.function,
-        bound: Items { items: bound },
+        bound: Items {
+            items: bound,
+            measure,
+        },
     }))
 }
 
-/// The list with one more item at its end. No item is copied.
+/// The list with one more item at its end. No item is copied or looked at.
 pub fn push(list: Items, item: Value) -> Result<Value, ValueFault>
     ensures { IsMade result (within_limits (ListValue (values_of (items_of list ++ seen item ∷ [])))) }
 {
+    let Some(measure) = list.measure().with(&item) else {
+        return Err(ValueFault::Is(TooHeavy));
+    };
     let mut items = list.into_items();
     items.push(item)?;
-    make_list(items)
+    Ok(Value::List(Items { items, measure }))
 }
 
 /// A fault with an empty text. It takes no memory.
@@ -102,9 +92,7 @@ pub fn function_value(alloc: Global, function: u32) -> Value
 {
     Value::Fun(Func {
         function,
-        bound: Items {
-            items: Vec::new(alloc),
-        },
+        bound: Items::none(alloc),
     })
 }
 

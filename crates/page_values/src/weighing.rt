@@ -1,13 +1,86 @@
-//! How heavy values are, and how deep they nest.
+//! How heavy values are, how deep they nest, and whether they are plain. What is known of the items of a list stands
+//! beside them, so that each question costs one step.
 
-ghost use Rattle.std.specs.Prelude.{◌≡◌, ◌≤◌};
+ghost use Rattle.std.specs.Prelude.{◌≡◌, ◌+◌, ◌<◌, ◌≤◌, ◌⊎◌, ◌↔◌, MatchOption, IsSome, IfSome};
+ghost use Rattle.page_types.specs.Values.{no_values};
 ghost use Rattle.page_parts.specs.Kinds.{weight, all_weights, nesting, greatest_nesting};
-ghost use Rattle.page_values.specs.Seen.{seen};
+ghost use Rattle.page_values.specs.Limits.{AreLight};
+ghost use Rattle.page_values.specs.Measured.{AreMeasured, IsJoined};
+ghost use Rattle.page_values.specs.Plain.{is_plain};
+ghost use Rattle.page_values.specs.Seen.{seen, seen_all};
 
+use crate::limits::{NESTING_LIMIT, WEIGHT_LIMIT};
 use crate::{Items, Value};
 
-/// The weight of a value: 1, the bytes of its text, and the weights of its items or bound arguments.
-#[cycle(weight)]
+/// What is kept of the items of a list: what they weigh together, how deep lists and bound lists nest in them, and
+/// whether each is plain.
+#[derive(Clone, Copy)]
+pub(crate) struct Measure {
+    pub(crate) weight: u16,
+    pub(crate) nesting: u8,
+    pub(crate) plain: bool,
+}
+
+impl Measure {
+    /// That of no values.
+    pub(crate) fn of_none() -> Measure
+        ensures { AreMeasured no_values result }
+    {
+        Measure {
+            weight: 0,
+            nesting: 0,
+            plain: true,
+        }
+    }
+
+    /// That of these values and one more, and `None` where a list of them would be too heavy.
+    pub(crate) fn with(self, item: &Value) -> Option<Measure>
+        ensures { MatchOption result
+            ((65535 < self.weight + weight (seen item.now)) ⊎ (63 < nesting (seen item.now)))
+            (IsJoined self (weight (seen item.now)) (nesting (seen item.now)) (is_plain (seen item.now))) }
+    {
+        self.and(weight(item), nesting(item), is_plain(item))
+    }
+
+    /// That of all values together.
+    pub(crate) fn and_all(self, more: Measure) -> Option<Measure>
+        ensures { MatchOption result
+            ((65535 < self.weight + more.weight) ⊎ (63 < more.nesting))
+            (IsJoined self more.weight more.nesting more.plain) }
+    {
+        self.and(more.weight as u64, more.nesting as u64, more.plain)
+    }
+
+    fn and(self, weight: u64, nesting: u64, plain: bool) -> Option<Measure>
+        ensures { MatchOption result
+            ((65535 < self.weight + weight) ⊎ (63 < nesting))
+            (IsJoined self weight nesting plain) }
+    {
+        let room = WEIGHT_LIMIT - 1 - self.weight as u64;
+        if room < weight || nesting >= NESTING_LIMIT {
+            return None;
+        }
+        Some(Measure {
+            weight: self.weight + weight as u16,
+            nesting: self.nesting.max(nesting as u8),
+            plain: self.plain && plain,
+        })
+    }
+}
+
+/// What is kept of these items, and `None` where a list of them would be too heavy. It costs a step for each item.
+pub(crate) fn measure_of(items: &[Value]) -> Option<Measure>
+    ensures light { IsSome result ↔ AreLight (seen_all items.now) }
+    ensures measured { IfSome result (AreMeasured (seen_all items.now)) }
+{
+    let mut measure = Measure::of_none();
+    for item in items {
+        measure = measure.with(item)?;
+    }
+    Some(measure)
+}
+
+/// The weight of a value: 1, the bytes of its text, and the weights of its items or bound arguments. It costs one step.
 pub fn weight(value: &Value) -> u64
     ensures { result ≡ weight (seen value.now) }
 {
@@ -26,20 +99,14 @@ pub fn weight(value: &Value) -> u64
 }
 
 /// The weights of all items together.
-#[cycle(weight)]
-pub(crate) fn weight_of_all(items: &Items) -> u64
+fn weight_of_all(items: &Items) -> u64
     ensures sum { result ≡ all_weights items.now }
     ensures light { result ≤ 65535 }
 {
-    let mut total = 0;
-    for value in &items.items {
-        total += weight(value);
-    }
-    total
+    items.measure.weight as u64
 }
 
-/// How deep lists and bound lists nest in a value.
-#[cycle(nesting)]
+/// How deep lists and bound lists nest in a value. It costs one step.
 pub fn nesting(value: &Value) -> u64
     ensures { result ≡ nesting (seen value.now) }
 {
@@ -59,17 +126,25 @@ pub fn nesting(value: &Value) -> u64
 }
 
 /// How deep lists nest in the items.
-#[cycle(nesting)]
 fn greatest_nesting(items: &Items) -> u64
     ensures greatest { result ≡ greatest_nesting items.now }
     ensures light { result ≤ 63 }
 {
-    let mut greatest = 0;
-    for value in &items.items {
-        let n = nesting(value);
-        if greatest < n {
-            greatest = n;
-        }
+    items.measure.nesting as u64
+}
+
+/// Whether a value is neither a function, a promise, a signal nor a controller, and holds none at any depth.
+fn is_plain(value: &Value) -> bool
+    ensures { result ≡ is_plain (seen value.now) }
+{
+    match value {
+        Value::List(items) => items.is_plain(),
+        Value::Fun(_) | Value::Promise(_) | Value::Signal(_) | Value::Controller(_) => false,
+        Value::Unit
+        | Value::Bool(_)
+        | Value::Int(_)
+        | Value::Text(_)
+        | Value::Deadline(_)
+        | Value::Fault(_, _) => true,
     }
-    greatest
 }

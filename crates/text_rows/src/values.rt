@@ -108,6 +108,12 @@ fn joined(alloc: Global) -> Result<Value, Fail> {
     Ok(join(alloc, &x, &y)?)
 }
 
+// A list in which a list holds a promise.
+fn holding(alloc: Global) -> Result<Value, Fail> {
+    let inner = list(alloc, Value::Promise(1))?;
+    list(alloc, inner)
+}
+
 // The list with a text behind its items.
 fn pushed(alloc: Global) -> Result<Value, Fail> {
     let items = Items::new(vec![in alloc; Value::Int(1)]?);
@@ -149,6 +155,7 @@ enum Made {
     BoundTwice,
     Joined,
     Pushed,
+    Holding,
     // a list of so many units
     Units(u32),
     // lists in one another, so deep
@@ -167,6 +174,7 @@ fn value_of(alloc: Global, how: Made) -> Result<Value, Fail> {
         Made::BoundTwice => bound_twice(alloc),
         Made::Joined => joined(alloc),
         Made::Pushed => pushed(alloc),
+        Made::Holding => holding(alloc),
         Made::Units(count) => Ok(make_list(units(alloc, count)?)?),
         Made::Nested(deep) => nested(alloc, deep),
     }
@@ -214,8 +222,10 @@ fn made_values_are_spelled(rt: HostRuntime) -> Result<(), Fail> {
 
 // Values, their weights, and how deep they nest. A list weighs more than its items, and nests deeper. The last two are
 // the heaviest value and the deepest one.
-const MEASURED: [(Made, u64, u64); 3] = [
+const MEASURED: [(Made, u64, u64); 5] = [
     (Made::Mixed, 6, 2),
+    (Made::Pushed, 4, 1),
+    (Made::BoundTwice, 4, 1),
     (Made::Units(65_535), 65_536, 1),
     (Made::Nested(64), 65, 64),
 ];
@@ -232,6 +242,29 @@ fn lists_weigh_more_than_their_items_and_nest_deeper(rt: HostRuntime) -> Result<
     for (number, (how, weight, nesting)) in MEASURED.iter().enumerate() {
         let is_met = measures(rt.alloc(), *how)? == (*weight, *nesting);
         expect_met(&rt, is_met, number);
+    }
+    Ok(())
+}
+
+// Lists, and whether they are plain. A promise in a list is one in the list around it.
+const LISTED: [(Made, bool); 4] = [
+    (Made::Empty, true),
+    (Made::Mixed, true),
+    (Made::Pushed, true),
+    (Made::Holding, false),
+];
+
+fn is_plain(alloc: Global, how: Made) -> Result<bool, Fail> {
+    let value = value_of(alloc, how)?;
+    let is_plain = as_list(&value).is_some_and(|items| items.is_plain());
+    drop(value);
+    Ok(is_plain)
+}
+
+#[test]
+fn lists_that_hold_no_handle_are_plain(rt: HostRuntime) -> Result<(), Fail> {
+    for (number, (how, plain)) in LISTED.iter().enumerate() {
+        expect_met(&rt, is_plain(rt.alloc(), *how)? == *plain, number);
     }
     Ok(())
 }
