@@ -1,10 +1,12 @@
 -- What a host tells of itself at one moment, and what it promises where it is asked.
 use Rattle.std.specs.Prelude.{◌≡◌, ℕ, List, ◌∷◌, map, Option, Vec}
+use Rattle.std.specs.Borrow.{Bor}
 use Rattle.std.specs.declared.alloc.Global.{Global}
 use Rattle.page_types.specs.declared.Op.{Op}
+use Rattle.page_types.specs.Values as Model
 use Rattle.page_values.specs.declared.Value.{Value}
 use Rattle.page_values.specs.Seen.{seen}
-use Rattle.lang_meaning.specs.HostSteps.{HostRules, Ask, AskOp, AskResume, on_ask}
+use Rattle.lang_meaning.specs.HostSteps.{HostRules, StepValue, Ask, AskOp, AskResume, on_ask}
 use Rattle.lang_ast.specs.declared.host.HostStep.{HostStep}
 use Rattle.lang_ast.specs.declared.host.Outcome.{Outcome}
 use Rattle.lang_ast.specs.Steps.{seen_step, seen_outcome, tickets_after, Falls}
@@ -32,6 +34,14 @@ ask_end ticket outcome = AskResume ticket (seen_outcome outcome)
 -- by its rules, being asked so, it goes from what it told before to what it tells after, with this step
 abbrev pub Does : {T S : Type 0} → HostRules T → Ask → (before after : HostNow T S) → HostStep → Type 0
 Does rules ask before after step = on_ask rules ask before.told ≡ record { step = seen_step step; host = after.told }
+
+-- the values that are lent so
+abbrev pub all_seen : List (Bor Value) → List Model.Value
+all_seen values = map (λ v. seen v.now) values
+
+-- by its rules it would answer an operation with a value
+abbrev pub GivesValue : {T S : Type 0} → HostRules T → Op → List Model.Value → HostNow T S → Type 0
+GivesValue rules op args now = (v : Model.Value) × ((rules.op op args now.told).step ≡ StepValue v)
 
 -- a callback in this step opens a ticket
 abbrev pub Opens : (before after : List ℕ) → HostStep → Type 0

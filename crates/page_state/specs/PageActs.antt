@@ -25,8 +25,8 @@ read_by f s = f (page_of s)
 abbrev pub at : {T : Type 0} → Standing → Seen T → At Standing T
 at s seen = record { state = s; seen = seen }
 
--- The call does the act, all of it where there is no fault of the lines; else it stopped among the act's lines. The host port is left alone,
--- also where it stopped.
+-- The call does the act, all of it where there is no fault of the lines; else it stopped among the act's lines. The host port is
+-- left alone, also where it stopped.
 pub record Does {T : Type 0} (k : Keeping T) (old : At Standing T) (act : Act Standing) (why : Option NoLine) (new : At Standing T)
     : Type 0 where
   pub acts : acts.Does k old act why new

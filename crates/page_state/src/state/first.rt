@@ -39,7 +39,8 @@ impl<P: HostPort, M: Ledger> PageState<P, M> {
     /// The page before the first turn: the script, whose functions have these names, is its one task, on the DOM source, and the
     /// time is 0. So many more tasks as the setup tells are sure to find memory in the pool.
     ///
-    /// Want of memory is the one error, and hands the port back as it was. It costs what the setup's arrivals and hosts and the port's closures cost.
+    /// Want of memory is the one error, and hands the port back as it was. It costs what the setup's arrivals and hosts and the
+    /// port's closures cost.
     pub fn new(
         alloc: Global,
         names: FunNames,
