@@ -1,2 +1,3 @@
 pub mod SpelledTexts
 pub mod NumberedSteps
+mod Fitting

@@ -1,1 +1,2 @@
 pub mod PureSteps
+pub mod ValueAnswers
