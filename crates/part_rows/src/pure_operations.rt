@@ -10,7 +10,7 @@ use crate::spellings::{names, told};
 use Args::{One, Two};
 use Sample::{Abc, Deadline, F, H, No, NoItems, Number, Promise, RangeError, Unit};
 use lang_ast::{HostStep, Op, argument_count};
-use page_pure::{pure_op, pure_op_of};
+use page_pure::{gives_value, pure_op, pure_op_of};
 use page_values::{FaultName, Items, Str, Value, fault, function_value};
 use std::alloc::{AllocError, Global};
 use std::process::Abort;
@@ -61,6 +61,17 @@ const ROWS: [(Op, Args, &str); 16] = [
     (Op::DidTimeout, One(Deadline(None)), "value false"),
     // This one needs a page.
     (Op::Log, One(Unit), "none"),
+];
+
+// Whether an operation is told to answer arguments with a value, before it is done.
+const TOLD: [(Op, Args, bool); 6] = [
+    (Op::KindOf, One(Promise), true),
+    (Op::Len, One(Abc), true),
+    (Op::Len, One(Number(3)), false),
+    (Op::Push, Two(NoItems, Number(4)), true),
+    (Op::Push, Two(Unit, Unit), false),
+    // This one needs a page.
+    (Op::Log, One(Unit), false),
 ];
 
 fn made(alloc: Global, sample: Sample) -> Result<Value, AllocError>
@@ -118,6 +129,17 @@ fn answer_handed(alloc: Global, op: Op, args: Vec<Value>) -> Result<Option<HostS
     Ok(pure_op_of(alloc, op, args, &names)?)
 }
 
+fn gives(op: Op, args: &Vec<Value>) -> Result<bool, Fail> {
+    if args.len() != argument_count(op) {
+        return Err(Fail::new("another number of arguments"));
+    }
+    match args.as_slice() {
+        [first] => Ok(gives_value(op, &[first])),
+        [first, second] => Ok(gives_value(op, &[first, second])),
+        _ => Ok(false),
+    }
+}
+
 fn spelling(alloc: Global, answer: &Option<HostStep>) -> Result<Vec<u8>, Fail> {
     match answer {
         None => Ok(b"none".to_vec(alloc)?),
@@ -163,6 +185,19 @@ fn expect_answer(
 fn operations_on_values_alone_have_an_answer(rt: HostRuntime) -> Result<(), Fail> {
     for (op, args, wanted) in &ROWS {
         expect_answer(&rt, rt.alloc(), *op, *args, *wanted)?;
+    }
+    Ok(())
+}
+
+#[test]
+fn an_answer_that_is_a_value_is_told_before(rt: HostRuntime) -> Result<(), Fail> {
+    for (op, args, wanted) in &TOLD {
+        let values = values(rt.alloc(), *args)?;
+        let told = gives(*op, &values);
+        drop(values);
+        if told? != *wanted {
+            return Err(Fail::new("an answer is told amiss"));
+        }
     }
     Ok(())
 }
