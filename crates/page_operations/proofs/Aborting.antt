@@ -1,5 +1,5 @@
 -- Aborts and priority changes that a script asks for, and what comes after their callbacks, as the page as a host answers them.
-use Rattle.std.proofs.Common.{◌≡◌, ℕ, Bool, true, false, cond, List, [], ◌++◌, length, refl, sym, ◌∙◌, ap, subst, Option, Some, None, Result, Ok, Err}
+use Rattle.std.proofs.Common.{◌≡◌, ℕ, Bool, true, false, cond, List, [], length, refl, sym, ◌∙◌, ap, subst, Option, Some, None, Result, Ok, Err}
 use Rattle.std.specs.Prelude.{is_some}
 use Rattle.page_types.specs.Values.{Value, FaultValue}
 use Rattle.page_types.specs.declared.FaultName.{FaultName}

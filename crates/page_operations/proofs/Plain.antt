@@ -1,17 +1,20 @@
 -- The answer of an operation that calls nothing back, as that of the page as a host.
-use Rattle.std.proofs.Common.{◌≡◌, inr, IfOk, length, true, false, cond, List, [], ◌∷◌, map, refl, sym, ◌∙◌, ap, subst, Option, Some, None, Result, Ok, Err}
+use Rattle.std.proofs.Common.{◌≡◌, ℕ, inr, IfOk, length, true, false, cond, List, [], ◌∷◌, map, refl, sym, ◌∙◌, ap, subst, Option, Some, None, Result, Ok, Err}
 use Rattle.page_types.specs.Values.{Value, FaultValue}
 use Rattle.page_types.specs.declared.FaultName.TheVariants.{TypeError}
 use Rattle.page_types.specs.declared.Op.{Op}
 use Rattle.page_types.specs.declared.Op.TheVariants.{Log, TextOf, KindOf, Len, Push, Bind, MakeFault, FaultNameOf, FaultTextOf, NowOp, Busy, QueueMicrotask, MakePromise, ResolveOp, RejectOp, Resolved, Rejected, Then, SetTimeout, SetInterval, ClearTimeout, ClearInterval, RequestFrame, CancelFrame, RequestIdle, CancelIdle, DidTimeout, TimeRemaining, PostTask, YieldTask, MakeController, MakeTaskController, SignalOf, AbortOp, SetPriority, AbortedSignal, AnySignal, TaskAny, TimeoutSignal, Aborted, ReasonOf, PriorityOf, Listen, Unlisten, HostOp, PostMessage, AllOp, RaceOp, AnyOp, AllSettled, FinallyOp}
 use Rattle.lang_meaning.specs.Machine.{Done, Gives as GivesValue, Throws, Returns, OutOfFuel}
+use Rattle.lang_meaning.specs.Evaluation.{Answer}
+use Rattle.lang_meaning.specs.PureOperations.{pure_answer}
 use Rattle.lang_meaning.specs.HostSteps.{StepThrow, Stepped, Ask, AskOp}
 use Rattle.lang_ast.specs.declared.host.HostStep as code
 use Rattle.lang_ast.specs.Steps.{seen_step, StepIsNumbered}
 use Rattle.page_model.specs.State.{Page}
 use Rattle.page_model.specs.Operations.{may_operate}
+use Rattle.page_model.specs.Invoke.{in_script}
 use Rattle.page_model.specs.Folds.{Fold}
-use Rattle.page_model.specs.PageHost.{Hosting, with_folds, done_step, step_op, step_fault, bare}
+use Rattle.page_model.specs.PageHost.{Hosting, with_folds, done_step, step_op, step_fault, bare, no_calls}
 use Rattle.trace_text.specs.declared.lines.NoLine.{NoLine}
 use Rattle.trace_text.specs.declared.lines.NoLine.TheVariants.{OutOfMemory}
 use Rattle.trace_text.specs.Line.{Line}
@@ -25,7 +28,9 @@ use Rattle.page_state.specs.Standing.{Standing, page_of}
 use Rattle.page_state.specs.PageActs.{at}
 use Rattle.page_answers.specs.Answers.{Answers, done_by, page_then, step_then}
 use Rattle.page_state.specs.FoldActs.{hosting_of}
-use Rattle.page_operations.specs.Asked.{Asked, asked_of, functions_of}
+use Rattle.page_pure.specs.ValueAnswers.{GivesPurely}
+use Rattle.promise_operations.proofs.Pure.{pure-operation}
+use Rattle.page_operations.specs.Asked.{Asked, asked_of, functions_of, AnswersValue}
 use Rattle.page_operations.specs.Plain.{is_plain, plain_operation, IsSameOrWants}
 
 plain-is : (folds : List Fold) (op : Op) (args : List Value) (p : Page) → is_plain op ≡ true
@@ -120,6 +125,30 @@ Asked-answers {k = k} op args old {new = new} (Err why) plain known h =
       step = tt;
       port = h.port;
     }
+
+-- ---- operations that give a value
+
+plain-where-pure : (names : List (List ℕ)) (op : Op) (args : List Value) (a : Answer) → pure_answer names op args ≡ Some a → is_plain op ≡ true
+plain-where-pure names TextOf args a e = refl
+plain-where-pure names KindOf args a e = refl
+plain-where-pure names Len args a e = refl
+plain-where-pure names Push args a e = refl
+plain-where-pure names Bind args a e = refl
+plain-where-pure names MakeFault args a e = refl
+plain-where-pure names FaultNameOf args a e = refl
+plain-where-pure names FaultTextOf args a e = refl
+plain-where-pure names DidTimeout args a e = refl
+plain-where-pure names op args a e = absurd (cc)
+
+-- an operation on values alone that gives a value, where the arguments name nothing that was never made
+pub answers-value : (op : Op) (args : List Value) (s : Standing) → GivesPurely op args → may_operate (page_of s) op args ≡ true → AnswersValue op args s
+unfolding at-once
+answers-value op args s gives known =
+    let p = page_of s in
+    let v = (gives p.names).0 in
+    let is : pure_answer p.names op args ≡ Some (Ok v) = (gives p.names).1 in
+    let done : plain_operation op args (bare p) ≡ GivesValue v (bare p) = pure-operation (in_script no_calls) op args (bare p) (Ok v) is in
+    (v, ap (λ (x : Stepped Hosting). x.step) (asked-is op args s (plain-where-pure p.names op args (Ok v) is) known) ∙ ap step_then done)
 
 -- where an argument holds a number that was not given out
 pub Asked-unknown : {T : Type 0} (k : Keeping T) (op : Op) (args : List Value) (old : At Standing T) (step : code.HostStep)

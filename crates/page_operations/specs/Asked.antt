@@ -1,7 +1,9 @@
 -- What a page as a host answers when it is asked, and what it does then.
-use Rattle.std.specs.Prelude.{◌≡◌, ℕ, length, Result, IfOk}
+use Rattle.std.specs.Prelude.{◌≡◌, ℕ, List, length, Result, IfOk}
 use Rattle.std.specs.Result.{result_err}
-use Rattle.lang_meaning.specs.HostSteps.{Ask, Stepped, on_ask}
+use Rattle.page_types.specs.Values.{Value}
+use Rattle.page_types.specs.declared.Op.{Op}
+use Rattle.lang_meaning.specs.HostSteps.{Ask, AskOp, StepValue, Stepped, on_ask}
 use Rattle.lang_ast.specs.declared.host.HostStep as code
 use Rattle.lang_ast.specs.Steps.{seen_step}
 use Rattle.page_model.specs.PageHost.{Hosting, page_rules}
@@ -17,6 +19,10 @@ use Rattle.page_state.specs.FoldActs.{hosting_of}
 -- what the page's rules say of an ask
 unfoldable pub asked_of : Ask → Standing → Stepped Hosting
 asked_of ask s = on_ask page_rules ask (hosting_of s)
+
+-- they answer an operation with a value
+abbrev pub AnswersValue : Op → List Value → Standing → Type 0
+AnswersValue op args s = (v : Value) × ((asked_of (AskOp op args) s).step ≡ StepValue v)
 
 -- how many functions the script has
 abbrev pub functions_of : Standing → ℕ

@@ -1,5 +1,5 @@
 -- Operations that call nothing back.
-use Rattle.std.specs.Prelude.{◌≡◌, ⊤, Bool, true, false, List, Result, Ok, Err}
+use Rattle.std.specs.Prelude.{◌≡◌, Bool, true, false, List, Result, Ok, Err}
 use Rattle.page_types.specs.Values.{Value}
 use Rattle.page_types.specs.declared.Op.{Op}
 use Rattle.page_types.specs.declared.Op.TheVariants.{AbortOp, SetPriority}

@@ -3,6 +3,7 @@
 
 mod asking;
 mod folding;
+mod giving;
 mod operating;
 mod promises;
 mod signals;
@@ -10,3 +11,4 @@ mod times;
 
 pub use asking::{answer, go_on};
 pub use folding::are_numbered;
+pub use giving::gives_value;

@@ -24,7 +24,8 @@ use Rattle.page_answers.proofs.Choosing.{Answers-fault, Answers-same}
 same_answer : (b a : Answer) (m : State) → Some b ≡ Some a → answered b m ≡ answered a m
 same_answer b a m is = ap (λ o. answered (unwrap_or o b) m) is
 
-pure-operation : (w : Ways) (op : Op) (args : List model.Value) (m : State) (a : Answer) → pure_answer m.host.names op args ≡ Some a → operation w op args m ≡ answered a m
+-- its answer is that of the operation
+pub pure-operation : (w : Ways) (op : Op) (args : List model.Value) (m : State) (a : Answer) → pure_answer m.host.names op args ≡ Some a → operation w op args m ≡ answered a m
 pure-operation w TextOf args m a is = same_answer (text_answer m.host.names (argument args 0)) a m is
 pure-operation w KindOf args m a is = same_answer (kind_answer (argument args 0)) a m is
 pure-operation w Len args m a is = same_answer (length_answer (argument args 0)) a m is
