@@ -10,6 +10,7 @@ use Rattle.page_model.proofs.Bounding.FirstBounds.{first-bounded}
 use Rattle.page_signals.specs.Laws.{as_fold}
 use Rattle.lang_meaning.specs.HostSteps.{HostStep, StepValue, StepThrow, StepInvoke, Stepped, Ask, AskOp, AskResume, CallbackEnd, on_ask}
 use Rattle.lang_ast.specs.declared.host.HostStep as code
+use Rattle.lang_ast.specs.Hosts.{GivesValue}
 use Rattle.lang_ast.specs.Steps.{seen_step, tickets_after, Falls, AreFew, room_taken}
 use Rattle.page_model.specs.Folds.{Fold}
 use Rattle.page_model.specs.PageHost.{Hosting, open_tickets, tickets_then}
@@ -24,9 +25,9 @@ use Rattle.page_rules.proofs.KeepingFolds.{ask-steady, ask-soon}
 use Rattle.page_state.specs.Standing.{Standing, PortNow, page_of}
 use Rattle.page_state.specs.PageActs.{at}
 use Rattle.page_state.specs.FoldActs.{hosting_of}
-use Rattle.page_operations.specs.Asked.{Asked, asked_of}
+use Rattle.page_operations.specs.Asked.{Asked, asked_of, AnswersValue}
 use Rattle.page_host.specs.Marked.{Mark, Marked, marked, marked_step, marked_rules, LeavesMarked}
-use Rattle.page_host.specs.PageNow.{told_at, marked_at, room_at, room_of}
+use Rattle.page_host.specs.PageNow.{PageNow, told_at, marked_at, room_at, room_of, host_now}
 
 module _ {T : Type 0} (k : Keeping T) (old s : Standing) (before after : Seen T) (stopped : Option NoLine) (step : code.HostStep) where
   handed : (ask : Ask) → Asked k (at old before) ask (Ok step) (at s after)
@@ -58,6 +59,12 @@ module _ {T : Type 0} (k : Keeping T) (old s : Standing) (before after : Seen T)
       → on_ask (marked_rules k) ask (marked_at mark old before.told stopped) ≡ record { step = seen_step step; host = marked_at mark s after.told stopped }
   rule mark (AskOp op args) a = ap (marked_step (marked_at mark old before.told stopped)) (lined-rule (AskOp op args) a) ∙ same-port mark (AskOp op args) a
   rule mark (AskResume ticket end) a = ap (marked_step (marked_at mark old before.told stopped)) (lined-rule (AskResume ticket end) a) ∙ same-port mark (AskResume ticket end) a
+
+-- what the page answers with a value is answered so by the rules of the host
+pub gives-value : {L T : Type 0} (k : Keeping T) (seen : L → Seen T) (p : PageNow L) (op : Op) (args : List Value)
+    → AnswersValue op args p.state → GivesValue (marked_rules k) op args (host_now seen p)
+unfolding asked_of
+gives-value k seen p op args h = h
 
 few-of : (left : ℕ → ℕ) (most : ℕ) (y : HostStep) → FewerLeft left most y → Falls left most y
 few-of left most (StepValue v) h = tt
