@@ -47,3 +47,12 @@ pub record Puts {E : Type 0} (old : Option (List ℕ)) (before : ℕ) (piece : L
 -- the same, whatever the call answered
 abbrev pub PutsOrFails : (old : Option (List ℕ)) → (before : ℕ) → List ℕ → (new : Option (List ℕ)) → (now : ℕ) → Type 0
 PutsOrFails old before piece new now = (new ≡ appended old piece) ⊎ (Rose before now × AppendsStartOf old new piece)
+
+-- a piece was put in a call that takes a sink from one state to the next, by its bytes and its count of faults
+abbrev pub PutsTo : {S E : Type 0} → (bytes : S → Option (List ℕ)) → (faults : S → ℕ) → (old : S) → List ℕ → Result (Unit {0}) E
+    → (new : S) → Type 0
+PutsTo bytes faults old piece result new = Puts (bytes old) (faults old) piece result (bytes new) (faults new)
+
+-- the same, whatever the call answered
+abbrev pub PutsOrFailsTo : {S : Type 0} → (bytes : S → Option (List ℕ)) → (faults : S → ℕ) → (old : S) → List ℕ → (new : S) → Type 0
+PutsOrFailsTo bytes faults old piece new = PutsOrFails (bytes old) (faults old) piece (bytes new) (faults new)

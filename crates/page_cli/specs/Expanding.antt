@@ -5,6 +5,7 @@ use Rattle.async_segments.specs.Script.{IsExpansion, IsNoAsync}
 use Rattle.page_cli.specs.declared.answer.WhichFile.TheVariants.{Script}
 use Rattle.page_cli.specs.declared.answer.Answer.{Answer}
 use Rattle.page_cli.specs.declared.answer.Answer.TheVariants.{Written, NotAsync, TooLong, ReadFault, WriteFault, OutOfMemory}
+use Rattle.page_cli.specs.ToldFiles.{OfFile}
 use Rattle.page_cli.specs.Answering.{Fits}
 
 -- the plain script for this one was written, the whole of it and no more
@@ -30,3 +31,7 @@ AnswersExpand (ReadFault Script) script old new = new ≡ old
 AnswersExpand WriteFault script old new = WroteExpansionStart script old new
 AnswersExpand OutOfMemory script old new = new ≡ old
 AnswersExpand answer script old new = ⊥
+
+-- the same of a script as the folder tells it, where it tells that one
+abbrev pub AnswersExpansion : Answer → (told : Option (List ℕ)) → (old new : Option (List ℕ)) → Type 0
+AnswersExpansion answer told old new = OfFile told (λ bytes. AnswersExpand answer bytes old new)

@@ -1,5 +1,6 @@
 -- The forms of words.
-use Rattle.std.specs.Prelude.{⊤, ℕ, List, [], ◌∷◌, Option, Some, None, codes, option_map, if◌then◌else◌}
+use Rattle.std.specs.Prelude.{⊤, ℕ, List, [], ◌∷◌, map, Option, Some, None, String, codes, option_map, string_bytes, if◌then◌else◌}
+use Rattle.std.specs.declared.alloc.Global.{Global}
 use Rattle.std.specs.Str.{bytes_eq}
 use Rattle.arrivals_text.specs.Fields.{number_in}
 use Rattle.page_cli.specs.declared.names.Picture.{Picture}
@@ -84,6 +85,10 @@ form_of (command ∷ script ∷ arrivals ∷ []) =
 form_of (command ∷ script ∷ arrivals ∷ trace ∷ []) =
     three_form command (record { script = script; arrivals = arrivals; trace = trace })
 form_of (command ∷ script ∷ arrivals ∷ trace ∷ more ∷ words) = None
+
+-- the form of the words as they are handed over
+abbrev pub form_in : List (String Global) → Option Form
+form_in words = form_of (map string_bytes words)
 
 -- the name that a form gives to a file, and nothing where it has no such file
 abbrev pub name_of : WhichFile → Form → List ℕ

@@ -9,6 +9,7 @@ pub mod HandedOn
 pub mod Complaints
 pub mod Refusals
 pub mod Missing
+pub mod Faults
 pub mod Texts
 pub mod Counted
 pub mod Pictures
@@ -16,5 +17,8 @@ pub mod Checked
 pub mod Migrated
 pub mod Stormed
 pub mod Expanding
+pub mod NamedFiles
+pub mod Pages
 pub mod FormAnswers
 pub mod Completeness
+pub mod Calls

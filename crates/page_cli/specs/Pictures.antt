@@ -12,6 +12,7 @@ use Rattle.page_cli.specs.declared.answer.WhichFile.TheVariants.{Trace}
 use Rattle.page_cli.specs.declared.answer.Answer.{Answer}
 use Rattle.page_cli.specs.declared.answer.Answer.TheVariants.{Written, BadTrace, TooLong, ReadFault, WriteFault, OutOfMemory}
 use Rattle.page_cli.specs.Counted.{counts_text}
+use Rattle.page_cli.specs.ToldFiles.{OfFile}
 
 -- the greatest number of bytes of a trace of which this is told
 abbrev pub most_of : Picture → ℕ
@@ -59,6 +60,10 @@ AnswersTrace (ReadFault Trace) what bytes old new = new ≡ old
 AnswersTrace WriteFault what bytes old new = WrotePictureStart what bytes old new
 AnswersTrace OutOfMemory what bytes old new = new ≡ old
 AnswersTrace answer what bytes old new = ⊥
+
+-- the same of a trace as the folder tells it, where it tells that one
+abbrev pub AnswersPicture : Answer → Picture → (told : Option (List ℕ)) → (old new : Option (List ℕ)) → Type 0
+AnswersPicture answer what told old new = OfFile told (λ bytes. AnswersTrace answer what bytes old new)
 
 -- what an answer to the events of a trace says
 abbrev pub AnswersEvents : Answer → Picture → List Stamped → (old new : Option (List ℕ)) → Type 0

@@ -4,19 +4,18 @@ ghost use Rattle.std.specs.Prelude.{◌≡◌, ◌≤◌, ◌<◌, ◌^◌, leng
 ghost use Rattle.page_types.specs.declared.End.{End};
 ghost use Rattle.page_types.specs.Counts.{Rose};
 ghost use Rattle.host_jobs.specs.ToldTable.{closures_of};
-ghost use Rattle.lang_ast.specs.SeenProgram.{seen_program};
-ghost use Rattle.arrivals_text.specs.Seen.{settings_of};
 ghost use Rattle.trace_text.specs.Trace.{IsBadLine};
 ghost use Rattle.trace_text.specs.declared.fault.BadLine.{BadLine as BadLineSeen};
 ghost use Rattle.trace_text.specs.declared.fault.TraceFault.TheVariants as fault;
-ghost use Rattle.trace_check.specs.Scanned.{HasVerdictOn};
 ghost use Rattle.page_cli.specs.declared.answer.WhichFile.{WhichFile};
-ghost use Rattle.page_cli.specs.Forms.{name_of};
 ghost use Rattle.page_cli.specs.declared.names.Asked.{Asked};
 ghost use Rattle.page_cli.specs.Names.{form_seen};
 ghost use Rattle.page_cli.specs.Answering.{IsRefusal};
 ghost use Rattle.page_cli.specs.Missing.{StopsAtMissing};
-ghost use Rattle.page_cli.specs.Checked.{AllFit, AnswersThree, AnswersCheck, HasVerdict, RefusesText, RefusesTrace, TellsVerdict};
+ghost use Rattle.page_cli.specs.Faults.{FaultRose};
+ghost use Rattle.page_cli.specs.Checked.{AllFit, RefusesText, TellsVerdict};
+ghost use Rattle.page_cli.specs.NamedFiles.{ChecksNamed, ChecksRead, HasReadVerdict, RefusesRead};
+ghost use Rattle.page_cli.specs.Pages.{HasVerdictOf};
 
 use crate::answer::{Answer, WhichFile};
 use crate::names::CheckNames;
@@ -42,15 +41,11 @@ pub(crate) fn check_named<F: Folder, O: Sink>(
     names: CheckNames,
     out: O,
 ) -> Answered<O>
-    ensures answers { AnswersThree result.answer (F.file folder.old names.entry.script.now)
-        (F.file folder.old names.entry.arrivals.now) (F.file folder.old names.entry.trace.now) (closures_of hosts.now) (O.bytes out)
-        (O.bytes result.out) }
+    ensures answers { ChecksNamed result (F.file folder.old) names.entry (closures_of hosts.now) O.bytes out }
     ensures refused { IsRefusal result.answer → result.out ≡ out }
     ensures later { O.faults out ≤ O.faults result.out }
     ensures missing { StopsAtMissing result.answer (form_seen (Asked.Check names.entry)) (F.IsMissing folder.old) }
-    ensures read { (file : WhichFile) → result.answer ≡ Answer.ReadFault file →
-        Rose (F.faults folder.old (name_of file (form_seen (Asked.Check names.entry))))
-        (F.faults folder.new (name_of file (form_seen (Asked.Check names.entry)))) }
+    ensures read { FaultRose result.answer (form_seen (Asked.Check names.entry)) F.faults folder.old folder.new }
     ensures write { result.answer ≡ Answer.WriteFault → Rose (O.faults out) (O.faults result.out) }
     ensures usage { result.answer ≡ Answer.Usage → ⊥ }
     ensures ended { (end : End) → result.answer ≡ Answer.Ended end → ⊥ }
@@ -69,8 +64,7 @@ fn check_files<O: Sink>(
     mut out: O,
 ) -> Answered<O>
     requires { AllFit files.now.script.items files.now.arrivals.items files.now.trace.items }
-    ensures answers { AnswersCheck result.answer files.now.script.items files.now.arrivals.items files.now.trace.items
-        (closures_of hosts.now) (O.bytes out) (O.bytes result.out) }
+    ensures answers { ChecksRead result.answer files.now (closures_of hosts.now) (O.bytes out) (O.bytes result.out) }
     ensures refused { IsRefusal result.answer → result.out ≡ out }
     ensures later { O.faults out ≤ O.faults result.out }
     ensures other { (file : WhichFile) → result.answer ≡ Answer.ReadFault file → ⊥ }
@@ -90,10 +84,8 @@ fn check_files<O: Sink>(
 /// The order of refusals is: script, arrivals, and trace.
 fn verdict_on(alloc: Global, hosts: &HostTable, files: &ThreeFiles) -> Result<Verdict, Answer>
     requires { AllFit files.now.script.items files.now.arrivals.items files.now.trace.items }
-    ensures found { IfOk result (λ verdict. HasVerdict verdict files.now.script.items files.now.arrivals.items files.now.trace.items
-        (closures_of hosts.now)) }
-    ensures refused { IfErr result (λ answer.
-        RefusesTrace answer files.now.script.items files.now.arrivals.items files.now.trace.items) }
+    ensures found { IfOk result (HasReadVerdict files.now (closures_of hosts.now)) }
+    ensures refused { IfErr result (RefusesRead files.now) }
 {
     match read_files(alloc, &files.script, &files.arrivals) {
         Ok(page) => judge(alloc, hosts, &page, &files.trace),
@@ -108,8 +100,7 @@ pub(crate) fn judge(
     page: &Page,
     trace: &[u8],
 ) -> Result<Verdict, Answer>
-    ensures found { IfOk result (HasVerdictOn (seen_program page.now.program) (settings_of page.now.setup).setup (closures_of hosts.now)
-        trace.now) }
+    ensures found { IfOk result (HasVerdictOf page.now (closures_of hosts.now) trace.now) }
     ensures count { IfOk result (λ _. length (closures_of hosts.now) ≤ 2 ^ 32) }
     ensures refused { IfErr result (λ answer. RefusesText answer trace.now) }
 {
@@ -136,8 +127,7 @@ fn judge_in<M: Ledger>(
     requires name { blank.name ≡ M.name }
     requires parts { blank.parts ≡ M.parts }
     requires some { 0 < blank.parts }
-    ensures found { IfOk result (HasVerdictOn (seen_program page.now.program) (settings_of page.now.setup).setup (closures_of hosts.now)
-        trace.now) }
+    ensures found { IfOk result (HasVerdictOf page.now (closures_of hosts.now) trace.now) }
     ensures bad { (line : BadLineSeen) → result ≡ Err (fault.Is line) → IsBadLine trace.now line.line }
 {
     let (book, share) = blank.open::<M>();

@@ -4,7 +4,7 @@ ghost use Rattle.std.specs.Prelude.{◌≡◌, ◌+◌, ◌<◌, ◌^◌, ◌++�
 ghost use Rattle.page_parts.specs.Words.{digits, decimal_of};
 ghost use Rattle.page_cli.specs.Forms.{name_of};
 ghost use Rattle.page_cli.specs.Names.{names_seen};
-ghost use Rattle.page_cli.specs.Complaints.{complaint, name_complaint, name_in, Puts, PutsOrFails};
+ghost use Rattle.page_cli.specs.Complaints.{complaint, name_complaint, name_in, PutsTo, PutsOrFailsTo};
 
 use crate::answer::{Answer, WhichFile};
 use crate::names::Asked;
@@ -14,14 +14,13 @@ use page_io::{Failed, Sink};
 
 /// Puts the decimal of a number, digit by digit. Takes no memory.
 fn put_decimal<E: Sink>(err: &mut E, n: usize) -> Result<(), Failed>
-    ensures { Puts (E.bytes err.old) (E.faults err.old) (decimal_of n) result (E.bytes err.new) (E.faults err.new) }
+    ensures { PutsTo E.bytes E.faults err.old (decimal_of n) result err.new }
 {
     put_digits(err, n)
 }
 
 fn put_digits<E: Sink>(err: &mut E, n: usize) -> Result<(), Failed>
-    ensures { (most : ℕ) → n < 10 ^ (most + 1) → Puts (E.bytes err.old) (E.faults err.old) (digits most n) result (E.bytes err.new)
-        (E.faults err.new) }
+    ensures { (most : ℕ) → n < 10 ^ (most + 1) → PutsTo E.bytes E.faults err.old (digits most n) result err.new }
 {
     if n < 10 {
         return put(err, &[b'0' + n as u8]);
@@ -32,8 +31,7 @@ fn put_digits<E: Sink>(err: &mut E, n: usize) -> Result<(), Failed>
 
 /// Puts the line of an answer.
 fn put_complaint<E: Sink>(err: &mut E, answer: Answer, asked: Option<Asked>) -> Result<(), Failed>
-    ensures { Puts (E.bytes err.old) (E.faults err.old) (complaint (names_seen asked.entry) answer) result (E.bytes err.new)
-        (E.faults err.new) }
+    ensures { PutsTo E.bytes E.faults err.old (complaint (names_seen asked.entry) answer) result err.new }
 {
     match answer {
         Answer::Ended { .. } | Answer::Written => Ok(()),
@@ -65,7 +63,7 @@ fn put_complaint<E: Sink>(err: &mut E, answer: Answer, asked: Option<Asked>) -> 
 
 /// Puts what is wrong with a name, and at which byte.
 fn put_bad_name<E: Sink>(err: &mut E, fault: NameFault) -> Result<(), Failed>
-    ensures { Puts (E.bytes err.old) (E.faults err.old) (name_complaint fault) result (E.bytes err.new) (E.faults err.new) }
+    ensures { PutsTo E.bytes E.faults err.old (name_complaint fault) result err.new }
 {
     match fault {
         NameFault::Unknown { at } => put_numbered(err, b"pageloop: unknown name at byte ", at),
@@ -78,8 +76,7 @@ fn put_bad_name<E: Sink>(err: &mut E, fault: NameFault) -> Result<(), Failed>
 
 /// Puts a line that ends with a number.
 fn put_numbered<E: Sink>(err: &mut E, words: &[u8], n: usize) -> Result<(), Failed>
-    ensures { Puts (E.bytes err.old) (E.faults err.old) (words.now ++ (decimal_of n ++ codes "\n")) result (E.bytes err.new)
-        (E.faults err.new) }
+    ensures { PutsTo E.bytes E.faults err.old (words.now ++ (decimal_of n ++ codes "\n")) result err.new }
 {
     put(err, words)?;
     put_decimal(err, n)?;
@@ -88,8 +85,7 @@ fn put_numbered<E: Sink>(err: &mut E, words: &[u8], n: usize) -> Result<(), Fail
 
 /// Puts a line that ends with a name.
 fn put_named<E: Sink>(err: &mut E, words: &[u8], name: &[u8]) -> Result<(), Failed>
-    ensures { Puts (E.bytes err.old) (E.faults err.old) (words.now ++ (name.now ++ codes "\n")) result (E.bytes err.new)
-        (E.faults err.new) }
+    ensures { PutsTo E.bytes E.faults err.old (words.now ++ (name.now ++ codes "\n")) result err.new }
 {
     put(err, words)?;
     put(err, name)?;
@@ -117,8 +113,7 @@ fn name_of<'a>(file: WhichFile, asked: Option<Asked<'a>>) -> &'a str
 
 /// Gives the line of an answer to the error output, and has it handed on. A fault of that changes no answer.
 pub(crate) fn complain<E: Sink>(err: &mut E, answer: Answer, asked: Option<Asked>)
-    ensures { PutsOrFails (E.bytes err.old) (E.faults err.old) (complaint (names_seen asked.entry) answer) (E.bytes err.new)
-        (E.faults err.new) }
+    ensures { PutsOrFailsTo E.bytes E.faults err.old (complaint (names_seen asked.entry) answer) err.new }
 {
     let _ = put_complaint(err, answer, asked);
     let _ = err.finish();

@@ -8,8 +8,8 @@ ghost use Rattle.page_cli.specs.declared.answer.WhichFile.TheVariants.{Script};
 ghost use Rattle.page_cli.specs.Answering.{IsRefusal};
 ghost use Rattle.page_cli.specs.Forms.{ExpandForm};
 ghost use Rattle.page_cli.specs.Missing.{StopsAtMissing};
-ghost use Rattle.page_cli.specs.Expanding.{AnswersExpand};
-ghost use Rattle.page_cli.specs.ToldFiles.{OfFile};
+ghost use Rattle.page_cli.specs.Faults.{OnlyFaultRose};
+ghost use Rattle.page_cli.specs.Expanding.{AnswersExpand, AnswersExpansion};
 
 use crate::answer::{Answer, WhichFile};
 use crate::pieces::write_text;
@@ -26,13 +26,11 @@ pub(crate) fn expand_named<F: Folder, O: Sink>(
     script: &str,
     out: O,
 ) -> Answered<O>
-    ensures answers { OfFile (F.file folder.old script.now) (λ bytes.
-        AnswersExpand result.answer bytes (O.bytes out) (O.bytes result.out)) }
+    ensures answers { AnswersExpansion result.answer (F.file folder.old script.now) (O.bytes out) (O.bytes result.out) }
     ensures refused { IsRefusal result.answer → result.out ≡ out }
     ensures later { O.faults out ≤ O.faults result.out }
     ensures missing { StopsAtMissing result.answer (ExpandForm script.now) (F.IsMissing folder.old) }
-    ensures read { (file : WhichFile) → result.answer ≡ Answer.ReadFault file →
-        (file ≡ Script) × Rose (F.faults folder.old script.now) (F.faults folder.new script.now) }
+    ensures read { OnlyFaultRose result.answer Script script.now F.faults folder.old folder.new }
     ensures write { result.answer ≡ Answer.WriteFault → Rose (O.faults out) (O.faults result.out) }
     ensures usage { result.answer ≡ Answer.Usage → ⊥ }
     ensures ended { (end : End) → result.answer ≡ Answer.Ended end → ⊥ }

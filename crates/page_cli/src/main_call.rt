@@ -1,19 +1,18 @@
 //! The top call.
 
-ghost use Rattle.std.specs.Prelude.{◌≡◌, ◌≤◌, ◌↔◌, ◌⊎◌, map, None, string_bytes, IfSome};
+ghost use Rattle.std.specs.Prelude.{◌≡◌, ◌≤◌, ◌↔◌, ◌⊎◌, None};
 ghost use Rattle.page_types.specs.declared.End.{End};
 ghost use Rattle.page_types.specs.Counts.{Rose};
 ghost use Rattle.host_jobs.specs.ToldTable.{closures_of};
-ghost use Rattle.page_cli.specs.declared.answer.WhichFile.{WhichFile};
-ghost use Rattle.page_cli.specs.Statuses.{status_of, status_of_end};
-ghost use Rattle.page_cli.specs.Forms.{form_of, name_of, IsRunForm, IsTextForm};
+ghost use Rattle.page_cli.specs.Statuses.{status_of};
+ghost use Rattle.page_cli.specs.Forms.{form_in, IsRunForm, IsTextForm};
 ghost use Rattle.page_cli.specs.Names.{form_seen, names_seen};
-ghost use Rattle.page_cli.specs.Answering.{AnswersTold, IsRefusal, RunsNothing};
-ghost use Rattle.page_cli.specs.FormAnswers.{AnswersForm, WroteAll};
+ghost use Rattle.page_cli.specs.Answering.{IsRefusal, RunsNothing};
 ghost use Rattle.page_cli.specs.Missing.{AnswersMissing, StopsAtMissing};
-ghost use Rattle.page_cli.specs.Completeness.{NothingRose, Completes};
+ghost use Rattle.page_cli.specs.Faults.{FaultRose, FaultRoseOf};
+ghost use Rattle.page_cli.specs.Calls.{RunsNamed, AnswersWords, AnswersMain, WroteMain, CompletesMain};
 ghost use Rattle.page_cli.specs.HandedOn.{IsWhole};
-ghost use Rattle.page_cli.specs.Complaints.{complaint, PutsOrFails};
+ghost use Rattle.page_cli.specs.Complaints.{complaint, PutsOrFailsTo};
 
 use crate::answer::{Answer, WhichFile};
 use crate::checking::check_named;
@@ -50,15 +49,12 @@ fn run_named<F: Folder, O: Sink>(
     names: Names,
     out: O,
 ) -> Ran<O>
-    ensures answers { AnswersTold result.answer (F.file folder.old names.entry.script.now) (F.file folder.old names.entry.arrivals.now)
-        (closures_of hosts) (closures_of result.hosts) (O.bytes out) (O.bytes result.out) }
+    ensures answers { RunsNamed result (F.file folder.old) names.entry hosts O.bytes out }
     ensures hosts { IsRefusal result.answer → closures_of result.hosts ≡ closures_of hosts }
     ensures refused { IsRefusal result.answer → result.out ≡ out }
     ensures later { O.faults out ≤ O.faults result.out }
     ensures missing { StopsAtMissing result.answer (form_seen (Asked.Run names.entry)) (F.IsMissing folder.old) }
-    ensures read { (file : WhichFile) → result.answer ≡ Answer.ReadFault file →
-        Rose (F.faults folder.old (name_of file (form_seen (Asked.Run names.entry))))
-        (F.faults folder.new (name_of file (form_seen (Asked.Run names.entry)))) }
+    ensures read { FaultRose result.answer (form_seen (Asked.Run names.entry)) F.faults folder.old folder.new }
     ensures write { result.answer ≡ Answer.WriteFault → Rose (O.faults out) (O.faults result.out) }
     ensures usage { result.answer ≡ Answer.Usage → ⊥ }
     ensures written { result.answer ≡ Answer.Written → ⊥ }
@@ -82,15 +78,13 @@ fn answer_to_words<F: Folder, O: Sink>(
     asked: Option<Asked>,
     out: O,
 ) -> Ran<O>
-    ensures answers { IfSome (names_seen asked.entry) (λ form. AnswersForm result.answer form (F.file folder.old)
-        (closures_of hosts) (closures_of result.hosts) (O.bytes out) (O.bytes result.out)) }
+    ensures answers { AnswersWords result (names_seen asked.entry) (F.file folder.old) hosts O.bytes out }
     ensures hosts { RunsNothing result.answer (names_seen asked.entry) → closures_of result.hosts ≡ closures_of hosts }
     ensures usage { (result.answer ≡ Answer.Usage) ↔ (names_seen asked.entry ≡ None) }
     ensures refused { IsRefusal result.answer → result.out ≡ out }
     ensures later { O.faults out ≤ O.faults result.out }
     ensures missing { AnswersMissing result.answer (names_seen asked.entry) (F.IsMissing folder.old) }
-    ensures read { (file : WhichFile) → result.answer ≡ Answer.ReadFault file → IfSome (names_seen asked.entry) (λ form.
-        Rose (F.faults folder.old (name_of file form)) (F.faults folder.new (name_of file form))) }
+    ensures read { FaultRoseOf result.answer (names_seen asked.entry) F.faults folder.old folder.new }
     ensures write { result.answer ≡ Answer.WriteFault → Rose (O.faults out) (O.faults result.out) }
     ensures ended { (end : End) → result.answer ≡ Answer.Ended end → IsRunForm (names_seen asked.entry) }
     ensures written { result.answer ≡ Answer.Written → IsTextForm (names_seen asked.entry) }
@@ -122,16 +116,14 @@ fn carry_out<F: Folder, O: Sink>(
     asked: Option<Asked>,
     out: O,
 ) -> Ran<O>
-    ensures answers { IfSome (names_seen asked.entry) (λ form. AnswersForm result.answer form (F.file folder.old)
-        (closures_of hosts) (closures_of result.hosts) (O.bytes out) (O.bytes result.out)) }
+    ensures answers { AnswersWords result (names_seen asked.entry) (F.file folder.old) hosts O.bytes out }
     ensures hosts { RunsNothing result.answer (names_seen asked.entry) → closures_of result.hosts ≡ closures_of hosts }
     ensures usage { (result.answer ≡ Answer.Usage) ↔ (names_seen asked.entry ≡ None) }
     ensures refused { IsRefusal result.answer → O.bytes result.out ≡ O.bytes out }
     ensures no_put { IsRefusal result.answer → O.puts result.out ≡ O.puts out }
     ensures whole { IsWhole result.answer → O.IsHandedOn result.out }
     ensures missing { AnswersMissing result.answer (names_seen asked.entry) (F.IsMissing folder.old) }
-    ensures read { (file : WhichFile) → result.answer ≡ Answer.ReadFault file → IfSome (names_seen asked.entry) (λ form.
-        Rose (F.faults folder.old (name_of file form)) (F.faults folder.new (name_of file form))) }
+    ensures read { FaultRoseOf result.answer (names_seen asked.entry) F.faults folder.old folder.new }
     ensures write { result.answer ≡ Answer.WriteFault → Rose (O.faults out) (O.faults result.out) }
     ensures ended { (end : End) → result.answer ≡ Answer.Ended end → IsRunForm (names_seen asked.entry) }
     ensures written { result.answer ≡ Answer.Written → IsTextForm (names_seen asked.entry) }
@@ -176,8 +168,7 @@ pub fn page_main<F: Folder, O: Sink, E: Sink>(
     // arrivals, the closures and the answers that these gave; the run by the written policy and clock has ended so, and left the closures
     // as they are now. Of a storm they are the counts of that trace. With status 0 they may instead be `legal` and LF, and the trace is
     // so; or its second form, and it is legal; or what was asked of it; or the expansion of the script.
-    ensures written { (end : End) → result.status ≡ status_of_end end → IfSome (form_of (map string_bytes words.now.items)) (λ form.
-        WroteAll end form (F.file folder.old) (closures_of hosts) (closures_of result.hosts) (O.bytes out) (O.bytes result.out)) }
+    ensures written { WroteMain result (form_in words.now.items) (F.file folder.old) hosts O.bytes out }
 
     // And all that was put was handed on.
     ensures whole { IsWhole result.answer → O.IsHandedOn result.out }
@@ -185,33 +176,26 @@ pub fn page_main<F: Folder, O: Sink, E: Sink>(
     // Each other answer comes only where its cause stands, with what it leaves: where a run stopped for a write fault or for want of
     // memory, a closure is fired, or dropped, only where it was so before or where that run leaves it so. All this holds of each file
     // that the folder tells, whatever it tells of the others: of a file that it does not tell, it holds of some content.
-    ensures answers { IfSome (form_of (map string_bytes words.now.items)) (λ form. AnswersForm result.answer form (F.file folder.old)
-        (closures_of hosts) (closures_of result.hosts) (O.bytes out) (O.bytes result.out)) }
-    ensures usage { (result.answer ≡ Answer.Usage) ↔ (form_of (map string_bytes words.now.items) ≡ None) }
+    ensures answers { AnswersMain result (form_in words.now.items) (F.file folder.old) hosts O.bytes out }
+    ensures usage { (result.answer ≡ Answer.Usage) ↔ (form_in words.now.items ≡ None) }
     ensures refused { IsRefusal result.answer → O.bytes result.out ≡ O.bytes out }
     ensures no_put { IsRefusal result.answer → O.puts result.out ≡ O.puts out }
-    ensures missing { AnswersMissing result.answer (form_of (map string_bytes words.now.items)) (F.IsMissing folder.old) }
-    ensures read { (file : WhichFile) → result.answer ≡ Answer.ReadFault file →
-        IfSome (form_of (map string_bytes words.now.items)) (λ form.
-        Rose (F.faults folder.old (name_of file form)) (F.faults folder.new (name_of file form))) }
+    ensures missing { AnswersMissing result.answer (form_in words.now.items) (F.IsMissing folder.old) }
+    ensures read { FaultRoseOf result.answer (form_in words.now.items) F.faults folder.old folder.new }
     ensures write { result.answer ≡ Answer.WriteFault → Rose (O.faults out) (O.faults result.out) }
 
     // Where nothing failed and the files are what the words ask for, that is done, or memory is wanting.
-    ensures completes { IfSome (form_of (map string_bytes words.now.items)) (λ form.
-        NothingRose form (F.faults folder.old) (F.faults folder.new) (O.faults out) (O.faults result.out)
-        → Completes result.answer form (F.file folder.old)) }
+    ensures completes { CompletesMain result (form_in words.now.items) F.file F.faults folder.old folder.new O.faults out }
 
     // A run ends only where the words ask for one, and another text is written only where they ask for that.
-    ensures run { (end : End) → result.answer ≡ Answer.Ended end → IsRunForm (form_of (map string_bytes words.now.items)) }
-    ensures text { result.answer ≡ Answer.Written → IsTextForm (form_of (map string_bytes words.now.items)) }
+    ensures run { (end : End) → result.answer ≡ Answer.Ended end → IsRunForm (form_in words.now.items) }
+    ensures text { result.answer ≡ Answer.Written → IsTextForm (form_in words.now.items) }
 
     // Where nothing is run, no closure is fired or dropped.
-    ensures hosts { RunsNothing result.answer (form_of (map string_bytes words.now.items))
-        → closures_of result.hosts ≡ closures_of hosts }
+    ensures hosts { RunsNothing result.answer (form_in words.now.items) → closures_of result.hosts ≡ closures_of hosts }
 
     // The line of the answer whole, or a start of it where the count of faults of `err` rose.
-    ensures err { PutsOrFails (E.bytes err.old) (E.faults err.old) (complaint (form_of (map string_bytes words.now.items)) result.answer)
-        (E.bytes err.new) (E.faults err.new) }
+    ensures err { PutsOrFailsTo E.bytes E.faults err.old (complaint (form_in words.now.items) result.answer) err.new }
 {
     let asked = asked_in(words);
     let ran = carry_out(alloc, folder, hosts, asked, out);

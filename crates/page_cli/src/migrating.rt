@@ -1,29 +1,22 @@
 //! Telling a legal trace in its second form.
 
-ghost use Rattle.std.specs.Prelude.{◌≡◌, ◌≤◌, ◌<◌, ◌^◌, List, length};
-ghost use Rattle.page_types.specs.Events.{Stamped};
+ghost use Rattle.std.specs.Prelude.{◌≡◌, ◌≤◌, ◌<◌, ◌^◌, length};
 ghost use Rattle.page_types.specs.declared.End.{End};
 ghost use Rattle.page_types.specs.Counts.{Rose};
-ghost use Rattle.page_parts.specs.TraceText.{text_of};
-ghost use Rattle.page_model.specs.PageTrace.{IsLegal, migrated, told_more};
+ghost use Rattle.page_model.specs.PageTrace.{told_more};
 ghost use Rattle.host_jobs.specs.ToldTable.{closures_of};
-ghost use Rattle.lang_ast.specs.SeenProgram.{seen_program};
-ghost use Rattle.arrivals_text.specs.Seen.{settings_of};
-ghost use Rattle.trace_text.specs.Sinks.{seen_through, sink_keeping};
 ghost use Rattle.trace_check.specs.declared.verdict.Verdict.TheVariants.{Yes};
-ghost use Rattle.trace_check.specs.Collected.{AreChoicesOf};
-ghost use Rattle.trace_check.specs.Scanned.{HasVerdictOn};
-ghost use Rattle.trace_check.specs.Verdicts.{own_run};
-ghost use Rattle.trace_check.specs.Replays.{Replays};
 ghost use Rattle.page_cli.specs.declared.answer.WhichFile.{WhichFile};
 ghost use Rattle.page_cli.specs.declared.names.Asked.{Asked};
-ghost use Rattle.page_cli.specs.Forms.{name_of};
 ghost use Rattle.page_cli.specs.Names.{form_seen};
 ghost use Rattle.page_cli.specs.Running.{CanStop};
 ghost use Rattle.page_cli.specs.Answering.{IsRefusal};
 ghost use Rattle.page_cli.specs.Missing.{StopsAtMissing};
+ghost use Rattle.page_cli.specs.Faults.{FaultRose};
 ghost use Rattle.page_cli.specs.Checked.{AllFit};
-ghost use Rattle.page_cli.specs.Migrated.{AnswersMigration, AnswersMigrate, AnswersRetold, HasLegalChoices, RetellsText, retold_to};
+ghost use Rattle.page_cli.specs.Migrated.{HasLegalChoices, retold_to};
+ghost use Rattle.page_cli.specs.NamedFiles.{MigratesNamed, MigratesRead};
+ghost use Rattle.page_cli.specs.Pages.{program_in, setup_in, HasVerdictOf, RetellsPage, RetellsBy, RunsAgain};
 
 use crate::answer::{Answer, WhichFile};
 use crate::checking::judge;
@@ -51,15 +44,11 @@ pub(crate) fn migrate_named<F: Folder, O: Sink>(
     names: CheckNames,
     out: O,
 ) -> Answered<O>
-    ensures answers { AnswersMigration result.answer (F.file folder.old names.entry.script.now)
-        (F.file folder.old names.entry.arrivals.now) (F.file folder.old names.entry.trace.now) (closures_of hosts.now) (O.bytes out)
-        (O.bytes result.out) }
+    ensures answers { MigratesNamed result (F.file folder.old) names.entry (closures_of hosts.now) O.bytes out }
     ensures refused { IsRefusal result.answer → result.out ≡ out }
     ensures later { O.faults out ≤ O.faults result.out }
     ensures missing { StopsAtMissing result.answer (form_seen (Asked.Migrate names.entry)) (F.IsMissing folder.old) }
-    ensures read { (file : WhichFile) → result.answer ≡ Answer.ReadFault file →
-        Rose (F.faults folder.old (name_of file (form_seen (Asked.Migrate names.entry))))
-        (F.faults folder.new (name_of file (form_seen (Asked.Migrate names.entry)))) }
+    ensures read { FaultRose result.answer (form_seen (Asked.Migrate names.entry)) F.faults folder.old folder.new }
     ensures write { result.answer ≡ Answer.WriteFault → Rose (O.faults out) (O.faults result.out) }
     ensures usage { result.answer ≡ Answer.Usage → ⊥ }
     ensures ended { (end : End) → result.answer ≡ Answer.Ended end → ⊥ }
@@ -80,8 +69,7 @@ fn migrate_files<O: Sink>(
     out: O,
 ) -> Answered<O>
     requires { AllFit files.now.script.items files.now.arrivals.items files.now.trace.items }
-    ensures answers { AnswersMigrate result.answer files.now.script.items files.now.arrivals.items files.now.trace.items
-        (closures_of hosts.now) (O.bytes out) (O.bytes result.out) }
+    ensures answers { MigratesRead result.answer files.now (closures_of hosts.now) (O.bytes out) (O.bytes result.out) }
     ensures refused { IsRefusal result.answer → result.out ≡ out }
     ensures later { O.faults out ≤ O.faults result.out }
     ensures other { (file : WhichFile) → result.answer ≡ Answer.ReadFault file → ⊥ }
@@ -116,9 +104,8 @@ fn retell_text<O: Sink>(
     out: O,
 ) -> Answered<O>
     requires count { length (closures_of hosts.now) ≤ 2 ^ 32 }
-    requires legal { HasVerdictOn (seen_program page.program) (settings_of page.setup).setup (closures_of hosts.now) trace.now Yes }
-    ensures answers { RetellsText (seen_program page.program) (settings_of page.setup).setup (closures_of hosts.now) trace.now
-        result.answer (O.bytes out) (O.bytes result.out) }
+    requires legal { HasVerdictOf page (closures_of hosts.now) trace.now Yes }
+    ensures answers { RetellsPage page (closures_of hosts.now) trace.now result.answer (O.bytes out) (O.bytes result.out) }
     ensures write { result.answer ≡ Answer.WriteFault → Rose (O.faults out) (O.faults result.out) }
     ensures later { O.faults out ≤ O.faults result.out }
 {
@@ -143,11 +130,8 @@ fn retell<O: Sink>(
     out: O,
 ) -> Answered<O>
     requires count { length (closures_of hosts.now) ≤ 2 ^ 32 }
-    requires legal { HasLegalChoices (seen_program page.program) (settings_of page.setup).setup (closures_of hosts.now) choices }
-    ensures answers { (es : List Stamped) → AreChoicesOf es choices
-        → IsLegal (seen_program page.program) (settings_of page.setup).setup (closures_of hosts.now) es
-        → AnswersRetold result.answer (text_of 2 (migrated (seen_program page.program) (settings_of page.setup).setup
-        (closures_of hosts.now) es)) (O.bytes out) (O.bytes result.out) }
+    requires legal { HasLegalChoices (program_in page) (setup_in page) (closures_of hosts.now) choices }
+    ensures answers { RetellsBy page (closures_of hosts.now) choices result.answer (O.bytes out) (O.bytes result.out) }
     ensures write { result.answer ≡ Answer.WriteFault → Rose (O.faults out) (O.faults result.out) }
     ensures later { O.faults out ≤ O.faults result.out }
 {
@@ -172,10 +156,7 @@ fn replay_in<O: Sink, M: Ledger>(
     requires name { blank.name ≡ M.name }
     requires parts { blank.parts ≡ M.parts }
     requires some { 0 < blank.parts }
-    ensures { (es : List Stamped) → AreChoicesOf es choices →
-        (let run = own_run (seen_program page.now.program) (settings_of page.now.setup).setup (closures_of hosts.now) es
-        in Replays sink_keeping (seen_through O.bytes O.faults out) page.now.setup.trace run result.outcome
-        (seen_through O.bytes O.faults result.lines)) }
+    ensures { RunsAgain page.now (closures_of hosts.now) choices O.bytes O.faults out result.outcome result.lines }
 {
     let lines = LineSink::new(alloc, out);
     let (book, share) = blank.open::<M>();

@@ -9,8 +9,8 @@ ghost use Rattle.page_cli.specs.declared.answer.WhichFile.TheVariants.{Trace};
 ghost use Rattle.page_cli.specs.Answering.{IsRefusal};
 ghost use Rattle.page_cli.specs.Forms.{PictureForm};
 ghost use Rattle.page_cli.specs.Missing.{StopsAtMissing};
-ghost use Rattle.page_cli.specs.ToldFiles.{OfFile};
-ghost use Rattle.page_cli.specs.Pictures.{AnswersTrace, AnswersEvents, IsPicture, most_of};
+ghost use Rattle.page_cli.specs.Faults.{OnlyFaultRose};
+ghost use Rattle.page_cli.specs.Pictures.{AnswersPicture, AnswersTrace, AnswersEvents, IsPicture, most_of};
 
 use crate::answer::{Answer, WhichFile};
 use crate::counting::counts_text;
@@ -32,13 +32,11 @@ pub(crate) fn picture_named<F: Folder, O: Sink>(
     trace: &str,
     out: O,
 ) -> Answered<O>
-    ensures answers { OfFile (F.file folder.old trace.now) (λ bytes.
-        AnswersTrace result.answer what bytes (O.bytes out) (O.bytes result.out)) }
+    ensures answers { AnswersPicture result.answer what (F.file folder.old trace.now) (O.bytes out) (O.bytes result.out) }
     ensures refused { IsRefusal result.answer → result.out ≡ out }
     ensures later { O.faults out ≤ O.faults result.out }
     ensures missing { StopsAtMissing result.answer (PictureForm what trace.now) (F.IsMissing folder.old) }
-    ensures read { (file : WhichFile) → result.answer ≡ Answer.ReadFault file →
-        (file ≡ Trace) × Rose (F.faults folder.old trace.now) (F.faults folder.new trace.now) }
+    ensures read { OnlyFaultRose result.answer Trace trace.now F.faults folder.old folder.new }
     ensures write { result.answer ≡ Answer.WriteFault → Rose (O.faults out) (O.faults result.out) }
     ensures usage { result.answer ≡ Answer.Usage → ⊥ }
     ensures ended { (end : End) → result.answer ≡ Answer.Ended end → ⊥ }

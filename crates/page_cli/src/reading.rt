@@ -7,6 +7,7 @@ ghost use Rattle.arrivals_text.specs.Seen.{settings_of};
 ghost use Rattle.page_cli.specs.ToldFiles.{OfFile};
 ghost use Rattle.page_cli.specs.Scripts.{HasProgram};
 ghost use Rattle.page_cli.specs.Answering.{IsRun, RefusesFiles};
+ghost use Rattle.page_cli.specs.Pages.{program_in};
 ghost use Rattle.page_cli.specs.Refusals.{Refuses, GivesFile, IsUnfetched, answer_to_file, refusal};
 ghost use Rattle.page_cli.specs.declared.reading.FileFault.TheVariants.{Failed, TooLong};
 
@@ -112,7 +113,7 @@ fn refusal(fault: ScriptFault) -> Answer
 pub(crate) fn read_files(alloc: Global, script: &[u8], arrivals: &[u8]) -> Result<Page, Answer>
     requires script { length script.now ≤ MOST_BYTES }
     requires arrivals { length arrivals.now ≤ MOST_BYTES }
-    ensures found { IfOk result (λ page. IsRun script.now arrivals.now (seen_program page.program) (settings_of page.setup)) }
+    ensures found { IfOk result (λ page. IsRun script.now arrivals.now (program_in page) (settings_of page.setup)) }
     ensures refused { IfErr result (λ answer. RefusesFiles answer script.now arrivals.now) }
 {
     let program = match read_script(alloc, script) {

@@ -4,12 +4,11 @@ ghost use Rattle.std.specs.Prelude.{◌≡◌, ◌≤◌, ◌<◌, ◌^◌, leng
 ghost use Rattle.page_types.specs.Counts.{Rose};
 ghost use Rattle.page_base.specs.Readings.{AreShort};
 ghost use Rattle.host_jobs.specs.ToldTable.{closures_of};
-ghost use Rattle.lang_ast.specs.SeenProgram.{seen_program};
-ghost use Rattle.arrivals_text.specs.Seen.{settings_of};
 ghost use Rattle.page_cli.specs.declared.answer.WhichFile.{WhichFile};
 ghost use Rattle.page_cli.specs.Refusals.{answer_to_file};
-ghost use Rattle.page_cli.specs.Answering.{AnswersFiles, AnswersRun, IsRefusal};
-ghost use Rattle.page_cli.specs.Running.{CanStop, Wrote, answer_to};
+ghost use Rattle.page_cli.specs.Answering.{IsRefusal};
+ghost use Rattle.page_cli.specs.Running.{CanStop, answer_to};
+ghost use Rattle.page_cli.specs.Calls.{WroteBy, RunsProgram, RunsFiles};
 
 use crate::answer::{Answer, WhichFile};
 use crate::reading::{FileFault, answer_to as answer_to_file, read_files};
@@ -98,8 +97,7 @@ fn run_in<O: Sink, M: Ledger>(
     requires name { blank.name ≡ M.name }
     requires parts { blank.parts ≡ M.parts }
     requires some { 0 < blank.parts }
-    ensures wrote { Wrote (seen_program program.now) (settings_of setup.now).setup (closures_of table) (O.bytes out) result.outcome
-        (closures_of result.port) (O.bytes result.lines) }
+    ensures wrote { WroteBy program.now setup.now table result.port O.bytes out result.outcome result.lines }
     ensures stops { CanStop result.outcome }
     ensures fault { result.outcome ≡ Err RunStop.WriteFault → Rose (O.faults out) (O.faults result.lines) }
     ensures later { O.faults out ≤ O.faults result.lines }
@@ -129,8 +127,7 @@ fn run_program<O: Sink>(
     setup: &PageSetup,
     out: O,
 ) -> Ran<O>
-    ensures answers { AnswersRun result.answer (seen_program program.now) (settings_of setup.now).setup (closures_of hosts)
-        (closures_of result.hosts) (O.bytes out) (O.bytes result.out) }
+    ensures answers { RunsProgram result program.now setup.now hosts O.bytes out }
     ensures fault { result.answer ≡ Answer.WriteFault → Rose (O.faults out) (O.faults result.out) }
     ensures later { O.faults out ≤ O.faults result.out }
     ensures other { (file : WhichFile) → result.answer ≡ Answer.ReadFault file → ⊥ }
@@ -173,8 +170,7 @@ pub(crate) fn run_files<O: Sink>(
 ) -> Ran<O>
     requires script { length script.now ≤ 1048576 }
     requires arrivals { length arrivals.now ≤ 1048576 }
-    ensures answers { AnswersFiles result.answer script.now arrivals.now (closures_of hosts) (closures_of result.hosts) (O.bytes out)
-        (O.bytes result.out) }
+    ensures answers { RunsFiles result script.now arrivals.now hosts O.bytes out }
     ensures refused { IsRefusal result.answer → result.out ≡ out }
     ensures later { O.faults out ≤ O.faults result.out }
     ensures hosts { IsRefusal result.answer → closures_of result.hosts ≡ closures_of hosts }

@@ -4,13 +4,12 @@ ghost use Rattle.std.specs.Prelude.{◌≡◌, ◌≤◌, ◌<◌, ◌^◌, leng
 ghost use Rattle.page_types.specs.declared.End.{End};
 ghost use Rattle.page_types.specs.Counts.{Rose};
 ghost use Rattle.host_jobs.specs.ToldTable.{closures_of};
-ghost use Rattle.lang_ast.specs.SeenProgram.{seen_program};
-ghost use Rattle.arrivals_text.specs.Seen.{settings_of};
 ghost use Rattle.trace_text.specs.Summaries.{summarised};
 ghost use Rattle.page_gen.specs.Storm.{storm_script, storm_arrivals};
 ghost use Rattle.page_cli.specs.declared.answer.WhichFile.{WhichFile};
 ghost use Rattle.page_cli.specs.Answering.{IsRefusal, IsRun};
-ghost use Rattle.page_cli.specs.Stormed.{AnswersStorm, AnswersCounts, HasCounts, IsStormOf};
+ghost use Rattle.page_cli.specs.Stormed.{AnswersStorm, AnswersCounts};
+ghost use Rattle.page_cli.specs.Pages.{IsStormSummary, IsSummaryOf};
 
 use crate::answer::{Answer, WhichFile};
 use crate::counting::counts_text;
@@ -55,7 +54,7 @@ pub(crate) fn write_storm<O: Sink>(
 
 /// The summary of a storm's trace. Its texts are never refused.
 fn storm_summary(alloc: Global, hosts: &HostTable, size: StormSize) -> Result<Summary, Answer>
-    ensures found { IfOk result (λ summary. IsStormOf size.turns (closures_of hosts.now) summary.end (summarised summary)) }
+    ensures found { IfOk result (IsStormSummary size.turns (closures_of hosts.now)) }
     ensures refused { IfErr result (λ answer. answer ≡ Answer.OutOfMemory) }
 {
     let Ok((script, arrivals)) = storm(alloc, size.turns) else {
@@ -69,8 +68,7 @@ fn storm_summary(alloc: Global, hosts: &HostTable, size: StormSize) -> Result<Su
 
 /// The summary of the trace of a run whose closures give no answer.
 fn run_summary(alloc: Global, hosts: &HostTable, page: &Page) -> Result<Summary, Answer>
-    ensures found { IfOk result (λ summary. HasCounts (seen_program page.now.program) (settings_of page.now.setup).setup
-        (closures_of hosts.now) summary.end (summarised summary)) }
+    ensures found { IfOk result (IsSummaryOf page.now (closures_of hosts.now)) }
     ensures refused { IfErr result (λ answer. answer ≡ Answer.OutOfMemory) }
 {
     // A page numbers its closures by 32 bits.
@@ -95,8 +93,7 @@ fn run_counted<M: Ledger>(
     requires name { blank.name ≡ M.name }
     requires parts { blank.parts ≡ M.parts }
     requires some { 0 < blank.parts }
-    ensures { IfSome result (λ summary. HasCounts (seen_program page.now.program) (settings_of page.now.setup).setup
-        (closures_of hosts.now) summary.end (summarised summary)) }
+    ensures { IfSome result (IsSummaryOf page.now (closures_of hosts.now)) }
 {
     let Ok(late) = page.setup.late.to_vec(alloc) else {
         return None;

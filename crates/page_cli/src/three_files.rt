@@ -1,14 +1,13 @@
 //! The script, the arrivals and the trace that some commands take.
 
-ghost use Rattle.std.specs.Prelude.{◌≡◌, IfOk, IfErr};
-ghost use Rattle.page_types.specs.Counts.{Rose};
-ghost use Rattle.page_cli.specs.declared.reading.FileFault.TheVariants.{Failed};
-ghost use Rattle.page_cli.specs.Forms.{name_of, CheckForm};
+ghost use Rattle.std.specs.Prelude.{IfOk, IfErr};
+ghost use Rattle.page_cli.specs.Forms.{CheckForm};
 ghost use Rattle.page_cli.specs.Names.{check_names_seen};
 ghost use Rattle.page_cli.specs.ToldFiles.{CanHold};
-ghost use Rattle.page_cli.specs.Refusals.{answer_to_file};
-ghost use Rattle.page_cli.specs.Checked.{AllFit, IsUnread};
+ghost use Rattle.page_cli.specs.Checked.{AllFit};
 ghost use Rattle.page_cli.specs.Missing.{FetchesMissing};
+ghost use Rattle.page_cli.specs.Faults.{FailureRose};
+ghost use Rattle.page_cli.specs.NamedFiles.{IsUnreadNamed};
 
 use crate::answer::WhichFile;
 use crate::names::CheckNames;
@@ -41,12 +40,9 @@ pub(crate) fn fetch_three<F: Folder>(
     ensures arrivals { IfOk result (λ files. CanHold (F.file folder.old names.entry.arrivals.now) files.arrivals.items) }
     ensures trace { IfOk result (λ files. CanHold (F.file folder.old names.entry.trace.now) files.trace.items) }
     ensures fit { IfOk result (λ files. AllFit files.script.items files.arrivals.items files.trace.items) }
-    ensures unread { IfErr result (λ e. IsUnread (answer_to_file e.fault e.file) (F.file folder.old names.entry.script.now)
-        (F.file folder.old names.entry.arrivals.now) (F.file folder.old names.entry.trace.now)) }
+    ensures unread { IfErr result (IsUnreadNamed (F.file folder.old) names.entry) }
     ensures missing { FetchesMissing result (CheckForm (check_names_seen names.entry)) (F.IsMissing folder.old) }
-    ensures cause { IfErr result (λ e. e.fault ≡ Failed →
-        Rose (F.faults folder.old (name_of e.file (CheckForm (check_names_seen names.entry))))
-        (F.faults folder.new (name_of e.file (CheckForm (check_names_seen names.entry))))) }
+    ensures cause { IfErr result (FailureRose F.faults folder.old folder.new (CheckForm (check_names_seen names.entry))) }
 {
     let script = match fetched(alloc, folder, names.script, MOST_BYTES) {
         Ok(bytes) => bytes,
