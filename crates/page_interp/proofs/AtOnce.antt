@@ -115,7 +115,7 @@ pub brings_leads : {T S : Type 0} (rules : HostRules T) (p : Program) (result : 
 brings_leads rules p (Ok f) a b store current fs r k = λ h. let one = r h in arrives_goes rules p _ _ _ one (k one.holds)
 brings_leads rules p (Err x) a b store current fs r k = tt
 
-assigns_moves : {T : Type 0} (rules : HostRules T) (fs : List Frame) (s : Bor Stmt) (x : Stmt) (n : Bor Named) (e : Bor Expr) → s.now ≡ x → Assigns x n.now e.now → Moves rules fs (focus.Stmt s) (frame.Assign n ∷ fs) (focus.Expr e)
+pub assigns_moves : {T : Type 0} (rules : HostRules T) (fs : List Frame) (s : Bor Stmt) (x : Stmt) (n : Bor Named) (e : Bor Expr) → s.now ≡ x → Assigns x n.now e.now → Moves rules fs (focus.Stmt s) (frame.Assign n ∷ fs) (focus.Expr e)
 assigns_moves rules fs s (S.Var name f) n e q r = var_moves rules fs s n e n.now e.now (rw (r.0, r.1) at q) refl refl
 assigns_moves rules fs s (S.Assign name f) n e q r = assign_moves rules fs s n e n.now e.now (rw (r.0, r.1) at q) refl refl
 assigns_moves rules fs s x n e q r = absurd r

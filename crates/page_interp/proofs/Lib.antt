@@ -26,3 +26,5 @@ pub mod AtOnce
 pub mod BlockSteps
 pub mod SimpleCalls
 pub mod StackClauses
+pub mod Asked
+pub mod AskedTurns

@@ -53,18 +53,6 @@ module _ {T : Type 0} (rules : HostRules T) (p : Code.Program) (e : Expr) (ss : 
       goes_trans rules (seen_program p) _ _ _ one (goes_trans rules (seen_program p) _ _ _ two three)
 
 module _ {T : Type 0} (rules : HostRules T) (p : Code.Program) (test : Bor Expr) (block : Bor (List Stmt)) (store store1 : Store) (current current1 : Current) (fs : List Frame) where
-  -- the rest of a turn, and the frame of its loop on top
-  pub begun_leads : {S : Type 0} (result : Result Focus (Exit S)) (store2 : Store) (fs1 fs2 : List Frame) (left : Bor (List Stmt)) → TurnBegins rules p test.now block.now store current store1 current1 left.now → fs1 ≡ frame.Turn test block ∷ fs
-      → IfOk result (λ f. Leads rules (seen_program p) (place store1 current1 fs1 (focus.Block left)) (place store2 current1 fs2 f))
-      → IfOk result (λ f. (v : Value) → Leads rules (seen_program p) (turned store current test block fs v) (place store2 current1 fs2 f))
-  begun_leads (Ok f) store2 fs1 fs2 left b a k = λ v h. let one = b fs v test block left refl refl refl h in goes_trans rules (seen_program p) _ _ _ one (rw a at k one.holds)
-  begun_leads (Err x) store2 fs1 fs2 left b a k = tt
-
-  pub begun_kept : {A : Type 0} (result : Result Focus A) (store2 : Store) (left : Bor (List Stmt)) → TurnBegins rules p test.now block.now store current store1 current1 left.now → IfErr result (λ _. store2 ≡ store1)
-      → IfErr result (λ _. (v : Value) → IsKept (seen_program p) (turned store current test block fs v) store2)
-  begun_kept (Ok f) store2 left b e = tt
-  begun_kept (Err x) store2 left b e = λ v h. let one = b fs v test block left refl refl refl h in rw e (one.holds.globals, one.fuel)
-
   -- the condition is next, and the loop waits for it
   pub come_leads : {S : Type 0} (result : Result Focus (Exit S)) (fs1 : List Frame) → TurnComes rules p test.now block.now store current store1 current1 → IfOk result (λ _. fs1 ≡ frame.Test test block ∷ fs) → IfOk result (λ x. x ≡ focus.Expr test)
       → IfOk result (λ f. (v : Value) → Leads rules (seen_program p) (turned store current test block fs v) (place store1 current1 fs1 f))

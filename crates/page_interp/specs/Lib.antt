@@ -13,3 +13,4 @@ pub mod Frames
 pub mod Direct
 pub mod AtOnce
 pub mod StackClauses
+pub mod Asked

@@ -182,26 +182,12 @@ LeadsBefore rules code rest f store current old store' new = λ f'.
     Leads rules (script code) (place store current (before_stmt rest (stacked old.items)) f)
     (stand store' current new f')
 
--- it leads on from a value that comes back to what waits for it
-abbrev pub WaitLeads : {T : Type 0} → HostRules T → Code.Program → Waiting → Value
-    → Store → Current → Vec Frame Global → Store → Current → Vec Frame Global → Focus → Type 0
-WaitLeads rules code waiting v store current stack store' current' stack' = λ f'.
-    Leads rules (script code) (waited_at store current waiting (stacked stack.items) v)
-    (stand store' current' stack' f')
-
 -- it leads on from the value of a loop's condition
 abbrev pub TestLeads : {T : Type 0} → HostRules T → Code.Program
     → Bor Expr → Bor (List Stmt) → Value
     → Store → Current → Vec Frame Global → Store → Current → Vec Frame Global → Focus → Type 0
 TestLeads rules code test block v store current stack store' current' stack' = λ f'.
     Leads rules (script code) (tested_at store current test block (stacked stack.items) v)
-    (stand store' current' stack' f')
-
--- it leads on from the end of a loop's turn
-abbrev pub TurnLeads : {T : Type 0} → HostRules T → Code.Program → Bor Expr → Bor (List Stmt)
-    → Store → Current → Vec Frame Global → Store → Current → Vec Frame Global → Focus → Type 0
-TurnLeads rules code test block store current stack store' current' stack' = λ f'. (v : Value) →
-    Leads rules (script code) (turned store current test block (stacked stack.items) v)
     (stand store' current' stack' f')
 
 -- it leads on from the end of a loop's turn to where the condition is next

@@ -1,23 +1,23 @@
 //! Steps that are done at once: the arguments of a row and the turns of a loop, where they call
 //! nothing.
 
-ghost use Rattle.std.specs.Prelude.{◌≡◌, [], true, false, Some, None, IfOk, IfErr, IfSome, IfNone};
+ghost use Rattle.std.specs.Prelude.{◌≡◌, ◌<◌, ◌≤◌, [], true, false, Some, None, IfOk, IfErr, IfSome, IfNone};
 ghost use Rattle.page_parts.specs.Kinds.{bool_in};
 ghost use Rattle.page_values.specs.declared.Value.{Value};
 ghost use Rattle.page_values.specs.Seen.{seen};
-ghost use Rattle.page_interp.specs.AtOnce.{HasFirst, IsBoolThere, IsKept, EndsWanting, tested_at, turned};
+ghost use Rattle.page_interp.specs.AtOnce.{HasFirst, IsBoolThere, EndsWanting, tested_at};
 ghost use Rattle.page_interp.specs.Clauses.{script};
 ghost use Rattle.page_interp.specs.Frames.{IsSet, stacked};
-ghost use Rattle.page_interp.specs.StackClauses.{LeadsOn, RowBrings, TestLeads, TurnLeads, TurnBegins, TurnComes};
+ghost use Rattle.page_interp.specs.StackClauses.{LeadsOn, RowBrings, TestLeads, TurnBegins, TurnComes};
 ghost use Rattle.page_interp.specs.declared.exit.Exit.TheVariants as exit;
 ghost use Rattle.page_interp.specs.declared.stack.Focus.TheVariants as focus;
 
-use crate::blocks::{assigned, from_block, into_block};
+use crate::blocks::{assigned, into_block};
 use crate::code::Code;
 use crate::direct::{direct_compare, direct_value};
 use crate::exit::{Exit, Store};
 use crate::expressions::from_row;
-use crate::stack::{Current, Focus, Frame, Purpose, push, within};
+use crate::stack::{Current, Focus, Frame, Purpose, push};
 use crate::variables::assign;
 use lang_ast::{Expr, Host, Named, Stmt};
 use page_values::{FaultName, MemoryFault, Value, as_bool, fault};
@@ -133,7 +133,7 @@ pub fn next_in_row<'c, H: Host>(
 /// Does the turns of a loop while its condition is found at once and holds, a unit is left and the
 /// block only gives variables values that are found at once. What is left is the rest of the block
 /// in the turn that has begun, or the condition where there is no such rest.
-fn turns_at_once<'c, H: Host>(
+pub fn turns_at_once<'c, H: Host>(
     code: &'c Code,
     store: &mut Store,
     current: &mut Current<'c>,
@@ -144,6 +144,8 @@ fn turns_at_once<'c, H: Host>(
         store.old current.old store.new current.new rest.now) }
     ensures none { IfNone result (TurnComes H.rules code.now test.now block.now
         store.old current.old store.new current.new) }
+    ensures unit { IfSome result (λ _. store.new.fuel < store.old.fuel) }
+    ensures fuel { store.new.fuel ≤ store.old.fuel }
 {
     'turns: while store.fuel > 0 {
         let Some(true) = truth(code, store, current, test) else {
@@ -187,30 +189,4 @@ pub fn passes(
     ensures no_else { result ≡ true → last.now ≡ None }
 {
     others.is_empty() && last.is_none() && truth(code, store, current, test) == Some(false)
-}
-
-/// A turn of a loop ends: its condition is next. Turns of which all is done at once are done in one
-/// step with what comes after them.
-pub fn next_turn<'c, H: Host>(
-    code: &'c Code,
-    store: &mut Store,
-    current: &mut Current<'c>,
-    stack: &mut Vec<Frame<'c>>,
-    test: &'c Expr,
-    block: &'c [Stmt],
-) -> Result<Focus<'c>, Exit<H::Stop>>
-    ensures ok { IfOk result (TurnLeads H.rules code.now test.entry block.entry
-        store.old current.old stack.old store.new current.new stack.new) }
-    ensures err { IfErr result (λ x. x ≡ exit.OutOfMemory) }
-    ensures kept { IfErr result (λ _. (v : Value) → IsKept (script code.now)
-        (turned store.old current.old test.entry block.entry (stacked stack.old.items) v)
-        store.new) }
-{
-    match turns_at_once::<H>(code, store, current, test, block) {
-        Some(rest) => {
-            push(stack, Frame::Turn(test, block))?;
-            from_block::<H>(code, store, current, stack, rest)
-        }
-        None => within(stack, Frame::Test(test, block), Focus::Expr(test)),
-    }
 }

@@ -274,6 +274,7 @@ pub fn assigned<'c, H: Host>(
 ) -> &'c [Stmt]
     ensures brings { BlockBrings H.rules code.now store.old current.old stmts.now
         store.new current.new result.now }
+    ensures no_longer { length result.now ≤ length stmts.now }
     ensures fuel { store.new.fuel ≤ store.old.fuel }
 {
     let mut rest = stmts;
@@ -283,8 +284,32 @@ pub fn assigned<'c, H: Host>(
     rest
 }
 
-/// From the statements of a block. Assignments in front whose values are found at once are done in
-/// one step with what comes after them.
+/// From the statements of a block of which the first one is not done at once. What a `return` gives is
+/// found at once, where it can be.
+pub fn from_rest<'c, H: Host>(
+    code: &'c Code,
+    store: &mut Store,
+    current: &Current<'c>,
+    stack: &mut Vec<Frame<'c>>,
+    rest: &'c [Stmt],
+) -> Result<Focus<'c>, Exit<H::Stop>>
+    ensures ok { IfOk result (LeadsOn H.rules code.now (focus.Block rest.entry)
+        store.old current.now stack.old store.new current.now stack.new) }
+    ensures err { IfErr result (λ x. x ≡ exit.OutOfMemory) }
+    ensures same { IfErr result (λ _. store.new ≡ store.old) }
+{
+    let before = store.fuel;
+    match returned::<H>(code, store, current, rest, NO_CALLS) {
+        Some(value) => Ok(Focus::Return(value)),
+        None => {
+            store.fuel = before;
+            from_block::<H>(code, store, current, stack, rest)
+        }
+    }
+}
+
+/// From the statements of a block. Those in front that are done at once are done in one step with what
+/// comes after them.
 pub fn into_block<'c, H: Host>(
     code: &'c Code,
     store: &mut Store,
@@ -299,12 +324,5 @@ pub fn into_block<'c, H: Host>(
         (stand store.old current.old stack.old (focus.Block stmts.entry)) store.new) }
 {
     let rest = assigned::<H>(code, store, current, stmts);
-    let before = store.fuel;
-    match returned::<H>(code, store, current, rest, NO_CALLS) {
-        Some(value) => Ok(Focus::Return(value)),
-        None => {
-            store.fuel = before;
-            from_block::<H>(code, store, current, stack, rest)
-        }
-    }
+    from_rest::<H>(code, store, current, stack, rest)
 }

@@ -22,7 +22,7 @@ use page_values::{MemoryFault, Str, Value, ValueFault, as_int, as_list, as_text,
 const LEVELS: u32 = 8;
 
 /// A variable of this name: a local one, or else a global one.
-fn variable<'a>(
+pub fn variable<'a>(
     code: &'a Code,
     store: &'a Store,
     current: &'a Current,

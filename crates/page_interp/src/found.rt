@@ -15,7 +15,7 @@ pub struct Found<'a> {
     pub straight: bool,
 }
 
-/// Adds the names that are called in an expression.
+/// Adds what stands in an expression: the names that it calls, and its variables.
 #[cycle(exprs)]
 fn in_expr<'a>(expr: &'a Expr, into: &mut Found<'a>) -> Result<(), MemoryFault> {
     match expr {
@@ -93,7 +93,7 @@ fn in_returned<'a>(value: &'a Option<Expr>, into: &mut Found<'a>) -> Result<(), 
     }
 }
 
-/// Adds the names that are called in a statement.
+/// Adds what stands in a statement.
 #[cycle(stmts)]
 fn in_stmt<'a>(stmt: &'a Stmt, into: &mut Found<'a>) -> Result<(), MemoryFault> {
     match stmt {

@@ -1,6 +1,7 @@
 //! The machine that evaluates a script, over any host.
 #![tactic(auto)]
 
+mod answered;
 mod asking;
 mod at_once;
 mod blocks;
@@ -22,6 +23,7 @@ mod simple;
 mod stack;
 mod statements;
 mod stepping;
+mod turns;
 mod values;
 mod variables;
 

@@ -1,6 +1,7 @@
 //! The operations that a script calls, by their names.
 
-ghost use Rattle.std.specs.Prelude.{◌≡◌};
+ghost use Rattle.std.specs.Prelude.{◌≡◌, false, IsTrue};
+ghost use Rattle.lang_meaning.specs.HostSteps.{is_busy};
 ghost use Rattle.lang_meaning.specs.OpNames.{op_named};
 ghost use Rattle.page_interp.specs.OpIndex.{AreNamed};
 
@@ -8,6 +9,14 @@ use lang_ast::{Op, operation_named};
 use page_values::{MemoryFault, Str};
 use std::alloc::Global;
 use std::collections::BTreeMap;
+
+/// Whether a host may know at once that it answers an operation with a value: some of those that work
+/// on values alone.
+pub fn may_be_known(op: Op) -> bool
+    ensures { IsTrue result → is_busy op ≡ false }
+{
+    matches!(op, Op::KindOf | Op::Len | Op::Push)
+}
 
 /// What operations some names stand for. A name that is among them is found in a number of steps
 /// that grows with the logarithm of how many there are, and any other one among the names of all

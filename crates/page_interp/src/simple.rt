@@ -362,7 +362,8 @@ fn call<'c, H: Host>(
 }
 
 /// The value of a call that is done at once: of a simple function whose arguments are found at once.
-/// Where it is not, nothing has changed, and the function is no longer taken for a simple one.
+/// Where it is not, nothing has changed; where its arguments are found, the function is no longer
+/// taken for a simple one.
 pub fn call_value<'c, H: Host>(
     code: &'c Code,
     store: &mut Store,
@@ -383,7 +384,10 @@ pub fn call_value<'c, H: Host>(
     let value = call::<H>(code, store, current, function, args, LEVELS);
     if value.is_none() {
         store.fuel = before;
-        code.doubt(function);
+        // It is the body's fault where the arguments are found.
+        if found_args::<H>(code, store, current, args).is_some() {
+            code.doubt(function);
+        }
     }
     value
 }

@@ -3,17 +3,15 @@
 ghost use Rattle.std.specs.Prelude.{◌≡◌, [], ◌+◌, ◌<◌, ◌≤◌, IfOk, IfErr, map};
 ghost use Rattle.std.specs.Option.{option_map};
 ghost use Rattle.page_values.specs.Seen.{seen};
-ghost use Rattle.page_interp.specs.AtOnce.{IsKept, waited_at};
 ghost use Rattle.page_interp.specs.Clauses.{script, count_in, CanCall, CallRuns};
-ghost use Rattle.page_interp.specs.Frames.{place, stacked, IsWant, IsCallable, AreSeenNumbered};
+ghost use Rattle.page_interp.specs.Frames.{place, IsWant, IsCallable, AreSeenNumbered};
 ghost use Rattle.page_interp.specs.Runs.{value_left};
-ghost use Rattle.page_interp.specs.StackClauses.{stand, LeadsOn, WaitLeads, IsStanding, StepsOn, RunEnds};
+ghost use Rattle.page_interp.specs.StackClauses.{stand, LeadsOn, IsStanding, StepsOn, RunEnds};
 ghost use Rattle.page_interp.specs.declared.exit.Exit.TheVariants as exit;
 ghost use Rattle.page_interp.specs.declared.stack.Focus.TheVariants as focus;
 
 use crate::asking::{ask, resume};
-use crate::at_once::{into_test, next_in_row, next_turn, set};
-use crate::blocks::into_block;
+use crate::at_once::{into_test, next_in_row, set};
 use crate::code::Code;
 use crate::exit::{Exit, Store};
 use crate::expressions::from_expr;
@@ -22,6 +20,7 @@ use crate::opening::{callable, callee_body, callee_locals, callee_names, open};
 use crate::receiving::receive;
 use crate::stack::{Current, Focus, Frame, Waiting, pop};
 use crate::statements::{from_items, from_others, from_stmt};
+use crate::turns::{from_stmts, next_turn};
 use crate::values::{ended, joined};
 use lang_ast::{Host, Outcome};
 use page_values::{Value, fault};
@@ -66,31 +65,6 @@ fn call<'c, H: Host>(
     }
 }
 
-/// A value comes back to what waits for it. Statements that wait for the end of the one before them
-/// are done from there at once.
-fn from_waiting<'c, H: Host>(
-    code: &'c Code,
-    store: &mut Store,
-    current: &mut Current<'c>,
-    stack: &mut Vec<Frame<'c>>,
-    waiting: Waiting<'c>,
-    value: Value,
-) -> Result<Focus<'c>, Exit<H::Stop>>
-    ensures ok { IfOk result (WaitLeads H.rules code.now waiting.entry value
-        store.old current.old stack.old store.new current.new stack.new) }
-    ensures err { IfErr result (λ x. x ≡ exit.OutOfMemory) }
-    ensures kept { IfErr result (λ _. IsKept (script code.now)
-        (waited_at store.old current.old waiting.entry (stacked stack.old.items) value) store.new) }
-{
-    match waiting {
-        Waiting::Stmts(rest) => {
-            drop(value);
-            into_block::<H>(code, store, current, stack, rest)
-        }
-        other => receive::<H>(code.alloc(), stack, other, value),
-    }
-}
-
 /// A value comes back to the frame on top.
 fn from_value<'c, H: Host>(
     code: &'c Code,
@@ -110,9 +84,11 @@ fn from_value<'c, H: Host>(
             drop(value);
             Err(Exit::Return(Value::Unit))
         }
-        Some(Frame::Wait(waiting)) => {
-            from_waiting::<H>(code, store, current, stack, waiting, value)
+        Some(Frame::Wait(Waiting::Stmts(rest))) => {
+            drop(value);
+            from_stmts(code, host, store, current, stack, rest)
         }
+        Some(Frame::Wait(waiting)) => receive::<H>(code.alloc(), stack, waiting, value),
         Some(Frame::Assign(name)) => {
             set(code, store, current, name, value);
             Ok(Focus::Value(Value::Unit))
@@ -124,7 +100,7 @@ fn from_value<'c, H: Host>(
         }
         Some(Frame::Turn(test, block)) => {
             drop(value);
-            next_turn::<H>(code, store, current, stack, test, block)
+            next_turn(code, host, store, current, stack, test, block)
         }
         Some(Frame::Try(_, _)) => Ok(Focus::Value(value)),
         Some(Frame::Open(names, locals)) => {
@@ -253,7 +229,7 @@ fn step<'c, H: Host>(
             next_in_row::<H>(code, store, current, stack, purpose, values, exprs)
         }
         Focus::Stmt(stmt) => from_stmt::<H>(stack, stmt),
-        Focus::Block(stmts) => into_block::<H>(code, store, current, stack, stmts),
+        Focus::Block(stmts) => from_stmts(code, host, store, current, stack, stmts),
         Focus::Items(items) => from_items::<H>(stack, items),
         Focus::Others(others, last) => from_others::<H>(stack, others, last),
         Focus::Ask(op, args) => ask(code, host, store, current, stack, op, args),

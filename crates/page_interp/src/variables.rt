@@ -3,6 +3,7 @@
 ghost use Rattle.std.specs.Prelude.{◌≡◌, ◌<◌, Some, None, IfOk, IfSome, IfNone, true, false, length};
 ghost use Rattle.std.specs.Option.{option_map};
 ghost use Rattle.page_values.specs.Seen.{seen};
+ghost use Rattle.page_values.specs.declared.Value.TheVariants as value;
 ghost use Rattle.page_interp.specs.Places.{place_of};
 ghost use Rattle.page_interp.specs.Runs.{value_left};
 ghost use Rattle.page_interp.specs.Variables.{value_at, has_variable, IsWritten, SetsLocal, SetsGlobal, StandsFor, NameGives, AreFilled};
@@ -14,6 +15,7 @@ use crate::values::copied;
 use lang_ast::Named;
 use page_values::{FaultName, MemoryFault, Str, Value, fault, function_value};
 use std::alloc::Global;
+use std::mem;
 
 /// Where the variable of this name stands, likely at the given place. None exactly where there is no
 /// such variable.
@@ -167,5 +169,33 @@ pub fn set_own(
             drop(value);
             false
         }
+    }
+}
+
+/// Takes what a variable holds, and leaves unit in its place: a local one, or else a global one.
+pub fn take(
+    code: &Code,
+    store: &mut Store,
+    names: &Names,
+    locals: &mut Vec<Value>,
+    name: &Named,
+) -> Option<Value>
+    ensures taken { IfSome result (λ v.
+        StandsFor code.now store.old names.now locals.old name.now.name (Some v)) }
+    ensures locals { IfSome result (λ _.
+        SetsLocal names.now locals.old name.now.name value.Unit locals.new) }
+    ensures globals { IfSome result (λ _.
+        SetsGlobal code.now names.now locals.old store.old name.now.name value.Unit store.new) }
+    ensures fuel { store.new.fuel ≡ store.old.fuel }
+    ensures same_store { IfNone result (store.new ≡ store.old) }
+    ensures same_locals { IfNone result (locals.new ≡ locals.old) }
+{
+    let near = code.likely_place(name);
+    if let Some(place) = place_in(names, locals, &name.name, near) {
+        return Some(mem::replace(&mut locals[place], Value::Unit));
+    }
+    match place_in(code.globals(), &store.globals, &name.name, near) {
+        Some(place) => Some(mem::replace(&mut store.globals[place], Value::Unit)),
+        None => None,
     }
 }

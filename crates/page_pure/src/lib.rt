@@ -60,6 +60,7 @@ pub fn pure_op_of(
             let (list, value) = both(args);
             Ok(Some(push_onto(alloc, list, value)?))
         }
+        Op::Len => Ok(Some(count(alloc, argument(&args, 0)))),
         _ => pure_op(alloc, op, &args, names),
     }
 }

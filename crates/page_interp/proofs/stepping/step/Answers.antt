@@ -1,7 +1,6 @@
 use Rattle.std.proofs.Common.{refl}
 use Rattle.lang_ast.specs.SeenProgram.{seen_program}
 use Rattle.page_interp.proofs.Steps.{still}
-use Rattle.page_interp.proofs.AtOnce.{steps_leads}
 use Rattle.page_interp.proofs.RunSteps.{steps_goes, steps_moves, steps_call}
 use Rattle.page_interp.proofs.stepping.step.Goals as goal
 
@@ -14,8 +13,11 @@ returns-in-Row g c = rw c.in-Row.is (steps_goes g.H.Host.rules g.H.Host.leaves (
 pub returns-in-Stmt : goal.returns-in-Stmt
 returns-in-Stmt g c = rw c.in-Stmt.is (steps_moves g.H.Host.rules g.H.Host.leaves (seen_program c.args.code.now) (g.H.Host.now c.args.host.now) c.from_stmt.result _ _ _ _ _ c.from_stmt.ensures.ok c.from_stmt.ensures.err)
 
+pub from_stmts-requires : goal.from_stmts-requires
+from_stmts-requires g c = let s = rw c.in-Block.is at c.requires.stood in (_, c.in-Block.stmts, refl, s)
+
 pub returns-in-Block : goal.returns-in-Block
-returns-in-Block g c = rw c.in-Block.is (steps_leads g.H.Host.rules g.H.Host.leaves (seen_program c.args.code.now) (g.H.Host.now c.args.host.now) c.into_block.result _ _ _ _ c.into_block.ensures.ok c.into_block.ensures.err c.into_block.ensures.kept)
+returns-in-Block g c = rw c.in-Block.is c.from_stmts.ensures.steps
 
 pub returns-in-Items : goal.returns-in-Items
 returns-in-Items g c = rw c.in-Items.is (steps_moves g.H.Host.rules g.H.Host.leaves (seen_program c.args.code.now) (g.H.Host.now c.args.host.now) c.from_items.result _ _ _ _ _ c.from_items.ensures.ok c.from_items.ensures.err)
