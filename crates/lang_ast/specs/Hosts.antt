@@ -6,6 +6,7 @@ use Rattle.page_types.specs.declared.Op.{Op}
 use Rattle.page_types.specs.Values as Model
 use Rattle.page_values.specs.declared.Value.{Value}
 use Rattle.page_values.specs.Seen.{seen}
+use Rattle.page_values.specs.Written.{IsNumbered}
 use Rattle.lang_meaning.specs.HostSteps.{HostRules, StepValue, Ask, AskOp, AskResume, on_ask}
 use Rattle.lang_ast.specs.declared.host.HostStep.{HostStep}
 use Rattle.lang_ast.specs.declared.host.Outcome.{Outcome}
@@ -36,12 +37,18 @@ abbrev pub Does : {T S : Type 0} → HostRules T → Ask → (before after : Hos
 Does rules ask before after step = on_ask rules ask before.told ≡ record { step = seen_step step; host = after.told }
 
 -- the values that are lent so
-abbrev pub all_seen : List (Bor Value) → List Model.Value
-all_seen values = map (λ v. seen v.now) values
+abbrev pub seen_lent : List (Bor Value) → List Model.Value
+seen_lent values = map (λ v. seen v.now) values
 
 -- by its rules it would answer an operation with a value
 abbrev pub GivesValue : {T S : Type 0} → HostRules T → Op → List Model.Value → HostNow T S → Type 0
 GivesValue rules op args now = (v : Model.Value) × ((rules.op op args now.told).step ≡ StepValue v)
+
+-- by its rules it would answer an operation with this value, and tell the same as before
+pub record KnowsValue {T S : Type 0} (rules : HostRules T) (op : Op) (args : List Model.Value)
+    (now : HostNow T S) (v : Value) : Type 0 where
+  pub rule : rules.op op args now.told ≡ record { step = StepValue (seen v); host = now.told }
+  pub numbered : IsNumbered now.functions (seen v)
 
 -- a callback in this step opens a ticket
 abbrev pub Opens : (before after : List ℕ) → HostStep → Type 0

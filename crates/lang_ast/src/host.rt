@@ -1,6 +1,6 @@
 //! The host, which answers operations and may call back into the script.
 
-ghost use Rattle.std.specs.Prelude.{◌≡◌, ℕ, List, ◌∷◌, ◌+◌, ◌<◌, ◌≤◌, Option, Some, IfOk, IfErr, IsTrue, OnErr, map, length};
+ghost use Rattle.std.specs.Prelude.{◌≡◌, ℕ, List, ◌∷◌, ◌+◌, ◌<◌, ◌≤◌, Option, Some, IfOk, IfErr, IfSome, IsTrue, OnErr, map, length};
 ghost use Rattle.page_types.specs.Counts.{HasCause};
 ghost use Rattle.page_values.specs.Seen.{seen};
 
@@ -34,7 +34,7 @@ pub enum Outcome {
 pub trait Host {
     ghost use Rattle.lang_meaning.specs.HostSteps.{HostRules, Ask, is_busy};
     ghost use Rattle.lang_ast.specs.Operations.{count_of};
-    ghost use Rattle.lang_ast.specs.Hosts.{HostNow, ask_op, all_seen, ask_end, Does, GivesValue, Opens, Reopens, HasFewer};
+    ghost use Rattle.lang_ast.specs.Hosts.{HostNow, ask_op, seen_lent, ask_end, Does, GivesValue, KnowsValue, Opens, Reopens, HasFewer};
     ghost use Rattle.lang_ast.specs.Steps.{seen_step, seen_outcome, AreFew, AllNumbered, StepIsNumbered, EndIsNumbered, room_taken};
 
     /// Why a host refuses to go on.
@@ -91,11 +91,21 @@ pub trait Host {
         ensures refused { IfErr result (λ stop. (now self.new).last_stop ≡ Some stop) }
         ensures leaves { OnErr result (leaves (ask_end ticket outcome) (now self.old).told (now self.new).told) };
 
+    /// The value with which an operation with these arguments would be answered, where that changes nothing that the host tells
+    /// and the host knows it by a look at the arguments. `None` also where it does not know, or has no memory for the value.
+    fn known_value(&self, op: Op, args: &[&Value]) -> Option<Value>
+        requires count { length args.now ≡ count_of op }
+        requires numbered { AllNumbered (now self.now).functions (seen_lent args.now) }
+        ensures { IfSome result (KnowsValue rules op (seen_lent args.now) (now self.now)) }
+    {
+        None
+    }
+
     /// Whether an operation with these arguments would be answered with a value: it would neither throw nor call back. `false`
     /// also where the host does not know. It changes nothing, and the operation is not done.
     fn gives_value(&self, op: Op, args: &[&Value]) -> bool
         requires { length args.now ≡ count_of op }
-        ensures { IsTrue result → GivesValue rules op (all_seen args.now) (now self.now) }
+        ensures { IsTrue result → GivesValue rules op (seen_lent args.now) (now self.now) }
     {
         false
     }

@@ -2,7 +2,7 @@
 
 ghost use Rattle.std.specs.Prelude.{◌≡◌, map};
 ghost use Rattle.lang_meaning.specs.HostSteps.{is_busy};
-ghost use Rattle.lang_ast.specs.Hosts.{all_seen};
+ghost use Rattle.lang_ast.specs.Hosts.{seen_lent};
 ghost use Rattle.page_values.specs.Seen.{seen};
 ghost use Rattle.page_model.specs.Operations as model;
 ghost use Rattle.page_state.specs.PageActs.{read_by};
@@ -27,7 +27,7 @@ pub fn may_operate_lent<P: HostPort, M: Ledger>(
     op: Op,
     args: &[&Value],
 ) -> bool
-    ensures { result ≡ read_by (λ p. model.may_operate p op (all_seen args.now)) page.now }
+    ensures { result ≡ read_by (λ p. model.may_operate p op (seen_lent args.now)) page.now }
 {
     is_busy(op) || each_known(page.promises_made(), page.signals_made(), args)
 }
@@ -52,7 +52,7 @@ fn all_known(promises: u32, signals: u32, args: &[Value]) -> bool
 
 // The same of arguments that are lent.
 fn each_known(promises: u32, signals: u32, args: &[&Value]) -> bool
-    ensures { result ≡ model.all_known promises signals (all_seen args.now) }
+    ensures { result ≡ model.all_known promises signals (seen_lent args.now) }
 {
     for value in args {
         if !is_known(promises, signals, *value) {

@@ -1,5 +1,5 @@
 -- What a page tells as a host where it is asked, from what it does.
-use Rattle.std.proofs.Common.{◌≡◌, inl, inr, ℕ, ℤ, ◌+◌, ◌^◌, ◌≤◌, Bool, true, false, List, [], ◌∷◌, map, refl, sym, ◌∙◌, ap, subst, arith, Option, Some, None, is_some, Ok, Err}
+use Rattle.std.proofs.Common.{◌≡◌, inl, inr, ℕ, ◌+◌, ◌^◌, ◌≤◌, Bool, true, false, List, [], ◌∷◌, map, refl, sym, ◌∙◌, ap, subst, arith, Option, Some, None, is_some, IfSome, Ok, Err}
 use Rattle.page_types.specs.Values.{Value}
 use Rattle.page_types.specs.declared.Op.{Op}
 use Rattle.page_types.specs.Tree.{Program}
@@ -10,8 +10,11 @@ use Rattle.page_model.proofs.Bounding.FirstBounds.{first-bounded}
 use Rattle.page_signals.specs.Laws.{as_fold}
 use Rattle.lang_meaning.specs.HostSteps.{HostStep, StepValue, StepThrow, StepInvoke, Stepped, Ask, AskOp, AskResume, CallbackEnd, on_ask}
 use Rattle.lang_ast.specs.declared.host.HostStep as code
-use Rattle.lang_ast.specs.Hosts.{GivesValue}
+use Rattle.lang_ast.specs.Hosts.{GivesValue, KnowsValue}
 use Rattle.lang_ast.specs.Steps.{seen_step, tickets_after, Falls, AreFew, room_taken}
+use Rattle.page_values.specs.declared.Value as written
+use Rattle.page_values.specs.Seen.{seen}
+use Rattle.page_values.specs.Written.{IsNumbered}
 use Rattle.page_model.specs.Folds.{Fold}
 use Rattle.page_model.specs.PageHost.{Hosting, open_tickets, tickets_then}
 use Rattle.page_model.specs.FoldBounds.{IsBounded, FoldsAreBounded, HostIsBounded, FewerLeft, to_visit}
@@ -25,7 +28,7 @@ use Rattle.page_rules.proofs.KeepingFolds.{ask-steady, ask-soon}
 use Rattle.page_state.specs.Standing.{Standing, PortNow, page_of}
 use Rattle.page_state.specs.PageActs.{at}
 use Rattle.page_state.specs.FoldActs.{hosting_of}
-use Rattle.page_operations.specs.Asked.{Asked, asked_of, AnswersValue}
+use Rattle.page_operations.specs.Asked.{Asked, asked_of, AnswersValue, AnswersAlone}
 use Rattle.page_host.specs.Marked.{Mark, Marked, marked, marked_step, marked_rules, LeavesMarked}
 use Rattle.page_host.specs.PageNow.{PageNow, told_at, marked_at, room_at, room_of, host_now}
 
@@ -65,6 +68,19 @@ pub gives-value : {L T : Type 0} (k : Keeping T) (seen : L → Seen T) (p : Page
     → AnswersValue op args p.state → GivesValue (marked_rules k) op args (host_now seen p)
 unfolding asked_of
 gives-value k seen p op args h = h
+
+-- the value with which the page answers, with nothing else done, is one with which the host answers, and tells the same as before
+pub knows-value : {L T : Type 0} (k : Keeping T) (lines : L → Seen T) (p : PageNow L) (op : Op) (args : List Value) (known : Option written.Value)
+    → IfSome known (λ v. AnswersAlone op args (seen v) p.state) → ((count : ℕ) → IfSome known (λ v. IsNumbered count (seen v)))
+    → IfSome known (KnowsValue (marked_rules k) op args (host_now lines p))
+unfolding asked_of
+knows-value k lines p op args None answers numbered = tt
+knows-value k lines p op args (Some v) answers numbered =
+    let now = host_now lines p in
+    record {
+      rule = ap (λ (x : Stepped Hosting). marked_step now.told (handed_on k now.told.lined x)) answers;
+      numbered = numbered now.functions;
+    }
 
 few-of : (left : ℕ → ℕ) (most : ℕ) (y : HostStep) → FewerLeft left most y → Falls left most y
 few-of left most (StepValue v) h = tt

@@ -7,7 +7,7 @@ use crate::stop::stopped_by;
 use lang_ast::{Host, HostStep, Op, Outcome};
 use page_base::Micros;
 use page_hosts::HostPort;
-use page_operations::{answer, gives_value, go_on};
+use page_operations::{answer, gives_value, go_on, known_value};
 use page_state::PageState;
 use page_values::Value;
 use std::marker::Model;
@@ -97,6 +97,10 @@ impl<P: HostPort, L: Lines, M: Ledger> Host for Page<P, L, M> {
             Ok(step) => Ok(step),
             Err(why) => Err(stopped_by(&mut self.stopped, &mut self.stops, why)),
         }
+    }
+
+    fn known_value(&self, op: Op, args: &[&Value]) -> Option<Value> {
+        known_value(&self.state, op, args)
     }
 
     fn gives_value(&self, op: Op, args: &[&Value]) -> bool {

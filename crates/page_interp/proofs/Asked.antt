@@ -37,10 +37,12 @@ use Rattle.page_interp.specs.declared.stack.Frame.TheVariants as frame
 use Rattle.page_interp.specs.declared.stack.Purpose.TheVariants as purpose
 use Rattle.page_interp.specs.Runs.{IsUnsettled, IsReady, outside, moment_of, AreNumberedIn, count_of_functions, globals_in, variables_of}
 use Rattle.page_interp.specs.AtOnce.{Assigns, Leads, Brings, before_stmt}
-use Rattle.page_interp.specs.Asked.{Answers, RefusesAsk, CallsPlainly, HasOwnFirst, ArePair, ProceedsTo, StopsFrom, ExprStands, ExprAsks, ExprStops, BlockStands, BlockAsks, BlockStops, SetsAsked}
+use Rattle.lang_ast.specs.Hosts.{KnowsValue}
+use Rattle.page_interp.specs.Asked.{IsKnown, LooksAt, IsAnswered, RefusesAsk, CallsPlainly, HasOwnFirst, ArePair, ProceedsTo, StopsFrom, ExprStands, ExprAsks, ExprStops, BlockStands, BlockAsks, BlockStops, SetsAsked}
 use Rattle.page_interp.specs.Direct.{NameHolds, direct_there}
 use Rattle.page_interp.specs.Frames.{Place, Stood, Finishes, Steps, IsSet, does, place, moment_at, meaning_at, steps_left, steps_with, focus_weight, waiting_at}
 use Rattle.page_interp.specs.StackClauses.{BlockBrings, RowBrings}
+use Rattle.page_interp.proofs.Steps.{still}
 use Rattle.page_interp.proofs.SmallSteps.{pushes_moves, pops_moves, stays_moves, within}
 use Rattle.page_interp.proofs.StmtSteps.{block_pushes}
 use Rattle.page_interp.proofs.ExprSteps.{row_ask}
@@ -121,10 +123,10 @@ unfolding steps_left
 stood_less p a b h = less_still _ _ h
 
 module _ {T S : Type 0} (rules : HostRules T) (leaves : Ask → T → T → Type 0) (p : Program) (store : Store) (current : Current) (fs : List Frame) where
-  -- the host answers with a value
-  pub answered : (h h1 : HostNow T S) (op : Op) (vs : Vec Value Global) (v : Value) → is_busy op ≡ false → Answers rules op (map seen vs.items) h h1 v → ProceedsTo rules leaves p h (place store current fs (focus.Ask op vs)) h1 (place store current fs (focus.Value v))
+  -- the host answers with a value, in one step
+  pub answered_steps : (h h1 : HostNow T S) (op : Op) (vs : Vec Value Global) (v : Value) → is_busy op ≡ false → IsAnswered rules op (map seen vs.items) h h1 v → Steps rules leaves p h (place store current fs (focus.Ask op vs)) (Ok (focus.Value v)) h1 store current fs
   unfolding moment_of
-  answered h h1 op vs v b y = λ ts st.
+  answered_steps h h1 op vs v b y = λ ts st.
       let few : ℕ → ℕ = λ t. 0 in
       let w = stood_waiting rules leaves p ts few store current fs h (focus.Ask op vs) st in
       let room : store.fuel + 0 ≤ h.room = let r = st.ready.room in omega (arith, r) in
@@ -133,8 +135,10 @@ module _ {T S : Type 0} (rules : HostRules T) (leaves : Ask → T → T → Type
       let n = store.fuel * (2 ^ 64) + (2 ^ 64) in
       let one = op_leaves rules leaves p ts few store current fs h h1 (StepValue (seen v)) op (map seen vs.items) (Ok (focus.Value v)) h1 store current fs y.rule y.refusals w.ready (ready_now rules leaves p ts few store current fs h h1 0 w.ready y.functions more room) tt
       (value_advances rules leaves p ts few store current fs h1 (StepValue (seen v)) v n refl now) in
-      let two = plain_leaves rules leaves p ts few store current fs h op vs (Ok (focus.Value v)) h1 store current fs b st tt one in
-      record { means = two.means; stood = two.stood; fewer = stood_less p _ _ two.fewer }
+      plain_leaves rules leaves p ts few store current fs h op vs (Ok (focus.Value v)) h1 store current fs b st tt one
+
+  pub answered : (h h1 : HostNow T S) (op : Op) (vs : Vec Value Global) (v : Value) → is_busy op ≡ false → IsAnswered rules op (map seen vs.items) h h1 v → ProceedsTo rules leaves p h (place store current fs (focus.Ask op vs)) h1 (place store current fs (focus.Value v))
+  answered h h1 op vs v b y = λ ts st. let two = answered_steps h h1 op vs v b y ts st in record { means = two.means; stood = two.stood; fewer = stood_less p _ _ two.fewer }
 
   refused_ask : (ts : List ℕ) (h h1 : HostNow T S) (ask : Ask) (next : Around (Limited T) → HostStep → Machine (Limited T) → Done (Limited T)) (stop : S) (store1 : Store)
       → Rose h.refusals h1.refusals → h1.last_stop ≡ Some stop → leaves ask h.told h1.told → IsReady (outside rules leaves p) (moment_of p h1 store1 []) → store1.fuel ≤ store.fuel
@@ -175,6 +179,13 @@ module _ {T S : Type 0} (rules : HostRules T) (leaves : Ask → T → T → Type
   pub wanting : (h : HostNow T S) (f : Focus) (store1 : Store) → AreNumberedIn (count_of_functions p) (globals_in p store1) → store1.fuel ≤ store.fuel → StopsFrom rules leaves p h (place store current fs f) exit.OutOfMemory h store1
   wanting h f store1 g l = (tt, λ ts st. memory_ends rules leaves p ts (λ d. does d f) h (place store current fs f) store1 st.ready g l)
 
+-- no value in a row, and one
+pub no_value : Vec Value Global → Vec Value Global
+no_value vs = record { ptr = vs.ptr; len = 0; cap = 0; alloc = vs.alloc; items = []; ok = (refl, omega arith); small = omega arith }
+
+pub single : Vec Value Global → Value → Vec Value Global
+single vs v = record { ptr = vs.ptr; len = 1; cap = 1; alloc = vs.alloc; items = v ∷ []; ok = (refl, omega arith); small = omega arith }
+
 -- ---- A call that is an operation
 
 module _ {T : Type 0} (rules : HostRules T) (p : Code.Program) (store : Store) (current : Current) where
@@ -201,6 +212,15 @@ module _ {T : Type 0} (rules : HostRules T) (p : Code.Program) (store : Store) (
       let two = row_more rules p store current r.none r.first vs args later b [] one (record { expr = o.second; first = refl; value = o.value }) r.both in
       record { named = o.named; plain = o.plain; found = record { none = r.none; empty = r.empty; brings = two } }
 
+  -- one argument that is lent
+  pub look_plain : (name : Named) (args : List Expr) (op : Op) (v : Value) (u : Vec Value Global) → LooksAt p store current name args op v → CallsPlainly rules p store current name args op (single u v)
+  unfolding no_value single
+  look_plain name args op v u o =
+      let whole : Bor (List Expr) = record { ref_ptr = (0, 0); now = args } in
+      let start : RowBrings rules p store current (no_value u) args (no_value u) whole.now = λ fs purpose row rest q e. row_stays rules p store current fs purpose (no_value u) row rest (q ∙ sym e) in
+      let one = row_more rules p store current (no_value u) (no_value u) (single u v) args whole v [] start (record { expr = o.only; first = o.one; value = o.value }) refl in
+      record { named = o.named; plain = o.plain; found = record { none = no_value u; empty = refl; brings = one } }
+
 module _ {T S : Type 0} (rules : HostRules T) (leaves : Ask → T → T → Type 0) (p : Code.Program) (store : Store) (current : Current) where
   -- what is known of the arguments of an operation where a run stands at its call
   pub args_fit : (h : HostNow T S) (e : Expr) (name : Named) (es : Vec Expr Global) (args : List Expr) (op : Op) (vs : Vec Value Global) → e ≡ E.Call name es → args ≡ es.items → CallsPlainly rules p store current name args op vs → ExprStands rules leaves p h store current e
@@ -212,7 +232,7 @@ module _ {T S : Type 0} (rules : HostRules T) (leaves : Ask → T → T → Type
       (g.holds.focus.0, rw st.ready.functions g.holds.focus.1)
 
   pub expr_asks : (h h1 : HostNow T S) (e : Expr) (name : Named) (es : Vec Expr Global) (args : List Expr) (op : Op) (vs : Vec Value Global) (v : Value) → e ≡ E.Call name es → args ≡ es.items → CallsPlainly rules p store current name args op vs
-      → Answers rules op (map seen vs.items) h h1 v → ExprAsks rules leaves p e store current h v h1
+      → IsAnswered rules op (map seen vs.items) h h1 v → ExprAsks rules leaves p e store current h v h1
   expr_asks h h1 e name es args op vs v is a c y = λ fs expr q.
       proceeds_trans rules leaves (seen_program p) h h h1 _ _ _ (leads_proceeds rules leaves (seen_program p) h _ _ (call_asks rules p store current e name es args op vs is a c fs expr q))
       (answered rules leaves (seen_program p) store current fs h h1 op vs v c.plain y)
@@ -232,6 +252,26 @@ module _ {T S : Type 0} (rules : HostRules T) (leaves : Ask → T → T → Type
       let st = s.3.1 in
       let fits = (call_fits s.1.now name es (s.2 ∙ is) st.holds.focus).0 in
       sym (rw (← o.named, ← a, o.both) at fits)
+
+  -- the host knows the answer
+  pub expr_known : (h : HostNow T S) (e : Expr) (name : Named) (es : Vec Expr Global) (args : List Expr) (op : Op) (held v : Value) (u : Vec Value Global) → e ≡ E.Call name es → args ≡ es.items → LooksAt p store current name args op held
+      → KnowsValue rules op (seen held ∷ []) h v → IsKnown rules leaves p e store current h v
+  unfolding single
+  expr_known h e name es args op held v u is a o k = λ fs expr q.
+      let c = look_plain rules p store current name args op held u o in
+      let y : IsAnswered rules op (seen held ∷ []) h h v = record { rule = k.rule; tickets = refl; room = still _; functions = refl; refusals = refl; numbered = k.numbered } in
+      proceeds_steps rules leaves (seen_program p) h h h (place store current fs (focus.Expr expr)) (place store current fs (focus.Ask op (single u held))) (Ok (focus.Value v)) store current fs tt
+      (leads_proceeds rules leaves (seen_program p) h _ _ (call_asks rules p store current e name es args op (single u held) is a c fs expr q))
+      (answered_steps rules leaves (seen_program p) store current fs h h op (single u held) v c.plain y)
+
+  pub known_asks : (h : HostNow T S) (e : Expr) (v : Value) → IsKnown rules leaves p e store current h v → ExprAsks rules leaves p e store current h v h
+  known_asks h e v k = λ fs expr q ts st. let two = k fs expr q ts st in record { means = two.means; stood = two.stood; fewer = stood_less (seen_program p) _ _ two.fewer }
+
+  -- what is known of an argument that is lent
+  pub look_fits : (h : HostNow T S) (e : Expr) (name : Named) (es : Vec Expr Global) (args : List Expr) (op : Op) (held : Value) (u : Vec Value Global) → e ≡ E.Call name es → args ≡ es.items → LooksAt p store current name args op held → ExprStands rules leaves p h store current e
+      → (1 ≡ count_of op) × AllNumbered h.functions (seen held ∷ [])
+  unfolding single
+  look_fits h e name es args op held u is a o s = args_fit h e name es args op (single u held) is a (look_plain rules p store current name args op held u o) s
 
   -- global variables are numbered where a run stands
   pub stands_numbered : (h : HostNow T S) (e : Expr) → ExprStands rules leaves p h store current e → AreNumberedIn (count_of_functions (seen_program p)) (globals_in (seen_program p) store)

@@ -1,5 +1,5 @@
 -- What a run comes to where the host is asked with no frame for what asks.
-use Rattle.std.specs.Prelude.{◌≡◌, ℕ, ◌≤◌, false, List, [], ◌∷◌, ◌++◌, Some, Result, Vec}
+use Rattle.std.specs.Prelude.{◌≡◌, ℕ, ◌≤◌, false, List, [], ◌∷◌, ◌++◌, Some, Result, Vec, Ok}
 use Rattle.std.specs.declared.alloc.Global.{Global}
 use Rattle.std.specs.Borrow.{Bor}
 use Rattle.page_types.specs.Counts.{Rose}
@@ -34,7 +34,7 @@ use Rattle.page_interp.specs.StackClauses.{AreFound, IsStanding, stand}
 -- ---- An ask
 
 -- the host answers an operation with this value, and tells of it
-pub record Answers {T S : Type 0} (rules : HostRules T) (op : Op) (args : List Model.Value)
+pub record IsAnswered {T S : Type 0} (rules : HostRules T) (op : Op) (args : List Model.Value)
     (h h' : HostNow T S) (v : Value) : Type 0 where
   pub rule : on_ask rules (AskOp op args) h.told ≡ record { step = StepValue (seen v); host = h'.told }
   pub tickets : h'.tickets ≡ h.tickets
@@ -72,6 +72,15 @@ pub record HasOwnFirst (code : Code.Program) (store : Store) (current : Current)
   pub second : Bor Expr
   pub both : args ≡ tree.Name own ∷ second.now ∷ []
   pub value : direct_there code store current second.now ≡ Some (seen v)
+
+-- the same of one argument, which is lent
+pub record LooksAt (code : Code.Program) (store : Store) (current : Current)
+    (name : Named) (args : List Expr) (op : Op) (v : Value) : Type 0 where
+  pub named : Some op ≡ op_named name.name
+  pub plain : is_busy op ≡ false
+  pub only : Bor Expr
+  pub one : args ≡ only.now ∷ []
+  pub value : direct_there code store current only.now ≡ Some (seen v)
 
 -- two values in a row
 pub record ArePair (a b : Value) (vs : Vec Value Global) : Type 0 where
@@ -121,6 +130,14 @@ ExprAsks rules leaves code e store current h v h' =
     (fs : List Frame) (expr : Bor Expr) → expr.now ≡ e →
     ProceedsTo rules leaves (script code) h (place store current fs (focus.Expr expr))
     h' (place store current fs (focus.Value v))
+
+-- the same in one step, and nothing changes
+abbrev pub IsKnown : {T S : Type 0} → HostRules T → (Ask → T → T → Type 0) → Code.Program
+    → Expr → Store → Current → HostNow T S → Value → Type 0
+IsKnown rules leaves code e store current h v =
+    (fs : List Frame) (expr : Bor Expr) → expr.now ≡ e →
+    Steps rules leaves (script code) h (place store current fs (focus.Expr expr)) (Ok (focus.Value v))
+    h store current fs
 
 -- the run ends at the expression
 abbrev pub ExprStops : {T S : Type 0} → HostRules T → (Ask → T → T → Type 0) → Code.Program

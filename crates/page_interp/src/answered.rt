@@ -8,13 +8,13 @@ ghost use Rattle.lang_ast.specs.Hosts.{GivesValue};
 ghost use Rattle.lang_ast.specs.Operations.{count_of};
 ghost use Rattle.lang_ast.specs.Steps.{AllNumbered};
 ghost use Rattle.lang_meaning.specs.HostSteps.{is_busy};
-ghost use Rattle.page_interp.specs.Asked.{Answers, ArePair, BlockAsks, BlockStands, BlockStops, CallsPlainly, ExprAsks, ExprStands, ExprStops, HasOwnFirst, RefusesAsk, SetsAsked};
+ghost use Rattle.page_interp.specs.Asked.{IsAnswered, ArePair, BlockAsks, BlockStands, BlockStops, CallsPlainly, ExprAsks, ExprStands, ExprStops, HasOwnFirst, IsKnown, LooksAt, RefusesAsk, SetsAsked};
 ghost use Rattle.page_interp.specs.Direct.{NameHolds};
 
 use crate::at_once::{first_values, set};
 use crate::blocks::assigned;
 use crate::code::Code;
-use crate::direct::{direct_value, variable};
+use crate::direct::{direct_held, direct_value, variable};
 use crate::exit::{Exit, Store};
 use crate::operations::may_be_known;
 use crate::stack::Current;
@@ -42,7 +42,7 @@ fn answer<H: Host>(host: &mut H, op: Op, args: Vec<Value>) -> Result<Value, H::S
     requires count { length args.items ≡ count_of op }
     requires numbered { AllNumbered (H.now host.old).functions (map seen args.items) }
     requires plain { is_busy op ≡ false }
-    ensures ok { IfOk result (Answers H.rules op (map seen args.items)
+    ensures ok { IfOk result (IsAnswered H.rules op (map seen args.items)
         (H.now host.old) (H.now host.new)) }
     ensures err { IfErr result (RefusesAsk H.leaves op (map seen args.items)
         (H.now host.old) (H.now host.new)) }
@@ -80,6 +80,49 @@ fn plain_call<'c, H: Host>(
     }
 }
 
+/// The operation and the argument of a call by name with one argument that a variable or an item
+/// holds, where a host may know the answer.
+fn looked_at<'a>(
+    code: &'a Code,
+    store: &'a Store,
+    current: &'a Current,
+    name: &Named,
+    args: &[Expr],
+) -> Option<(Op, &'a Value)>
+    ensures { IfSome result (λ found. LooksAt code.now store.now current.now
+        name.now args.now found.0 found.1.now) }
+{
+    let (only, more) = args.split_first()?;
+    if !more.is_empty() {
+        return None;
+    }
+    let op = code.operation(&name.name)?;
+    if !may_be_known(op) {
+        return None;
+    }
+    let held = direct_held(code, store, current, only)?;
+    Some((op, held))
+}
+
+/// The value of an operation that the host knows by a look at what a variable or an item holds.
+pub fn known<'x, H: Host>(
+    code: &'x Code,
+    host: &H,
+    store: &'x Store,
+    current: &'x Current,
+    expr: &'x Expr,
+) -> Option<Value>
+    requires { ExprStands H.rules H.leaves code.now (H.now host.now) store.now current.now expr.now }
+    ensures { IfSome result (λ v. IsKnown H.rules H.leaves code.now expr.now
+        store.now current.now (H.now host.now) v) }
+{
+    let Expr::Call(name, args) = expr else {
+        return None;
+    };
+    let (op, held) = looked_at(code, store, current, name, args)?;
+    host.known_value(op, &[held])
+}
+
 /// The value of an operation that the host is sure to answer with one, where its arguments are found
 /// at once. The host is asked for no other expression.
 fn value<'c, H: Host>(
@@ -96,6 +139,9 @@ fn value<'c, H: Host>(
     ensures stops { IfErr result (ExprStops H.rules H.leaves code.now expr.now
         store.now current.now (H.now host.old) (H.now host.new) store.now) }
 {
+    if let Some(value) = known(&*code, &*host, store, current, expr) {
+        return Ok(Some(value));
+    }
     let Expr::Call(name, args) = expr else {
         return Ok(None);
     };

@@ -226,6 +226,18 @@ fn text_sum(
     }
 }
 
+/// The variable that an expression names, or an item in it, where it is found at once. It is not copied.
+pub fn direct_held<'a>(
+    code: &'a Code,
+    store: &'a Store,
+    current: &'a Current,
+    expr: &Expr,
+) -> Option<&'a Value>
+    ensures { IfSome result (λ v. HasValue code.now store.now current.now expr.now (seen v.now)) }
+{
+    item(code, store, current, expr, LEVELS)
+}
+
 /// An integer that is found at once.
 pub fn direct_int(code: &Code, store: &Store, current: &Current, expr: &Expr) -> Option<i64>
     ensures { IfSome result (λ n. HasValue code.now store.now current.now expr.now (IntValue n)) }

@@ -10,6 +10,7 @@ ghost use Rattle.page_interp.specs.StackClauses.{stand, LeadsOn, IsStanding, Ste
 ghost use Rattle.page_interp.specs.declared.exit.Exit.TheVariants as exit;
 ghost use Rattle.page_interp.specs.declared.stack.Focus.TheVariants as focus;
 
+use crate::answered::known;
 use crate::asking::{ask, resume};
 use crate::at_once::{into_test, next_in_row, set};
 use crate::code::Code;
@@ -224,7 +225,10 @@ fn step<'c, H: Host>(
         host.old store.old current.old stack.old host.new store.new current.new stack.new }
 {
     match focus {
-        Focus::Expr(expr) => from_expr::<H>(code, store, current, stack, expr),
+        Focus::Expr(expr) => match known(&*code, &*host, store, current, expr) {
+            Some(value) => Ok(Focus::Value(value)),
+            None => from_expr::<H>(code, store, current, stack, expr),
+        },
         Focus::Row(purpose, values, exprs) => {
             next_in_row::<H>(code, store, current, stack, purpose, values, exprs)
         }

@@ -28,9 +28,9 @@ use Rattle.page_state.specs.Standing.{Standing, page_of}
 use Rattle.page_state.specs.PageActs.{at}
 use Rattle.page_answers.specs.Answers.{Answers, done_by, page_then, step_then}
 use Rattle.page_state.specs.FoldActs.{hosting_of}
-use Rattle.page_pure.specs.ValueAnswers.{GivesPurely}
+use Rattle.page_pure.specs.ValueAnswers.{GivesPurely, AnswersPurely}
 use Rattle.promise_operations.proofs.Pure.{pure-operation}
-use Rattle.page_operations.specs.Asked.{Asked, asked_of, functions_of, AnswersValue}
+use Rattle.page_operations.specs.Asked.{Asked, asked_of, functions_of, AnswersValue, AnswersAlone}
 use Rattle.page_operations.specs.Plain.{is_plain, plain_operation, IsSameOrWants}
 
 plain-is : (folds : List Fold) (op : Op) (args : List Value) (p : Page) → is_plain op ≡ true
@@ -140,15 +140,22 @@ plain-where-pure names FaultTextOf args a e = refl
 plain-where-pure names DidTimeout args a e = refl
 plain-where-pure names op args a e = absurd (cc)
 
--- an operation on values alone that gives a value, where the arguments name nothing that was never made
-pub answers-value : (op : Op) (args : List Value) (s : Standing) → GivesPurely op args → may_operate (page_of s) op args ≡ true → AnswersValue op args s
-unfolding at-once
-answers-value op args s gives known =
-    let p = page_of s in
-    let v = (gives p.names).0 in
-    let is : pure_answer p.names op args ≡ Some (Ok v) = (gives p.names).1 in
-    let done : plain_operation op args (bare p) ≡ GivesValue v (bare p) = pure-operation (in_script no_calls) op args (bare p) (Ok v) is in
-    (v, ap (λ (x : Stepped Hosting). x.step) (asked-is op args s (plain-where-pure p.names op args (Ok v) is) known) ∙ ap step_then done)
+-- an operation on values alone that gives a value does nothing else, where the arguments name nothing that was never made
+module _ (op : Op) (args : List Value) (s : Standing) where
+  gives-alone : (v : Value) → pure_answer (page_of s).names op args ≡ Some (Ok v) → may_operate (page_of s) op args ≡ true → AnswersAlone op args v s
+  unfolding at-once
+  gives-alone v is known =
+      let p = page_of s in
+      let done : plain_operation op args (bare p) ≡ GivesValue v (bare p) = pure-operation (in_script no_calls) op args (bare p) (Ok v) is in
+      asked-is op args s (plain-where-pure p.names op args (Ok v) is) known ∙ ap (at-once (map as_fold s.folds)) done
+
+  pub answers-alone : (v : Value) → AnswersPurely op args v → may_operate (page_of s) op args ≡ true → AnswersAlone op args v s
+  answers-alone v answers known = gives-alone v (answers (page_of s).names) known
+
+  pub answers-value : GivesPurely op args → may_operate (page_of s) op args ≡ true → AnswersValue op args s
+  answers-value gives known =
+      let g = gives (page_of s).names in
+      (g.0, ap (λ (x : Stepped Hosting). x.step) (gives-alone g.0 g.1 known))
 
 -- where an argument holds a number that was not given out
 pub Asked-unknown : {T : Type 0} (k : Keeping T) (op : Op) (args : List Value) (old : At Standing T) (step : code.HostStep)

@@ -24,6 +24,10 @@ asked_of ask s = on_ask page_rules ask (hosting_of s)
 abbrev pub AnswersValue : Op → List Value → Standing → Type 0
 AnswersValue op args s = (v : Value) × ((asked_of (AskOp op args) s).step ≡ StepValue v)
 
+-- they answer an operation with this value and do nothing else: the page and its folds stay, and no event comes
+abbrev pub AnswersAlone : Op → List Value → Value → Standing → Type 0
+AnswersAlone op args v s = asked_of (AskOp op args) s ≡ record { step = StepValue v; host = hosting_of s }
+
 -- how many functions the script has
 abbrev pub functions_of : Standing → ℕ
 functions_of s = length s.script.names

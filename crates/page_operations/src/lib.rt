@@ -11,4 +11,4 @@ mod times;
 
 pub use asking::{answer, go_on};
 pub use folding::are_numbered;
-pub use giving::gives_value;
+pub use giving::{gives_value, known_value};

@@ -14,3 +14,7 @@ IsValue answer = (v : Value) × (answer ≡ Ok v)
 -- this is an operation on values alone, and it answers these arguments with a value, whatever the names of functions are
 abbrev pub GivesPurely : Op → List Value → Type 0
 GivesPurely op args = (names : List (List ℕ)) → (v : Value) × (pure_answer names op args ≡ Some (Ok v))
+
+-- this is an operation on values alone, and it answers these arguments with this value, whatever the names of functions are
+abbrev pub AnswersPurely : Op → List Value → Value → Type 0
+AnswersPurely op args v = (names : List (List ℕ)) → pure_answer names op args ≡ Some (Ok v)

@@ -1,6 +1,9 @@
 //! Lists, bound arguments and deadlines.
 
-ghost use Rattle.std.specs.Prelude.{◌≡◌};
+ghost use Rattle.std.specs.Prelude.{◌≡◌, Ok};
+ghost use Rattle.page_types.specs.Values.{IntValue};
+ghost use Rattle.page_types.specs.declared.FaultName.TheVariants.{TypeError};
+ghost use Rattle.lang_meaning.specs.Evaluation.{need};
 ghost use Rattle.lang_meaning.specs.PureOperations.{length_answer, push_answer, bind_answer, did_timeout_answer};
 ghost use Rattle.lang_ast.specs.Steps.{seen_step};
 ghost use Rattle.page_values.specs.Seen.{seen};
@@ -18,12 +21,22 @@ use std::alloc::Global;
 pub fn count(alloc: Global, value: &Value) -> HostStep
     ensures { seen_step result ≡ step_of (length_answer (seen value.now)) }
 {
+    match length_of(value) {
+        Some(n) => HostStep::Value(Value::Int(n)),
+        None => throw(alloc, FaultName::TypeError),
+    }
+}
+
+/// The number of items of a list or of bytes of a text, and none for any other value. It costs one step.
+pub fn length_of(value: &Value) -> Option<i64>
+    ensures { length_answer (seen value.now) ≡ need result TypeError (λ n. Ok (IntValue n)) }
+{
     if let Some(text) = as_text(value) {
-        return HostStep::Value(Value::Int(text.bytes().len() as i64));
+        return Some(text.bytes().len() as i64);
     }
     match as_list(value) {
-        Some(items) => HostStep::Value(Value::Int(items.items().len() as i64)),
-        None => throw(alloc, FaultName::TypeError),
+        Some(items) => Some(items.items().len() as i64),
+        None => None,
     }
 }
 

@@ -1,13 +1,15 @@
-//! Whether an operation would be answered with a value, told before it is done.
+//! Whether an operation would be answered with a value, and with which, told before it is done.
 
-ghost use Rattle.std.specs.Prelude.{◌≡◌, ◌+◌, ◌≤◌, ◌↔◌, max, length, IsTrue};
+ghost use Rattle.std.specs.Prelude.{◌≡◌, ◌+◌, ◌≤◌, ◌↔◌, ℕ, max, length, IsTrue, IfSome};
 ghost use Rattle.lang_meaning.specs.PureOperations.{length_answer, push_answer};
 ghost use Rattle.page_parts.specs.Kinds.{weight, nesting};
-ghost use Rattle.lang_ast.specs.Hosts.{all_seen};
+ghost use Rattle.lang_ast.specs.Hosts.{seen_lent};
 ghost use Rattle.lang_ast.specs.Operations.{count_of};
 ghost use Rattle.page_values.specs.Seen.{seen};
-ghost use Rattle.page_pure.specs.ValueAnswers.{IsValue, GivesPurely};
+ghost use Rattle.page_values.specs.Written.{IsNumbered};
+ghost use Rattle.page_pure.specs.ValueAnswers.{IsValue, GivesPurely, AnswersPurely};
 
+use crate::functions::length_of;
 use lang_ast::Op;
 use page_values::{NESTING_LIMIT, Value, WEIGHT_LIMIT, nesting, weight};
 
@@ -15,13 +17,26 @@ use page_values::{NESTING_LIMIT, Value, WEIGHT_LIMIT, nesting, weight};
 /// that this does not decide. It takes no memory and costs one step, whatever the arguments hold.
 pub fn gives_value(op: Op, args: &[&Value]) -> bool
     requires { length args.now ≡ count_of op }
-    ensures { IsTrue result → GivesPurely op (all_seen args.now) }
+    ensures { IsTrue result → GivesPurely op (seen_lent args.now) }
 {
     match op {
         Op::KindOf => true,
         Op::Len => has_length(args[0]),
         Op::Push => takes_item(args[0], args[1]),
         _ => false,
+    }
+}
+
+/// The value with which an operation on values alone answers these arguments, as many as it has. It names no function. `None`
+/// also for operations that this does not decide. It takes no memory and costs one step, whatever the arguments hold.
+pub fn known_value(op: Op, args: &[&Value]) -> Option<Value>
+    requires { length args.now ≡ count_of op }
+    ensures answer { IfSome result (λ v. AnswersPurely op (seen_lent args.now) (seen v)) }
+    ensures numbered { (count : ℕ) → IfSome result (λ v. IsNumbered count (seen v)) }
+{
+    match op {
+        Op::Len => Some(Value::Int(length_of(args[0])?)),
+        _ => None,
     }
 }
 

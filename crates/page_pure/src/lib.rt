@@ -19,7 +19,7 @@ ghost use Rattle.page_pure.specs.PureSteps.{IsPureStepOf};
 use answers::{argument, both};
 use faults::{fault_name, fault_text, make_fault};
 use functions::{bind_more, count, did_timeout, push_item, push_onto};
-pub use giving::gives_value;
+pub use giving::{gives_value, known_value};
 use lang_ast::{HostStep, Op};
 use page_values::{FunNames, MemoryFault, Value};
 use std::alloc::Global;

@@ -10,7 +10,7 @@ use crate::spellings::{names, told};
 use Args::{One, Two};
 use Sample::{Abc, Deadline, F, H, No, NoItems, Number, Promise, RangeError, Unit};
 use lang_ast::{HostStep, Op, argument_count};
-use page_pure::{gives_value, pure_op, pure_op_of};
+use page_pure::{gives_value, known_value, pure_op, pure_op_of};
 use page_values::{FaultName, Items, Str, Value, fault, function_value};
 use std::alloc::{AllocError, Global};
 use std::process::Abort;
@@ -140,6 +140,13 @@ fn gives(op: Op, args: &Vec<Value>) -> Result<bool, Fail> {
     }
 }
 
+fn known_length(value: &Value) -> Option<i64> {
+    match known_value(Op::Len, &[value]) {
+        Some(Value::Int(length)) => Some(length),
+        _ => None,
+    }
+}
+
 fn spelling(alloc: Global, answer: &Option<HostStep>) -> Result<Vec<u8>, Fail> {
     match answer {
         None => Ok(b"none".to_vec(alloc)?),
@@ -197,6 +204,19 @@ fn an_answer_that_is_a_value_is_told_before(rt: HostRuntime) -> Result<(), Fail>
         drop(values);
         if told? != *wanted {
             return Err(Fail::new("an answer is told amiss"));
+        }
+    }
+    Ok(())
+}
+
+#[test]
+fn a_length_is_known_before(rt: HostRuntime) -> Result<(), Fail> {
+    for (sample, wanted) in &[(Abc, Some(3)), (NoItems, Some(0)), (Number(3), None)] {
+        let value = made(rt.alloc(), *sample)?;
+        let known = known_length(&value);
+        drop(value);
+        if known != *wanted {
+            return Err(Fail::new("a length is known amiss"));
         }
     }
     Ok(())

@@ -4,8 +4,14 @@ use Rattle.page_interp.proofs.Steps.{still}
 use Rattle.page_interp.proofs.RunSteps.{steps_goes, steps_moves, steps_call}
 use Rattle.page_interp.proofs.stepping.step.Goals as goal
 
-pub returns-in-Expr : goal.returns-in-Expr
-returns-in-Expr g c = rw c.in-Expr.is (steps_goes g.H.Host.rules g.H.Host.leaves (seen_program c.args.code.now) (g.H.Host.now c.args.host.now) c.from_expr.result _ _ _ _ c.from_expr.ensures.ok c.from_expr.ensures.err c.from_expr.ensures.globals c.from_expr.ensures.fuel)
+pub known-requires : goal.known-requires
+known-requires g c = let s = rw c.in-Expr.is at c.requires.stood in (_, c.in-Expr.expr, refl, s)
+
+pub returns-in-Some : goal.returns-in-Some
+returns-in-Some g c = rw c.in-Expr.is (c.in-Some.ensures _ c.in-Expr.expr refl)
+
+pub returns-in-None : goal.returns-in-None
+returns-in-None g c = rw c.in-Expr.is (steps_goes g.H.Host.rules g.H.Host.leaves (seen_program c.args.code.now) (g.H.Host.now c.args.host.now) c.from_expr.result _ _ _ _ c.from_expr.ensures.ok c.from_expr.ensures.err c.from_expr.ensures.globals c.from_expr.ensures.fuel)
 
 pub returns-in-Row : goal.returns-in-Row
 returns-in-Row g c = rw c.in-Row.is (steps_goes g.H.Host.rules g.H.Host.leaves (seen_program c.args.code.now) (g.H.Host.now c.args.host.now) c.next_in_row.result _ _ _ _ c.next_in_row.ensures.ok c.next_in_row.ensures.err refl (still _))

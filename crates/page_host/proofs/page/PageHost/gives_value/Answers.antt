@@ -1,7 +1,7 @@
-use Rattle.lang_ast.specs.Hosts.{all_seen}
+use Rattle.lang_ast.specs.Hosts.{seen_lent}
 use Rattle.page_host.proofs.Hosting.{gives-value}
 use Rattle.page_host.proofs.page.PageHost.gives_value.Goals as goal
 
 pub returns : goal.returns
 returns g c = λ yes.
-    gives-value g.L.Lines.keeping g.L.Lines.seen c.args.self.now c.args.op (all_seen c.args.args.now) (rw (← c.self.view_is) (c.gives_value.ensures yes))
+    gives-value g.L.Lines.keeping g.L.Lines.seen c.args.self.now c.args.op (seen_lent c.args.args.now) (rw (← c.self.view_is) (c.gives_value.ensures yes))

@@ -1,4 +1,4 @@
-use Rattle.std.proofs.Common.{◌≡◌, ◌<◌, ◌^◌, List, [], ◌∷◌, length, Some, ap, sym, ◌∙◌, refl, rules, suc}
+use Rattle.std.proofs.Common.{◌≡◌, ◌<◌, ◌^◌, List, [], ◌∷◌, length, Some, Ok, ap, sym, ◌∙◌, refl, rules, suc}
 use Rattle.std.specs.Prelude.{pos}
 use Rattle.std.specs.Int.{w64}
 use mir.Val.{to_z}
@@ -8,19 +8,18 @@ use Rattle.page_types.specs.Values.{IntValue, ListValue, Values, items_of, value
 use Rattle.page_parts.specs.Kinds.{list_in}
 use Rattle.page_values.specs.Seen.{seen, seen_all}
 use Rattle.page_values.specs.declared.Value.{Value}
-use Rattle.lang_meaning.specs.HostSteps.{StepValue}
 use Rattle.lang_meaning.specs.PureOperations.{length_answer}
-use Rattle.page_pure.specs.PureSteps.{step_of}
-use Rattle.page_pure.proofs.functions.count.Goals as goal
+use Rattle.page_pure.proofs.functions.length_of.Goals as goal
 
 same_count : (xs : List Value) → length (items_of (seen_all xs)) ≡ length xs
 same_count [] = refl
 same_count (x ∷ xs) = ap suc (same_count xs)
 
-count_list : (v : Model.Value) (vs : Values) (xs : List Value) → list_in v ≡ Some vs → seen_all xs ≡ vs → length xs < 2 ^ 63 → StepValue (IntValue (to_z w64 (length xs))) ≡ step_of (length_answer v)
+count_list : (v : Model.Value) (vs : Values) (xs : List Value) → list_in v ≡ Some vs → seen_all xs ≡ vs → length xs < 2 ^ 63 → length_answer v ≡ Ok (IntValue (to_z w64 (length xs)))
 count_list (ListValue ws) vs xs e f h =
     let same : seen_all xs ≡ ws = cc in
-    rw (to_z_pos w64 (length xs) h) (ap (λ n. StepValue (IntValue (pos n))) (sym (same_count xs) ∙ ap (λ vs. length (items_of vs)) same))
+    let n : length (items_of ws) ≡ length xs = ap (λ vs. length (items_of vs)) (sym same) ∙ same_count xs in
+    rw (to_z_pos w64 (length xs) h) (ap (λ n. Ok (IntValue (pos n))) n)
 count_list v vs xs e f h = cc
 
 pub returns-in-Some-as_list : goal.returns-in-Some-as_list
