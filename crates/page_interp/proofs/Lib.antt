@@ -1,3 +1,4 @@
+pub mod OwnNames
 pub mod NameIndex
 pub mod OpIndex
 pub mod Frames

@@ -1,10 +1,13 @@
 -- Calls that are done at once.
-use Rattle.std.proofs.Common.{◌≡◌, ℕ, ◌+◌, ◌<◌, List, [], ◌∷◌, map, true, Option, Some, Box, Vec, Global, refl, sym, ap, ◌∙◌, arith}
+use Rattle.std.proofs.Common.{◌≡◌, ℕ, ◌+◌, ◌<◌, List, [], ◌∷◌, map, slice_get, vec_len, true, Option, Some, Box, Vec, Global, refl, sym, ap, ◌∙◌, arith}
 use Rattle.std.specs.Borrow.{Bor}
 use Rattle.page_types.specs.Values.{no_values}
 use Rattle.page_types.specs.declared.SumSign.{SumSign}
 use Rattle.page_types.specs.declared.ProductSign.{ProductSign}
-use Rattle.lang_meaning.specs.Evaluation.{sum_answer, product_answer}
+use Rattle.std.specs.Option.{option_map}
+use Rattle.std.proofs.lemmas.Option.{slice_get-map}
+use Rattle.std.proofs.lemmas.List.{length-map}
+use Rattle.lang_meaning.specs.Evaluation.{sum_answer, product_answer, functions_of, names_in}
 use Rattle.page_values.specs.declared.Value.{Value}
 use Rattle.page_values.specs.declared.Value.TheVariants as value
 use Rattle.page_values.specs.Seen.{seen}
@@ -27,9 +30,10 @@ use Rattle.page_interp.specs.declared.stack.Frame.TheVariants as frame
 use Rattle.page_interp.specs.declared.stack.Waiting.TheVariants as waiting
 use Rattle.page_interp.specs.declared.stack.Purpose.TheVariants as purpose
 use Rattle.page_interp.specs.AtOnce.{IsBoolThere, before_stmt, branches}
-use Rattle.page_interp.specs.CodeNames.{function_at}
+use Rattle.page_interp.specs.CodeNames.{function_at, names_of_frames}
 use Rattle.page_interp.specs.Frames.{place, call_variables, IsAnswer}
-use Rattle.page_interp.specs.Runs.{func_of, variables_of}
+use Rattle.page_interp.specs.Runs.{func_of, variables_of, frame_names}
+use Rattle.page_interp.specs.Variables.{AreFilled}
 use Rattle.page_interp.specs.StackClauses.{BlockBrings, ValueComes, ReturnsValue, AreFound, CallReturns, CallComes, TermsCome, FactorsCome, body_at}
 use Rattle.page_interp.proofs.SmallSteps.{pushes_moves, pops_moves, swaps_moves, stays_moves}
 use Rattle.page_interp.proofs.StmtSteps.{block_pushes, if_pushes}
@@ -173,3 +177,14 @@ module _ {T : Type 0} (rules : HostRules T) (p : Code.Program) where
       let three = (stays_moves rules fs (row_call callee vs end refl)).goes (seen_program p) store current two.holds in
       let four = returns fs callee refl (rw unit at three.holds) in
       goes_trans rules (seen_program p) _ _ _ (goes_on rules (seen_program p) _ _ _ one two) (goes_trans rules (seen_program p) _ _ _ three (rw unit four))
+
+named_at : (p : Code.Program) (n : ℕ) (f : Function) (names : List (List ℕ)) → Some (seen_function f) ≡ function_at p n → slice_get (names_of_frames p) n ≡ Some names → names ≡ frame_names (seen_function f)
+named_at p n f names q named =
+    let h : Some names ≡ Some (frame_names (seen_function f)) = sym named ∙ slice_get-map frame_names (functions_of (seen_program p).items) n ∙ ap (option_map frame_names) (sym q) in
+    cc
+
+-- the variables with which a function is called by its number
+pub called_locals : (p : Code.Program) (n n' : ℕ) (f : Function) (names : List (List ℕ)) (args locals : Vec Value Global) → n' ≡ vec_len f.parameters → Some (seen_function f) ≡ function_at p n → slice_get (names_of_frames p) n ≡ Some names → AreFilled names n' args locals
+    → variables_of names locals.items ≡ call_variables (function_at p n) (map seen args.items)
+called_locals p n n' f names args locals many q named filled = rw (← q)
+    (filled (seen_function f).parameters (names_in (seen_function f).body) (named_at p n f names q named) (many ∙ f.parameters.ok.0 ∙ sym (length-map f.parameters.items (λ x. x.name))))

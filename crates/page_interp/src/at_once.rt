@@ -12,7 +12,7 @@ ghost use Rattle.page_interp.specs.StackClauses.{LeadsOn, RowBrings, TestLeads, 
 ghost use Rattle.page_interp.specs.declared.exit.Exit.TheVariants as exit;
 ghost use Rattle.page_interp.specs.declared.stack.Focus.TheVariants as focus;
 
-use crate::blocks::{assigned, into_block};
+use crate::blocks::assigned;
 use crate::code::Code;
 use crate::direct::{direct_compare, direct_value};
 use crate::exit::{Exit, Store};
@@ -35,20 +35,20 @@ pub fn set<'c>(
     assign(code, store, current.names, &mut current.locals, name, value);
 }
 
-/// From the value of a loop's condition: its block is done from there at once, with a unit less.
+/// From the value of a loop's condition: its block is next, with a unit less.
 pub fn into_test<'c, H: Host>(
     code: &'c Code,
     store: &mut Store,
-    current: &mut Current<'c>,
+    current: &Current<'c>,
     stack: &mut Vec<Frame<'c>>,
     value: &Value,
     test: &'c Expr,
     block: &'c [Stmt],
 ) -> Result<Focus<'c>, Exit<H::Stop>>
     ensures ok { IfOk result (TestLeads H.rules code.now test.entry block.entry value.now
-        store.old current.old stack.old store.new current.new stack.new) }
+        store.old current.now stack.old store.new current.now stack.new) }
     ensures err { IfErr result (EndsWanting (script code.now)
-        (tested_at store.old current.old test.entry block.entry (stacked stack.old.items) value.now)
+        (tested_at store.old current.now test.entry block.entry (stacked stack.old.items) value.now)
         store.new) }
     ensures enters { IfErr result (λ _. bool_in (seen value.now) ≡ Some true) }
 {
@@ -59,7 +59,7 @@ pub fn into_test<'c, H: Host>(
             }
             store.fuel -= 1;
             push(stack, Frame::Turn(test, block))?;
-            into_block::<H>(code, store, current, stack, block)
+            Ok(Focus::Block(block))
         }
         Some(false) => Ok(Focus::Value(Value::Unit)),
         None => Ok(Focus::Throw(fault(code.alloc(), FaultName::TypeError))),

@@ -5,9 +5,7 @@ ghost use Rattle.std.specs.Borrow.{Bor};
 ghost use Rattle.page_values.specs.declared.Value.{Value};
 ghost use Rattle.lang_ast.specs.declared.tree.Stmt.{Stmt};
 ghost use Rattle.lang_ast.specs.declared.tree.Stmt.TheVariants.{Return};
-ghost use Rattle.page_interp.specs.AtOnce.{IsKept};
-ghost use Rattle.page_interp.specs.Clauses.{script};
-ghost use Rattle.page_interp.specs.StackClauses.{stand, MovesBefore, Branches, LeadsBefore, LeadsOn, BlockBrings, BlockLeaves, Sets, ValueComes};
+ghost use Rattle.page_interp.specs.StackClauses.{MovesBefore, Branches, LeadsBefore, LeadsOn, BlockBrings, BlockLeaves, Sets, ValueComes};
 ghost use Rattle.page_interp.specs.declared.exit.Exit.TheVariants as exit;
 ghost use Rattle.page_interp.specs.declared.stack.Focus.TheVariants as focus;
 
@@ -306,23 +304,4 @@ pub fn from_rest<'c, H: Host>(
             from_block::<H>(code, store, current, stack, rest)
         }
     }
-}
-
-/// From the statements of a block. Those in front that are done at once are done in one step with what
-/// comes after them.
-pub fn into_block<'c, H: Host>(
-    code: &'c Code,
-    store: &mut Store,
-    current: &mut Current<'c>,
-    stack: &mut Vec<Frame<'c>>,
-    stmts: &'c [Stmt],
-) -> Result<Focus<'c>, Exit<H::Stop>>
-    ensures ok { IfOk result (LeadsOn H.rules code.now (focus.Block stmts.entry)
-        store.old current.old stack.old store.new current.new stack.new) }
-    ensures err { IfErr result (λ x. x ≡ exit.OutOfMemory) }
-    ensures kept { IfErr result (λ _. IsKept (script code.now)
-        (stand store.old current.old stack.old (focus.Block stmts.entry)) store.new) }
-{
-    let rest = assigned::<H>(code, store, current, stmts);
-    from_rest::<H>(code, store, current, stack, rest)
 }

@@ -1,15 +1,16 @@
 //! A script as the machine has it: with an index of its names.
 
-ghost use Rattle.std.specs.Prelude.{◌≡◌, ◌<◌, [], IfOk, IfSome, Some, None, slice_get};
+ghost use Rattle.std.specs.Prelude.{◌≡◌, ◌<◌, [], IfOk, IfSome, IsTrue, Some, None, slice_get};
 ghost use Rattle.std.specs.Option.{option_map};
 ghost use Rattle.lang_meaning.specs.Evaluation.{functions_of, number_of, own_body};
 ghost use Rattle.lang_ast.specs.SeenProgram.{seen_program};
 ghost use Rattle.lang_meaning.specs.OpNames.{op_named};
 ghost use Rattle.page_interp.specs.Runs.{global_names, count_of_functions};
-ghost use Rattle.page_interp.specs.CodeNames.{function_at, names_of_frames};
+ghost use Rattle.page_interp.specs.CodeNames.{function_at, names_of_frames, HasOwnName};
+ghost use Rattle.page_interp.specs.Places.{place_of};
 
 use crate::found::called_names;
-use crate::gathering::{all_frame_names, global_names, same_names};
+use crate::gathering::{all_frame_names, global_names, own_names, same_names};
 use crate::guesses::Guesses;
 use crate::names::Names;
 use crate::operations::Operations;
@@ -25,6 +26,8 @@ pub struct Code<'p> {
     alloc: Global,
     program: &'p Program,
     functions: Names,
+    /// By its number, whether a function's name is no operation's and no global variable's.
+    own: Vec<bool>,
     globals: Names,
     no_names: Names,
     locals: Vec<Names>,
@@ -44,7 +47,7 @@ impl<'p> Model for Code<'p> {
     ghost view = { λ c. c.program.now };
 
     ghost invariant = { λ c.
-        AreNamesOf c.program.now c.functions c.globals c.no_names c.locals.items };
+        AreNamesOf c.program.now c.functions c.own.items c.globals c.no_names c.locals.items };
 }
 
 impl<'p> Code<'p> {
@@ -54,15 +57,17 @@ impl<'p> Code<'p> {
     {
         let functions = same_names(alloc, program.names().names())?;
         let globals = global_names(alloc, program.items())?;
+        let own = own_names(alloc, program.names().names(), &globals)?;
         let no_names = Names::new(alloc, Vec::new(alloc))?;
         let locals = all_frame_names(alloc, program.items())?;
         let operations = Operations::new(alloc, &called_names(alloc, program.items())?)?;
-        let guesses = Guesses::new(alloc, program.items(), &locals, &globals)?;
+        let guesses = Guesses::new(alloc, program.items(), &functions, &locals, &globals)?;
         let _count = program.function_count();
         Ok(Code {
             alloc,
             program,
             functions,
+            own,
             globals,
             no_names,
             locals,
@@ -115,23 +120,36 @@ impl Code<'_> {
     }
 
     /// The place at which the variable of this name likely stands, among those of its call or among
-    /// the global ones.
+    /// the global ones, or the function of this name among the functions.
     pub fn likely_place(&self, name: &Named) -> usize {
         self.guesses.place(name)
     }
 
-    /// The number of the function with this name, where it is likely simple and no operation has
-    /// the name.
-    pub fn simple(&self, name: &Str) -> Option<u32>
+    /// The number of the function with this name, which likely stands at the given place among the
+    /// functions. It is told where the function is likely simple, and no operation and no global
+    /// variable has the name.
+    pub fn simple(&self, name: &Str, near: usize) -> Option<u32>
         ensures operation { IfSome result (λ _. op_named name.now ≡ None) }
+        ensures global { IfSome result (λ _.
+            place_of (global_names (seen_program self.now)) name.now ≡ None) }
         ensures number { IfSome result (λ n.
             number_of (functions_of (seen_program self.now).items) name.now ≡ Some n) }
     {
-        let number = self.number_of(name)?;
-        if !self.guesses.is_simple(number as usize) || self.operation(name).is_some() {
+        let place = self.functions.place_near(name, near)?;
+        if !self.guesses.is_simple(place) || !self.is_own(place) {
             return None;
         }
-        Some(number)
+        Some(place as u32)
+    }
+
+    /// Whether the function at this place has a name that is no operation's and no global variable's.
+    fn is_own(&self, place: usize) -> bool
+        ensures { IsTrue result → HasOwnName self.now place }
+    {
+        match self.own.get(place) {
+            Some(own) => *own,
+            None => false,
+        }
     }
 
     /// The function with this number is not simple: a call of it could not be done at once.

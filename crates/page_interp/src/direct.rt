@@ -3,9 +3,8 @@
 //! Where one of these functions answers `None`, the expression is evaluated part by part.
 
 ghost use Rattle.std.specs.Prelude.{◌≡◌, Ok, IfOk, IfSome};
-ghost use Rattle.std.specs.Option.{option_map};
 ghost use Rattle.page_types.specs.Values.{BoolValue, IntValue, TextValue};
-ghost use Rattle.lang_meaning.specs.Evaluation.{compare_answer, sum_answer, product_answer};
+ghost use Rattle.lang_meaning.specs.Evaluation.{compare_answer, sum_answer};
 ghost use Rattle.page_values.specs.Seen.{seen};
 ghost use Rattle.page_interp.specs.Direct.{NameHolds, HasValue, ComparesTo, PlacesGive, TermsGive, FactorsGive, SumGives};
 

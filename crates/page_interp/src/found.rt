@@ -1,14 +1,14 @@
 //! What stands in a script: the names by which it calls, and the variables.
 
 use lang_ast::{Expr, Item, Named, ProductSign, Stmt, SumSign};
-use page_values::{MemoryFault, Str};
+use page_values::MemoryFault;
 use std::alloc::Global;
 
 /// What stands in a part of a script.
 #[derive(Drop)]
 pub struct Found<'a> {
     /// The names by which it calls, as often as it does.
-    pub called: Vec<&'a Str>,
+    pub called: Vec<&'a Named>,
     /// The variables that it reads and those that it gives, as often as it does.
     pub variables: Vec<&'a Named>,
     /// Whether it only gives variables values, has conditions and returns.
@@ -51,7 +51,7 @@ fn in_expr<'a>(expr: &'a Expr, into: &mut Found<'a>) -> Result<(), MemoryFault> 
         Expr::Unit => Ok(()),
         Expr::Name(name) => into.variable(name),
         Expr::Call(name, args) => {
-            into.called.push(&name.name)?;
+            into.called.push(name)?;
             in_exprs(args, into)
         }
         Expr::Paren(inner) => in_expr(inner, into),
@@ -191,7 +191,7 @@ pub fn found_in(alloc: Global, item: &Item) -> Result<Found<'_>, MemoryFault> {
 }
 
 /// The names by which the items of a script call, as often as they do.
-pub fn called_names(alloc: Global, items: &[Item]) -> Result<Vec<&Str>, MemoryFault> {
+pub fn called_names(alloc: Global, items: &[Item]) -> Result<Vec<&Named>, MemoryFault> {
     let mut found = Found::new(alloc);
     for item in items {
         in_item(item, &mut found)?;

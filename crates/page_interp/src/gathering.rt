@@ -1,13 +1,13 @@
 //! The names that a script gives.
 
-ghost use Rattle.std.specs.Prelude.{◌≡◌, IfOk, OnOk};
+ghost use Rattle.std.specs.Prelude.{◌≡◌, IfOk, OnOk, map};
 ghost use Rattle.lang_meaning.specs.Evaluation.{names_in, names_in_stmt, names_in_others, names_in_else, own_body};
 ghost use Rattle.lang_ast.specs.Seen.{seen_stmt, seen_block, seen_others, seen_else, seen_items, seen_function};
 ghost use Rattle.page_interp.specs.Runs.{frame_names};
-ghost use Rattle.page_interp.specs.CodeNames.{frames_of, Appends};
+ghost use Rattle.page_interp.specs.CodeNames.{frames_of, is_own, Appends};
 
 use crate::names::Names;
-use lang_ast::{Expr, Function, Item, Stmt};
+use lang_ast::{Expr, Function, Item, Stmt, operation_named};
 use page_values::{MemoryFault, Str, copy_text};
 use std::alloc::Global;
 
@@ -122,6 +122,17 @@ pub fn global_names(alloc: Global, items: &[Item]) -> Result<Names, MemoryFault>
         names_in_stmt(alloc, stmt, &mut names)?;
     }
     Names::new(alloc, names)
+}
+
+/// Of each of some names, whether it is no operation's and none of the global ones.
+pub fn own_names(alloc: Global, names: &[Str], globals: &Names) -> Result<Vec<bool>, MemoryFault>
+    ensures { IfOk result (λ own. own.items ≡ map (is_own globals.now) names.now) }
+{
+    let mut own = Vec::new(alloc);
+    for name in names {
+        own.push(operation_named(name).is_none() && globals.place(name).is_none())?;
+    }
+    Ok(own)
 }
 
 /// The same names.

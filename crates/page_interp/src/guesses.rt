@@ -12,8 +12,8 @@ use std::cell::Cell;
 const GUESSED: usize = 1 << 20;
 
 /// Where the variables that a script names likely stand among those of their call or among the
-/// global ones, and which of its functions are likely simple: they return with no loop, and ask the
-/// host for nothing.
+/// global ones, where what it calls likely stands among its functions, and which of these are likely
+/// simple: they return with no loop, and ask the host for nothing.
 #[derive(Drop)]
 pub struct Guesses {
     /// By the byte of the script at which the name stands.
@@ -24,10 +24,12 @@ pub struct Guesses {
 }
 
 impl Guesses {
-    /// The guesses for a script, by the names of its functions' variables and its global ones.
+    /// The guesses for a script, by the names of its functions, of their variables and of its global
+    /// ones.
     pub fn new(
         alloc: Global,
         items: &[Item],
+        functions: &Names,
         locals: &[Names],
         globals: &Names,
     ) -> Result<Guesses, MemoryFault> {
@@ -35,17 +37,18 @@ impl Guesses {
             places: Vec::new(alloc),
             simple: Vec::new(alloc),
         };
-        let mut functions = locals.iter();
+        let mut own_names = locals.iter();
         for item in items {
             let found = found_in(alloc, item)?;
             let own = match item {
                 Item::Fn(_) => {
                     guesses.simple.push(Cell::new(seems_simple(&found)))?;
-                    functions.next()
+                    own_names.next()
                 }
                 Item::Stmt(_) => None,
             };
             guesses.note(own.unwrap_or(globals), globals, &found)?;
+            guesses.note_calls(functions, &found)?;
         }
         Ok(guesses)
     }
@@ -64,6 +67,16 @@ impl Guesses {
         Ok(())
     }
 
+    // Notes the place of each function that is called.
+    fn note_calls(&mut self, functions: &Names, found: &Found) -> Result<(), MemoryFault> {
+        for &name in &found.called {
+            if let Some(place) = functions.place(&name.name) {
+                self.put(name.at, place)?;
+            }
+        }
+        Ok(())
+    }
+
     fn put(&mut self, at: usize, place: usize) -> Result<(), MemoryFault> {
         if at >= GUESSED {
             return Ok(());
@@ -75,7 +88,7 @@ impl Guesses {
         Ok(())
     }
 
-    /// Where the variable of this name stands, likely.
+    /// Where the variable or the function of this name stands, likely.
     pub fn place(&self, name: &Named) -> usize {
         match self.places.get(name.at) {
             Some(place) => *place,
@@ -102,7 +115,7 @@ impl Guesses {
 // Whether a function has no loop and calls no operation.
 fn seems_simple(found: &Found) -> bool {
     for &name in &found.called {
-        if operation_named(name).is_some() {
+        if operation_named(&name.name).is_some() {
             return false;
         }
     }

@@ -1,6 +1,6 @@
 //! Names, and where each stands.
 
-ghost use Rattle.std.specs.Prelude.{◌≡◌, ◌≤◌, IfOk, length};
+ghost use Rattle.std.specs.Prelude.{◌≡◌, IfOk, length};
 ghost use Rattle.page_interp.specs.Places.{place_of};
 
 use page_values::{MemoryFault, Str, same_text};

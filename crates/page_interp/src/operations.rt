@@ -5,7 +5,7 @@ ghost use Rattle.lang_meaning.specs.HostSteps.{is_busy};
 ghost use Rattle.lang_meaning.specs.OpNames.{op_named};
 ghost use Rattle.page_interp.specs.OpIndex.{AreNamed};
 
-use lang_ast::{Op, operation_named};
+use lang_ast::{Named, Op, operation_named};
 use page_values::{MemoryFault, Str};
 use std::alloc::Global;
 use std::collections::BTreeMap;
@@ -29,11 +29,11 @@ pub struct Operations {
 
 impl Operations {
     /// With these names.
-    pub fn new(alloc: Global, names: &[&Str]) -> Result<Operations, MemoryFault> {
+    pub fn new(alloc: Global, names: &[&Named]) -> Result<Operations, MemoryFault> {
         let mut ops = BTreeMap::new(alloc);
         for &name in names {
-            let key = Vec::from_slice(alloc, name.bytes())?;
-            ops.insert(key, operation_named(name))?;
+            let key = Vec::from_slice(alloc, name.name.bytes())?;
+            ops.insert(key, operation_named(&name.name))?;
         }
         Ok(Operations { ops })
     }

@@ -1,11 +1,10 @@
 //! The operators.
 
-ghost use Rattle.std.specs.Prelude.{◌≡◌, ◌++◌, [], Ok, ℤ, IfOk, IfErr, map};
+ghost use Rattle.std.specs.Prelude.{◌≡◌, [], Ok, IfOk, IfErr, map};
 ghost use Rattle.std.specs.Option.{option_map};
-ghost use Rattle.page_types.specs.Values.{TextValue, FaultValue, IntValue, values_of};
+ghost use Rattle.page_types.specs.Values.{FaultValue, IntValue, values_of};
 ghost use Rattle.page_types.specs.declared.FaultName.TheVariants.{TypeError, RangeError};
-ghost use Rattle.page_parts.specs.Kinds.{text_in};
-ghost use Rattle.lang_meaning.specs.Evaluation.{Answer, sum_answer, product_answer, compare_answer, unary_answer, item_answer, limited_value, both_ints, int_answer, need, place_in};
+ghost use Rattle.lang_meaning.specs.Evaluation.{sum_answer, product_answer, compare_answer, unary_answer, item_answer, both_ints, need, place_in};
 ghost use Rattle.page_values.specs.Seen.{seen};
 ghost use Rattle.page_interp.specs.Runs.{value_left, exit_left, ends, throws};
 ghost use Rattle.page_interp.specs.Answers.{Answers, AreInts, AreNoInts, text_answer, int_sum_answer, int_product};

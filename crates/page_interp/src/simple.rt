@@ -9,6 +9,7 @@ ghost use Rattle.lang_meaning.specs.OpNames.{op_named};
 ghost use Rattle.page_interp.specs.Direct.{HasValue, NameHolds};
 ghost use Rattle.page_interp.specs.Frames.{IsAnswer};
 ghost use Rattle.page_interp.specs.StackClauses.{AreFound, BlockBrings, BlockLeaves, CallComes, CallReturns, FactorsCome, ReturnsValue, Sets, TermsCome, ValueComes};
+ghost use Rattle.page_interp.specs.declared.exit.Store.{Store};
 ghost use Rattle.page_interp.specs.declared.stack.Focus.TheVariants as focus;
 
 use crate::at_once::{first_values, passes, truth};
@@ -16,10 +17,10 @@ use crate::code::Code;
 use crate::direct::direct_value;
 use crate::exit::Store;
 use crate::expressions::come;
-use crate::opening::{OPEN_CALLS, callee_locals, callee_names};
+use crate::opening::OPEN_CALLS;
 use crate::operators::{add, multiply};
 use crate::stack::{Current, Focus};
-use crate::variables::{find, set_own};
+use crate::variables::{find, locals_for, set_own};
 use lang_ast::{Expr, Host, Named, ProductSign, Stmt, SumSign};
 use page_values::Value;
 use std::alloc::Global;
@@ -63,7 +64,7 @@ fn value<'c, H: Host>(
     }
     match expr {
         Expr::Call(name, args) => {
-            let function = simple_callee(code, store, current, name)?;
+            let function = simple_callee(code, current, name)?;
             call::<H>(code, store, current, function, args, levels - 1)
         }
         Expr::Paren(inner) => value::<H>(code, store, current, inner, levels - 1),
@@ -288,19 +289,16 @@ fn found_args<'c, H: Host>(
     }
 }
 
-/// The function that a name stands for where it is no operation and no variable, and which is
-/// likely simple.
-fn simple_callee(code: &Code, store: &Store, current: &Current, name: &Named) -> Option<u32>
+/// The function that a name stands for where it is no operation and no variable, whatever the global
+/// variables hold, and which is likely simple.
+fn simple_callee(code: &Code, current: &Current, name: &Named) -> Option<u32>
     ensures operation { IfSome result (λ _. op_named name.now.name ≡ None) }
-    ensures function { IfSome result (λ n. NameHolds code.now store.now current.now
+    ensures function { IfSome result (λ n. (store : Store) → NameHolds code.now store current.now
         name.now.name (FunValue n no_values)) }
 {
-    let number = code.simple(&name.name)?;
     let near = code.likely_place(name);
+    let number = code.simple(&name.name, near)?;
     if find(current.names, &current.locals, &name.name, near).is_some() {
-        return None;
-    }
-    if find(code.globals(), &store.globals, &name.name, near).is_some() {
         return None;
     }
     Some(number)
@@ -324,8 +322,8 @@ fn returned_by<'c, H: Host>(
     ensures fuel { less.new.fuel ≤ less.old.fuel }
 {
     let called = code.function(function)?;
-    let names = callee_names(code, function);
-    let Ok(locals) = callee_locals(code, function, args) else {
+    let names = code.locals_of(function);
+    let Ok(locals) = locals_for(called.parameters.len(), names, args) else {
         return None;
     };
     let mut inner = Current {
@@ -379,7 +377,7 @@ pub fn call_value<'c, H: Host>(
     let Expr::Call(name, args) = expr else {
         return None;
     };
-    let function = simple_callee(code, store, current, name)?;
+    let function = simple_callee(code, current, name)?;
     let before = store.fuel;
     let value = call::<H>(code, store, current, function, args, LEVELS);
     if value.is_none() {

@@ -3,7 +3,7 @@
 ghost use Rattle.std.specs.Prelude.{◌≡◌, [], ◌+◌, ◌<◌, ◌≤◌, IfOk, IfErr, map};
 ghost use Rattle.std.specs.Option.{option_map};
 ghost use Rattle.page_values.specs.Seen.{seen};
-ghost use Rattle.page_interp.specs.Clauses.{script, count_in, CanCall, CallRuns};
+ghost use Rattle.page_interp.specs.Clauses.{count_in, CanCall, CallRuns};
 ghost use Rattle.page_interp.specs.Frames.{place, IsWant, IsCallable, AreSeenNumbered};
 ghost use Rattle.page_interp.specs.Runs.{value_left};
 ghost use Rattle.page_interp.specs.StackClauses.{stand, LeadsOn, IsStanding, StepsOn, RunEnds};

@@ -2,13 +2,11 @@
 
 ghost use Rattle.std.specs.Prelude.{◌≡◌, ◌++◌, ◌∷◌, [], Option, Some, None, Ok, IfOk, IfErr, IfSome, IfNone, map};
 ghost use Rattle.std.specs.Option.{option_map};
-ghost use Rattle.page_types.specs.Values as Model;
-ghost use Rattle.page_types.specs.Values.{items_of, ListValue, TextValue, FaultValue};
-ghost use Rattle.page_types.specs.declared.FaultName.TheVariants.{TypeError, RangeError};
-ghost use Rattle.lang_meaning.specs.Evaluation.{limited_value, need};
-ghost use Rattle.page_values.specs.Made.{IsMade};
+ghost use Rattle.page_types.specs.Values.{items_of, ListValue, TextValue};
+ghost use Rattle.page_types.specs.declared.FaultName.TheVariants.{RangeError};
+ghost use Rattle.lang_meaning.specs.Evaluation.{limited_value};
 ghost use Rattle.page_values.specs.Seen.{seen, seen_all};
-ghost use Rattle.page_interp.specs.Runs.{value_left, unit_left, exit_left, call_left, func_of, func_seen};
+ghost use Rattle.page_interp.specs.Runs.{value_left, unit_left, call_left, func_of, func_seen};
 ghost use Rattle.page_interp.specs.Answers.{Answers, MadeGives};
 
 use crate::exit::Exit;

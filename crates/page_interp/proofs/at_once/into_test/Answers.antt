@@ -1,10 +1,8 @@
 use Rattle.std.proofs.Common.{refl, arith, sym, ap, ◌∙◌, Some, ◌-◌}
 use Rattle.std.proofs.lemmas.Result.{err_from_is_err_and}
-use Rattle.lang_ast.specs.SeenProgram.{seen_program}
 use Rattle.page_interp.specs.Frames.{stacked}
 use Rattle.page_interp.proofs.FrameSteps.{test_false, test_no_bool}
-use Rattle.page_interp.proofs.AtOnce.{test_enters, leads_on, kept_on, if_wanting}
-use Rattle.page_interp.proofs.RunSteps.{if_err}
+use Rattle.page_interp.proofs.AtOnce.{test_enters}
 use Rattle.page_interp.proofs.at_once.into_test.Goals as goal
 
 pub returns-then-store-eq0-clause-err : goal.returns-then-store-eq0-clause-err
@@ -15,17 +13,8 @@ returns-in_err-push-in-Some-true-clause-err g c = let q = err_from_is_err_and c.
 
 pub returns-in_ok-push-in-Some-true-clause-ok : goal.returns-in_ok-push-in-Some-true-clause-ok
 returns-in_ok-push-in-Some-true-clause-ok g c =
-    leads_on g.H.Host.rules (seen_program c.args.code.now) c.into_block.result _ _ _ _ _ (test_enters g.H.Host.rules c.args.code.now c.args.store.now c.args.current.now (stacked c.args.stack.now.items) c.args.test c.args.block c.args.value.now _ _ (c.args.store.now.fuel - 1)
-    (sym c.in-Some-true.ensures ∙ ap Some c.in-Some-true.field-0-test) (let z = c.if-store-eq0.false in omega (arith, z)) refl c.in_ok-push-in-Some-true.ensures.pushed) c.into_block.ensures.ok
-
-pub returns-in_ok-push-in-Some-true-clause-err : goal.returns-in_ok-push-in-Some-true-clause-err
-returns-in_ok-push-in-Some-true-clause-err g c =
-    if_wanting (seen_program c.args.code.now) c.into_block.result _ c.into_block.new.store c.into_block.ensures.err
-    (kept_on g.H.Host.rules (seen_program c.args.code.now) c.into_block.result _ _ c.into_block.new.store (test_enters g.H.Host.rules c.args.code.now c.args.store.now c.args.current.now (stacked c.args.stack.now.items) c.args.test c.args.block c.args.value.now _ _ (c.args.store.now.fuel - 1)
-    (sym c.in-Some-true.ensures ∙ ap Some c.in-Some-true.field-0-test) (let z = c.if-store-eq0.false in omega (arith, z)) refl c.in_ok-push-in-Some-true.ensures.pushed) c.into_block.ensures.kept)
-
-pub returns-in_ok-push-in-Some-true-clause-enters : goal.returns-in_ok-push-in-Some-true-clause-enters
-returns-in_ok-push-in-Some-true-clause-enters g c = if_err c.into_block.result _ (sym c.in-Some-true.ensures ∙ ap Some c.in-Some-true.field-0-test)
+    test_enters g.H.Host.rules c.args.code.now c.args.store.now c.args.current.now (stacked c.args.stack.now.items) c.args.test c.args.block c.args.value.now _ _ (c.args.store.now.fuel - 1)
+    (sym c.in-Some-true.ensures ∙ ap Some c.in-Some-true.field-0-test) (let z = c.if-store-eq0.false in omega (arith, z)) refl c.in_ok-push-in-Some-true.ensures.pushed
 
 pub returns-in-Some-false-clause-ok : goal.returns-in-Some-false-clause-ok
 returns-in-Some-false-clause-ok g c = λ h. test_false g.H.Host.rules _ _ _ _ _ _ _ (sym c.in-Some-false.ensures ∙ ap Some c.in-Some-false.field-0-test) h

@@ -9,7 +9,7 @@ use Rattle.page_interp.proofs.DirectSteps.{if_so}
 use Rattle.page_interp.proofs.LoopTurns.{told_there}
 use Rattle.page_interp.proofs.AtOnce.{block_stays, block_on, direct_comes, takes_value}
 use Rattle.page_interp.proofs.BlockSteps.{if_passed}
-use Rattle.page_interp.proofs.SimpleCalls.{return_found, return_inside, paren_comes, sum_comes, product_comes, terms_on, terms_end, factors_on, factors_end, call_returns, call_comes, body_called, fits_called, with_unit}
+use Rattle.page_interp.proofs.SimpleCalls.{return_found, return_inside, paren_comes, sum_comes, product_comes, terms_on, terms_end, factors_on, factors_end, call_returns, call_comes, called_locals, body_called, fits_called, with_unit}
 use Rattle.page_interp.proofs.simple.+calls.Goals as goal
 use Rattle.page_interp.proofs.simple.+calls.Goals.{first_own-in-Var, first_own-in-Assign, first_own-in-If, first_own-in_default}
 
@@ -20,7 +20,7 @@ value-returns-in-Some-clause-comes g t c = direct_comes g.H.Host.rules c.args.co
 
 pub value-returns-in_ok-function-in-Call-clause-comes : goal.value-returns-in_ok-function-in-Call-clause-comes
 value-returns-in_ok-function-in-Call-clause-comes g t c = if_so c.call.result c.call.ensures.comes
-    (λ v k. k c.args.expr.now c.in-Call.name c.in-Call.args c.in-Call.is c.deref.ensures.value c.in_ok-function-in-Call.ensures.operation c.in_ok-function-in-Call.ensures.function)
+    (λ v k. k c.args.expr.now c.in-Call.name c.in-Call.args c.in-Call.is c.deref.ensures.value c.in_ok-function-in-Call.ensures.operation (c.in_ok-function-in-Call.ensures.function c.args.store.now))
 
 pub value-returns-in-Paren-clause-comes : goal.value-returns-in-Paren-clause-comes
 value-returns-in-Paren-clause-comes g t c = if_so c.value.result c.value.ensures.comes
@@ -113,7 +113,7 @@ returned-sides-preserved g t c = record {
 pub returned_by-returns-clause-returns : goal.returned_by-returns-clause-returns
 returned_by-returns-clause-returns g t c = if_so c.returned.result c.returned.ensures.returns
     (λ v h. call_returns g.H.Host.rules c.args.code.now c.args.less.now _ _ c.args.current.now _ _ c.args.function c.args.args _ _ v c.requires.room refl
-    (rw c.callee_names-names.ensures c.in-Ok.ensures)
+    (called_locals c.args.code.now c.args.function c.len.result c.in_ok-called.called.now c.locals_of-names.result.now c.args.args c.in-Ok.locals c.len.ensures c.in_ok-called.ensures.found c.locals_of-names.ensures c.in-Ok.ensures)
     (rw c.deref.ensures.value (body_called c.args.code.now c.args.function c.in_ok-called.called.now c.in_ok-called.ensures.found))
     (fits_called c.args.code.now c.args.function c.in_ok-called.called.now c.in_ok-called.ensures.found c.in_ok-called.ensures.fits)
     c.own_done-rest.ensures.brings h)
