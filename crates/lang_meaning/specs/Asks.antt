@@ -1,7 +1,10 @@
 -- A script up to its host's n-th ask: with the asks before it the host does what its rules say, and there the script stops.
-use Rattle.std.specs.Prelude.{◌≡◌, ℕ, zero, suc, Option, Some, None}
+use Rattle.std.specs.Prelude.{◌≡◌, ℕ, zero, suc, List, Option, Some, None}
+use Rattle.page_types.specs.Values.{Value}
+use Rattle.page_types.specs.Tree.{Program}
 use Rattle.lang_meaning.specs.Machine.{Machine, Done, Gives, Throws, Returns, OutOfFuel, Operations, hosted}
-use Rattle.lang_meaning.specs.HostSteps.{HostRules, Ask, on_ask, Asking, with_host, operations_by}
+use Rattle.lang_meaning.specs.HostSteps.{HostRules, Ask, on_ask, Asking, with_host, operations_by, host_operations}
+use Rattle.lang_meaning.specs.Evaluation.{calls}
 
 -- ---- Ours: what a call that is stopped has asked of its host
 
@@ -77,3 +80,18 @@ IsWithin {H} rules leaves order = (ask : Ask) (before after : H) → leaves ask 
 abbrev pub ComesBefore : {H : Type 0} → (H → H → Type 0) → ((Machine (Limited H) → Done (Limited H)) → Machine H → H → Type 0)
     → (Machine (Limited H) → Done (Limited H)) → (Machine H → Done H) → Type 0
 ComesBefore {H} order leaves f g = (m : Machine H) (told : H) → leaves f m told → order told (host_after (g m))
+
+-- whatever is called, what the call around a limited host leaves comes before what the whole call leaves
+abbrev pub CallsGrow : {H : Type 0} → HostRules H → (order : H → H → Type 0)
+    → ((Machine (Limited H) → Done (Limited H)) → Machine H → H → Type 0) → Type 0
+CallsGrow rules order leaves =
+    (p : Program) (n f : ℕ) (args : List Value)
+    → ComesBefore order leaves (calls p (limited_operations rules) n f args) (calls p (host_operations rules) n f args)
+
+-- the same after any of its asks
+abbrev pub PassedGrow : {H : Type 0} → HostRules H → (order : H → H → Type 0) → Type 0
+PassedGrow rules order = CallsGrow rules order (IsPassed rules)
+
+-- the same after one that was refused
+abbrev pub RefusedGrow : {H : Type 0} → HostRules H → (leaves : Ask → H → H → Type 0) → (order : H → H → Type 0) → Type 0
+RefusedGrow rules leaves order = CallsGrow rules order (IsRefused leaves)

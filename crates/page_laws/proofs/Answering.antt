@@ -8,7 +8,7 @@ use Rattle.page_types.specs.declared.HostMark.TheVariants.{Live, Queued as Queue
 use Rattle.page_types.specs.Events.{Arm, Event, Call, Drop, Reg, Host, Due, Enq, Prio}
 use Rattle.page_types.specs.Tree.{Program}
 use Rattle.page_parts.specs.HostClosures.{HostClosure, fired}
-use Rattle.page_parts.specs.Promises.{Settled, Fulfilled, Failed, Reaction, PromiseJob, the_promise}
+use Rattle.page_parts.specs.Promises.{Reaction, the_promise}
 use Rattle.page_parts.specs.Promises as Promises
 use Rattle.page_parts.specs.Notices.{Context, Notices, Noticed, changed, subscribe_promise, queue_micro}
 use Rattle.page_parts.specs.Setup.{Setup}

@@ -12,7 +12,7 @@ use Rattle.page_parts.specs.HostClosures.{HostClosure}
 use Rattle.page_parts.specs.Timers.{ActiveTimer}
 use Rattle.page_parts.specs.TaskSignals.{Prios}
 use Rattle.page_parts.specs.Words.{and_last, without}
-use Rattle.page_parts.specs.Promises.{Settled, Fulfilled, Failed, PromiseJob, Reaction, the_promise}
+use Rattle.page_parts.specs.Promises.{Reaction, the_promise}
 use Rattle.page_parts.specs.Promises as Promises
 use Rattle.page_parts.specs.Notices.{Notices, Noticed, changed, subscribe_promise, queue_micro, Context}
 use Rattle.page_model.specs.State.{Page, Role, ScriptRole, OfKind, Registration, Completion, Completing, emit, emit_each, on_notices, context, caller}

@@ -4,7 +4,7 @@ use Rattle.std.specs.Prelude.{◌==◌}
 use Rattle.page_types.specs.declared.End.TheVariants.{Done}
 use Rattle.page_types.specs.declared.RegKind.TheVariants as kind
 use Rattle.page_types.specs.Events.{Event, EndLine}
-use Rattle.page_parts.specs.Promises.{Settled, Reaction, the_promise}
+use Rattle.page_parts.specs.Promises.{Reaction, the_promise}
 use Rattle.page_parts.specs.Promises as Promises
 use Rattle.page_parts.specs.Words.{without}
 use Rattle.page_parts.specs.Notices.{Notices, Noticed, changed, subscribe_promise, queue_micro, Context}

@@ -15,7 +15,7 @@ use Rattle.page_parts.specs.IdleCallbacks.{Idle, started, cancel, waiting_callba
 use Rattle.page_parts.specs.Listeners.{Listener, off, is_listening}
 use Rattle.page_parts.specs.HostClosures.{HostClosure}
 use Rattle.page_parts.specs.Setup.{Setup}
-use Rattle.page_parts.specs.Promises.{Settled, Fulfilled, Failed, Reaction, PromiseJob, the_promise}
+use Rattle.page_parts.specs.Promises.{Reaction, the_promise}
 use Rattle.page_parts.specs.Promises as Promises
 use Rattle.page_parts.specs.Notices.{Context, Notices, Noticed, changed, subscribe_promise, queue_micro}
 use Rattle.page_model.specs.State.{Role, ScriptRole, OfKind, Registration, Page, SchedTask, HostAnswer, emit, emit_each, on_notices, context, caller}

@@ -14,7 +14,7 @@ use Rattle.page_parts.specs.Words.{and_last, without, is_there}
 use Rattle.page_parts.specs.HostClosures.{HostClosure}
 use Rattle.page_parts.specs.Setup.{Setup}
 use Rattle.page_parts.specs.Sources.{same_source}
-use Rattle.page_parts.specs.Promises.{Settled, Fulfilled, Failed, Reaction, PromiseJob, the_promise}
+use Rattle.page_parts.specs.Promises.{the_promise}
 use Rattle.page_parts.specs.Promises as Promises
 use Rattle.page_parts.specs.Notices.{Notices, Noticed, changed, subscribe_promise, queue_micro}
 use Rattle.page_model.specs.State.{IdleTimeout, Role, ScriptRole, OfKind, Registration, Page, HostTask, AnswerHost, RunTimer, HostAnswer, emit, emit_each, on_notices, context, caller}
@@ -28,7 +28,7 @@ use Rattle.page_laws.specs.History.{History, is_host, was_dropped}
 use Rattle.page_laws.specs.CallLaws.{answers_fit, keeps_cancel}
 use Rattle.page_laws.specs.Moves.{is_free, role_at, promise_changes, Places, places, without_aborted, PlaceChange, places_stay, task_queued, task_left, armed_again, signal_armed, completed, idle_started, idle_queued, id_cleared, idle_armed, DueChange, timer_due, delay_due, signal_due, idle_due, answer_due, Dropping, timer_dropped, idle_dropped, listener_dropped, FirstPlace, nowhere, at_listener, at_timer, at_delay, at_idle, at_host, AsBefore, PageChange, elsewhere, told, arm_told, rested, answered, dropped, task_dropped, frame_dropped, registered as made_one, enqueued_anew, fell_due, post_fell_due, frame_asked, promised, settled, followed, adopted, subscribed, then_asked, micro_asked, rejected_taken, noted, Beginning, TheScript, ATimer, AFrame, AnIdle, ALateIdle, AListener, APost, AContinuation, AMicro, AReaction, called_by, taken, Moves, here, changing, arming, calling, ending, flagging, running, framing, idling, prio_told}
 use Rattle.page_laws.proofs.Cancelled as cancelled
-use Rattle.page_laws.proofs.Cancelled.{Cancels, GoneBy, waits, unless, made-kind, no_kind, kind-there, answer_claims, keeps_dropped}
+use Rattle.page_laws.proofs.Cancelled.{GoneBy, unless, made-kind, kind-there, answer_claims, keeps_dropped}
 use Rattle.page_laws.proofs.Finding.{false_true}
 use Rattle.page_laws.proofs.Lines.{emit_each-events}
 use Rattle.page_laws.proofs.Once as once

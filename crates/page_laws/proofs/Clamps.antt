@@ -8,7 +8,7 @@ use Rattle.page_types.specs.Events.{Event, Arm}
 use Rattle.page_types.specs.Tree.{Program}
 use Rattle.page_parts.specs.HostClosures.{HostClosure}
 use Rattle.page_parts.specs.Setup.{Setup}
-use Rattle.page_parts.specs.Promises.{Settled, Reaction}
+use Rattle.page_parts.specs.Promises.{Reaction}
 use Rattle.page_parts.specs.Promises as Promises
 use Rattle.page_parts.specs.Words.{without}
 use Rattle.page_parts.specs.Notices.{Notices, Noticed, changed, subscribe_promise, queue_micro, Context}

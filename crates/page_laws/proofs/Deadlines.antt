@@ -17,7 +17,7 @@ use Rattle.page_parts.specs.Timers as Timers
 use Rattle.page_parts.specs.Timers.{Timers, ActiveTimer, next_due}
 use Rattle.page_parts.specs.TaskSignals.{Prios}
 use Rattle.page_parts.specs.Words.{and_last, without, is_empty}
-use Rattle.page_parts.specs.Promises.{Settled, Fulfilled, Failed, PromiseJob, Reaction, the_promise}
+use Rattle.page_parts.specs.Promises.{Reaction, the_promise}
 use Rattle.page_parts.specs.Promises as Promises
 use Rattle.page_parts.specs.Notices.{Notices, Noticed, changed, subscribe_promise, queue_micro, Context}
 use Rattle.page_model.specs.State.{Page, Role, ScriptRole, OfKind, Registration, emit, emit_each, on_notices, context, caller}
@@ -30,7 +30,7 @@ use Rattle.page_laws.specs.History.{History, armed_for, before_last, has_kind, i
 use Rattle.page_laws.specs.TimerLaws.{idle_calls, idle_well, is_deadline, is_idle_line, is_reg_before, keeps_idle, may_be_idle, none_earlier, period_start}
 use Rattle.page_laws.specs.Moves.{is_aside, is_end, role_at, is_delayed_role, IsIn, PeriodGoesOn, Places, places, PlaceChange, places_stay, task_queued, task_left, armed_again, signal_armed, id_cleared, idle_armed, completed, idle_started, idle_queued, Dropping, timer_dropped, idle_dropped, listener_dropped, FirstPlace, nowhere, at_listener, at_timer, at_delay, at_idle, at_host, DueChange, timer_due, delay_due, signal_due, idle_due, answer_due, promise_changes, AsBefore, PageChange, elsewhere, told, arm_told, rested, registered as made_one, promised, settled, followed, adopted, subscribed, micro_asked, then_asked, answered, dropped, frame_dropped, frame_asked, rejected_taken, noted, Beginning, TheScript, ATimer, AFrame, AnIdle, ALateIdle, AListener, APost, AContinuation, AMicro, AReaction, called_by, role_of, taken, Waited, task_dropped, enqueued_anew, fell_due, post_fell_due, prio_told, Moves, here, changing, arming, calling, ending, flagging, running, framing, idling}
 use Rattle.page_laws.proofs.ArmedTimes as armed
-use Rattle.page_laws.proofs.ArmedTimes.{ArmedFit, AtTimer, first-armed, moves-armed}
+use Rattle.page_laws.proofs.ArmedTimes.{first-armed, moves-armed}
 use Rattle.page_laws.proofs.Framed.{false_true}
 use Rattle.page_laws.proofs.Lines.{changed-each, added, emit_each-events}
 use Rattle.page_laws.proofs.Once as once

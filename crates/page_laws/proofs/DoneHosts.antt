@@ -31,7 +31,7 @@ use Rattle.page_laws.proofs.Asked as asked
 use Rattle.page_laws.proofs.Asked.{Asks, pending_for, due_for}
 use Rattle.page_laws.proofs.AtEnd.{done_test, moves-kept}
 use Rattle.page_laws.proofs.Cancelled as cancelled
-use Rattle.page_laws.proofs.Cancelled.{answer_claims, kind-there, unless}
+use Rattle.page_laws.proofs.Cancelled.{answer_claims, kind-there}
 use Rattle.page_laws.proofs.CancelledHosts as counted
 use Rattle.page_laws.proofs.CancelledHosts.{undropped, dropping-other}
 use Rattle.page_laws.proofs.DoneArms.{nothing-pending}

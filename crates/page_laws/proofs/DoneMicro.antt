@@ -16,7 +16,7 @@ use Rattle.page_laws.specs.History.{count_lines, has_kind, is_job, is_run, is_so
 use Rattle.page_laws.specs.TimerLaws.{was_done}
 use Rattle.page_laws.specs.SchedulerLaws.{is_micro, micros_are_over}
 use Rattle.page_laws.specs.Moves as moves
-use Rattle.page_laws.specs.Moves.{role_at, IsIn, Places, places, Beginning, TheScript, ATimer, AFrame, AnIdle, ALateIdle, AListener, APost, AContinuation, AMicro, AReaction, called_by, taken, FirstPlace, nowhere, at_listener, at_timer, at_delay, at_idle, at_host, fits_first, Waited, Moves}
+use Rattle.page_laws.specs.Moves.{role_at, IsIn, Places, Beginning, TheScript, ATimer, AFrame, AnIdle, ALateIdle, AListener, APost, AContinuation, AMicro, AReaction, called_by, taken, FirstPlace, nowhere, at_listener, at_timer, at_delay, at_idle, at_host, fits_first, Waited, Moves}
 use Rattle.page_laws.proofs.AtEnd.{done_test, moves-kept}
 use Rattle.page_laws.proofs.Deadlines.{all-filter}
 use Rattle.page_laws.proofs.DueOrder.{Grounds, first-grounds, grounds-later}

@@ -24,7 +24,7 @@ use Rattle.page_laws.specs.History.{History, armed_for, armed_in, has_kind, is_d
 use Rattle.page_laws.specs.TimerLaws.{all_due, armed_passes, goes_in_order, keeps_due_order, passes_none}
 use Rattle.page_laws.specs.Moves.{role_at, is_delayed_role, IsIn, IsMade, IsFirstDue, IsTimerDue, IsDueBy, Tells, IsPlain, PlaceArms, completes_for, completions_but, without_start, Places, places, PlaceChange, armed_again, signal_armed, idle_armed, DueChange, timer_due, delay_due, signal_due, idle_due, answer_due, promise_changes, AsBefore, PageChange, elsewhere, told, arm_told, rested, registered as made_one, promised, settled, followed, adopted, subscribed, micro_asked, then_asked, answered, dropped, frame_dropped, frame_asked, rejected_taken, noted, Beginning, TheScript, ATimer, AFrame, AnIdle, ALateIdle, AListener, APost, AContinuation, AMicro, AReaction, called_by, taken, task_dropped, enqueued_anew, fell_due, post_fell_due, prio_told, Moves, here, changing, arming, calling, ending, flagging, running, framing, idling}
 use Rattle.page_laws.proofs.ArmedTimes as armed
-use Rattle.page_laws.proofs.ArmedTimes.{AtTimer, ArmedFit, is_quiet, aside-quiet, rest-quiet, end-quiet, Quiet, changed-quiet, first-armed, moves-armed}
+use Rattle.page_laws.proofs.ArmedTimes.{AtTimer, is_quiet, aside-quiet, rest-quiet, end-quiet, Quiet, changed-quiet, first-armed, moves-armed}
 use Rattle.page_laws.proofs.Arming.{Tidy, moves-tidy, first-tidy, steps_wait, counts_one, in-less, idle_waits, answer_waits, completed-fewer}
 use Rattle.page_laws.proofs.Deadlines as deadlines
 use Rattle.page_laws.proofs.Deadlines.{all-kept, delayed_role}

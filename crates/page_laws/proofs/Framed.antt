@@ -8,7 +8,7 @@ use Rattle.page_types.specs.declared.End.TheVariants as end
 use Rattle.page_types.specs.Events.{Event, Ret, Throw, Turn, Wait, Period, EndLine, Frame, Reg}
 use Rattle.page_parts.specs.Frames.{Callback, Frames, request, cancel}
 use Rattle.page_parts.specs.Words.{and_last, without}
-use Rattle.page_parts.specs.Promises.{Settled, Fulfilled, Failed, PromiseJob, Reaction}
+use Rattle.page_parts.specs.Promises.{Reaction}
 use Rattle.page_parts.specs.Promises as Promises
 use Rattle.page_parts.specs.Notices.{Notices, Noticed, changed, subscribe_promise, queue_micro, Context}
 use Rattle.page_parts.specs.Promises.{the_promise}

@@ -7,7 +7,7 @@ use Rattle.page_types.specs.declared.RegKind.TheVariants as kind
 use Rattle.page_types.specs.Events.{Event, Reg, Host, Drop, Due}
 use Rattle.page_parts.specs.Words.{and_last, without, is_there}
 use Rattle.page_parts.specs.HostClosures.{HostClosure, fired}
-use Rattle.page_parts.specs.Promises.{Settled, Fulfilled, Failed, Reaction, PromiseJob, the_promise}
+use Rattle.page_parts.specs.Promises.{Reaction, the_promise}
 use Rattle.page_parts.specs.Promises as Promises
 use Rattle.page_parts.specs.Notices.{Context, Notices, changed, subscribe_promise}
 use Rattle.page_model.specs.State.{Role, ScriptRole, OfKind, Registration, Task, HostTask, Steps, AnswerHost, HostAnswer}

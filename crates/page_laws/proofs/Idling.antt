@@ -8,7 +8,7 @@ use Rattle.page_parts.specs.Frames.{Callback}
 use Rattle.page_parts.specs.IdleCallbacks.{Idle}
 use Rattle.page_parts.specs.TaskSignals.{Prios}
 use Rattle.page_parts.specs.Words.{and_last, without}
-use Rattle.page_parts.specs.Promises.{Settled, Fulfilled, Failed, PromiseJob, Reaction}
+use Rattle.page_parts.specs.Promises.{Reaction}
 use Rattle.page_parts.specs.Promises as Promises
 use Rattle.page_parts.specs.Notices.{Notices, Noticed, WaitingJob, changed, subscribe_promise, queue_micro, Context}
 use Rattle.page_parts.specs.Promises.{the_promise}

@@ -15,7 +15,7 @@ use Rattle.page_parts.specs.Promises as Promises
 use Rattle.page_parts.specs.Setup.{Setup}
 use Rattle.page_parts.specs.TaskSignals.{Prios}
 use Rattle.page_parts.specs.Timers as Timers
-use Rattle.page_parts.specs.Timers.{TimerId, with_armed, armed}
+use Rattle.page_parts.specs.Timers.{TimerId, armed}
 use Rattle.page_parts.specs.Words.{and_last, without}
 use Rattle.page_model.specs.Invoke.{register_as, call_begun, call_ended, job_begun}
 use Rattle.page_model.specs.Numbers.{is_timer_role}

@@ -3,7 +3,7 @@ use Rattle.std.proofs.Common.{◌≡◌, ℕ, true, List, [], refl, sym, subst, 
 use Rattle.page_types.specs.declared.RegKind.TheVariants as kind
 use Rattle.page_model.specs.Invoke.{register_as}
 use Rattle.page_types.specs.Events.{Event, Run}
-use Rattle.page_parts.specs.Promises.{Settled, Fulfilled, Failed, PromiseJob, Reaction}
+use Rattle.page_parts.specs.Promises.{Reaction}
 use Rattle.page_parts.specs.Promises as Promises
 use Rattle.page_parts.specs.Words.{without}
 use Rattle.std.specs.Prelude.{◌==◌}

@@ -9,7 +9,6 @@ use Rattle.page_types.specs.Tree.{Program}
 use Rattle.page_parts.specs.Setup.{Setup}
 use Rattle.page_parts.specs.HostClosures.{HostClosure}
 use Rattle.page_parts.specs.Words.{and_last, without}
-use Rattle.page_parts.specs.Promises.{Reaction}
 use Rattle.page_parts.specs.Notices.{Notices, Noticed, changed, subscribe_promise, queue_micro}
 use Rattle.page_parts.specs.Promises.{the_promise}
 use Rattle.page_parts.specs.Promises as Promises

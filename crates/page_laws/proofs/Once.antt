@@ -8,7 +8,7 @@ use Rattle.page_types.specs.declared.Source.TheVariants.{Sched}
 use Rattle.page_types.specs.Events.{Arm, Frame, Event, Call, Reg, Run, Turn, IdleLine, Host, Drop, Due, Enq, Prio}
 use Rattle.page_parts.specs.Words.{and_last, without}
 use Rattle.page_parts.specs.Frames.{Frames, Callback, without_handle}
-use Rattle.page_parts.specs.Promises.{Settled, Reaction, the_promise, pending_promise}
+use Rattle.page_parts.specs.Promises.{Reaction, the_promise, pending_promise}
 use Rattle.page_parts.specs.Promises as Promises
 use Rattle.page_parts.specs.Notices.{WaitingJob, Notices, Noticed, changed, subscribe_promise, queue_micro, note_outstanding}
 use Rattle.page_parts.specs.Sources.{same_source}
@@ -27,7 +27,7 @@ use Rattle.page_model.specs.Turns.{first_page, the_script}
 use Rattle.page_laws.proofs.Claims.{steps_claim, todo_claims, handler_claims, task_claims, completing_claims, callback_claims, sched_claims, reaction_claims, job_claims, place_claims, notice_claims, free-claims, completed-less, sched-less, idle-less, first-claims, settled-claims, adopted-claims, subscribed-claims, micro-claims, promised-claims, noted-claims}
 use Rattle.page_laws.proofs.Lines.{added, emit_each-events}
 use Rattle.page_laws.proofs.Registered as registered
-use Rattle.page_laws.proofs.Registered.{At, KindsFit, IsCallable, Silent, tells_of_kinds, kind_in_role, at_past, at_number, false_true, or-true, none-line, some-line, changed-silent, aside-silent, rest-silent, end-silent}
+use Rattle.page_laws.proofs.Registered.{At, KindsFit, Silent, tells_of_kinds, kind_in_role, at_past, at_number, false_true, or-true, some-line, changed-silent, aside-silent, rest-silent, end-silent}
 use Rattle.page_laws.proofs.Scans.{Test, Kept}
 use Rattle.page_laws.proofs.Totals.{one_if, total, total-append, total-last, total-without, IsLess, less-found, less-within}
 

@@ -14,7 +14,7 @@ use Rattle.page_parts.specs.Words.{and_last, without, is_there}
 use Rattle.page_parts.specs.TaskSignals.{Prios, priority_of}
 use Rattle.page_parts.specs.HostClosures.{HostClosure}
 use Rattle.page_parts.specs.Setup.{Setup}
-use Rattle.page_parts.specs.Promises.{Settled, Fulfilled, Failed, Reaction, PromiseJob, the_promise}
+use Rattle.page_parts.specs.Promises.{Reaction, the_promise}
 use Rattle.page_parts.specs.Promises as Promises
 use Rattle.page_parts.specs.Notices.{Context, Notices, Noticed, changed, subscribe_promise, queue_micro}
 use Rattle.page_model.specs.State.{Role, ScriptRole, OfKind, Registration, Page, PrioSource, Fixed, OfSignal, SchedTask, SchedulingState, Completion, EnqueuePost, Completing, emit, emit_each, on_notices, context, caller, no_registration}
@@ -29,7 +29,7 @@ use Rattle.page_laws.specs.SchedulerLaws.{Enqueued, enqueued, waiting, priority_
 use Rattle.page_laws.specs.Moves.{is_aside, is_end, role_at, signal_at, id_at, promise_changes, Places, places, completions_but, PlaceChange, places_stay, task_queued, task_left, armed_again, signal_armed, completed, idle_started, idle_queued, id_cleared, idle_armed, DueChange, timer_due, delay_due, signal_due, idle_due, answer_due, Dropping, timer_dropped, idle_dropped, listener_dropped, FirstPlace, nowhere, at_listener, at_timer, at_delay, at_idle, at_host, AsBefore, PageChange, elsewhere, told, arm_told, rested, answered, dropped, task_dropped, frame_dropped, prio_told, registered, enqueued_anew, fell_due, post_fell_due, frame_asked, promised, settled, followed, adopted, subscribed, then_asked, micro_asked, rejected_taken, noted, Beginning, TheScript, ATimer, AFrame, AnIdle, ALateIdle, AListener, APost, AContinuation, AMicro, AReaction, called_by, role_of, taken, Waited, Moves, here, changing, arming, calling, ending, flagging, running, framing, idling}
 use Rattle.page_laws.specs.Scheduling.{HasPriority, Sourced, known, inherited, Scheduling, scheduling_of, SchedulingAfter}
 use Rattle.page_laws.proofs.Cancelled as cancelled
-use Rattle.page_laws.proofs.Cancelled.{unless, made-kind, no_kind, kind-there, GoneBy}
+use Rattle.page_laws.proofs.Cancelled.{unless, made-kind, kind-there, GoneBy}
 use Rattle.page_laws.proofs.Claims.{completed-less}
 use Rattle.page_laws.proofs.Finding.{false_true, same_number}
 use Rattle.page_laws.proofs.First.{turned, turned-last, turned-filter, first-found, first_of-has}

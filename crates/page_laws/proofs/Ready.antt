@@ -14,7 +14,7 @@ use Rattle.page_parts.specs.TaskSignals.{Prios}
 use Rattle.page_parts.specs.Words.{and_last, without, is_empty, is_there}
 use Rattle.page_parts.specs.WrittenChoices.{Runnable}
 use Rattle.page_parts.specs.Promises as Promises
-use Rattle.page_parts.specs.Promises.{Reaction, the_promise}
+use Rattle.page_parts.specs.Promises.{the_promise}
 use Rattle.page_parts.specs.Notices.{Notices, Noticed, changed, subscribe_promise, queue_micro}
 use Rattle.page_model.specs.State.{Page, Task, Steps, InvokeIdle, IdleTimeout, RunScript, RunTimer, AnswerHost, IdleTimer, Registration, emit, emit_each, on_notices, context}
 use Rattle.page_model.specs.Invoke.{register_as, call_begun}

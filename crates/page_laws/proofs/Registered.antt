@@ -9,7 +9,7 @@ use Rattle.page_model.specs.Invoke.{register_as}
 use Rattle.page_types.specs.Events.{Arm, Frame, Drop, Event, Call, Ret, Throw, Reg, Run, Turn, IdleLine, Host, Due, Enq, Prio}
 use Rattle.page_types.specs.declared.Source.TheVariants.{Sched}
 use Rattle.page_parts.specs.Words.{and_last, numbered, without}
-use Rattle.page_parts.specs.Promises.{Settled, Fulfilled, Failed, PromiseJob, Reaction}
+use Rattle.page_parts.specs.Promises.{Reaction}
 use Rattle.page_parts.specs.Promises as Promises
 use Rattle.page_parts.specs.Notices.{Notices, Noticed, changed, subscribe_promise, queue_micro, Context}
 use Rattle.page_parts.specs.Promises.{the_promise}

@@ -21,7 +21,7 @@ use Rattle.page_laws.proofs.Moving.{moves-then, moves_of}
 use Rattle.page_laws.proofs.Onto.{change_begun-onto, change_ended-onto, reject-onto, resolve-onto, run_algorithms-runs, settle-onto, subscribe-onto}
 use Rattle.page_laws.specs.Moves.{changing, is_micro, Changes, AListener, AMicro, AReaction, Beginning, Moves, Waited, called_by, calling, ending, flagging, here, role_of, running, taken}
 use Rattle.page_model.proofs.GivenNumbers.Evaluation as numbers
-use Rattle.page_model.proofs.GivenNumbers.Evaluation.{Good, each, every, on_page-good}
+use Rattle.page_model.proofs.GivenNumbers.Evaluation.{Good, each, on_page-good}
 use Rattle.page_model.proofs.GivenNumbers.Growing.{Each-append, Each-more, Grows-then, Held, InListeners, InNotices, InPrios, InScheduling, InSignals, IsFor-grows, IsKnown-grows, Onward, if_state-grows, promise-grows, signal-grows, signals-grow, stays, values-grow}
 use Rattle.page_model.proofs.GivenNumbers.Pages.{reason_set-held, cond-onward, put_notices, put_scheduling, queue_task-held, the_registration-given, call_begun-held, call_ended-held}
 use Rattle.page_model.proofs.GivenNumbers.Parts.{followers-known, items-known, marked-given, snapshot-given, the_promise-given}

@@ -5,3 +5,4 @@ pub mod SchedulerLaws
 pub mod Scheduling
 pub mod Moves
 pub mod ClosureMarks
+pub mod RunLaws

@@ -28,3 +28,10 @@ pub mod Likeness
 pub mod Numbers
 pub mod FuelAndTime
 pub mod Bounds
+pub mod LineLaws
+pub mod ActLaws
+pub mod BoundLaws
+pub mod ChoiceLaws
+pub mod TimeLaws
+pub mod NumberLaws
+pub mod StepLaws

@@ -1,23 +1,19 @@
 //! Fuel never rises, and time never falls.
 
-ghost use Rattle.std.specs.Prelude.{◌≡◌, ℕ, ℤ, Bool, List, Result};
+ghost use Rattle.std.specs.Prelude.{◌≡◌, ℕ, ℤ, Result};
 ghost use Rattle.page_types.specs.Values.{Value};
 ghost use Rattle.page_types.specs.Tree.{Program};
-ghost use Rattle.page_types.specs.declared.Op.{Op};
 ghost use Rattle.page_types.specs.declared.Priority.{Priority};
-ghost use Rattle.page_parts.specs.Listeners.{Target};
-ghost use Rattle.page_parts.specs.HostClosures.{HostClosure};
-ghost use Rattle.page_parts.specs.Setup.{Setup};
 ghost use Rattle.lang_meaning.specs.Machine.{Caller};
 ghost use Rattle.lang_meaning.specs.Evaluation.{calls, call_from_outside};
-ghost use Rattle.page_model.specs.State.{Page, State, Steps, SchedTask, HostTask};
-ghost use Rattle.page_model.specs.Invoke.{Ways, invoke, in_task, in_script, in_checkpoint, run_jobs, checkpoint};
-ghost use Rattle.page_model.specs.PageSignals.{dispatch, abort, change};
+ghost use Rattle.page_model.specs.State.{Page, HostTask};
+ghost use Rattle.page_model.specs.Invoke.{Ways, in_task, in_script, in_checkpoint, run_jobs, checkpoint};
+ghost use Rattle.page_model.specs.PageSignals.{abort, change};
 ghost use Rattle.page_model.specs.Operations.{page_operations};
 ghost use Rattle.page_model.specs.Tasks.{perform_steps, perform_sched, answer_host, after_task};
 ghost use Rattle.page_model.specs.Parallel.{parallel};
-ghost use Rattle.page_model.specs.Turns.{turn, turns, first_state, run_by, state_of};
-ghost use Rattle.page_model.specs.FuelAndTime.{Later, Forward, CallsForward, WaysForward, TurnForward, BeginsAgainLater};
+ghost use Rattle.page_model.specs.FuelAndTime.{Forward, CallsForward, WaysForward, BeginsAgainLater};
+ghost use Rattle.page_model.specs.TimeLaws.{OperationsGoForward, CallbacksGoForward, DispatchGoesForward, EachGoesForward, EachTurnGoesForward, TurnsGoForward, RunsGoForward};
 
 use crate::choosing::Choosing;
 
@@ -29,17 +25,14 @@ pub fn calls_go_forward()
 
 /// The law that each operation of the page goes forward, where calls do.
 pub fn operations_go_forward()
-    ensures { (call : Caller Page) → CallsForward call → (op : Op) (args : List Value) → Forward (page_operations call op args) }
+    ensures { (call : Caller Page) → CallsForward call → OperationsGoForward call }
 {}
 
 /// The law that each callback goes forward, where calls do: in a task with the checkpoint after it, in an operation, and in a job.
 pub fn callbacks_go_forward()
-    ensures in_a_task { (call : Caller Page) → CallsForward call → (r : ℕ) (second : Bool) (args : List Value)
-        → Forward (invoke (in_task call) r second args) }
-    ensures in_a_script { (call : Caller Page) → CallsForward call → (r : ℕ) (second : Bool) (args : List Value)
-        → Forward (invoke (in_script call) r second args) }
-    ensures in_a_job { (call : Caller Page) → CallsForward call → (r : ℕ) (second : Bool) (args : List Value)
-        → Forward (invoke (in_checkpoint call) r second args) }
+    ensures in_a_task { (call : Caller Page) → CallsForward call → CallbacksGoForward (in_task call) }
+    ensures in_a_script { (call : Caller Page) → CallsForward call → CallbacksGoForward (in_script call) }
+    ensures in_a_job { (call : Caller Page) → CallsForward call → CallbacksGoForward (in_checkpoint call) }
 {}
 
 /// The law that jobs and checkpoints go forward, where calls do.
@@ -50,16 +43,15 @@ pub fn jobs_go_forward()
 
 /// The law that dispatch, abort and priority change go forward, where calls and what follows callbacks do.
 pub fn signals_go_forward()
-    ensures fired { (w : Ways) → WaysForward w → (target : Target) (name : List ℕ) (args : List Value)
-        → Forward (dispatch w target name args) }
+    ensures fired { (w : Ways) → WaysForward w → DispatchGoesForward w }
     ensures aborted { (w : Ways) → WaysForward w → (s : ℕ) (reason : Value) → Forward (abort w s reason) }
     ensures changed { (w : Ways) → WaysForward w → (priority : Priority) (n s : ℕ) → Forward (change w priority n s) }
 {}
 
 /// The law that each task and the checkpoint after it go forward, where calls do; a task that answers for a host takes no time.
 pub fn tasks_go_forward()
-    ensures steps { (call : Caller Page) → CallsForward call → (steps : Steps) → Forward (perform_steps (in_task call) steps) }
-    ensures scheduled { (call : Caller Page) → CallsForward call → (t : SchedTask) → Forward (perform_sched (in_task call) t) }
+    ensures steps { (call : Caller Page) → CallsForward call → EachGoesForward (perform_steps (in_task call)) }
+    ensures scheduled { (call : Caller Page) → CallsForward call → EachGoesForward (perform_sched (in_task call)) }
     ensures answered { (t : HostTask) (answer : Result ℤ ℤ) (p : Page) → (answer_host t answer p).now ≡ p.now }
     ensures afterwards { (call : Caller Page) → CallsForward call → Forward (after_task call) }
 {}
@@ -71,12 +63,9 @@ pub fn parallel_items_take_no_time()
 
 /// The law that turns and runs go forward, by whatever rules, and that a turn that goes on has taken a unit of fuel at least.
 pub fn turns_go_forward<R: Choosing>()
-    ensures one_turn { (program : Program) (until : ℕ) (m : State) (c : R.Held)
-        → TurnForward m (turn R.rules (call_from_outside program page_operations) until m c) }
-    ensures many_turns { (program : Program) (until n : ℕ) (m : State) (c : R.Held)
-        → Later m (state_of (turns R.rules (call_from_outside program page_operations) until n m c)) }
-    ensures whole_run { (program : Program) (setup : Setup) (hosts : List HostClosure) (c : R.Held)
-        → Later (first_state program setup hosts) (state_of (run_by R.rules program setup hosts c)) }
+    ensures one_turn { (program : Program) → EachTurnGoesForward R.rules program }
+    ensures many_turns { (program : Program) → TurnsGoForward R.rules program }
+    ensures whole_run { (program : Program) → RunsGoForward R.rules program }
 {}
 
 /// The law that a turn which begins again after a wait begins at the target or later, and that the target is after now.

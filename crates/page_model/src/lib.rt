@@ -12,13 +12,8 @@ mod likeness;
 mod numbers;
 mod steps;
 
-ghost use Rattle.std.specs.Prelude.{ℕ, List};
 ghost use Rattle.page_types.specs.Tree.{Program};
-ghost use Rattle.page_types.specs.Events.{Stamped};
-ghost use Rattle.lang_meaning.specs.Evaluation.{call_from_outside};
-ghost use Rattle.page_model.specs.Operations.{page_operations};
-ghost use Rattle.page_model.specs.Turns.{turns};
-ghost use Rattle.page_model.specs.Additions.{TurnAdds};
+ghost use Rattle.page_model.specs.LineLaws.{TurnsOnlyGiveLines};
 
 pub use acts::{
     acts_by_steps_are_the_acts, acts_go_forward, acts_keep_numbers_given, acts_only_give_lines,
@@ -56,6 +51,5 @@ pub use steps::{
 ///
 /// This is what lets a page hand its lines on and keep none.
 pub fn lines_are_only_given<R: Choosing>()
-    ensures { (program : Program) (until most : ℕ) (c : R.Held) (before : List Stamped)
-        → TurnAdds before (λ m. turns R.rules (call_from_outside program page_operations) until most m c) }
+    ensures { (program : Program) → TurnsOnlyGiveLines R.rules program }
 {}
