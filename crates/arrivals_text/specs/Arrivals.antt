@@ -65,6 +65,10 @@ but_empty_last (line ∷ next ∷ lines) = line ∷ but_empty_last (next ∷ lin
 unfoldable pub lines_of : List ℕ → List (List ℕ)
 lines_of bytes = but_empty_last (slice_split (λ b. b == 10) bytes)
 
+-- this is the first line, and these bytes follow it
+abbrev pub BeginsWith : (bytes line after : List ℕ) → Type 0
+BeginsWith bytes line after = lines_of bytes ≡ line ∷ lines_of after
+
 -- an empty line, and one that begins with `#`, says nothing
 abbrev pub says_something : List ℕ → Bool
 says_something [] = false

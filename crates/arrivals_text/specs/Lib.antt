@@ -4,3 +4,4 @@ pub mod Limits
 pub mod SeenParts
 pub mod Seen
 pub mod Reading
+pub mod Parts

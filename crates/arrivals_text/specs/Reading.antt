@@ -68,6 +68,10 @@ abbrev pub IsTaken : Option (List Line) → Place → (old : Settings) → Optio
 IsTaken None last old next new = next ≡ None
 IsTaken (Some lines) last old next new = (next ≡ Some (last_place last lines)) × (new ≡ settings_after old lines)
 
+-- the same of the bytes of a line that was read into a draft
+abbrev pub TakesLine : Place → (bytes : List ℕ) → (old : Draft) → Option Place → (new : Draft) → Type 0
+TakesLine last bytes old next new = IsTaken (step last bytes) last (draft_of old) next (draft_of new)
+
 -- settings within their limits
 pub record IsWithin (s : Settings) : Type 0 where
   pub has_form : (1 ≤ s.setup.form) × (s.setup.form ≤ 2)

@@ -1,11 +1,11 @@
 //! The arrivals file.
 
-ghost use Rattle.std.specs.Prelude.{◌≡◌, ◌≤◌, ◌<◌, ◌∷◌, [], length, Some, None, Ok, Err, IfOk, OnOk, IfSome, MatchOption};
+ghost use Rattle.std.specs.Prelude.{◌≡◌, ◌<◌, ◌∷◌, [], length, Some, None, Ok, Err, IfOk, OnOk, MatchOption};
 ghost use Rattle.std.specs.Option.{option_map};
 ghost use Rattle.page_parts.specs.Setup.{IsSetup};
 ghost use Rattle.arrivals_text.specs.Fields.{arrival_at, latency_at};
-ghost use Rattle.arrivals_text.specs.Arrivals.{HostLine, line_at, lines_of, says_something as says, place_of as placed, SetsUp, IsBadLine, default_settings, settings_after};
-ghost use Rattle.arrivals_text.specs.Reading.{step, goes, settled, draft_of, Gives, IsTaken, IsWithin, is_start as starts};
+ghost use Rattle.arrivals_text.specs.Arrivals.{HostLine, line_at, lines_of, says_something as says, place_of as placed, SetsUp, IsBadLine, default_settings, settings_after, BeginsWith};
+ghost use Rattle.arrivals_text.specs.Reading.{step, goes, settled, draft_of, Gives, IsWithin, is_start as starts, TakesLine};
 ghost use Rattle.arrivals_text.specs.SeenParts.{arrival_of};
 ghost use Rattle.arrivals_text.specs.Seen.{settings_of, line_of};
 ghost use Rattle.arrivals_text.specs.declared.place.Place.TheVariants as place;
@@ -117,7 +117,7 @@ fn new_draft(alloc: Global) -> Draft
 
 // The first line, without its line feed, and what follows it.
 fn first_line(bytes: &[u8]) -> Option<(&[u8], &[u8])>
-    ensures lines { MatchOption result (lines_of bytes.now ≡ []) (λ line. lines_of bytes.now ≡ line.0.now ∷ lines_of line.1.now) }
+    ensures lines { MatchOption result (lines_of bytes.now ≡ []) (λ line. BeginsWith bytes.now line.0.now line.1.now) }
     ensures none { MatchOption result (bytes.now ≡ []) (λ line. length line.1.now < length bytes.now) }
 {
     if bytes.is_empty() {
@@ -146,7 +146,7 @@ fn take_line(
     last: Place,
     text: &[u8],
 ) -> Result<Option<Place>, AllocError>
-    ensures { IfOk result (λ next. IsTaken (step last text.now) last (draft_of draft.old) next (draft_of draft.new)) }
+    ensures { IfOk result (λ next. TakesLine last text.now draft.old next draft.new) }
 {
     if !says_something(text) {
         return Ok(Some(last));

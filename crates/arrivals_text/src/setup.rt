@@ -1,6 +1,6 @@
 //! What an arrivals file sets.
 
-ghost use Rattle.std.specs.Prelude.{ℕ, ◌≤◌, IsTrue, map};
+ghost use Rattle.std.specs.Prelude.{◌≤◌, IsTrue, map};
 ghost use Rattle.page_parts.specs.Setup.{are_in_order};
 ghost use Rattle.page_base.specs.Readings.{AreShort};
 ghost use Rattle.loop_policy.specs.Policies.{policy_of, is_policy};

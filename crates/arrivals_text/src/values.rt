@@ -1,10 +1,11 @@
 //! The value of an arrival.
 
-ghost use Rattle.std.specs.Prelude.{◌≡◌, ◌≢◌, ◌≤◌, ◌∷◌, ◌^◌, length, Some, None, IfOk, IfSome, IsTrue, MatchOption};
+ghost use Rattle.std.specs.Prelude.{◌≡◌, ◌≢◌, ◌≤◌, ◌∷◌, ◌^◌, length, Some, IfOk, IfSome, IsTrue};
 ghost use Rattle.std.specs.Option.{option_map};
 ghost use Rattle.page_values.specs.Seen.{seen};
 ghost use Rattle.page_values.specs.Texts.{is_text, is_text_byte};
 ghost use Rattle.arrivals_text.specs.Fields.{negative as negated, int_at, text_at, parts_at, value_at};
+ghost use Rattle.arrivals_text.specs.Parts.{IsPart};
 
 use crate::fields::number_in;
 use page_base::{behind, is_word};
@@ -94,8 +95,7 @@ fn read_parts(alloc: Global, parts: &[u8]) -> Result<Option<Vec<u8>>, AllocError
 // The byte that a part stands for, and what follows the part.
 fn read_part(byte: u8, after: &[u8]) -> Option<(u8, &[u8])>
     requires { byte ≢ 34 }
-    ensures part { MatchOption result (parts_at (byte ∷ after.now) ≡ None)
-        (λ part. parts_at (byte ∷ after.now) ≡ option_map (λ text. part.0 ∷ text) (parts_at part.1.now)) }
+    ensures part { IsPart result (byte ∷ after.now) }
     ensures text { IfSome result (λ part. IsTrue (is_text_byte part.0)) }
     ensures shorter { IfSome result (λ part. length part.1.now ≤ length after.now) }
 {

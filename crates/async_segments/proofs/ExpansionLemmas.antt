@@ -1,5 +1,5 @@
 -- What is expanded is an async script, and each async script is expanded.
-use Rattle.std.proofs.Common.{◌≡◌, ℕ, Bool, false, List, [], ◌∷◌, ◌++◌, Some, None, map, Ok, Result, refl, sym, ap, subst, ◌∙◌}
+use Rattle.std.proofs.Common.{◌≡◌, ℕ, false, List, [], ◌∷◌, Some, None, Ok, refl, sym, ap, subst, ◌∙◌}
 use Rattle.std.specs.Prelude.{◌||◌}
 use Rattle.page_types.specs.Tree.{Item}
 use Rattle.page_parts.specs.Words.{same_bytes}
@@ -8,19 +8,18 @@ use Rattle.lang_tokens.specs.Tokens.{Lexed, tokens_of}
 use Rattle.lang_parse.specs.Symbols.{Symbol, NameAt, WordOf, NumberOf, TextOf, SignOf, symbols_of}
 use Rattle.lang_parse.specs.Grammar.{HasTree, script_spelling}
 use Rattle.lang_parse.proofs.Script.{one_tree}
-use Rattle.async_segments.specs.Marked.{MarkedItem, marked_spelling, IsMarked}
+use Rattle.async_segments.specs.Marked.{MarkedItem, marked_spelling}
 use Rattle.async_segments.specs.Expanded.{expanded}
 use Rattle.async_segments.specs.Layout.{laid_out}
 use Rattle.async_segments.specs.Script.{Each, IsOwnName, AreSmall, IsAsyncScript, IsNoAsync, ReadsAs, IsExpansion}
 use Rattle.async_segments.specs.Encoded.{Found, found, mark_name, is_mark_name, has_mark, marked_bytes, signed_symbols, HasSymbols, IsExpandable, IsSigned, IsExpandedTo, IsNotExpandable}
-use Rattle.async_segments.proofs.Kept.{each_left}
 use Rattle.async_segments.proofs.SignLemmas.{signs_stand}
 use Rattle.async_segments.proofs.ReadLemmas.{own_free}
 use Rattle.async_segments.proofs.TokenPieces.{CanStand}
-use Rattle.async_segments.proofs.LaidTokens.{ReadsBack, reads_back, source_stands}
-use Rattle.async_segments.proofs.MarkedParts.{AllParts, marked_parts}
+use Rattle.async_segments.proofs.LaidTokens.{reads_back, source_stands}
+use Rattle.async_segments.proofs.MarkedParts.{marked_parts}
 use Rattle.async_segments.proofs.Standing.{Stands, expansion_stands}
-use Rattle.async_segments.proofs.PlacedTrees.{HasTreeLike, placed_tree}
+use Rattle.async_segments.proofs.PlacedTrees.{placed_tree}
 use Rattle.async_segments.proofs.UnmarkedTrees.{unmarked_tree}
 use Rattle.async_segments.proofs.SignedTrees.{signed_tree, marks_found, signed_has}
 

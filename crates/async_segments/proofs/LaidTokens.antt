@@ -1,20 +1,18 @@
 -- The tokens of a text that is laid out are those that were laid out.
-use Rattle.std.proofs.Common.{◌≡◌, ℕ, zero, suc, ◌+◌, ◌<◌, ◌≤◌, List, [], ◌∷◌, ◌++◌, length, take, drop, map, Ok, refl, sym, ap, subst, ◌∙◌, arith, append_assoc, length-append}
+use Rattle.std.proofs.Common.{◌≡◌, ℕ, ◌+◌, ◌≤◌, List, [], ◌∷◌, ◌++◌, length, take, map, Ok, refl, sym, ap, subst, ◌∙◌, arith, length-append}
 use Rattle.std.proofs.Math.Seq.{drop-append_seam}
 use Rattle.lang_tokens.specs.Seen.{TokenSeen}
 use Rattle.lang_tokens.specs.declared.token.TokenKind.{TokenKind}
 use Rattle.lang_tokens.specs.declared.token.TokenKind.TheVariants.{Name, Word, Number, Text, Sign}
-use Rattle.lang_tokens.specs.declared.piece.Piece.TheVariants.{Gap, Token}
-use Rattle.lang_tokens.specs.Pieces.{piece_at}
 use Rattle.lang_tokens.specs.Tokens.{content_of, token_at, with_front, with_piece, cut, tokens_of}
 use Rattle.lang_tokens.specs.Meaning.{IsNameSpelling, IsToken, decimal_after, is_sign, Reading, ended, blank, comment, token}
 use Rattle.lang_tokens.specs.Pieces.{is_word}
 use Rattle.lang_tokens.proofs.CutLemmas.{cut_first, nothing_left}
 use Rattle.lang_tokens.proofs.ReadingLemmas.{reading_of}
-use Rattle.lang_parse.specs.Symbols.{Symbol, symbol_by, symbol_of, symbols_of}
+use Rattle.lang_parse.specs.Symbols.{Symbol, symbol_by, symbols_of}
 use Rattle.async_segments.specs.Layout.{bytes_of, further, laid_out, placeless}
 use Rattle.async_segments.specs.Script.{Each}
-use Rattle.async_segments.proofs.TokenPieces.{Break, is_space, is_line, CanStand, IsRead, is_read, take_front}
+use Rattle.async_segments.proofs.TokenPieces.{Break, is_space, is_line, CanStand, is_read, take_front}
 
 -- ---- the symbols of a script can stand
 

@@ -1,7 +1,7 @@
 -- Symbols that are alike those of an expression but for the places of names are those of such an expression.
-use Rattle.std.proofs.Common.{◌≡◌, ℕ, ◌≤◌, List, [], ◌∷◌, ◌++◌, Option, Some, None, refl, sym, ap, subst, ◌∙◌, arith}
+use Rattle.std.proofs.Common.{◌≡◌, ℕ, ◌≤◌, List, [], ◌∷◌, ◌++◌, refl, sym, ap, ◌∙◌, arith}
 use Rattle.std.specs.Prelude.{codes}
-use Rattle.page_types.specs.Tree.{Named, Expr, Or, And, Compare, Sum, Product, Unary, Post, Number, TextLiteral, TrueLiteral, FalseLiteral, UnitLiteral, Name, Call, Paren, ListLiteral, Exprs, no_exprs, with_expr, SumParts, no_terms, with_term, ProductParts, no_factors, with_factor}
+use Rattle.page_types.specs.Tree.{Expr, Or, And, Compare, Sum, Product, Unary, Post, Number, TextLiteral, TrueLiteral, FalseLiteral, UnitLiteral, Name, Call, Paren, ListLiteral, Exprs, no_exprs, with_expr, SumParts, no_terms, with_term, ProductParts, no_factors, with_factor}
 use Rattle.page_types.specs.declared.SumSign.{SumSign}
 use Rattle.page_types.specs.declared.SumSign.TheVariants.{Plus, Minus}
 use Rattle.page_types.specs.declared.ProductSign.{ProductSign}
@@ -11,9 +11,9 @@ use Rattle.page_types.specs.declared.CompareSign.TheVariants.{Equals, Differs, L
 use Rattle.page_types.specs.declared.UnarySign.{UnarySign}
 use Rattle.page_types.specs.declared.UnarySign.TheVariants.{Negative, Not}
 use Rattle.lang_parse.specs.Symbols.{Symbol, NameAt, WordOf, NumberOf, TextOf, SignOf}
-use Rattle.lang_parse.specs.Grammar.{name_symbol, sum_sign, product_sign, compare_sign, unary_sign, spelling, each_behind, terms, factors, places_spelled, separated, level, HasSome, HasTerms, HasFactors, IsExpr, AreExprs, AreTerms, AreFactors}
+use Rattle.lang_parse.specs.Grammar.{sum_sign, product_sign, compare_sign, unary_sign, spelling, each_behind, terms, factors, places_spelled, separated, level, HasSome, HasTerms, HasFactors, IsExpr, AreExprs, AreTerms, AreFactors}
 use Rattle.async_segments.specs.Unplaced.{unplaced, expr_unplaced, exprs_unplaced, terms_unplaced, factors_unplaced}
-use Rattle.async_segments.proofs.PlacedRows.{both, Alike, IsUnnamed, Split, split, same_row, Behind, behind, Between, between, NameFirst, name_first, none_alike}
+use Rattle.async_segments.proofs.PlacedRows.{both, Alike, IsUnnamed, split, same_row, behind, between, name_first, none_alike}
 
 -- ---- signs are no names
 

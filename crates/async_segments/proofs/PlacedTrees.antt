@@ -1,17 +1,16 @@
 -- Symbols that are alike those of a script but for the places of names are those of such a script.
-use Rattle.std.proofs.Common.{◌≡◌, ℕ, suc, ◌≤◌, List, [], ◌∷◌, ◌++◌, length, map, Option, Some, None, refl, sym, ap, subst, ◌∙◌, arith, append_assoc}
+use Rattle.std.proofs.Common.{◌≡◌, ℕ, suc, ◌≤◌, List, [], ◌∷◌, ◌++◌, length, map, Option, Some, None, refl, sym, ap, subst, ◌∙◌, arith}
 use Rattle.std.specs.Prelude.{codes}
 use Rattle.page_types.specs.Tree.{Named, Expr, Stmt, VarStmt, AssignStmt, ExprStmt, IfStmt, WhileStmt, ReturnStmt, ThrowStmt, TryStmt, Block, no_stmts, with_stmt, ElseIfs, no_else_ifs, with_else_if, ElsePart, no_else, else_block, Item, FnItem, StmtItem}
 use Rattle.lang_meaning.specs.Evaluation.{names_in, names_in_stmt, names_in_others, names_in_else, functions_of, own_body}
 use Rattle.lang_place.specs.NameSets.{distinct}
 use Rattle.lang_parse.specs.Symbols.{Symbol, NameAt, WordOf, SignOf}
-use Rattle.lang_parse.specs.Grammar.{name_symbol, spelling, return_spelling, in_brackets, in_braces, stmt_spelling, stmts_spelling, else_ifs_spelling, else_spelling, names_spelling, names_behind, item_spelling, script_spelling, IsExpr, IsReturned, IsStmt, AreStmts, AreElseIfs, IsElse, IsItem, AreItems, IsShallow, HasTree}
-use Rattle.async_segments.specs.Layout.{placeless}
+use Rattle.lang_parse.specs.Grammar.{name_symbol, spelling, return_spelling, in_brackets, in_braces, stmt_spelling, stmts_spelling, else_ifs_spelling, else_spelling, names_spelling, names_behind, item_spelling, script_spelling, IsExpr, IsReturned, IsStmt, AreStmts, AreElseIfs, IsElse, AreItems, IsShallow, HasTree}
 use Rattle.async_segments.specs.Script.{Each}
-use Rattle.async_segments.specs.Unplaced.{unplaced, expr_unplaced, returned_unplaced, stmt_unplaced, block_unplaced, others_unplaced, else_unplaced, item_unplaced, tree_unplaced}
+use Rattle.async_segments.specs.Unplaced.{unplaced, expr_unplaced, returned_unplaced, stmt_unplaced, block_unplaced, others_unplaced, else_unplaced, tree_unplaced}
 use Rattle.async_segments.proofs.LayoutLemmas.{shallow_placeless, placeless_shallow}
-use Rattle.async_segments.proofs.PlacedRows.{both, Alike, IsUnnamed, Split, split, same_row, Behind, behind, Before, before, Between, between, NameFirst, name_first, none_alike}
-use Rattle.async_segments.proofs.PlacedExprs.{PlacedExpr, placed_expr}
+use Rattle.async_segments.proofs.PlacedRows.{both, Alike, IsUnnamed, split, same_row, behind, before, Between, between, name_first, none_alike}
+use Rattle.async_segments.proofs.PlacedExprs.{placed_expr}
 
 -- ---- what is found
 

@@ -14,7 +14,7 @@ use Rattle.async_segments.specs.Names.{new_name, spellings, segment_name, reject
 use Rattle.async_segments.specs.Expanded.{one, variables, resolves, waits, store, all_in_segment, in_segment, end_of, segment_fn, later_fns, segment_fns, starting_fn, rejecting_fn}
 use Rattle.async_segments.specs.Encoded.{Await, Cut, with_found, cut, await_in}
 use Rattle.async_segments.specs.Segments.{head_symbols, promise_symbols, promise_returned_symbols, first_call_symbols, step_symbols, next_count, segment_head, value_symbols, begin_symbols, end_symbols, last_end_symbols, bind_symbols, bind_end_symbols, rejection_symbols, resolved_symbols, rest_symbols, await_symbols, segments_symbols, async_fns}
-use Rattle.async_segments.specs.Written.{resolve_symbols, call_end_symbols}
+use Rattle.async_segments.specs.Written.{call_end_symbols}
 use Rattle.async_segments.proofs.Flags.{followed_spelling, one_spelling}
 
 pub variables_behind : (names : List (List ℕ)) → each_behind (SignOf (codes ",")) (exprs_of (variables names)) ≡ names_behind (map new_name names)

@@ -1,5 +1,5 @@
 -- A script whose marked tree is known has a tree with signs in place of the two names, in which the marks are found.
-use Rattle.std.proofs.Common.{◌≡◌, ℕ, suc, ◌+◌, ◌≤◌, Bool, true, false, List, [], ◌∷◌, ◌++◌, Option, Some, None, length, map, refl, sym, ap, subst, ◌∙◌, arith, append_assoc}
+use Rattle.std.proofs.Common.{◌≡◌, ℕ, suc, ◌+◌, ◌≤◌, Bool, true, false, List, [], ◌∷◌, ◌++◌, Some, None, length, refl, sym, ap, subst, ◌∙◌, arith, append_assoc}
 use Rattle.std.specs.Prelude.{codes, cond, ◌||◌}
 use Rattle.std.proofs.lemmas.List.{append-nil}
 use Rattle.page_types.specs.Tree.{Named, Expr, Or, Name, Exprs, no_exprs, with_expr, Stmt, VarStmt, AssignStmt, ExprStmt, IfStmt, WhileStmt, ReturnStmt, ThrowStmt, TryStmt, Block, no_stmts, with_stmt, Item, FnItem, StmtItem}
@@ -7,10 +7,10 @@ use Rattle.page_parts.specs.Words.{same_bytes}
 use Rattle.lang_meaning.specs.Evaluation.{own_body, names_in, names_in_stmt, functions_of}
 use Rattle.lang_place.specs.NameSets.{distinct}
 use Rattle.lang_parse.specs.Symbols.{Symbol, NameAt, WordOf, NumberOf, TextOf, SignOf}
-use Rattle.lang_parse.specs.Grammar.{spelling, each_behind, in_braces, stmt_spelling, stmts_spelling, item_spelling, script_spelling, level, brackets_after, HasSome, AreExprs, IsShallow, IsExpr, IsStmt, AreStmts, IsItem, AreItems, HasTree}
-use Rattle.async_segments.specs.Marked.{AwaitForm, Alone, Declared, Stored, Returned, Segment, MarkedItem, AsyncFn, Plain, before_await, await_spelling, segments_spelling, marked_item_spelling, marked_spelling, statement_of, followed_by, segments_body, unmarked_item, unmarked, is_mark, without_marks, IsMarked}
+use Rattle.lang_parse.specs.Grammar.{spelling, each_behind, in_braces, stmt_spelling, stmts_spelling, item_spelling, script_spelling, brackets_after, HasSome, AreExprs, IsShallow, IsExpr, IsStmt, AreStmts, AreItems, HasTree}
+use Rattle.async_segments.specs.Marked.{AwaitForm, Alone, Declared, Stored, Returned, Segment, MarkedItem, AsyncFn, Plain, before_await, segments_spelling, marked_item_spelling, marked_spelling, statement_of, followed_by, segments_body, unmarked, is_mark, without_marks, IsMarked}
 use Rattle.async_segments.specs.Script.{Each}
-use Rattle.async_segments.specs.Encoded.{mark_name, is_mark_name, signed_symbol, signed_symbols, mark_in_name, mark_in_expr, operand_of, operand_by, operand_behind, Await, await_by, await_in, Cut, with_found, cut, mark_in_stmt, mark_at, Found, in_front, next_item, found}
+use Rattle.async_segments.specs.Encoded.{mark_name, is_mark_name, signed_symbol, signed_symbols, mark_in_name, mark_in_expr, operand_by, operand_behind, Await, await_by, await_in, Cut, with_found, cut, mark_at, in_front, next_item, found}
 use Rattle.async_segments.proofs.Flags.{followed_spelling}
 use Rattle.async_segments.proofs.Kept.{followed_are, are_followed, each_left, each_right}
 use Rattle.async_segments.proofs.SignLemmas.{kept}

@@ -1,7 +1,7 @@
 -- Each symbol of the expansion can stand as a token, and none is the name that stands in place of the two.
-use Rattle.std.proofs.Common.{◌≡◌, ℕ, ◌+◌, ◌<◌, ◌≤◌, Bool, true, false, List, [], ◌∷◌, ◌++◌, length, map, Some, refl, sym, ap, subst, ◌∙◌, arith, append_assoc, length-append}
+use Rattle.std.proofs.Common.{◌≡◌, ℕ, ◌+◌, ◌<◌, ◌≤◌, Bool, true, false, List, [], ◌∷◌, ◌++◌, length, map, Some, refl, sym, ap, subst, arith, append_assoc, length-append}
 use Rattle.std.specs.Prelude.{⊤, codes, cond, ◌&&◌, ◌||◌}
-use Rattle.page_types.specs.Tree.{Named, Expr, UnitLiteral, Stmt, VarStmt, AssignStmt, ExprStmt, IfStmt, WhileStmt, ReturnStmt, ThrowStmt, TryStmt, Block, no_stmts, with_stmt, ElseIfs, no_else_ifs, with_else_if, ElsePart, no_else, else_block, Item, FnItem}
+use Rattle.page_types.specs.Tree.{Named, Expr, UnitLiteral, Stmt, VarStmt, AssignStmt, ExprStmt, IfStmt, WhileStmt, ReturnStmt, ThrowStmt, TryStmt, Block, no_stmts, with_stmt, ElseIfs, no_else_ifs, with_else_if, ElsePart, no_else, else_block, Item}
 use Rattle.std.specs.Char.{is_ascii_digit}
 use Rattle.page_values.specs.Names.{is_letter, is_name_byte}
 use Rattle.page_parts.specs.Words.{same_bytes, and_last, without, decimal_of}
@@ -9,21 +9,21 @@ use Rattle.lang_meaning.specs.Evaluation.{names_in, names_in_stmt, names_in_othe
 use Rattle.lang_ast.specs.Seen.{exprs_of}
 use Rattle.lang_place.specs.NameSets.{has_name}
 use Rattle.lang_tokens.specs.Pieces.{words, is_word}
-use Rattle.lang_tokens.specs.Meaning.{AllBytes, IsNameSpelling}
+use Rattle.lang_tokens.specs.Meaning.{AllBytes}
 use Rattle.lang_tokens.proofs.MeaningLemmas.{by_test, clash}
 use Rattle.lang_parse.specs.Symbols.{Symbol, NameAt, WordOf, SignOf}
 use Rattle.lang_parse.specs.Grammar.{name_symbol, names_spelling, names_behind, spelling, each_behind, separated, in_brackets, in_braces, stmt_spelling, stmts_spelling, else_ifs_spelling, else_spelling, item_spelling, script_spelling}
 use Rattle.async_segments.specs.Marked.{AwaitForm, Alone, Declared, Stored, Returned, Segment, MarkedItem, AsyncFn, Plain, before_await, followed_by, segments_body, statement_of}
-use Rattle.async_segments.specs.Names.{new_name, with_new, spellings, locals_of, segment_name, rejecting_name, is_line, begins_with_line, holds_lines}
-use Rattle.async_segments.specs.Expanded.{variable, variables, call, list, one, promise, awaited_value, rejects, resolves, resolves_and_returns, all_in_segment, first_values, starting_body, starting_fn, rejecting_fn, segment_fn, store, going_on, rejecting, waits, end_of, later_fns, segment_fns, locals_in, expanded_fn, expanded_item, expanded}
+use Rattle.async_segments.specs.Names.{new_name, with_new, spellings, segment_name, rejecting_name, is_line, begins_with_line, holds_lines}
+use Rattle.async_segments.specs.Expanded.{variable, variables, call, list, one, promise, rejects, resolves, all_in_segment, first_values, starting_body, starting_fn, rejecting_fn, segment_fn, store, going_on, rejecting, waits, end_of, later_fns, segment_fns, locals_in, expanded_item, expanded}
 use Rattle.async_segments.specs.Script.{Each, IsSmall, AreSmall}
 use Rattle.async_segments.specs.Encoded.{mark_name, is_mark_name}
-use Rattle.async_segments.proofs.Flags.{followed_spelling, one_spelling}
+use Rattle.async_segments.proofs.Flags.{followed_spelling}
 use Rattle.async_segments.proofs.Kept.{Same, Fixed, all_same, each_join, each_left, each_right}
 use Rattle.async_segments.proofs.SignLemmas.{same_is}
 use Rattle.async_segments.proofs.SegmentLemmas.{script-append, async_count}
 use Rattle.async_segments.proofs.ItemLemmas.{functions-append}
-use Rattle.async_segments.proofs.DecimalLemmas.{Spells, decimal_spells, decimal_short}
+use Rattle.async_segments.proofs.DecimalLemmas.{decimal_spells, decimal_short}
 use Rattle.async_segments.proofs.TokenPieces.{CanStand, listed}
 use Rattle.async_segments.proofs.MarkedParts.{head_of, AreParts, IsPart, AllParts}
 

@@ -1,5 +1,5 @@
 -- The bytes of a token before a space or LF are read as this token.
-use Rattle.std.proofs.Common.{◌≡◌, ℕ, zero, suc, ◌+◌, ◌-◌, ◌*◌, ◌<◌, ◌≤◌, Bool, true, false, List, [], ◌∷◌, ◌++◌, length, take, drop, pos, refl, sym, ap, subst, ◌∙◌, arith, add-zero, append_assoc, length-append, le-leb, codes}
+use Rattle.std.proofs.Common.{◌≡◌, ℕ, suc, ◌+◌, ◌-◌, ◌*◌, ◌<◌, ◌≤◌, Bool, true, false, List, [], ◌∷◌, ◌++◌, length, take, pos, refl, sym, ap, subst, ◌∙◌, arith, add-zero, append_assoc, length-append, le-leb}
 use Rattle.std.specs.Prelude.{◌==◌, ◌||◌, nat_lt, nat_le, if◌then◌else◌}
 use Rattle.std.specs.Char.{is_ascii_digit}
 use Rattle.std.specs.List.{list_any}
@@ -20,7 +20,7 @@ use Rattle.lang_tokens.specs.Meaning.{AllBytes, IsNameSpelling, decimal_after, i
 use Rattle.lang_tokens.proofs.MeaningLemmas.{not_false, by_test, OfEach, held_plain}
 use Rattle.lang_parse.specs.Symbols.{Symbol, NameAt, WordOf, NumberOf, TextOf, SignOf, symbol_by}
 use Rattle.async_segments.specs.Layout.{bytes_of, placeless}
-use Rattle.async_segments.proofs.DecimalLemmas.{Spells, decimal_spells}
+use Rattle.async_segments.proofs.DecimalLemmas.{decimal_spells}
 
 -- a space or LF
 pub data Break (d : ℕ) : Type 0 where

@@ -1,16 +1,16 @@
 -- A script that is expanded has a tree without its marks.
-use Rattle.std.proofs.Common.{◌≡◌, ℕ, ◌+◌, ◌≤◌, Bool, true, false, List, [], ◌∷◌, ◌++◌, Option, Some, None, length, map, refl, sym, ap, subst, ◌∙◌, arith, append_assoc, length-append}
+use Rattle.std.proofs.Common.{◌≡◌, ℕ, ◌+◌, ◌≤◌, Bool, true, false, List, [], ◌∷◌, ◌++◌, Option, Some, None, length, refl, sym, ap, subst, ◌∙◌, arith, append_assoc, length-append}
 use Rattle.std.specs.Prelude.{codes, cond, ◌||◌}
-use Rattle.page_types.specs.Tree.{Named, Expr, Stmt, Block, no_stmts, with_stmt, Item, FnItem, StmtItem}
+use Rattle.page_types.specs.Tree.{Expr, Item, FnItem, StmtItem}
 use Rattle.page_parts.specs.Words.{same_bytes}
-use Rattle.lang_meaning.specs.Evaluation.{own_body, names_in, names_in_stmt, functions_of}
+use Rattle.lang_meaning.specs.Evaluation.{own_body, names_in, functions_of}
 use Rattle.lang_place.specs.NameSets.{distinct}
 use Rattle.lang_parse.specs.Symbols.{Symbol, NameAt, WordOf, NumberOf, TextOf, SignOf}
 use Rattle.lang_parse.specs.Grammar.{spelling, in_braces, stmt_spelling, stmts_spelling, item_spelling, script_spelling, brackets_after, IsShallow, IsExpr, IsStmt, AreStmts, IsItem, AreItems, HasTree}
-use Rattle.async_segments.specs.Marked.{AwaitForm, Alone, Declared, Stored, Returned, Segment, MarkedItem, AsyncFn, Plain, before_await, await_spelling, segments_spelling, marked_item_spelling, marked_spelling, statement_of, followed_by, segments_body, unmarked_item, unmarked, is_mark, without_marks, IsMarked}
+use Rattle.async_segments.specs.Marked.{AwaitForm, Alone, Declared, Stored, Returned, Segment, MarkedItem, AsyncFn, Plain, before_await, await_spelling, segments_spelling, marked_item_spelling, marked_spelling, statement_of, segments_body, unmarked_item, unmarked, is_mark, without_marks, IsMarked}
 use Rattle.async_segments.specs.Script.{Each}
 use Rattle.async_segments.specs.Expanded.{locals_in, expanded_item, expanded}
-use Rattle.async_segments.specs.Encoded.{mark_name, signed_name, signed_symbol, signed_symbols, Found, cut, mark_at, next_item, found, IsExpandable}
+use Rattle.async_segments.specs.Encoded.{mark_name, signed_symbol, signed_symbols, cut, mark_at, next_item, found, IsExpandable}
 use Rattle.async_segments.proofs.Flags.{followed_spelling}
 use Rattle.async_segments.proofs.Kept.{followed_are, each_left, each_right}
 use Rattle.async_segments.proofs.SegmentLemmas.{async_count}

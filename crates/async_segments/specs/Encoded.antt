@@ -164,6 +164,10 @@ pub record HasSymbols (bytes : List ℕ) (ks : List Symbol) : Type 0 where
   pub lexed : tokens_of bytes ≡ Ok tokens
   pub same : symbols_of tokens ≡ ks
 
+-- with signs in place of the two names the bytes have the other tokens, and for each of the two names its signs
+abbrev pub SignsStand : (bytes : List ℕ) → List TokenSeen → Type 0
+SignsStand bytes tokens = HasSymbols (marked_bytes 0 tokens bytes) (signed_symbols (symbols_of tokens))
+
 -- ---- what can be expanded
 
 abbrev pub is_mark_name : Symbol → Bool
@@ -177,6 +181,10 @@ is_mark_name (SignOf bs) = false
 abbrev pub has_mark : List Symbol → Bool
 has_mark [] = false
 has_mark (k ∷ ks) = is_mark_name k || has_mark ks
+
+-- a mark is left, or at some symbol too many brackets are open
+abbrev pub HasMarkOrIsDeep : List Symbol → Type 0
+HasMarkOrIsDeep ks = has_mark ks ≡ false → IsShallow 0 ks → ⊥
 
 -- the tree has these marks, and none at another place; its functions and locals are few, and its expansion has a tree
 pub record IsExpandable (tree : List Item) (items : List MarkedItem) : Type 0 where

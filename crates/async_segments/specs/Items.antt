@@ -33,6 +33,10 @@ pub record WritesOne (item : MarkedItem) (old new : List Written) (count : ℕ) 
   pub adds : Adds old new (script_spelling (expanded_item item))
   pub functions : count ≡ length (functions_of (expanded_item item))
 
+-- an async function was written, wherever its mark stands
+abbrev pub WritesMarked : Function → (old new : List Written) → ℕ → Type 0
+WritesMarked f old new count = (at : ℕ) → WritesOne (marked_fn at f) old new count
+
 abbrev pub WritesBehind : Item → (old new : List Written) → ℕ → Type 0
 WritesBehind item old new count =
     (at : ℕ) → (marked : MarkedItem) × (behind_mark at item ≡ Some marked) × WritesOne marked old new count

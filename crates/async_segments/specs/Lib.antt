@@ -9,6 +9,7 @@ pub mod Encoded
 pub mod Awaits
 pub mod Segments
 pub mod Items
+pub mod OfCode
 pub mod Signed
 pub mod Meaning
 pub mod Promising

@@ -47,6 +47,11 @@ pub record IsAsyncScript (bytes : List ℕ) (tokens : List TokenSeen) (items : L
   pub lexed : tokens_of bytes ≡ Ok tokens
   pub script : IsAsync (symbols_of tokens) items
 
+-- the bytes have one marked tree at most
+abbrev pub IsMarkedOnce : List ℕ → Type 0
+IsMarkedOnce bytes = (tokens others : List TokenSeen) (items more : List MarkedItem) →
+    IsAsyncScript bytes tokens items → IsAsyncScript bytes others more → items ≡ more
+
 -- the bytes are no async script
 abbrev pub IsNoAsync : List ℕ → Type 0
 IsNoAsync bytes = (tokens : List TokenSeen) (items : List MarkedItem) → IsAsyncScript bytes tokens items → ⊥

@@ -1,5 +1,5 @@
 -- What the tokens that are to be written are seen as.
-use Rattle.std.specs.Prelude.{◌≡◌, Bool, true, false, if◌then◌else◌, List, [], ◌∷◌, ◌++◌, map, ℕ, Vec, codes}
+use Rattle.std.specs.Prelude.{◌≡◌, Bool, true, false, if◌then◌else◌, List, [], ◌∷◌, ◌++◌, map, ℕ, Result, Vec, IfOk, codes}
 use Rattle.std.specs.declared.alloc.Global.{Global}
 use Rattle.page_types.specs.Tree.{Exprs, no_exprs, with_expr, Stmt, Block, ElseIfs, ElsePart}
 use Rattle.lang_parse.specs.Symbols.{Symbol, NameAt, WordOf, SignOf, symbol_by}
@@ -18,6 +18,10 @@ shown_all ws = map shown ws
 -- after these tokens came those of the symbols
 pub record Adds (old new : List Written) (ks : List Symbol) : Type 0 where
   pub is : shown_all new ≡ shown_all old ++ map placeless ks
+
+-- a call that found memory wrote the tokens of these symbols
+abbrev pub Writes : {X E : Type 0} → Result X E → (old new : Vec Written Global) → List Symbol → Type 0
+Writes result old new ks = IfOk result (λ _. Adds old.items new.items ks)
 
 -- after these tokens came some, and with those that are left they are all of a row
 pub record GoesOn (old new : List Written) (all left : List Symbol) : Type 0 where
@@ -55,6 +59,10 @@ names_of names = map (λ x. x.items) names
 -- these names came to those, each once
 pub record AddsNames (old new : List (Vec ℕ Global)) (names : List (List ℕ)) : Type 0 where
   pub is : names_of new ≡ with_new (names_of old) names
+
+-- a call that found memory added these names, each once
+abbrev pub Gathers : {X E : Type 0} → Result X E → (old new : Vec (Vec ℕ Global) Global) → List (List ℕ) → Type 0
+Gathers result old new names = IfOk result (λ _. AddsNames old.items new.items names)
 
 -- "resolve" "(" "p__" ","
 abbrev pub resolve_symbols : List Symbol

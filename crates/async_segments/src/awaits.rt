@@ -3,9 +3,9 @@
 ghost use Rattle.std.specs.Prelude.{◌≡◌, ◌<◌, IfSome, Some, length};
 ghost use Rattle.std.specs.Option.{option_map};
 ghost use Rattle.lang_ast.specs.Seen.{seen_name, seen_expr, seen_exprs, seen_stmt, seen_item};
-ghost use Rattle.async_segments.specs.Encoded.{mark_in_name, mark_in_expr, mark_in_stmt, mark_at, operand_from, operand_by, operand_behind};
-ghost use Rattle.async_segments.specs.Encoded.{await_by, await_returned, await_in};
-ghost use Rattle.async_segments.specs.Awaits.{seen_form, seen_await};
+ghost use Rattle.async_segments.specs.Encoded.{mark_in_name, mark_in_expr, mark_in_stmt, mark_at, operand_by, operand_behind};
+ghost use Rattle.async_segments.specs.Encoded.{await_returned, await_in};
+ghost use Rattle.async_segments.specs.Awaits.{seen_await, seen_operands, operand_after, await_with};
 
 use crate::marking::{MARK, is_same};
 use lang_ast::{Expr, Item, Named, Stmt};
@@ -63,8 +63,7 @@ fn mark_in_expr(expr: &Expr) -> Option<usize>
 
 /// The byte at which a mark stands, and the operands behind it, if there is one at least.
 fn some_operands(at: usize, others: &Vec<Expr>) -> Option<(usize, &Vec<Expr>)>
-    ensures found { option_map (λ p. (p.0, operand_from (seen_exprs p.1.now.items))) result
-        ≡ operand_by (Some at) (seen_exprs others.now.items) }
+    ensures found { option_map seen_operands result ≡ operand_by (Some at) (seen_exprs others.now.items) }
     ensures some { IfSome result (λ p. 0 < length p.1.now.items) }
 {
     if others.is_empty() {
@@ -75,8 +74,7 @@ fn some_operands(at: usize, others: &Vec<Expr>) -> Option<(usize, &Vec<Expr>)>
 
 /// The same behind an expression that may be a mark.
 fn operands_by<'a>(first: &Expr, others: &'a Vec<Expr>) -> Option<(usize, &'a Vec<Expr>)>
-    ensures found { option_map (λ p. (p.0, operand_from (seen_exprs p.1.now.items))) result
-        ≡ operand_by (mark_in_expr (seen_expr first.now)) (seen_exprs others.now.items) }
+    ensures found { option_map seen_operands result ≡ operand_after first.now others.now.items }
     ensures some { IfSome result (λ p. 0 < length p.1.now.items) }
 {
     match mark_in_expr(first) {
@@ -87,7 +85,7 @@ fn operands_by<'a>(first: &Expr, others: &'a Vec<Expr>) -> Option<(usize, &'a Ve
 
 /// The same, where an expression begins with a mark.
 fn operands_behind(expr: &Expr) -> Option<(usize, &Vec<Expr>)>
-    ensures found { option_map (λ p. (p.0, operand_from (seen_exprs p.1.now.items))) result ≡ operand_behind (seen_expr expr.now) }
+    ensures found { option_map seen_operands result ≡ operand_behind (seen_expr expr.now) }
     ensures some { IfSome result (λ p. 0 < length p.1.now.items) }
 {
     match expr {
@@ -111,7 +109,7 @@ fn operands_behind(expr: &Expr) -> Option<(usize, &Vec<Expr>)>
 }
 
 fn await_by<'a>(form: Form<'a>, value: &'a Expr) -> Option<Await<'a>>
-    ensures found { option_map seen_await result ≡ await_by (seen_form form.entry) (operand_behind (seen_expr value.now)) }
+    ensures found { option_map seen_await result ≡ await_with form.entry value.now }
     ensures some { IfSome result (λ a. 0 < length a.operands.now.items) }
 {
     let (at, operands) = operands_behind(value)?;

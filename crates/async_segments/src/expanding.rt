@@ -1,7 +1,6 @@
 //! The plain script for a script with async functions.
 
 ghost use Rattle.std.specs.Prelude.{◌≡◌, List, IfOk, IfErr, Ok, length, false};
-ghost use Rattle.page_types.specs.Tree.{Item};
 ghost use Rattle.lang_tokens.specs.Seen.{TokenSeen};
 ghost use Rattle.lang_tokens.specs.declared.fault.BadByte.{BadByte};
 ghost use Rattle.lang_tokens.specs.declared.fault.TokensFault.TheVariants as lexed;
@@ -11,8 +10,8 @@ ghost use Rattle.lang_ast.specs.Seen.{seen_tree};
 ghost use Rattle.lang_parse.specs.Symbols.{symbols_of};
 ghost use Rattle.lang_parse.specs.Grammar.{HasTree, IsShallow};
 ghost use Rattle.async_segments.specs.Script.{Each, IsOwnName, IsNotAsync, IsExpansion, IsNoAsync};
-ghost use Rattle.async_segments.specs.Encoded.{has_mark, IsExpandedTo, IsNotExpandable};
-ghost use Rattle.async_segments.specs.Signed.{HasSignedTree, HasNoSignedTree, WritesTree, RefusesTree, LaysOutTree};
+ghost use Rattle.async_segments.specs.Encoded.{has_mark, IsExpandedTo, IsNotExpandable, HasMarkOrIsDeep};
+ghost use Rattle.async_segments.specs.Signed.{HasSignedTree, HasNoSignedTree, WritesTree, RefusesTree, LaysOutTree, HasNoTree};
 ghost use Rattle.async_segments.specs.Written.{shown_all};
 
 use crate::fault::{ExpandFault, NotAsync};
@@ -58,7 +57,7 @@ fn tokens_of(alloc: Global, bytes: &[u8]) -> Result<Tokens, ExpandFault>
 /// The tree of tokens.
 fn parsed(alloc: Global, tokens: &Tokens) -> Result<Tree, ExpandFault>
     ensures found { IfOk result (λ tree. HasTree (symbols_of tokens.now.items) (seen_tree tree)) }
-    ensures none { IfErr result (λ e. IsNotAsync e → (tree : List Item) → HasTree (symbols_of tokens.now.items) tree → ⊥) }
+    ensures none { IfErr result (λ e. IsNotAsync e → HasNoTree (symbols_of tokens.now.items)) }
 {
     match parse(alloc, tokens) {
         Ok(tree) => Ok(tree),
@@ -82,7 +81,7 @@ fn tested(written: Vec<Written>) -> Result<Vec<Written>, ExpandFault>
     ensures kept { IfOk result (λ w. w.items ≡ written.items) }
     ensures no_mark { IfOk result (λ w. has_mark (shown_all written.items) ≡ false) }
     ensures shallow { IfOk result (λ w. IsShallow 0 (shown_all written.items)) }
-    ensures refused { IfErr result (λ e. has_mark (shown_all written.items) ≡ false → IsShallow 0 (shown_all written.items) → ⊥) }
+    ensures refused { IfErr result (λ e. HasMarkOrIsDeep (shown_all written.items)) }
 {
     if holds_mark(&written) {
         return Err(ExpandFault::Is(NotAsync));

@@ -1,11 +1,11 @@
 //! Writes expressions.
 
-ghost use Rattle.std.specs.Prelude.{◌≡◌, ◌∷◌, [], IfOk};
+ghost use Rattle.std.specs.Prelude.{◌∷◌, [], IfOk};
 ghost use Rattle.lang_ast.specs.Seen.{seen_expr, seen_exprs, seen_terms, seen_factors};
 ghost use Rattle.lang_parse.specs.Symbols.{SignOf};
 ghost use Rattle.lang_parse.specs.Grammar.{spelling, each_behind, terms, factors, places_spelled, sum_sign, product_sign, compare_sign};
 ghost use Rattle.lang_parse.specs.Grammar.{unary_sign};
-ghost use Rattle.async_segments.specs.Written.{Adds, joined};
+ghost use Rattle.async_segments.specs.Written.{Adds, joined, Writes};
 
 use crate::written::{Written, between, number, own_name, sign, text, word};
 use lang_ast::{CompareSign, Expr, ProductSign, SumSign, UnarySign};
@@ -135,7 +135,7 @@ fn write_behind(
     exprs: &Vec<Expr>,
     into: &mut Vec<Written>,
 ) -> Result<(), AllocError>
-    ensures { IfOk result (λ _. Adds into.old.items into.new.items (each_behind (SignOf spelling.now) (seen_exprs exprs.now.items))) }
+    ensures { Writes result into.old into.new (each_behind (SignOf spelling.now) (seen_exprs exprs.now.items)) }
 {
     for expr in exprs {
         sign(alloc, spelling, into)?;
@@ -152,7 +152,7 @@ pub(crate) fn write_joined(
     exprs: &Vec<Expr>,
     into: &mut Vec<Written>,
 ) -> Result<(), AllocError>
-    ensures { IfOk result (λ _. Adds into.old.items into.new.items (joined (SignOf spelling.now) (seen_exprs exprs.now.items))) }
+    ensures { Writes result into.old into.new (joined (SignOf spelling.now) (seen_exprs exprs.now.items)) }
 {
     let mut is_first = true;
     for expr in exprs {

@@ -1,10 +1,10 @@
 //! Writes the heads of functions.
 
-ghost use Rattle.std.specs.Prelude.{IfOk, map};
+ghost use Rattle.std.specs.Prelude.{map};
 ghost use Rattle.lang_ast.specs.Seen.{seen_name};
 ghost use Rattle.lang_parse.specs.Grammar.{names_spelling};
-ghost use Rattle.async_segments.specs.Segments.{head_symbols};
-ghost use Rattle.async_segments.specs.Written.{Adds};
+ghost use Rattle.async_segments.specs.Written.{Writes};
+ghost use Rattle.async_segments.specs.OfCode.{head_of};
 
 use crate::written::{Written, between, own_name, sign, word};
 use lang_ast::{Function, Named};
@@ -16,7 +16,7 @@ fn write_parameters(
     parameters: &Vec<Named>,
     into: &mut Vec<Written>,
 ) -> Result<(), AllocError>
-    ensures { IfOk result (λ _. Adds into.old.items into.new.items (names_spelling (map seen_name parameters.now.items))) }
+    ensures { Writes result into.old into.new (names_spelling (map seen_name parameters.now.items)) }
 {
     let mut is_first = true;
     for parameter in parameters {
@@ -33,8 +33,7 @@ pub(crate) fn write_head(
     function: &Function,
     into: &mut Vec<Written>,
 ) -> Result<(), AllocError>
-    ensures { IfOk result (λ _. Adds into.old.items into.new.items
-        (head_symbols (seen_name function.now.name) (map seen_name function.now.parameters.items))) }
+    ensures { Writes result into.old into.new (head_of function.now) }
 {
     word(alloc, b"fn", into)?;
     own_name(alloc, &function.name, into)?;

@@ -1,15 +1,15 @@
 //! Writes the items of a script.
 
-ghost use Rattle.std.specs.Prelude.{◌≡◌, ◌≤◌, ◌<◌, ◌+◌, ◌∷◌, [], ℕ, List, IfOk, IfErr, Some, None, length};
-ghost use Rattle.page_types.specs.Tree as model;
+ghost use Rattle.std.specs.Prelude.{◌≡◌, ◌≤◌, ◌<◌, ◌+◌, ◌∷◌, [], ℕ, IfOk, IfErr, Some, None, length};
 ghost use Rattle.lang_meaning.specs.Evaluation.{functions_of};
 ghost use Rattle.lang_ast.specs.Seen.{seen_item, seen_tree};
 ghost use Rattle.lang_parse.specs.Grammar.{item_spelling};
 ghost use Rattle.async_segments.specs.declared.fault.ExpandFault.TheVariants.{OutOfMemory};
 ghost use Rattle.async_segments.specs.Script.{IsNotAsync, IsSmall};
-ghost use Rattle.async_segments.specs.Items.{seen_fn, marked_fn, WritesOne, WritesBehind, RefusesBehind, WritesNext, RefusesNext};
-ghost use Rattle.async_segments.specs.Items.{WritesItems, RefusesItems, Walk};
+ghost use Rattle.async_segments.specs.Items.{seen_fn, marked_fn, WritesBehind, RefusesBehind, RefusesNext, WritesItems, RefusesItems};
+ghost use Rattle.async_segments.specs.Items.{WritesMarked};
 ghost use Rattle.async_segments.specs.Written.{Adds};
+ghost use Rattle.async_segments.specs.OfCode.{WritesItem, StepsOn, RefusesStep};
 
 use crate::awaits::mark_at;
 use crate::fault::{ExpandFault, NotAsync};
@@ -64,7 +64,7 @@ fn write_marked_function(
     function: &Function,
     into: &mut Vec<Written>,
 ) -> Result<usize, ExpandFault>
-    ensures written { IfOk result (λ n. (at : ℕ) → WritesOne (marked_fn at function.now) into.old.items into.new.items (n + 3)) }
+    ensures written { IfOk result (λ n. WritesMarked function.now into.old.items into.new.items (n + 3)) }
     ensures refused { IfErr result (λ e. IsNotAsync e → (at : ℕ) → IsSmall (marked_fn at function.now) → ⊥) }
 {
     if function.name.name.bytes().len() > MOST_NAME_BYTES {
@@ -94,8 +94,7 @@ fn write_behind_mark(
     item: &Item,
     into: &mut Vec<Written>,
 ) -> Result<(Option<usize>, usize, usize), ExpandFault>
-    ensures written { IfOk result (λ r. (at : ℕ)
-        → WritesNext (Some at) (seen_item item.now) r.0 into.old.items into.new.items (r.1 + r.2)) }
+    ensures written { IfOk result (λ r. (at : ℕ) → WritesItem (Some at) item.now r.0 into.old into.new (r.1 + r.2)) }
     ensures part { IfOk result (λ r. r.2 ≤ 3) }
     ensures refused { IfErr result (λ e. IsNotAsync e → RefusesBehind (seen_item item.now)) }
 {
@@ -111,7 +110,7 @@ fn write_unmarked(
     item: &Item,
     into: &mut Vec<Written>,
 ) -> Result<(Option<usize>, usize, usize), ExpandFault>
-    ensures written { IfOk result (λ r. WritesNext None (seen_item item.now) r.0 into.old.items into.new.items (r.1 + r.2)) }
+    ensures written { IfOk result (λ r. WritesItem None item.now r.0 into.old into.new (r.1 + r.2)) }
     ensures part { IfOk result (λ r. r.2 ≤ 3) }
     ensures memory { IfErr result (λ e. e ≡ OutOfMemory) }
 {
@@ -131,7 +130,7 @@ fn write_next(
     pending: Option<usize>,
     into: &mut Vec<Written>,
 ) -> Result<(Option<usize>, usize, usize), ExpandFault>
-    ensures written { IfOk result (λ r. WritesNext pending (seen_item item.now) r.0 into.old.items into.new.items (r.1 + r.2)) }
+    ensures written { IfOk result (λ r. WritesItem pending item.now r.0 into.old into.new (r.1 + r.2)) }
     ensures part { IfOk result (λ r. r.2 ≤ 3) }
     ensures refused { IfErr result (λ e. IsNotAsync e → RefusesNext pending (seen_item item.now)) }
 {
@@ -175,11 +174,9 @@ fn write_item(
     into: &mut Vec<Written>,
 ) -> Result<(Option<usize>, usize), ExpandFault>
     requires { functions ≤ 4096 }
-    ensures written { IfOk result (λ r. (tree rest : List model.Item)
-        → Walk tree (seen_item item.now ∷ rest) pending into.old.items functions → Walk tree rest r.0 into.new.items r.1) }
+    ensures written { IfOk result (StepsOn item.now pending into.old into.new functions) }
     ensures few { IfOk result (λ r. r.1 ≤ 4096) }
-    ensures refused { IfErr result (λ e. IsNotAsync e → (tree rest : List model.Item)
-        → Walk tree (seen_item item.now ∷ rest) pending into.old.items functions → RefusesItems tree) }
+    ensures refused { IfErr result (λ e. IsNotAsync e → RefusesStep item.now pending into.old functions) }
 {
     match write_next(alloc, item, pending, into) {
         Ok(next) => counted(next.0, functions, next.1, next.2),

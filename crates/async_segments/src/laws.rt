@@ -3,20 +3,16 @@
 ghost use Rattle.std.specs.Prelude.{◌≡◌, ℕ, List, Ok};
 ghost use Rattle.lang_tokens.specs.Seen.{TokenSeen};
 ghost use Rattle.lang_tokens.specs.Tokens.{tokens_of};
-ghost use Rattle.lang_parse.specs.Symbols.{symbols_of};
-ghost use Rattle.async_segments.specs.Marked.{MarkedItem};
-ghost use Rattle.async_segments.specs.Script.{IsAsyncScript};
-ghost use Rattle.async_segments.specs.Encoded.{marked_bytes, signed_symbols, HasSymbols};
+ghost use Rattle.async_segments.specs.Script.{IsMarkedOnce};
+ghost use Rattle.async_segments.specs.Encoded.{SignsStand};
 
 /// A law: with signs in place of the two names a script has its other tokens in their places, and for each of the two the
 /// name `a__` in its place and a sign.
 pub fn signs_stand_for_names()
-    ensures { (bytes : List ℕ) (tokens : List TokenSeen) → tokens_of bytes ≡ Ok tokens
-        → HasSymbols (marked_bytes 0 tokens bytes) (signed_symbols (symbols_of tokens)) }
+    ensures { (bytes : List ℕ) (tokens : List TokenSeen) → tokens_of bytes ≡ Ok tokens → SignsStand bytes tokens }
 {}
 
 /// A law: a script has one marked tree at most.
 pub fn a_script_is_marked_once()
-    ensures { (bytes : List ℕ) (tokens others : List TokenSeen) (items more : List MarkedItem) →
-        IsAsyncScript bytes tokens items → IsAsyncScript bytes others more → items ≡ more }
+    ensures { (bytes : List ℕ) → IsMarkedOnce bytes }
 {}

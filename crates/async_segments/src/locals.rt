@@ -4,8 +4,9 @@ ghost use Rattle.std.specs.Prelude.{◌≡◌, ◌∷◌, [], IfOk, map};
 ghost use Rattle.lang_meaning.specs.Evaluation.{names_in, names_in_stmt, names_in_others, names_in_else};
 ghost use Rattle.lang_ast.specs.Seen.{seen_name, seen_stmt, seen_block, seen_others, seen_else};
 ghost use Rattle.lang_place.specs.NameSets.{has_name};
-ghost use Rattle.async_segments.specs.Names.{spellings, locals_of};
-ghost use Rattle.async_segments.specs.Written.{names_of, AddsNames};
+ghost use Rattle.async_segments.specs.Names.{spellings};
+ghost use Rattle.async_segments.specs.Written.{names_of, AddsNames, Gathers};
+ghost use Rattle.async_segments.specs.OfCode.{parameter_names, AreLocals};
 
 use crate::marking::is_same;
 use lang_ast::{Expr, Named, Stmt};
@@ -87,7 +88,7 @@ fn add_of_others(
     others: &Vec<(Expr, Vec<Stmt>)>,
     names: &mut Vec<Vec<u8>>,
 ) -> Result<(), AllocError>
-    ensures { IfOk result (λ _. AddsNames names.old.items names.new.items (names_in_others (seen_others others.now.items))) }
+    ensures { Gathers result names.old names.new (names_in_others (seen_others others.now.items)) }
 {
     for other in others {
         add_all(alloc, &other.1, names)?;
@@ -114,7 +115,7 @@ fn add_parameters(
     parameters: &Vec<Named>,
     names: &mut Vec<Vec<u8>>,
 ) -> Result<(), AllocError>
-    ensures { IfOk result (λ _. AddsNames names.old.items names.new.items (spellings (map seen_name parameters.now.items))) }
+    ensures { Gathers result names.old names.new (parameter_names parameters.now.items) }
 {
     for parameter in parameters {
         add(alloc, parameter, names)?;
@@ -128,7 +129,7 @@ pub(crate) fn locals_of(
     parameters: &Vec<Named>,
     body: &Vec<Stmt>,
 ) -> Result<Vec<Vec<u8>>, AllocError>
-    ensures { IfOk result (λ names. names_of names.items ≡ locals_of (map seen_name parameters.now.items) (seen_block body.now.items)) }
+    ensures { IfOk result (AreLocals parameters.now.items body.now.items) }
 {
     let mut names = Vec::new(alloc);
     add_parameters(alloc, parameters, &mut names)?;

@@ -4,7 +4,7 @@
 //! an await and its operand are an expression exactly where the operand is one; in place of `async` with a `;`, so that
 //! it is a statement before the function. Each has five bytes, as the names have, so the other tokens stay in their places.
 
-ghost use Rattle.std.specs.Prelude.{◌≡◌, ◌↔◌, ◌≤◌, ◌<◌, ◌-◌, ◌++◌, IfOk, IsTrue, length, take, drop};
+ghost use Rattle.std.specs.Prelude.{◌≡◌, ◌↔◌, ◌≤◌, ◌<◌, ◌++◌, IfOk, IsTrue, length, slice_range};
 ghost use Rattle.page_parts.specs.Words.{same_bytes};
 ghost use Rattle.lang_tokens.specs.Tokens.{InOrder};
 ghost use Rattle.lang_parse.specs.Symbols.{symbol_of, symbols_of};
@@ -61,7 +61,7 @@ fn extend_up_to(
 ) -> Result<(), AllocError>
     requires begins { done ≤ at }
     requires within { at ≤ length bytes.now }
-    ensures { IfOk result (λ _. into.new.items ≡ into.old.items ++ (take (at - done) (drop done bytes.now) ++ signs.now)) }
+    ensures { IfOk result (λ _. into.new.items ≡ into.old.items ++ (slice_range bytes.now done at ++ signs.now)) }
 {
     into.extend_from_slice(&bytes[done..at])?;
     into.extend_from_slice(signs)?;

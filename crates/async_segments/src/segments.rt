@@ -1,19 +1,20 @@
 //! Writes the functions that an async function becomes.
 
-ghost use Rattle.std.specs.Prelude.{◌≡◌, ◌<◌, ◌+◌, ◌^◌, ◌∷◌, [], IfOk, codes, length, map};
+ghost use Rattle.std.specs.Prelude.{◌≡◌, ◌<◌, ◌+◌, ◌^◌, IfOk, length, map};
 ghost use Rattle.page_types.specs.Tree.{AssignStmt};
 ghost use Rattle.lang_meaning.specs.Evaluation.{functions_of};
-ghost use Rattle.lang_ast.specs.Seen.{seen_name, seen_exprs, seen_stmt, seen_block, exprs_of};
-ghost use Rattle.lang_parse.specs.Symbols.{SignOf};
-ghost use Rattle.lang_parse.specs.Grammar.{each_behind, names_behind, stmt_spelling, stmts_spelling, item_spelling, script_spelling};
-ghost use Rattle.async_segments.specs.Names.{new_name, spellings, segment_name, rejecting_name};
-ghost use Rattle.async_segments.specs.Expanded.{variables, awaited_value, waits, store, starting_fn, rejecting_fn};
+ghost use Rattle.lang_ast.specs.Seen.{seen_name, seen_exprs, seen_stmt, seen_block};
+ghost use Rattle.lang_parse.specs.Grammar.{names_behind, stmt_spelling, stmts_spelling, item_spelling, script_spelling};
+ghost use Rattle.async_segments.specs.Names.{new_name, segment_name, rejecting_name};
+ghost use Rattle.async_segments.specs.Expanded.{awaited_value, store, rejecting_fn};
 ghost use Rattle.async_segments.specs.Encoded.{operand_from, await_in, cut};
-ghost use Rattle.async_segments.specs.Awaits.{seen_form, seen_await};
+ghost use Rattle.async_segments.specs.Awaits.{seen_form};
 ghost use Rattle.async_segments.specs.Segments.{segment_head, begin_symbols, end_symbols, last_end_symbols, bind_symbols, bind_end_symbols};
 ghost use Rattle.async_segments.specs.Segments.{rejection_symbols, promise_symbols, promise_returned_symbols, resolved_symbols};
-ghost use Rattle.async_segments.specs.Segments.{unit_behind, first_call_symbols, await_symbols, step_symbols, next_count, segments_symbols, async_fns};
-ghost use Rattle.async_segments.specs.Written.{Adds, names_of};
+ghost use Rattle.async_segments.specs.Segments.{unit_behind, next_count};
+ghost use Rattle.async_segments.specs.Written.{Adds, names_of, Writes};
+ghost use Rattle.async_segments.specs.OfCode.{parameter_names, parameters_behind, first_call_of, starting_of, wait_of, await_of, step_of};
+ghost use Rattle.async_segments.specs.OfCode.{segments_of, async_fns_of};
 
 use crate::awaits::{Await, Form, await_in};
 use crate::expressions::write_joined;
@@ -50,7 +51,7 @@ fn write_names_behind(
     names: &Vec<Vec<u8>>,
     into: &mut Vec<Written>,
 ) -> Result<(), AllocError>
-    ensures { IfOk result (λ _. Adds into.old.items into.new.items (names_behind (map new_name (names_of names.now.items)))) }
+    ensures { Writes result into.old into.new (names_behind (map new_name (names_of names.now.items))) }
 {
     for spelling in names {
         sign(alloc, b",", into)?;
@@ -88,8 +89,7 @@ fn write_parameters_behind(
     parameters: &Vec<Named>,
     into: &mut Vec<Written>,
 ) -> Result<(), AllocError>
-    ensures { IfOk result (λ _. Adds into.old.items into.new.items
-        (each_behind (SignOf (codes ",")) (exprs_of (variables (spellings (map seen_name parameters.now.items)))))) }
+    ensures { Writes result into.old into.new (parameters_behind parameters.now.items) }
 {
     for parameter in parameters {
         sign(alloc, b",", into)?;
@@ -105,8 +105,7 @@ fn write_unit(
     local: &[u8],
     into: &mut Vec<Written>,
 ) -> Result<(), AllocError>
-    ensures { IfOk result (λ _. Adds into.old.items into.new.items
-        (unit_behind (spellings (map seen_name parameters.now.items)) local.now)) }
+    ensures { Writes result into.old into.new (unit_behind (parameter_names parameters.now.items) local.now) }
 {
     if has_parameter(parameters, local) {
         return Ok(());
@@ -122,8 +121,7 @@ fn write_first_call(
     locals: &Vec<Vec<u8>>,
     into: &mut Vec<Written>,
 ) -> Result<(), AllocError>
-    ensures { IfOk result (λ _. Adds into.old.items into.new.items
-        (first_call_symbols function.now.name.name (spellings (map seen_name function.now.parameters.items)) (names_of locals.now.items))) }
+    ensures { Writes result into.old into.new (first_call_of function.now locals.now.items) }
 {
     let first = segment_name(alloc, function.name.name.bytes(), 0)?;
     name(alloc, &first, into)?;
@@ -143,9 +141,7 @@ fn write_starting(
     locals: &Vec<Vec<u8>>,
     into: &mut Vec<Written>,
 ) -> Result<(), AllocError>
-    ensures { IfOk result (λ _. Adds into.old.items into.new.items
-        (item_spelling (starting_fn (seen_name function.now.name) (map seen_name function.now.parameters.items)
-        (names_of locals.now.items)))) }
+    ensures { Writes result into.old into.new (starting_of function.now locals.now.items) }
 {
     write_head(alloc, function, into)?;
     write_promise(alloc, into)?;
@@ -194,7 +190,7 @@ fn write_segment_head(
     locals: &Vec<Vec<u8>>,
     into: &mut Vec<Written>,
 ) -> Result<(), AllocError>
-    ensures { IfOk result (λ _. Adds into.old.items into.new.items (segment_head function.now k (names_of locals.now.items))) }
+    ensures { Writes result into.old into.new (segment_head function.now k (names_of locals.now.items)) }
 {
     let segment = segment_name(alloc, function, k)?;
     word(alloc, b"fn", into)?;
@@ -264,8 +260,7 @@ fn write_resolved(
     into: &mut Vec<Written>,
 ) -> Result<(), AllocError>
     requires { 0 < length operands.now.items }
-    ensures { IfOk result (λ _. Adds into.old.items into.new.items
-        (resolved_symbols (operand_from (seen_exprs operands.now.items)))) }
+    ensures { Writes result into.old into.new (resolved_symbols (operand_from (seen_exprs operands.now.items))) }
 {
     name(alloc, b"then", into)?;
     sign(alloc, b"(", into)?;
@@ -286,8 +281,7 @@ fn write_wait(
     into: &mut Vec<Written>,
 ) -> Result<(), AllocError>
     requires { 0 < length operands.now.items }
-    ensures { IfOk result (λ _. Adds into.old.items into.new.items
-        (stmt_spelling (waits function.now (names_of locals.now.items) k (operand_from (seen_exprs operands.now.items))))) }
+    ensures { Writes result into.old into.new (wait_of function.now locals.now.items k operands.now.items) }
 {
     let segment = segment_name(alloc, function, k)?;
     let rejecting = rejecting_name(alloc, function)?;
@@ -303,7 +297,7 @@ fn write_wait(
 
 /// x = v__;
 fn write_stored(alloc: Global, x: &Named, into: &mut Vec<Written>) -> Result<(), AllocError>
-    ensures { IfOk result (λ _. Adds into.old.items into.new.items (stmt_spelling (AssignStmt (seen_name x.now) awaited_value))) }
+    ensures { Writes result into.old into.new (stmt_spelling (AssignStmt (seen_name x.now) awaited_value)) }
 {
     own_name(alloc, x, into)?;
     sign(alloc, b"=", into)?;
@@ -338,8 +332,7 @@ fn write_await(
     into: &mut Vec<Written>,
 ) -> Result<(), AllocError>
     requires { 0 < length found.now.operands.now.items }
-    ensures { IfOk result (λ _. Adds into.old.items into.new.items
-        (await_symbols function.now (names_of locals.now.items) k (seen_await found.now))) }
+    ensures { Writes result into.old into.new (await_of function.now locals.now.items k found.now) }
 {
     write_wait(alloc, function, k, locals, found.operands, into)?;
     write_end(alloc, into)?;
@@ -360,8 +353,7 @@ fn write_step(
     into: &mut Vec<Written>,
 ) -> Result<usize, AllocError>
     requires { awaits + 1 < 2 ^ 64 }
-    ensures written { IfOk result (λ _. Adds into.old.items into.new.items
-        (step_symbols function.now (names_of locals.now.items) awaits (seen_stmt stmt.now) (await_in (seen_stmt stmt.now)))) }
+    ensures written { Writes result into.old into.new (step_of function.now locals.now.items awaits stmt.now) }
     ensures count { IfOk result (λ n. n ≡ next_count awaits (await_in (seen_stmt stmt.now))) }
 {
     match await_in(stmt) {
@@ -384,8 +376,7 @@ fn write_segments(
     body: &Vec<Stmt>,
     into: &mut Vec<Written>,
 ) -> Result<usize, AllocError>
-    ensures written { IfOk result (λ _. Adds into.old.items into.new.items
-        (segments_symbols function.now (names_of locals.now.items) (cut (seen_block body.now.items)))) }
+    ensures written { Writes result into.old into.new (segments_of function.now locals.now.items body.now.items) }
     ensures count { IfOk result (λ n. n ≡ length (cut (seen_block body.now.items)).others) }
 {
     write_segment_head(alloc, function, 0, locals, into)?;
@@ -405,12 +396,8 @@ pub(crate) fn write_async(
     locals: &Vec<Vec<u8>>,
     into: &mut Vec<Written>,
 ) -> Result<usize, AllocError>
-    ensures written { IfOk result (λ _. Adds into.old.items into.new.items
-        (script_spelling (async_fns (seen_name function.now.name) (map seen_name function.now.parameters.items)
-        (names_of locals.now.items) (cut (seen_block function.now.body.items))))) }
-    ensures count { IfOk result (λ n. n + 3 ≡ length (functions_of
-        (async_fns (seen_name function.now.name) (map seen_name function.now.parameters.items)
-        (names_of locals.now.items) (cut (seen_block function.now.body.items))))) }
+    ensures written { Writes result into.old into.new (script_spelling (async_fns_of function.now locals.now.items)) }
+    ensures count { IfOk result (λ n. n + 3 ≡ length (functions_of (async_fns_of function.now locals.now.items))) }
 {
     write_starting(alloc, function, locals, into)?;
     let awaits = write_segments(

@@ -1,15 +1,13 @@
 //! Writes statements, as they are or as a segment has them.
 
-ghost use Rattle.std.specs.Prelude.{◌∷◌, ◌++◌, [], IfOk, if◌then◌else◌, codes};
-ghost use Rattle.std.specs.Option.{option_map};
-ghost use Rattle.page_types.specs.Tree.{AssignStmt, ExprStmt, ReturnStmt, VarStmt};
-ghost use Rattle.lang_ast.specs.Seen.{seen_name, seen_expr, seen_stmt, seen_block, seen_others, seen_else};
+ghost use Rattle.std.specs.Prelude.{◌∷◌, [], IfOk, if◌then◌else◌, codes};
+ghost use Rattle.page_types.specs.Tree.{ExprStmt};
+ghost use Rattle.lang_ast.specs.Seen.{seen_name, seen_expr, seen_stmt, seen_else};
 ghost use Rattle.lang_parse.specs.Symbols.{WordOf};
-ghost use Rattle.lang_parse.specs.Grammar.{spelling, in_brackets, in_braces, stmt_spelling, stmts_spelling, else_ifs_spelling};
-ghost use Rattle.lang_parse.specs.Grammar.{else_spelling, name_symbol};
-ghost use Rattle.async_segments.specs.Expanded.{returned_value, resolves_and_returns};
-ghost use Rattle.async_segments.specs.Written.{Adds, resolve_symbols, call_end_symbols, return_symbols, as_in, all_as_in, others_as_in};
-ghost use Rattle.async_segments.specs.Written.{else_as_in};
+ghost use Rattle.lang_parse.specs.Grammar.{spelling, in_brackets, stmt_spelling, stmts_spelling, else_spelling, name_symbol};
+ghost use Rattle.async_segments.specs.Expanded.{resolves_and_returns};
+ghost use Rattle.async_segments.specs.Written.{Adds, resolve_symbols, call_end_symbols, return_symbols, as_in, else_as_in, Writes};
+ghost use Rattle.async_segments.specs.OfCode.{assignment_of, return_of, returned_expr, block_as_in, else_ifs_as_in};
 
 use crate::expressions::write_expr;
 use crate::written::{Written, name, own_name, sign, word};
@@ -18,7 +16,7 @@ use std::alloc::{AllocError, Global};
 
 /// expr ";"
 fn write_ended(alloc: Global, value: &Expr, into: &mut Vec<Written>) -> Result<(), AllocError>
-    ensures { IfOk result (λ _. Adds into.old.items into.new.items (stmt_spelling (ExprStmt (seen_expr value.now)))) }
+    ensures { Writes result into.old into.new (stmt_spelling (ExprStmt (seen_expr value.now))) }
 {
     write_expr(alloc, value, into)?;
     sign(alloc, b";", into)
@@ -31,8 +29,7 @@ fn write_assigned(
     value: &Expr,
     into: &mut Vec<Written>,
 ) -> Result<(), AllocError>
-    ensures { IfOk result (λ _. Adds into.old.items into.new.items
-        (stmt_spelling (AssignStmt (seen_name name.now) (seen_expr value.now)))) }
+    ensures { Writes result into.old into.new (assignment_of name.now value.now) }
 {
     own_name(alloc, name, into)?;
     sign(alloc, b"=", into)?;
@@ -41,7 +38,7 @@ fn write_assigned(
 
 /// "var", where it is not left out.
 fn write_var(alloc: Global, in_segment: bool, into: &mut Vec<Written>) -> Result<(), AllocError>
-    ensures { IfOk result (λ _. Adds into.old.items into.new.items (if in_segment then [] else WordOf (codes "var") ∷ [])) }
+    ensures { Writes result into.old into.new (if in_segment then [] else WordOf (codes "var") ∷ []) }
 {
     if in_segment {
         return Ok(());
@@ -64,7 +61,7 @@ fn write_returned(
     value: &Option<Expr>,
     into: &mut Vec<Written>,
 ) -> Result<(), AllocError>
-    ensures { IfOk result (λ _. Adds into.old.items into.new.items (spelling (returned_value (option_map seen_expr value.now)))) }
+    ensures { Writes result into.old into.new (spelling (returned_expr value.now)) }
 {
     match value {
         Some(value) => write_expr(alloc, value, into),
@@ -104,7 +101,7 @@ fn write_plain_return(
     value: &Option<Expr>,
     into: &mut Vec<Written>,
 ) -> Result<(), AllocError>
-    ensures { IfOk result (λ _. Adds into.old.items into.new.items (stmt_spelling (ReturnStmt (option_map seen_expr value.now)))) }
+    ensures { Writes result into.old into.new (stmt_spelling (return_of value.now)) }
 {
     match value {
         Some(value) => {
@@ -121,8 +118,7 @@ fn write_resolving_return(
     value: &Option<Expr>,
     into: &mut Vec<Written>,
 ) -> Result<(), AllocError>
-    ensures { IfOk result (λ _. Adds into.old.items into.new.items
-        (stmts_spelling (resolves_and_returns (returned_value (option_map seen_expr value.now))))) }
+    ensures { Writes result into.old into.new (stmts_spelling (resolves_and_returns (returned_expr value.now))) }
 {
     write_resolve(alloc, into)?;
     write_returned(alloc, value, into)?;
@@ -137,8 +133,7 @@ fn write_returning(
     in_segment: bool,
     into: &mut Vec<Written>,
 ) -> Result<(), AllocError>
-    ensures { IfOk result (λ _. Adds into.old.items into.new.items
-        (stmts_spelling (as_in in_segment (ReturnStmt (option_map seen_expr value.now))))) }
+    ensures { Writes result into.old into.new (stmts_spelling (as_in in_segment (return_of value.now))) }
 {
     match in_segment {
         true => write_resolving_return(alloc, value, into),
@@ -148,7 +143,7 @@ fn write_returning(
 
 /// "(" name ")"
 fn write_caught(alloc: Global, name: &Named, into: &mut Vec<Written>) -> Result<(), AllocError>
-    ensures { IfOk result (λ _. Adds into.old.items into.new.items (in_brackets (name_symbol (seen_name name.now) ∷ []))) }
+    ensures { Writes result into.old into.new (in_brackets (name_symbol (seen_name name.now) ∷ [])) }
 {
     sign(alloc, b"(", into)?;
     own_name(alloc, name, into)?;
@@ -162,7 +157,7 @@ pub(crate) fn write_stmt(
     in_segment: bool,
     into: &mut Vec<Written>,
 ) -> Result<(), AllocError>
-    ensures { IfOk result (λ _. Adds into.old.items into.new.items (stmts_spelling (as_in in_segment (seen_stmt stmt.now)))) }
+    ensures { Writes result into.old into.new (stmts_spelling (as_in in_segment (seen_stmt stmt.now))) }
 {
     match stmt {
         Stmt::Var(name, value) => {
@@ -206,8 +201,7 @@ pub(crate) fn write_block(
     in_segment: bool,
     into: &mut Vec<Written>,
 ) -> Result<(), AllocError>
-    ensures { IfOk result (λ _. Adds into.old.items into.new.items
-        (in_braces (stmts_spelling (all_as_in in_segment (seen_block block.now.items))))) }
+    ensures { Writes result into.old into.new (block_as_in in_segment block.now.items) }
 {
     sign(alloc, b"{", into)?;
     for stmt in block {
@@ -223,8 +217,7 @@ fn write_others(
     in_segment: bool,
     into: &mut Vec<Written>,
 ) -> Result<(), AllocError>
-    ensures { IfOk result (λ _. Adds into.old.items into.new.items
-        (else_ifs_spelling (others_as_in in_segment (seen_others others.now.items)))) }
+    ensures { Writes result into.old into.new (else_ifs_as_in in_segment others.now.items) }
 {
     for other in others {
         word(alloc, b"else", into)?;
@@ -242,7 +235,7 @@ fn write_else(
     in_segment: bool,
     into: &mut Vec<Written>,
 ) -> Result<(), AllocError>
-    ensures { IfOk result (λ _. Adds into.old.items into.new.items (else_spelling (else_as_in in_segment (seen_else last.now)))) }
+    ensures { Writes result into.old into.new (else_spelling (else_as_in in_segment (seen_else last.now))) }
 {
     match last {
         Some(block) => {

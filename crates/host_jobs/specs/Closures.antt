@@ -1,6 +1,7 @@
 -- A list of host closures: which are live, which numbers they take, and how they change.
-use Rattle.std.specs.Prelude.{ℕ, ℤ, Bool, true, false, ◌&&◌, int_le, List, Result, slice_get, slice_set, if◌then◌else◌}
+use Rattle.std.specs.Prelude.{◌≡◌, ℕ, ℤ, Bool, true, false, ◌&&◌, int_le, List, Result, slice_get, slice_set, if◌then◌else◌}
 use Rattle.std.specs.Option.{option_map_or}
+use Rattle.page_types.specs.declared.HostKind.{HostKind}
 use Rattle.page_types.specs.declared.HostMark.{HostMark}
 use Rattle.page_types.specs.declared.HostMark.TheVariants.{Live, Queued, Fired, Dropped}
 use Rattle.page_parts.specs.HostClosures.{HostClosure, meets, fired}
@@ -15,6 +16,10 @@ is_live Dropped = false
 -- whether a number is in the closure's range
 abbrev pub takes : HostClosure → ℤ → Bool
 takes c x = int_le c.low x && int_le x c.high
+
+-- the answer meets the relation of a kind
+abbrev pub Meets : HostKind → ℤ → Result ℤ ℤ → Type 0
+Meets kind x answer = meets kind x answer ≡ true
 
 -- whether closure k is there and live
 abbrev pub is_live_at : List HostClosure → ℕ → Bool

@@ -12,3 +12,7 @@ pub record RecordedPort : Type 0 where
 -- the answers of a record, without the closures and the numbers beside them
 abbrev pub answers_of : List Recorded → List (Result ℤ ℤ)
 answers_of recorded = map (λ r. r.answer) recorded
+
+-- the port of these closures and the answers of a record, which has refused nothing
+abbrev pub first_port : List HostClosure → List Recorded → RecordedPort
+first_port closures recorded = record { closures = closures; answers = answers_of recorded; refusals = 0 }

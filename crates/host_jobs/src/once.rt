@@ -1,5 +1,5 @@
-ghost use Rattle.std.specs.Prelude.{◌≡◌, true, ℤ, ◌≤ℤ◌, Result};
-ghost use Rattle.page_parts.specs.HostClosures.{meets};
+ghost use Rattle.std.specs.Prelude.{◌≡◌, ℤ, ◌≤ℤ◌, Result};
+ghost use Rattle.host_jobs.specs.Closures.{Meets};
 
 use crate::HostKind;
 
@@ -11,7 +11,7 @@ pub struct HostOnce {
     pub high: i64,
     job: Box<dyn FnOnce(i64) -> Result<i64, i64>>,
     ghost callable: { (x : ℤ) → low ≤ℤ x → x ≤ℤ high → pre job x },
-    ghost met: { (x : ℤ) (answer : Result ℤ ℤ) → low ≤ℤ x → x ≤ℤ high → post job x answer → meets kind x answer ≡ true },
+    ghost met: { (x : ℤ) (answer : Result ℤ ℤ) → low ≤ℤ x → x ≤ℤ high → post job x answer → Meets kind x answer },
 }
 
 impl HostOnce {
@@ -24,7 +24,7 @@ impl HostOnce {
         job: Box<dyn FnOnce(i64) -> Result<i64, i64>>,
     ) -> HostOnce
         requires callable { (x : ℤ) → low ≤ℤ x → x ≤ℤ high → pre job x }
-        requires met { (x : ℤ) (answer : Result ℤ ℤ) → low ≤ℤ x → x ≤ℤ high → post job x answer → meets kind x answer ≡ true }
+        requires met { (x : ℤ) (answer : Result ℤ ℤ) → low ≤ℤ x → x ≤ℤ high → post job x answer → Meets kind x answer }
         ensures kind { result.kind ≡ kind }
         ensures low { result.low ≡ low }
         ensures high { result.high ≡ high }
@@ -41,7 +41,7 @@ impl HostOnce {
     pub(crate) fn fire(self, x: i64) -> Result<i64, i64>
         requires low { self.low ≤ℤ x }
         requires high { x ≤ℤ self.high }
-        ensures { meets self.kind x result ≡ true }
+        ensures { Meets self.kind x result }
     {
         (self.job)(x)
     }

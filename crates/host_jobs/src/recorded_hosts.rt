@@ -1,6 +1,6 @@
 ghost use Rattle.std.specs.Prelude.{◌≡◌, List, map, drop, IfOk};
 ghost use Rattle.page_types.specs.Counts.{raised};
-ghost use Rattle.host_jobs.specs.RecordedPort.{RecordedPort, answers_of};
+ghost use Rattle.host_jobs.specs.RecordedPort.{RecordedPort, first_port};
 ghost use Rattle.host_jobs.specs.ToldTable.{closures_of};
 
 use crate::closure::Closure;
@@ -42,11 +42,7 @@ impl RecordedHosts {
         table: &HostTable,
         answers: Vec<Recorded>,
     ) -> Result<RecordedHosts, AllocError>
-        ensures { IfOk result (λ port. port ≡ record {
-          closures = closures_of table.now;
-          answers = answers_of answers.items;
-          refusals = 0;
-        }) }
+        ensures { IfOk result (λ port. port ≡ first_port (closures_of table.now) answers.items) }
     {
         Ok(RecordedHosts {
             closures: slot::closures(alloc, &table.slots)?,

@@ -1,6 +1,7 @@
 -- A script whose names are resolved: its items, and the names of its functions in the order of their numbers.
-use Rattle.std.specs.Prelude.{ℕ, suc, List, [], ◌∷◌, map}
+use Rattle.std.specs.Prelude.{ℕ, suc, List, [], ◌∷◌, map, Option, slice_get}
 use Rattle.page_types.specs.Tree as Model
+use Rattle.lang_meaning.specs.Evaluation as Meaning
 use Rattle.lang_meaning.specs.Evaluation.{functions_of}
 use Rattle.lang_ast.specs.declared.tree.Item.{Item}
 use Rattle.lang_ast.specs.declared.tree.Item.TheVariants as item
@@ -10,6 +11,10 @@ use Rattle.lang_ast.specs.declared.tree.Item.TheVariants as item
 -- the names of a script's functions
 abbrev pub function_names : List Model.Item → List (List ℕ)
 function_names items = map (λ f. f.name) (functions_of items)
+
+-- the function with a number; none for that of the script's own body
+abbrev pub function_at : Model.Program → ℕ → Option Meaning.Function
+function_at program number = slice_get (functions_of program.items) number
 
 -- the program of a tree
 abbrev pub program_of : List Model.Item → Model.Program

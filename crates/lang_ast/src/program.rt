@@ -32,7 +32,7 @@ impl Program {
     ghost use Rattle.lang_ast.specs.Seen.{seen_tree, seen_function, seen_block};
     ghost use Rattle.lang_ast.specs.Names.{in_block};
     ghost use Rattle.lang_ast.specs.Calls.{CallsFit};
-    ghost use Rattle.lang_ast.specs.Programs.{program_of};
+    ghost use Rattle.lang_ast.specs.Programs.{program_of, function_at};
     ghost use Rattle.lang_ast.specs.SeenProgram.{seen_program};
 
     /// The program of a tree whose names are resolved. More functions than have numbers of 32 bits count as want of memory.
@@ -78,7 +78,7 @@ impl Program {
 
     /// The function with this number; `None` for that of the script's own body. It takes no memory.
     pub fn function(&self, number: u32) -> Option<&Function>
-        ensures found { option_map (λ f. seen_function f.now) result ≡ slice_get (functions_of (seen_program self.now).items) number }
+        ensures found { option_map (λ f. seen_function f.now) result ≡ function_at (seen_program self.now) number }
         ensures fits { IfSome result (λ f. CallsFit (in_block (seen_block f.now.body.items))) }
     {
         match self.place_of(number) {

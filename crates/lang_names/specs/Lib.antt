@@ -2,4 +2,5 @@ pub mod Collected
 pub mod Told
 pub mod Known
 pub mod Knows
+pub mod Checks
 pub mod Laws

@@ -1,12 +1,13 @@
 //! The first fault of the names of a script.
 
-ghost use Rattle.std.specs.Prelude.{◌≡◌, List, [], ◌||◌, Some, None, IfOk};
+ghost use Rattle.std.specs.Prelude.{◌≡◌, List, IfOk};
 ghost use Rattle.std.specs.Option.{option_map};
 ghost use Rattle.lang_ast.specs.Names.{Occurrence as OccurrenceSeen};
-ghost use Rattle.lang_ast.specs.NameFaults.{is_operation, knows_variable, names_function, clashes, is_twice, is_unknown, is_arity, fault_of};
+ghost use Rattle.lang_ast.specs.NameFaults.{is_operation, knows_variable, clashes, is_twice, is_arity};
 ghost use Rattle.lang_ast.specs.declared.role.Role.TheVariants as role;
-ghost use Rattle.lang_names.specs.Collected.{seen_occurrence, seen_all};
+ghost use Rattle.lang_names.specs.Collected.{seen_all};
 ghost use Rattle.lang_names.specs.Knows.{Knows};
+ghost use Rattle.lang_names.specs.Checks.{WhereBothKnown, is_function_twice, is_callable, is_twice_at, is_unknown_at, TellsFault};
 ghost use Rattle.lang_names.specs.Told.{seen_fault, IsTold};
 
 use crate::fault::NameFault;
@@ -31,8 +32,7 @@ fn knows_variable<'a>(all: &Names<'a>, scope: Option<usize>, name: &'a Str) -> b
 
 /// Whether the name of a variable clashes with a function's.
 fn clashes<'a>(all: &Names<'a>, before: &Names<'a>, scope: Option<usize>, name: &'a Str) -> bool
-    ensures { (os : List OccurrenceSeen) (us : List OccurrenceSeen) → Knows all.now os → Knows before.now us
-        → result ≡ clashes os us scope name.now }
+    ensures { WhereBothKnown all.now before.now (λ os us. result ≡ clashes os us scope name.now) }
 {
     match scope {
         None => before.has_function(name),
@@ -42,30 +42,27 @@ fn clashes<'a>(all: &Names<'a>, before: &Names<'a>, scope: Option<usize>, name: 
 
 /// Whether the name of a parameter or a variable was given before, or is an operation's or a function's.
 fn is_declared<'a>(all: &Names<'a>, before: &Names<'a>, scope: Option<usize>, name: &'a Str) -> bool
-    ensures { (os : List OccurrenceSeen) (us : List OccurrenceSeen) → Knows all.now os → Knows before.now us
-        → result ≡ is_twice os us role.Variable scope name.now }
+    ensures { WhereBothKnown all.now before.now (λ os us. result ≡ is_twice os us role.Variable scope name.now) }
 {
     is_operation(name) || clashes(all, before, scope, name) || before.has_declared(scope, name)
 }
 
 /// Whether the name of a function was given before, or is an operation's.
 fn is_function_twice<'a>(before: &Names<'a>, name: &'a Str) -> bool
-    ensures { (os : List OccurrenceSeen) → Knows before.now os → result ≡ is_twice [] os role.Function None name.now }
+    ensures { (os : List OccurrenceSeen) → Knows before.now os → result ≡ is_function_twice os name.now }
 {
     is_operation(name) || before.has_function(name) || before.has_variable(None, name)
 }
 
 /// Whether a name is an operation, a variable where it stands, or a function.
 fn is_callable<'a>(all: &Names<'a>, scope: Option<usize>, name: &'a Str) -> bool
-    ensures { (os : List OccurrenceSeen) → Knows all.now os
-        → result ≡ (is_operation name.now || knows_variable os scope name.now || names_function os name.now) }
+    ensures { (os : List OccurrenceSeen) → Knows all.now os → result ≡ is_callable os scope name.now }
 {
     is_operation(name) || knows_variable(all, scope, name) || all.has_function(name)
 }
 
 fn is_twice<'a>(all: &Names<'a>, before: &Names<'a>, occurrence: &Occurrence<'a>) -> bool
-    ensures { (os : List OccurrenceSeen) (us : List OccurrenceSeen) → Knows all.now os → Knows before.now us
-        → result ≡ is_twice os us occurrence.now.role occurrence.now.scope occurrence.now.name.now }
+    ensures { WhereBothKnown all.now before.now (λ os us. result ≡ is_twice_at os us occurrence.now) }
 {
     let scope = occurrence.scope;
     let name = occurrence.name;
@@ -81,8 +78,7 @@ fn is_twice<'a>(all: &Names<'a>, before: &Names<'a>, occurrence: &Occurrence<'a>
 }
 
 fn is_unknown<'a>(all: &Names<'a>, occurrence: &Occurrence<'a>) -> bool
-    ensures { (os : List OccurrenceSeen) → Knows all.now os
-        → result ≡ is_unknown os occurrence.now.role occurrence.now.scope occurrence.now.name.now }
+    ensures { (os : List OccurrenceSeen) → Knows all.now os → result ≡ is_unknown_at os occurrence.now }
 {
     let scope = occurrence.scope;
     let name = occurrence.name;
@@ -118,8 +114,7 @@ fn fault_of<'a>(
     before: &Names<'a>,
     occurrence: &Occurrence<'a>,
 ) -> Option<NameFault>
-    ensures { (os : List OccurrenceSeen) (us : List OccurrenceSeen) → Knows all.now os → Knows before.now us
-        → option_map seen_fault result ≡ fault_of os us (seen_occurrence occurrence.now) }
+    ensures { WhereBothKnown all.now before.now (λ os us. TellsFault result os us occurrence.now) }
 {
     let at = occurrence.at;
     if is_twice(all, before, occurrence) {

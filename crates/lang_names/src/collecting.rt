@@ -1,11 +1,10 @@
 //! All names of a script, in the order of the text.
 
-ghost use Rattle.std.specs.Prelude.{◌≡◌, ◌∷◌, [], map, IfOk, Some, None};
+ghost use Rattle.std.specs.Prelude.{◌≡◌, ◌∷◌, [], IfOk};
 ghost use Rattle.std.specs.Option.{option_map};
-ghost use Rattle.lang_ast.specs.Names.{in_expr, in_exprs, in_terms, in_factors, in_returned, in_stmt, in_block, in_others, in_else, in_function, occurrences, mention, inside};
+ghost use Rattle.lang_ast.specs.Names.{in_expr, in_exprs, in_terms, in_factors, in_returned, in_stmt, in_block, in_others, in_else, occurrences, mention};
 ghost use Rattle.lang_ast.specs.Seen.{seen_name, seen_expr, seen_exprs, seen_terms, seen_factors, seen_stmt, seen_block, seen_others, seen_else, seen_tree};
-ghost use Rattle.lang_ast.specs.declared.role.Role.TheVariants as role;
-ghost use Rattle.lang_names.specs.Collected.{seen_all, Adds};
+ghost use Rattle.lang_names.specs.Collected.{seen_all, Adds, Collects, in_parameters, mentions_of};
 
 use crate::occurrence::Occurrence;
 use lang_ast::{Expr, Function, Item, Named, ProductSign, Role, Stmt, SumSign, Tree};
@@ -111,7 +110,7 @@ fn in_factors<'a>(
     scope: Option<usize>,
     into: &mut Vec<Occurrence<'a>>,
 ) -> Result<(), AllocError>
-    ensures { IfOk result (λ _. Adds scope into.old.items into.new.items (in_factors (seen_factors parts.now.items))) }
+    ensures { IfOk result (λ _. Collects scope into.old into.new (in_factors (seen_factors parts.now.items))) }
 {
     for part in parts {
         in_expr(&part.1, scope, into)?;
@@ -177,7 +176,7 @@ fn in_others<'a>(
     scope: Option<usize>,
     into: &mut Vec<Occurrence<'a>>,
 ) -> Result<(), AllocError>
-    ensures { IfOk result (λ _. Adds scope into.old.items into.new.items (in_others (seen_others others.now.items))) }
+    ensures { IfOk result (λ _. Collects scope into.old into.new (in_others (seen_others others.now.items))) }
 {
     for other in others {
         in_expr(&other.0, scope, into)?;
@@ -205,7 +204,7 @@ fn in_returned<'a>(
     scope: Option<usize>,
     into: &mut Vec<Occurrence<'a>>,
 ) -> Result<(), AllocError>
-    ensures { IfOk result (λ _. Adds scope into.old.items into.new.items (in_returned (option_map seen_expr value.now))) }
+    ensures { IfOk result (λ _. Collects scope into.old into.new (in_returned (option_map seen_expr value.now))) }
 {
     match value {
         Some(value) => in_expr(value, scope, into),
@@ -218,8 +217,7 @@ fn in_parameters<'a>(
     scope: Option<usize>,
     into: &mut Vec<Occurrence<'a>>,
 ) -> Result<(), AllocError>
-    ensures { IfOk result (λ _. Adds scope into.old.items into.new.items
-        (map (mention role.Parameter) (map seen_name parameters.now.items))) }
+    ensures { IfOk result (λ _. Collects scope into.old into.new (in_parameters parameters.now.items)) }
 {
     for parameter in parameters {
         add(Role::Parameter, parameter, scope, into)?;
@@ -233,8 +231,7 @@ fn in_function<'a>(
     scope: Option<usize>,
     into: &mut Vec<Occurrence<'a>>,
 ) -> Result<(), AllocError>
-    ensures { IfOk result (λ _. Adds scope into.old.items into.new.items
-        (in_function (map seen_name function.now.parameters.items) (seen_block function.now.body.items))) }
+    ensures { IfOk result (λ _. Collects scope into.old into.new (mentions_of function.now)) }
 {
     in_parameters(&function.parameters, scope, into)?;
     in_block(&function.body, scope, into)

@@ -1,11 +1,11 @@
 //! What is known of the names of a script.
 
-ghost use Rattle.std.specs.Prelude.{◌≡◌, List, ◌++◌, ◌∷◌, [], IfOk};
+ghost use Rattle.std.specs.Prelude.{◌≡◌, List, [], IfOk};
 ghost use Rattle.lang_ast.specs.Names.{Occurrence as OccurrenceSeen};
-ghost use Rattle.lang_ast.specs.NameFaults.{is_variable, is_declared_once, names_function, names_as};
-ghost use Rattle.lang_names.specs.Collected.{seen_occurrence};
+ghost use Rattle.lang_ast.specs.NameFaults.{is_variable, names_function, names_as};
 ghost use Rattle.lang_names.specs.Known.{Added};
 ghost use Rattle.lang_names.specs.Knows.{Knows};
+ghost use Rattle.lang_names.specs.Checks.{Learns, names_declared};
 
 use crate::name_set::NameSet;
 use crate::occurrence::Occurrence;
@@ -35,8 +35,7 @@ impl<'a> Names<'a> {
 
     /// Adds the name of an occurrence, where it names something.
     pub fn add(&mut self, occurrence: &Occurrence<'a>) -> Result<(), AllocError>
-        ensures { IfOk result (λ _. (os : List OccurrenceSeen) → Knows self.old os
-            → Knows self.new (os ++ seen_occurrence occurrence.now ∷ [])) }
+        ensures { IfOk result (λ _. Learns self.old self.new occurrence.now) }
     {
         let scope = occurrence.scope;
         let name = occurrence.name;
@@ -73,7 +72,7 @@ impl<'a> Names<'a> {
     }
 
     pub fn has_declared(&self, scope: Option<usize>, name: &'a Str) -> bool
-        ensures { (os : List OccurrenceSeen) → Knows self.now os → result ≡ names_as is_declared_once os scope name.now }
+        ensures { (os : List OccurrenceSeen) → Knows self.now os → result ≡ names_declared os scope name.now }
     {
         self.declared.has(scope, name)
     }

@@ -2,12 +2,12 @@
 
 ghost use Rattle.std.specs.Prelude.{◌≡◌, IfOk, Err};
 ghost use Rattle.std.specs.Option.{option_map};
-ghost use Rattle.lang_ast.specs.NameFaults.{IsFirstFault, IsResolved};
+ghost use Rattle.lang_ast.specs.NameFaults.{IsResolved};
 ghost use Rattle.lang_ast.specs.Names.{occurrences};
 ghost use Rattle.lang_ast.specs.Programs.{program_of};
 ghost use Rattle.lang_ast.specs.Seen.{seen_tree};
 ghost use Rattle.lang_ast.specs.SeenProgram.{seen_program};
-ghost use Rattle.lang_names.specs.Told.{seen_fault, IsTold};
+ghost use Rattle.lang_names.specs.Told.{seen_fault, IsTold, IsFirstFaultOf};
 ghost use Rattle.lang_names.specs.declared.fault.NameFault.{NameFault};
 
 use crate::checking::first_fault;
@@ -32,8 +32,7 @@ pub fn resolve(alloc: Global, tree: Tree) -> Result<Program, ResolveFault>
     ensures resolved { IfOk result (λ _. IsResolved (seen_tree tree)) }
 
     // The fault is want of memory or this one.
-    ensures refused { (fault : NameFault) → result ≡ Err (ResolveFault.Is fault)
-        → IsFirstFault (occurrences (seen_tree tree)) (seen_fault fault) }
+    ensures refused { (fault : NameFault) → result ≡ Err (ResolveFault.Is fault) → IsFirstFaultOf tree fault }
 {
     match first_fault_of(alloc, &tree)? {
         Some(fault) => Err(ResolveFault::Is(fault)),

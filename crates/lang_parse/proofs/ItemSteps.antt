@@ -1,7 +1,7 @@
 -- The parser's steps through the items of a script.
 use Rattle.std.proofs.Common.{◌≡◌, ◌<◌, ◌≤◌, List, [], ◌∷◌, ◌++◌, length, refl, sym, ap, ◌∙◌, subst, arith, codes}
 use Rattle.page_types.specs.Tree as Model
-use Rattle.page_types.specs.Tree.{Named, Item, FnItem, StmtItem}
+use Rattle.page_types.specs.Tree.{Named, Item, FnItem}
 use Rattle.lang_ast.specs.Seen.{block_of}
 use Rattle.lang_parse.specs.Symbols.{Symbol, WordOf, SignOf}
 use Rattle.lang_parse.specs.Parts.{Anything, Closed, Both, Many, NameRead, CommaName, NamesListed, SomeNames, NotComma, StmtRead, BlockRead, Parameters, ItemRead, AtEnd, NotElse}

@@ -270,3 +270,7 @@ pub record HasTree (ks : List Symbol) (tree : List Item) : Type 0 where
   pub shallow : IsShallow 0 ks
   pub functions : length (functions_of tree) ≤ 4096
   pub globals : length (distinct (names_in (own_body tree))) ≤ 4096
+
+-- no tree has the symbols
+abbrev pub HasNoTree : List Symbol → Type 0
+HasNoTree ks = (tree : List Item) → HasTree ks tree → ⊥

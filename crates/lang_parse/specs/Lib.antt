@@ -3,3 +3,5 @@ pub mod Grammar
 pub mod Parts
 pub mod Deciding
 pub mod Faults
+pub mod Reading
+pub mod Laws

@@ -143,6 +143,10 @@ pub record SomeListed (xs : List Expr) (ks end : List Symbol) : Type 0 where
 abbrev pub IsCloser : List ℕ → Type 0
 IsCloser close = (close ≡ codes ")") ⊎ (close ≡ codes "]")
 
+-- expressions with commas between them, and this sign behind them
+abbrev pub ListedUpTo : (close : List ℕ) → List Expr → (ks end : List Symbol) → Type 0
+ListedUpTo close = Closed Listed (SignOf close)
+
 pub record StmtRead (s : Stmt) (ks end : List Symbol) : Type 0 where
   pub tree : IsStmt s
   pub spelled : ks ≡ stmt_spelling s ++ end
@@ -207,6 +211,10 @@ ClosesBlock ks = BeginsWith (codes "}") ks
 abbrev pub NotElseIf : List Symbol → Type 0
 NotElseIf ks = (rest : List Symbol) → ks ≡ WordOf (codes "else") ∷ WordOf (codes "if") ∷ rest → ⊥
 
+-- the symbols begin with `else if`, and this rest stands behind it
+abbrev pub BeginsElseIf : (ks rest : List Symbol) → Type 0
+BeginsElseIf ks rest = ks ≡ WordOf (codes "else") ∷ WordOf (codes "if") ∷ rest
+
 -- "," name
 abbrev pub CommaName : Named → (ks end : List Symbol) → Type 0
 CommaName = Behind (SignOf (codes ",")) NameRead
@@ -262,6 +270,14 @@ pub record NoLiteral (ks : List Symbol) : Type 0 where
   pub no_true : (rest : List Symbol) → ks ≡ WordOf (codes "true") ∷ rest → ⊥
   pub no_false : (rest : List Symbol) → ks ≡ WordOf (codes "false") ∷ rest → ⊥
   pub no_unit : (rest : List Symbol) → ks ≡ WordOf (codes "unit") ∷ rest → ⊥
+
+-- the symbols begin with no symbol of this kind
+abbrev pub BeginsWithNone : {S : Type 0} → (kind : S → Symbol) → List Symbol → Type 0
+BeginsWithNone {S} kind ks = (s : S) (rest : List Symbol) → ks ≡ kind s ∷ rest → ⊥
+
+-- the symbols begin with no name
+abbrev pub BeginsWithNoName : List Symbol → Type 0
+BeginsWithNoName ks = (x : List ℕ) (at : ℕ) (rest : List Symbol) → ks ≡ NameAt x at ∷ rest → ⊥
 
 -- the symbols begin with a name and `=`
 pub record BeginsAssignment (ks : List Symbol) : Type 0 where

@@ -1,8 +1,9 @@
 //! The levels of an expression from their operands. A level without its optional parts is its one operand.
 
-ghost use Rattle.std.specs.Prelude.{◌≡◌, IfOk, map, Some};
+ghost use Rattle.std.specs.Prelude.{◌≡◌, IfOk, map};
 ghost use Rattle.lang_ast.specs.Seen.{seen_expr};
 ghost use Rattle.lang_parse.specs.Parts.{or_of, and_of, sum_of, product_of, post_of};
+ghost use Rattle.lang_parse.specs.Reading.{seen_signed};
 
 use lang_ast::{Expr, ProductSign, SumSign};
 use std::alloc::{AllocError, Global};
@@ -30,7 +31,7 @@ pub(crate) fn sum_of(
     first: Expr,
     others: Vec<(SumSign, Expr)>,
 ) -> Result<Expr, AllocError>
-    ensures { IfOk result (λ t. seen_expr t ≡ sum_of (seen_expr first) (map (λ p. (p.0, seen_expr p.1)) others.items)) }
+    ensures { IfOk result (λ t. seen_expr t ≡ sum_of (seen_expr first) (map seen_signed others.items)) }
 {
     if others.is_empty() {
         return Ok(first);
@@ -43,7 +44,7 @@ pub(crate) fn product_of(
     first: Expr,
     others: Vec<(ProductSign, Expr)>,
 ) -> Result<Expr, AllocError>
-    ensures { IfOk result (λ t. seen_expr t ≡ product_of (seen_expr first) (map (λ p. (p.0, seen_expr p.1)) others.items)) }
+    ensures { IfOk result (λ t. seen_expr t ≡ product_of (seen_expr first) (map seen_signed others.items)) }
 {
     if others.is_empty() {
         return Ok(first);

@@ -1,10 +1,10 @@
 //! Reads expressions from the front of a list of tokens.
 
-ghost use Rattle.std.specs.Prelude.{◌≡◌, ◌⊎◌, map, codes};
 ghost use Rattle.lang_ast.specs.Seen.{seen_expr};
-ghost use Rattle.lang_parse.specs.Symbols.{SignOf, symbols_of};
+ghost use Rattle.lang_parse.specs.Symbols.{symbols_of};
 ghost use Rattle.lang_parse.specs.Deciding.{Decides};
-ghost use Rattle.lang_parse.specs.Parts.{Reads, Stops, Anything, Closed, Listed, SomeListed, ListEnds, IsCloser};
+ghost use Rattle.lang_parse.specs.Parts.{Reads, Stops, Anything, ListedUpTo, SomeListed, ListEnds, IsCloser};
+ghost use Rattle.lang_parse.specs.Reading.{with_rest, each};
 
 use crate::building::{and_of, or_of, post_of, product_of, sum_of};
 use crate::error::ParseError;
@@ -18,7 +18,7 @@ use std::alloc::Global;
 /// An expression at the front of the tokens, and what stands behind it.
 #[cycle(expr)]
 pub(crate) fn expr(alloc: Global, tokens: &[Token]) -> Result<(Expr, &[Token]), ParseError>
-    ensures { Decides (Reads 0) (Stops 0) (symbols_of tokens.now) (λ r. (seen_expr r.0, symbols_of r.1.now)) result }
+    ensures { Decides (Reads 0) (Stops 0) (symbols_of tokens.now) (with_rest seen_expr) result }
 {
     let (first, mut rest) = and(alloc, tokens)?;
     let mut others = Vec::new(alloc);
@@ -32,7 +32,7 @@ pub(crate) fn expr(alloc: Global, tokens: &[Token]) -> Result<(Expr, &[Token]), 
 
 #[cycle(expr)]
 fn and(alloc: Global, tokens: &[Token]) -> Result<(Expr, &[Token]), ParseError>
-    ensures { Decides (Reads 1) (Stops 1) (symbols_of tokens.now) (λ r. (seen_expr r.0, symbols_of r.1.now)) result }
+    ensures { Decides (Reads 1) (Stops 1) (symbols_of tokens.now) (with_rest seen_expr) result }
 {
     let (first, mut rest) = compare(alloc, tokens)?;
     let mut others = Vec::new(alloc);
@@ -46,7 +46,7 @@ fn and(alloc: Global, tokens: &[Token]) -> Result<(Expr, &[Token]), ParseError>
 
 #[cycle(expr)]
 fn compare(alloc: Global, tokens: &[Token]) -> Result<(Expr, &[Token]), ParseError>
-    ensures { Decides (Reads 2) (Stops 2) (symbols_of tokens.now) (λ r. (seen_expr r.0, symbols_of r.1.now)) result }
+    ensures { Decides (Reads 2) (Stops 2) (symbols_of tokens.now) (with_rest seen_expr) result }
 {
     let (first, rest) = sum(alloc, tokens)?;
     let Some((sign, next)) = after_compare_sign(rest) else {
@@ -59,7 +59,7 @@ fn compare(alloc: Global, tokens: &[Token]) -> Result<(Expr, &[Token]), ParseErr
 
 #[cycle(expr)]
 fn sum(alloc: Global, tokens: &[Token]) -> Result<(Expr, &[Token]), ParseError>
-    ensures { Decides (Reads 3) (Stops 3) (symbols_of tokens.now) (λ r. (seen_expr r.0, symbols_of r.1.now)) result }
+    ensures { Decides (Reads 3) (Stops 3) (symbols_of tokens.now) (with_rest seen_expr) result }
 {
     let (first, mut rest) = product(alloc, tokens)?;
     let mut others = Vec::new(alloc);
@@ -73,7 +73,7 @@ fn sum(alloc: Global, tokens: &[Token]) -> Result<(Expr, &[Token]), ParseError>
 
 #[cycle(expr)]
 fn product(alloc: Global, tokens: &[Token]) -> Result<(Expr, &[Token]), ParseError>
-    ensures { Decides (Reads 4) (Stops 4) (symbols_of tokens.now) (λ r. (seen_expr r.0, symbols_of r.1.now)) result }
+    ensures { Decides (Reads 4) (Stops 4) (symbols_of tokens.now) (with_rest seen_expr) result }
 {
     let (first, mut rest) = unary(alloc, tokens)?;
     let mut others = Vec::new(alloc);
@@ -87,7 +87,7 @@ fn product(alloc: Global, tokens: &[Token]) -> Result<(Expr, &[Token]), ParseErr
 
 #[cycle(expr)]
 fn unary(alloc: Global, tokens: &[Token]) -> Result<(Expr, &[Token]), ParseError>
-    ensures { Decides (Reads 5) (Stops 5) (symbols_of tokens.now) (λ r. (seen_expr r.0, symbols_of r.1.now)) result }
+    ensures { Decides (Reads 5) (Stops 5) (symbols_of tokens.now) (with_rest seen_expr) result }
 {
     let Some((sign, next)) = after_unary_sign(tokens) else {
         return post(alloc, tokens);
@@ -98,7 +98,7 @@ fn unary(alloc: Global, tokens: &[Token]) -> Result<(Expr, &[Token]), ParseError
 
 #[cycle(expr)]
 fn post(alloc: Global, tokens: &[Token]) -> Result<(Expr, &[Token]), ParseError>
-    ensures { Decides (Reads 6) (Stops 6) (symbols_of tokens.now) (λ r. (seen_expr r.0, symbols_of r.1.now)) result }
+    ensures { Decides (Reads 6) (Stops 6) (symbols_of tokens.now) (with_rest seen_expr) result }
 {
     let (base, mut rest) = value(alloc, tokens)?;
     let mut places = Vec::new(alloc);
@@ -116,7 +116,7 @@ fn post(alloc: Global, tokens: &[Token]) -> Result<(Expr, &[Token]), ParseError>
 /// A number, a text, a word, a name, a call, an expression in brackets or a list.
 #[cycle(expr)]
 fn value(alloc: Global, tokens: &[Token]) -> Result<(Expr, &[Token]), ParseError>
-    ensures { Decides (Reads 7) (Stops 7) (symbols_of tokens.now) (λ r. (seen_expr r.0, symbols_of r.1.now)) result }
+    ensures { Decides (Reads 7) (Stops 7) (symbols_of tokens.now) (with_rest seen_expr) result }
 {
     if let Some((number, rest)) = after_number(tokens) {
         return Ok((Expr::Number(number), rest));
@@ -157,8 +157,7 @@ fn items<'a>(
     close: &[u8],
 ) -> Result<(Vec<Expr>, &'a [Token]), ParseError>
     requires { IsCloser close.now }
-    ensures { Decides (Closed Listed (SignOf close.now)) Anything (symbols_of tokens.now)
-        (λ r. (map seen_expr r.0.items, symbols_of r.1.now)) result }
+    ensures { Decides (ListedUpTo close.now) Anything (symbols_of tokens.now) (with_rest (each seen_expr)) result }
 {
     if let Some(rest) = after_sign(tokens, close) {
         let none = Vec::new(alloc);
@@ -173,7 +172,7 @@ fn items<'a>(
 
 #[cycle(expr)]
 fn some_items(alloc: Global, tokens: &[Token]) -> Result<(Vec<Expr>, &[Token]), ParseError>
-    ensures { Decides SomeListed ListEnds (symbols_of tokens.now) (λ r. (map seen_expr r.0.items, symbols_of r.1.now)) result }
+    ensures { Decides SomeListed ListEnds (symbols_of tokens.now) (with_rest (each seen_expr)) result }
 {
     let (first, mut rest) = expr(alloc, tokens)?;
     let mut items = Vec::new(alloc);

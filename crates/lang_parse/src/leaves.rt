@@ -1,10 +1,10 @@
 //! Names, texts and words as parts of a tree.
 
-ghost use Rattle.std.specs.Prelude.{◌≡◌, ◌∷◌, List, IfOk, IfSome, IsNone, IsTrue, codes};
+ghost use Rattle.std.specs.Prelude.{◌≡◌, IfOk, IfSome, IsNone, IsTrue};
 ghost use Rattle.page_values.specs.Texts.{is_text};
 ghost use Rattle.lang_ast.specs.Seen.{seen_name, seen_expr};
 ghost use Rattle.lang_tokens.specs.declared.token.TokenKind.TheVariants.{Name};
-ghost use Rattle.lang_parse.specs.Symbols.{Symbol, WordOf, symbols_of};
+ghost use Rattle.lang_parse.specs.Symbols.{symbols_of};
 ghost use Rattle.lang_parse.specs.Deciding.{Ends};
 ghost use Rattle.lang_parse.specs.Parts.{Reads, Stops, NoLiteral};
 

@@ -1,12 +1,11 @@
 //! Reading an operator from the front.
 
 ghost use Rattle.std.specs.Prelude.{◌≡◌, ◌∷◌, List, IfSome, IsNone};
-ghost use Rattle.page_types.specs.declared.CompareSign.{CompareSign as Comparison};
 ghost use Rattle.page_types.specs.declared.SumSign.{SumSign as Addition};
-ghost use Rattle.page_types.specs.declared.ProductSign.{ProductSign as Multiplication};
 ghost use Rattle.page_types.specs.declared.UnarySign.{UnarySign as Prefix};
 ghost use Rattle.lang_parse.specs.Symbols.{Symbol, symbols_of};
 ghost use Rattle.lang_parse.specs.Grammar.{compare_sign, sum_sign, product_sign, unary_sign};
+ghost use Rattle.lang_parse.specs.Parts.{BeginsWithNone};
 
 use crate::reading::after_sign;
 use lang_ast::{CompareSign, ProductSign, SumSign, UnarySign};
@@ -15,7 +14,7 @@ use lang_tokens::Token;
 /// A comparison, and what follows it.
 pub(crate) fn after_compare_sign(tokens: &[Token]) -> Option<(CompareSign, &[Token])>
     ensures found { IfSome result (λ r. symbols_of tokens.now ≡ compare_sign r.0 ∷ symbols_of r.1.now) }
-    ensures none { IsNone result → (s : Comparison) (rest : List Symbol) → symbols_of tokens.now ≡ compare_sign s ∷ rest → ⊥ }
+    ensures none { IsNone result → BeginsWithNone compare_sign (symbols_of tokens.now) }
 {
     if let Some(rest) = after_sign(tokens, b"==") {
         return Some((CompareSign::Equals, rest));
@@ -51,7 +50,7 @@ pub(crate) fn after_sum_sign(tokens: &[Token]) -> Option<(SumSign, &[Token])>
 /// The sign before a further factor, and what follows it.
 pub(crate) fn after_product_sign(tokens: &[Token]) -> Option<(ProductSign, &[Token])>
     ensures found { IfSome result (λ r. symbols_of tokens.now ≡ product_sign r.0 ∷ symbols_of r.1.now) }
-    ensures none { IsNone result → (s : Multiplication) (rest : List Symbol) → symbols_of tokens.now ≡ product_sign s ∷ rest → ⊥ }
+    ensures none { IsNone result → BeginsWithNone product_sign (symbols_of tokens.now) }
 {
     if let Some(rest) = after_sign(tokens, b"*") {
         return Some((ProductSign::Times, rest));

@@ -3,12 +3,11 @@
 ghost use Rattle.std.specs.Prelude.{◌≡◌, ℕ, List, IfOk, IfErr};
 ghost use Rattle.page_types.specs.Tree.{Item};
 ghost use Rattle.lang_tokens.specs.Seen.{TokenSeen};
-ghost use Rattle.lang_tokens.specs.Tokens.{InOrder};
 ghost use Rattle.lang_ast.specs.Seen.{seen_tree};
-ghost use Rattle.lang_ast.specs.Names.{occurrences, Rise};
 ghost use Rattle.lang_parse.specs.Symbols.{Symbol, symbols_of};
-ghost use Rattle.lang_parse.specs.Grammar.{HasTree};
+ghost use Rattle.lang_parse.specs.Grammar.{HasTree, HasNoTree};
 ghost use Rattle.lang_parse.specs.Faults.{IsNoTree, IsNoParse, IsPlaced};
+ghost use Rattle.lang_parse.specs.Laws.{NamesRise};
 
 use crate::fault::{NoParse, NoTree, ParseFault, TreeFault};
 use crate::globals::{function_count, global_count};
@@ -52,7 +51,7 @@ fn tree_of(alloc: Global, tokens: &Tokens) -> Result<Tree, TreeFault>
 /// once more for it.
 pub fn parse(alloc: Global, tokens: &Tokens) -> Result<Tree, ParseFault>
     ensures found { IfOk result (λ tree. HasTree (symbols_of tokens.now.items) (seen_tree tree)) }
-    ensures none { IfErr result (λ e. IsNoParse e → (tree : List Item) → HasTree (symbols_of tokens.now.items) tree → ⊥) }
+    ensures none { IfErr result (λ e. IsNoParse e → HasNoTree (symbols_of tokens.now.items)) }
     ensures place { IfErr result (IsPlaced tokens.now) }
 {
     match tree_of(alloc, tokens) {
@@ -73,6 +72,5 @@ pub fn one_tree()
 /// The law that the names of a script's tree stand in it in the order of the text. So the first fault of its names is
 /// the one at the least byte.
 pub fn names_rise()
-    ensures { (end : ℕ) (tokens : List TokenSeen) (tree : List Item) → InOrder 0 end tokens → HasTree (symbols_of tokens) tree
-        → Rise (occurrences tree) }
+    ensures { (end : ℕ) (tokens : List TokenSeen) (tree : List Item) → NamesRise end tokens tree }
 {}

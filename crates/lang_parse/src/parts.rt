@@ -1,12 +1,12 @@
 //! Reads the parts of statements that hold no statement.
 
-ghost use Rattle.std.specs.Prelude.{◌≡◌, ◌∷◌, List, IfOk, IsNone, IfSome, IsTrue, false, codes};
-ghost use Rattle.page_types.specs.Tree.{Named as ModelName};
+ghost use Rattle.std.specs.Prelude.{◌≡◌, IsNone, IfSome, IsTrue, false};
 ghost use Rattle.lang_ast.specs.Seen.{seen_name, seen_expr};
-ghost use Rattle.lang_parse.specs.Symbols.{Symbol, SignOf, WordOf, symbols_of};
-ghost use Rattle.lang_parse.specs.Grammar.{name_symbol};
+ghost use Rattle.lang_parse.specs.Symbols.{symbols_of};
 ghost use Rattle.lang_parse.specs.Deciding.{Decides};
 ghost use Rattle.lang_parse.specs.Parts.{Anything, NameRead, Ended, Condition, BracketedName, AssignParts, BeginsWith, BeginsAssignment};
+ghost use Rattle.lang_parse.specs.Parts.{BeginsElseIf, NotElseIf};
+ghost use Rattle.lang_parse.specs.Reading.{with_rest, seen_assigned};
 
 use crate::error::ParseError;
 use crate::expressions::expr;
@@ -31,7 +31,7 @@ pub(crate) fn bracketed_name(
     alloc: Global,
     tokens: &[Token],
 ) -> Result<(Named, &[Token]), ParseError>
-    ensures { Decides BracketedName Anything (symbols_of tokens.now) (λ r. (seen_name r.0, symbols_of r.1.now)) result }
+    ensures { Decides BracketedName Anything (symbols_of tokens.now) (with_rest seen_name) result }
 {
     let Some(next) = after_sign(tokens, b"(") else {
         return Err(ParseError::NoParse(tokens.len()));
@@ -73,7 +73,7 @@ pub(crate) fn assigned(
     alloc: Global,
     tokens: &[Token],
 ) -> Result<((Named, Expr), &[Token]), ParseError>
-    ensures { Decides AssignParts Anything (symbols_of tokens.now) (λ r. ((seen_name r.0.0, seen_expr r.0.1), symbols_of r.1.now)) result }
+    ensures { Decides AssignParts Anything (symbols_of tokens.now) (with_rest seen_assigned) result }
 {
     let (name, rest) = name(alloc, tokens)?;
     let Some(next) = after_sign(rest, b"=") else {
@@ -104,8 +104,8 @@ pub(crate) fn begins_assignment(tokens: &[Token]) -> bool
 
 /// What follows `else if`.
 pub(crate) fn after_else_if(tokens: &[Token]) -> Option<&[Token]>
-    ensures found { IfSome result (λ rest. symbols_of tokens.now ≡ WordOf (codes "else") ∷ WordOf (codes "if") ∷ symbols_of rest.now) }
-    ensures none { IsNone result → (rest : List Symbol) → symbols_of tokens.now ≡ WordOf (codes "else") ∷ WordOf (codes "if") ∷ rest → ⊥ }
+    ensures found { IfSome result (λ rest. BeginsElseIf (symbols_of tokens.now) (symbols_of rest.now)) }
+    ensures none { IsNone result → NotElseIf (symbols_of tokens.now) }
 {
     let rest = after_word(tokens, b"else")?;
     after_word(rest, b"if")

@@ -1,9 +1,10 @@
 //! Reading a token from the front.
 
-ghost use Rattle.std.specs.Prelude.{◌≡◌, ◌∷◌, List, IfSome, IsNone, IsTrue, ℕ, ℤ};
+ghost use Rattle.std.specs.Prelude.{◌≡◌, ◌∷◌, List, IfSome, IsNone, IsTrue, ℤ};
 ghost use Rattle.page_values.specs.Texts.{is_text};
 ghost use Rattle.lang_tokens.specs.declared.token.TokenKind.TheVariants.{Name};
 ghost use Rattle.lang_parse.specs.Symbols.{Symbol, NameAt, WordOf, NumberOf, TextOf, SignOf, symbols_of};
+ghost use Rattle.lang_parse.specs.Parts.{BeginsWithNone, BeginsWithNoName};
 
 use lang_tokens::{Token, TokenKind};
 
@@ -35,7 +36,7 @@ pub(crate) fn after_number(tokens: &[Token]) -> Option<(i64, &[Token])>
 pub(crate) fn after_text(tokens: &[Token]) -> Option<(&[u8], &[Token])>
     ensures found { IfSome result (λ r. symbols_of tokens.now ≡ TextOf r.0.now ∷ symbols_of r.1.now) }
     ensures text { IfSome result (λ r. IsTrue (is_text r.0.now)) }
-    ensures none { IsNone result → (bytes : List ℕ) (rest : List Symbol) → symbols_of tokens.now ≡ TextOf bytes ∷ rest → ⊥ }
+    ensures none { IsNone result → BeginsWithNone TextOf (symbols_of tokens.now) }
 {
     let (first, rest) = tokens.split_first()?;
     match first.kind() {
@@ -60,7 +61,7 @@ pub(crate) fn after_word<'a>(tokens: &'a [Token], word: &[u8]) -> Option<&'a [To
 pub(crate) fn after_name(tokens: &[Token]) -> Option<(&Token, &[Token])>
     ensures found { IfSome result (λ r. symbols_of tokens.now ≡ NameAt r.0.now.content r.0.now.at ∷ symbols_of r.1.now) }
     ensures kind { IfSome result (λ r. r.0.now.kind ≡ Name) }
-    ensures none { IsNone result → (x : List ℕ) (at : ℕ) (rest : List Symbol) → symbols_of tokens.now ≡ NameAt x at ∷ rest → ⊥ }
+    ensures none { IsNone result → BeginsWithNoName (symbols_of tokens.now) }
 {
     let (first, rest) = tokens.split_first()?;
     match first.kind() {

@@ -1,11 +1,12 @@
 //! Reads statements from the front of a list of tokens.
 
-ghost use Rattle.std.specs.Prelude.{◌≡◌, ◌∷◌, map, codes};
+ghost use Rattle.std.specs.Prelude.{codes};
 ghost use Rattle.std.specs.Option.{option_map};
-ghost use Rattle.lang_ast.specs.Seen.{seen_expr, seen_stmt};
-ghost use Rattle.lang_parse.specs.Symbols.{WordOf, symbols_of};
+ghost use Rattle.lang_ast.specs.Seen.{seen_stmt};
+ghost use Rattle.lang_parse.specs.Symbols.{symbols_of};
 ghost use Rattle.lang_parse.specs.Deciding.{Decides};
 ghost use Rattle.lang_parse.specs.Parts.{Anything, Many, Perhaps, StmtRead, BlockRead, ElseIf, Else, NotElse, NotElseIf, ClosesBlock};
+ghost use Rattle.lang_parse.specs.Reading.{with_rest, behind_word, each, seen_stmts, seen_else_if};
 
 use crate::error::ParseError;
 use crate::parts::{
@@ -18,7 +19,7 @@ use std::alloc::Global;
 
 /// What stands behind `var`.
 fn var_statement(alloc: Global, tokens: &[Token]) -> Result<(Stmt, &[Token]), ParseError>
-    ensures { Decides StmtRead NotElse (WordOf (codes "var") ∷ symbols_of tokens.now) (λ r. (seen_stmt r.0, symbols_of r.1.now)) result }
+    ensures { Decides StmtRead NotElse (behind_word (codes "var") tokens.now) (with_rest seen_stmt) result }
 {
     let ((name, value), rest) = assigned(alloc, tokens)?;
     Ok((Stmt::Var(name, value), rest))
@@ -26,7 +27,7 @@ fn var_statement(alloc: Global, tokens: &[Token]) -> Result<(Stmt, &[Token]), Pa
 
 /// What stands behind `return`.
 fn return_statement(alloc: Global, tokens: &[Token]) -> Result<(Stmt, &[Token]), ParseError>
-    ensures { Decides StmtRead NotElse (WordOf (codes "return") ∷ symbols_of tokens.now) (λ r. (seen_stmt r.0, symbols_of r.1.now)) result }
+    ensures { Decides StmtRead NotElse (behind_word (codes "return") tokens.now) (with_rest seen_stmt) result }
 {
     if let Some(rest) = after_sign(tokens, b";") {
         return Ok((Stmt::Return(None), rest));
@@ -37,7 +38,7 @@ fn return_statement(alloc: Global, tokens: &[Token]) -> Result<(Stmt, &[Token]),
 
 /// What stands behind `throw`.
 fn throw_statement(alloc: Global, tokens: &[Token]) -> Result<(Stmt, &[Token]), ParseError>
-    ensures { Decides StmtRead NotElse (WordOf (codes "throw") ∷ symbols_of tokens.now) (λ r. (seen_stmt r.0, symbols_of r.1.now)) result }
+    ensures { Decides StmtRead NotElse (behind_word (codes "throw") tokens.now) (with_rest seen_stmt) result }
 {
     let (value, rest) = ended(alloc, tokens)?;
     Ok((Stmt::Throw(value), rest))
@@ -77,7 +78,7 @@ pub(crate) fn statement(alloc: Global, tokens: &[Token]) -> Result<(Stmt, &[Toke
 /// What stands behind `if`.
 #[cycle(statement)]
 fn if_statement(alloc: Global, tokens: &[Token]) -> Result<(Stmt, &[Token]), ParseError>
-    ensures { Decides StmtRead NotElse (WordOf (codes "if") ∷ symbols_of tokens.now) (λ r. (seen_stmt r.0, symbols_of r.1.now)) result }
+    ensures { Decides StmtRead NotElse (behind_word (codes "if") tokens.now) (with_rest seen_stmt) result }
 {
     let (condition, rest) = condition(alloc, tokens)?;
     let (block, rest) = block(alloc, rest)?;
@@ -92,8 +93,7 @@ fn else_ifs(
     alloc: Global,
     tokens: &[Token],
 ) -> Result<(Vec<(Expr, Vec<Stmt>)>, &[Token]), ParseError>
-    ensures { Decides (Many ElseIf) NotElseIf (symbols_of tokens.now)
-        (λ r. (map (λ p. (seen_expr p.0, map seen_stmt p.1.items)) r.0.items, symbols_of r.1.now)) result }
+    ensures { Decides (Many ElseIf) NotElseIf (symbols_of tokens.now) (with_rest (each seen_else_if)) result }
 {
     let mut others = Vec::new(alloc);
     let mut rest = tokens;
@@ -109,8 +109,7 @@ fn else_ifs(
 /// The `else` part of an `if`, where there is one.
 #[cycle(statement)]
 fn else_part(alloc: Global, tokens: &[Token]) -> Result<(Option<Vec<Stmt>>, &[Token]), ParseError>
-    ensures { Decides (Perhaps Else) NotElse (symbols_of tokens.now)
-        (λ r. (option_map (λ b. map seen_stmt b.items) r.0, symbols_of r.1.now)) result }
+    ensures { Decides (Perhaps Else) NotElse (symbols_of tokens.now) (with_rest (option_map seen_stmts)) result }
 {
     let Some(next) = after_word(tokens, b"else") else {
         return Ok((None, tokens));
@@ -122,7 +121,7 @@ fn else_part(alloc: Global, tokens: &[Token]) -> Result<(Option<Vec<Stmt>>, &[To
 /// What stands behind `while`.
 #[cycle(statement)]
 fn while_statement(alloc: Global, tokens: &[Token]) -> Result<(Stmt, &[Token]), ParseError>
-    ensures { Decides StmtRead NotElse (WordOf (codes "while") ∷ symbols_of tokens.now) (λ r. (seen_stmt r.0, symbols_of r.1.now)) result }
+    ensures { Decides StmtRead NotElse (behind_word (codes "while") tokens.now) (with_rest seen_stmt) result }
 {
     let (condition, rest) = condition(alloc, tokens)?;
     let (block, rest) = block(alloc, rest)?;
@@ -132,7 +131,7 @@ fn while_statement(alloc: Global, tokens: &[Token]) -> Result<(Stmt, &[Token]), 
 /// What stands behind `try`.
 #[cycle(statement)]
 fn try_statement(alloc: Global, tokens: &[Token]) -> Result<(Stmt, &[Token]), ParseError>
-    ensures { Decides StmtRead NotElse (WordOf (codes "try") ∷ symbols_of tokens.now) (λ r. (seen_stmt r.0, symbols_of r.1.now)) result }
+    ensures { Decides StmtRead NotElse (behind_word (codes "try") tokens.now) (with_rest seen_stmt) result }
 {
     let (tried, rest) = block(alloc, tokens)?;
     let Some(next) = after_word(rest, b"catch") else {
@@ -146,7 +145,7 @@ fn try_statement(alloc: Global, tokens: &[Token]) -> Result<(Stmt, &[Token]), Pa
 /// Statements in braces.
 #[cycle(statement)]
 pub(crate) fn block(alloc: Global, tokens: &[Token]) -> Result<(Vec<Stmt>, &[Token]), ParseError>
-    ensures { Decides BlockRead Anything (symbols_of tokens.now) (λ r. (map seen_stmt r.0.items, symbols_of r.1.now)) result }
+    ensures { Decides BlockRead Anything (symbols_of tokens.now) (with_rest seen_stmts) result }
 {
     let Some(next) = after_sign(tokens, b"{") else {
         return Err(ParseError::NoParse(tokens.len()));
@@ -161,7 +160,7 @@ pub(crate) fn block(alloc: Global, tokens: &[Token]) -> Result<(Vec<Stmt>, &[Tok
 /// Statements up to the brace that closes a block.
 #[cycle(statement)]
 fn statements(alloc: Global, tokens: &[Token]) -> Result<(Vec<Stmt>, &[Token]), ParseError>
-    ensures { Decides (Many StmtRead) ClosesBlock (symbols_of tokens.now) (λ r. (map seen_stmt r.0.items, symbols_of r.1.now)) result }
+    ensures { Decides (Many StmtRead) ClosesBlock (symbols_of tokens.now) (with_rest seen_stmts) result }
 {
     let mut statements = Vec::new(alloc);
     let mut rest = tokens;

@@ -1,10 +1,11 @@
 //! Reads the items of a script.
 
-ghost use Rattle.std.specs.Prelude.{◌≡◌, ◌∷◌, [], map, codes, IfOk, IfErr};
+ghost use Rattle.std.specs.Prelude.{[], codes, IfOk, IfErr};
 ghost use Rattle.lang_ast.specs.Seen.{seen_name, seen_item, seen_items};
-ghost use Rattle.lang_parse.specs.Symbols.{WordOf, symbols_of};
+ghost use Rattle.lang_parse.specs.Symbols.{symbols_of};
 ghost use Rattle.lang_parse.specs.Deciding.{Decides, Fails};
 ghost use Rattle.lang_parse.specs.Parts.{Anything, Many, Parameters, SomeNames, NotComma, ItemRead, NotElse, AtEnd};
+ghost use Rattle.lang_parse.specs.Reading.{with_rest, behind_word, each};
 
 use crate::error::ParseError;
 use crate::parts::name;
@@ -19,7 +20,7 @@ pub const MOST_PARAMETERS: usize = 8;
 
 /// Names with commas between them.
 fn some_names(alloc: Global, tokens: &[Token]) -> Result<(Vec<Named>, &[Token]), ParseError>
-    ensures { Decides SomeNames NotComma (symbols_of tokens.now) (λ r. (map seen_name r.0.items, symbols_of r.1.now)) result }
+    ensures { Decides SomeNames NotComma (symbols_of tokens.now) (with_rest (each seen_name)) result }
 {
     let (first, mut rest) = name(alloc, tokens)?;
     let mut names = Vec::new(alloc);
@@ -34,7 +35,7 @@ fn some_names(alloc: Global, tokens: &[Token]) -> Result<(Vec<Named>, &[Token]),
 
 /// The parameters of a function in brackets.
 fn parameters(alloc: Global, tokens: &[Token]) -> Result<(Vec<Named>, &[Token]), ParseError>
-    ensures { Decides Parameters Anything (symbols_of tokens.now) (λ r. (map seen_name r.0.items, symbols_of r.1.now)) result }
+    ensures { Decides Parameters Anything (symbols_of tokens.now) (with_rest (each seen_name)) result }
 {
     let Some(next) = after_sign(tokens, b"(") else {
         return Err(ParseError::NoParse(tokens.len()));
@@ -52,7 +53,7 @@ fn parameters(alloc: Global, tokens: &[Token]) -> Result<(Vec<Named>, &[Token]),
 
 /// What stands behind `fn`.
 fn function(alloc: Global, tokens: &[Token]) -> Result<(Item, &[Token]), ParseError>
-    ensures { Decides ItemRead NotElse (WordOf (codes "fn") ∷ symbols_of tokens.now) (λ r. (seen_item r.0, symbols_of r.1.now)) result }
+    ensures { Decides ItemRead NotElse (behind_word (codes "fn") tokens.now) (with_rest seen_item) result }
 {
     let (name, rest) = name(alloc, tokens)?;
     let (parameters, rest) = parameters(alloc, rest)?;

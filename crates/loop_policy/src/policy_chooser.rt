@@ -1,13 +1,12 @@
 //! The source that a policy gives.
 
-ghost use Rattle.std.specs.Prelude.{◌≡◌, ◌+◌, ◌^◌, ◌<◌, suc, if◌then◌else◌, ℕ, List, ◌∷◌, Some, None, IsTrue};
+ghost use Rattle.std.specs.Prelude.{◌≡◌, ◌+◌, ◌^◌, ◌<◌, if◌then◌else◌, List, ◌∷◌, Some, None, IsTrue};
 ghost use Rattle.page_types.specs.declared.Source.{Source};
-ghost use Rattle.page_parts.specs.Sources.{same_source};
-ghost use Rattle.page_parts.specs.WrittenChoices.{Runnable, is_runnable, by_fifo, by_rank, by_fair, count_of, counts_now as zeroed, counts_after as counted, greatest};
+ghost use Rattle.page_parts.specs.WrittenChoices.{Runnable, is_runnable, by_fifo, by_rank, by_fair, count_of, counts_now as zeroed, counts_after as counted};
 ghost use Rattle.loop_policy.specs.Policies.{PolicyState, policy_of, is_policy};
 ghost use Rattle.loop_policy.specs.Rules.{first_state, policy_choice};
-ghost use Rattle.loop_policy.specs.Views.{runnables, HasRunnable};
-ghost use Rattle.loop_policy.specs.Choosing.{fifo_behind, greatest_behind};
+ghost use Rattle.loop_policy.specs.Views.{runnables};
+ghost use Rattle.loop_policy.specs.Choosing.{fifo_behind, seen_waiting, IsGreatest, next_count};
 
 use crate::seeing::{first_task, is_ready, place_of};
 use crate::view::DEFAULT_LIST;
@@ -103,8 +102,7 @@ fn choose_oldest(view: &View) -> Source
 }
 
 fn older(oldest: Option<Waiting>, other: Waiting) -> Waiting
-    ensures { (rs : List Runnable) → fifo_behind (Some result) rs
-        ≡ fifo_behind oldest (record { source = other.source; first = other.first } ∷ rs) }
+    ensures { (rs : List Runnable) → fifo_behind (Some result) rs ≡ fifo_behind oldest (seen_waiting other ∷ rs) }
 {
     match oldest {
         Some(oldest) if oldest.first <= other.first => oldest,
@@ -146,8 +144,7 @@ fn choose_fairly(view: &View, most: u32, counts: &[u32; 7]) -> Source
 
 // The earlier one where the counts are equal.
 fn more_passed_over(counts: &[u32; 7], chosen: Option<Source>, other: Source) -> Source
-    ensures { (sources : List Source) → greatest_behind counts.now (Some result) sources
-        ≡ greatest_behind counts.now chosen (other ∷ sources) }
+    ensures { IsGreatest counts.now chosen other result }
 {
     match chosen {
         Some(chosen) if counts[place_of(other)] <= counts[place_of(chosen)] => chosen,
@@ -198,8 +195,7 @@ fn counts_after(view: &View, chosen: Source, counts: &[u32; 7]) -> [u32; 7]
 
 fn count_after(view: &View, chosen: Source, counts: &[u32; 7], source: Source) -> u32
     requires { count_of counts.now source + 1 < 2 ^ 32 }
-    ensures { result ≡ (if same_source source chosen then 0
-        else if is_runnable (runnables view.now) source then suc (count_of counts.now source) else 0) }
+    ensures { result ≡ next_count (runnables view.now) chosen counts.now source }
 {
     if place_of(source) == place_of(chosen) {
         return 0;

@@ -1,6 +1,6 @@
 //! Sources from a list.
 
-ghost use Rattle.std.specs.Prelude.{◌≡◌, ℕ, List};
+ghost use Rattle.std.specs.Prelude.{◌≡◌, List};
 ghost use Rattle.page_types.specs.declared.Source.{Source};
 ghost use Rattle.loop_policy.specs.Rules.{kept_choice};
 

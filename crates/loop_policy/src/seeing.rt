@@ -1,6 +1,6 @@
 //! What a view says of one source.
 
-ghost use Rattle.std.specs.Prelude.{◌≡◌, ◌<◌, length};
+ghost use Rattle.std.specs.Prelude.{◌≡◌, ◌<◌};
 ghost use Rattle.page_parts.specs.Sources.{source_number};
 ghost use Rattle.page_parts.specs.WrittenChoices.{is_runnable};
 ghost use Rattle.loop_policy.specs.Views.{first_of, runnables};

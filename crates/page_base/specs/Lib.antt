@@ -3,3 +3,4 @@ pub mod Readings
 pub mod Clocks
 pub mod Laws
 pub mod Fields
+pub mod Found

@@ -1,12 +1,13 @@
 //! How a line of text is cut into its fields.
 
-ghost use Rattle.std.specs.Prelude.{◌≡◌, ◌==◌, ◌<◌, length, position, Some, None, MatchOption, IfSome};
+ghost use Rattle.std.specs.Prelude.{◌≡◌, ◌==◌, ◌<◌, length, position, IfSome};
 ghost use Rattle.page_base.specs.Fields.{behind as behind_of, is_word as same_word, cut_at as cut};
+ghost use Rattle.page_base.specs.Found.{IsFound};
 
 /// What follows a start, where the text begins with it, and None elsewhere. Takes no memory.
 #[tactic(auto, unfolding(crate::specs::Fields::behind))]
 pub fn behind<'a>(text: &'a [u8], start: &[u8]) -> Option<&'a [u8]>
-    ensures { MatchOption result (behind_of start.now text.now ≡ None) (λ rest. behind_of start.now text.now ≡ Some rest.now) }
+    ensures { IsFound result (behind_of start.now text.now) (λ rest. rest.now) }
 {
     let mut rest = text;
     let mut wanted = start;
@@ -31,7 +32,7 @@ pub fn is_word(text: &[u8], word: &[u8]) -> bool
 /// What stands before the first byte of this kind, and what stands behind it; None where there is no such byte. Takes no
 /// memory.
 pub fn cut_at(text: &[u8], byte: u8) -> Option<(&[u8], &[u8])>
-    ensures parts { MatchOption result (cut byte text.now ≡ None) (λ parts. cut byte text.now ≡ Some (parts.0.now, parts.1.now)) }
+    ensures parts { IsFound result (cut byte text.now) (λ parts. (parts.0.now, parts.1.now)) }
     ensures shorter { IfSome result (λ parts. length parts.1.now < length text.now) }
 {
     let Some(at) = find(text, byte) else {

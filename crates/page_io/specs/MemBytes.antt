@@ -20,6 +20,10 @@ first_bytes reserve fails = record { bytes = []; left = reserve; fails = fails; 
 abbrev pub kept_by : List (ℕ × ℕ) → ℕ → Option ℕ
 kept_by fails number = option_map (λ (pair : ℕ × ℕ). pair.1) (find (λ (pair : ℕ × ℕ). pair.0 == number) fails)
 
+-- the sink with these bytes behind its own, and so much less room
+abbrev pub with_more : MemBytes → List ℕ → MemBytes
+with_more sink more = record sink { bytes = sink.bytes ++ more; left = sink.left - length more }
+
 -- what a call keeps of a piece, where it fails: nothing of one that has no room, and else what its number says
 abbrev pub part_kept : MemBytes → List ℕ → Option (List ℕ)
 part_kept sink piece =

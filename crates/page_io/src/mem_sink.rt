@@ -1,8 +1,8 @@
-ghost use Rattle.std.specs.Prelude.{◌≡◌, ◌+◌, ◌-◌, ◌≤◌, ◌<◌, ◌↔◌, ℕ, List, [], ◌++◌, length, take, Option, Some, IsSome, IfSome, IsErr, IfOk, OnOk, OnErr, vec_len, vec_capacity, true, false, IsTrue};
+ghost use Rattle.std.specs.Prelude.{◌≡◌, ◌+◌, ◌≤◌, ◌<◌, ◌↔◌, ℕ, List, [], length, take, Option, Some, IsSome, IfSome, IsErr, IfOk, OnOk, OnErr, vec_len, vec_capacity, true, false, IsTrue};
 ghost use Rattle.std.specs.Option.{option_copied};
 ghost use Rattle.page_types.specs.Counts.{raised, HasCause};
 ghost use Rattle.page_types.specs.Told.{appended, IsStartOf, AppendsStartOf};
-ghost use Rattle.page_io.specs.MemBytes.{MemBytes, kept_by, part_kept, failing_put, after_put, after_finish, first_bytes};
+ghost use Rattle.page_io.specs.MemBytes.{MemBytes, kept_by, part_kept, failing_put, after_put, after_finish, first_bytes, with_more};
 
 use crate::{Failed, Sink};
 use std::alloc::{AllocError, Global};
@@ -88,7 +88,7 @@ impl MemSink {
     // Appends what there is room for.
     fn append(&mut self, piece: &[u8])
         requires { length piece.now ≤ self.old.left }
-        ensures { self.new ≡ record self.old { bytes = self.old.bytes ++ piece.now; left = self.old.left - length piece.now } }
+        ensures { self.new ≡ with_more self.old piece.now }
     {
         self.bytes.extend_from_slice(piece).unwrap();
         self.left -= piece.len();

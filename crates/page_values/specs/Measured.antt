@@ -1,5 +1,5 @@
 -- What is kept beside the items of a list.
-use Rattle.std.specs.Prelude.{◌≡◌, ℕ, ◌+◌, ◌≤◌, max, Bool, ◌&&◌}
+use Rattle.std.specs.Prelude.{◌≡◌, ◌⊎◌, ℕ, ◌+◌, ◌<◌, ◌≤◌, max, Bool, ◌&&◌, Option, MatchOption}
 use Rattle.page_types.specs.Values.{Values}
 use Rattle.page_parts.specs.Kinds.{all_weights, greatest_nesting}
 use Rattle.page_values.specs.Limits.{AreLight}
@@ -21,3 +21,8 @@ pub record IsJoined (old : Measure) (weight nesting : ℕ) (plain : Bool) (new :
   pub weight_is : new.weight ≡ old.weight + weight
   pub nesting_is : new.nesting ≡ max old.nesting nesting
   pub plain_is : new.plain ≡ (old.plain && plain)
+
+-- the measure with more values, or none where they do not fit into a list
+abbrev pub Joins : Option Measure → (old : Measure) → (weight nesting : ℕ) → (plain : Bool) → Type 0
+Joins result old weight nesting plain =
+    MatchOption result ((65535 < old.weight + weight) ⊎ (63 < nesting)) (IsJoined old weight nesting plain)

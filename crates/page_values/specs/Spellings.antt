@@ -1,11 +1,13 @@
 -- What a trace may hold as a value, from the reader's side: bytes alone, with no value and no names at hand.
-use Rattle.std.specs.Prelude.{◌≡◌, ℕ, zero, suc, ◌<◌, ◌^◌, Bool, true, false, if◌then◌else◌, not, ◌&&◌, ◌||◌, ◌⊎◌, List, [], ◌∷◌, ◌++◌, ℤ, FitsSigned, IsTrue, ◌==◌, nat_le, codes}
+use Rattle.std.specs.Prelude.{◌≡◌, ℕ, zero, suc, ◌<◌, ◌^◌, Bool, true, false, if◌then◌else◌, not, ◌&&◌, ◌||◌, ◌⊎◌, List, [], ◌∷◌, ◌++◌, length, ℤ, FitsSigned, IsTrue, ◌==◌, nat_le, codes}
 use Rattle.std.specs.Int.{w64}
 use Rattle.std.specs.List.{join_with_byte}
+use Rattle.page_types.specs.Values.{Value}
 use Rattle.page_types.specs.declared.FaultName.{FaultName}
 use Rattle.page_parts.specs.Words.{decimal_of, int_decimal}
-use Rattle.page_parts.specs.Spelling.{fault_text}
+use Rattle.page_parts.specs.Spelling.{spelled, fault_text}
 use Rattle.page_values.specs.Names.{is_name}
+use Rattle.page_values.specs.Written.{IsNumbered}
 
 -- from 0x20 to 0x7E, but no quotation mark
 abbrev pub is_plain : ℕ → Bool
@@ -68,3 +70,7 @@ pub record IsFunctionOf (IsItem : List ℕ → Type 0) (bs : List ℕ) : Type 0 
 abbrev pub IsSpelling : ℕ → List ℕ → Type 0
 IsSpelling zero bs = IsSimple bs
 IsSpelling (suc deep) bs = IsSimple bs ⊎ (IsListOf (IsSpelling deep) bs ⊎ IsFunctionOf (IsSpelling deep) bs)
+
+-- Where each function that a value names has one of these names, the value's spelling by them is one.
+abbrev pub IsSpelledBy : (names : List (List ℕ)) → Value → Type 0
+IsSpelledBy names value = IsNumbered (length names) value → IsSpelling 64 (spelled names value)

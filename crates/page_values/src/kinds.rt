@@ -2,7 +2,8 @@
 
 ghost use Rattle.std.specs.Prelude.{◌≡◌, Option, Some, None, MatchOption};
 ghost use Rattle.page_parts.specs.Kinds.{is_unit, bool_in, int_in, text_in, list_in, func_in, promise_in, signal_in, controller_in, deadline_in, fault_in, Fault};
-ghost use Rattle.page_values.specs.Seen.{seen};
+ghost use Rattle.page_base.specs.Found.{IsFound};
+ghost use Rattle.page_values.specs.Seen.{seen, seen_function};
 
 use crate::{FaultName, Func, Items, Str, Value};
 
@@ -58,8 +59,7 @@ pub fn as_list(value: &Value) -> Option<&Items>
 
 /// The function of a `Fun`, and `None` for any other value.
 pub fn as_function(value: &Value) -> Option<&Func>
-    ensures { MatchOption result (func_in (seen value.now) ≡ None)
-        (λ f. func_in (seen value.now) ≡ Some (record { function = f.now.function; bound = f.now.bound })) }
+    ensures { IsFound result (func_in (seen value.now)) (λ f. seen_function f.now) }
 {
     match value {
         Value::Fun(function) => Some(function),
@@ -69,8 +69,7 @@ pub fn as_function(value: &Value) -> Option<&Func>
 
 /// The name and the text of a `Fault`, and `None` for any other value.
 pub fn as_fault(value: &Value) -> Option<(FaultName, &Str)>
-    ensures { MatchOption result (fault_in (seen value.now) ≡ None)
-        (λ f. fault_in (seen value.now) ≡ Some (record { name = f.0; text = f.1.now })) }
+    ensures { IsFound result (fault_in (seen value.now)) (λ f. record { name = f.0; text = f.1.now }) }
 {
     match value {
         Value::Fault(name, text) => Some((*name, text)),

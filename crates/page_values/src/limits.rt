@@ -3,7 +3,7 @@
 ghost use Rattle.std.specs.Prelude.{◌≡◌, ◌≢◌, ◌++◌, ◌∷◌, [], IsTrue, Err};
 ghost use Rattle.page_types.specs.Values.{ListValue, TextValue, FaultValue, FunValue, no_values, values_of, items_of};
 ghost use Rattle.page_parts.specs.Kinds.{within_limits};
-ghost use Rattle.page_values.specs.Made.{IsMade};
+ghost use Rattle.page_values.specs.Made.{IsMade, with_bound};
 ghost use Rattle.page_values.specs.Seen.{seen, seen_all};
 ghost use Rattle.page_values.specs.Texts.{is_text};
 
@@ -44,8 +44,7 @@ pub fn make_text(bytes: Vec<u8>) -> Result<Value, ValueFault>
 
 /// The function with more arguments bound, after those that are bound already.
 pub fn bind(alloc: Global, function: &Func, more: &Items) -> Result<Value, ValueFault>
-    ensures { IsMade result (within_limits (FunValue function.now.function
-        (values_of (items_of function.now.bound ++ items_of more.now)))) }
+    ensures { IsMade result (within_limits (with_bound function.now more.now)) }
 {
     let Some(measure) = function.bound.measure().and_all(more.measure()) else {
         return Err(ValueFault::Is(TooHeavy));

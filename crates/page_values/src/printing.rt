@@ -1,15 +1,15 @@
 //! The spelling of values.
 
-ghost use Rattle.std.specs.Prelude.{◌≡◌, ◌++◌, ◌≤◌, length, ℕ, [], IfOk, OnOk, OnErr, IsTrue, slice_get, unwrap_or};
+ghost use Rattle.std.specs.Prelude.{◌≡◌, ◌++◌, ◌≤◌, ℕ, [], IfOk, OnOk, OnErr, IsTrue, slice_get, unwrap_or};
 ghost use Rattle.page_types.specs.Values.{DeadlineValue};
 ghost use Rattle.page_parts.specs.Spelling.{spelled, all_spelled, all_escaped, quoted, fault_text, deadline_text};
 ghost use Rattle.page_parts.specs.Words.{decimal_of, int_decimal};
 ghost use Rattle.page_values.specs.Names.{are_names};
 ghost use Rattle.page_parts.specs.Kinds.{nesting, greatest_nesting};
 ghost use Rattle.page_values.specs.Seen.{seen};
-ghost use Rattle.page_values.specs.Spellings.{IsSpelling};
+ghost use Rattle.page_values.specs.Spellings.{IsSpelledBy};
 ghost use Rattle.page_values.specs.Texts.{is_text};
-ghost use Rattle.page_values.specs.Written.{IsWritten, AreWritten, IsNumbered};
+ghost use Rattle.page_values.specs.Written.{IsWritten, AreWritten};
 
 use crate::{FaultName, Items, MemoryFault, Str, Value};
 use itoa::Buffer;
@@ -62,7 +62,7 @@ pub fn print(
     ensures err { OnErr result (into.new.items ≡ into.old.items) }
 
     // From the reader's side it is a value's spelling, where each function that the value names has a name.
-    ensures spelling { OnOk result (IsNumbered (length names.now) (seen value.now) → IsSpelling 64 (spelled names.now (seen value.now))) }
+    ensures spelling { OnOk result (IsSpelledBy names.now (seen value.now)) }
 {
     let mut spelling = Vec::new(alloc);
     print_value(value, names.names(), &mut spelling)?;

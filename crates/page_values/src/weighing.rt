@@ -1,11 +1,11 @@
 //! How heavy values are, how deep they nest, and whether they are plain. What is known of the items of a list stands
 //! beside them, so that each question costs one step.
 
-ghost use Rattle.std.specs.Prelude.{◌≡◌, ◌+◌, ◌<◌, ◌≤◌, ◌⊎◌, ◌↔◌, MatchOption, IsSome, IfSome};
+ghost use Rattle.std.specs.Prelude.{◌≡◌, ◌≤◌, ◌↔◌, IsSome, IfSome};
 ghost use Rattle.page_types.specs.Values.{no_values};
 ghost use Rattle.page_parts.specs.Kinds.{weight, all_weights, nesting, greatest_nesting};
 ghost use Rattle.page_values.specs.Limits.{AreLight};
-ghost use Rattle.page_values.specs.Measured.{AreMeasured, IsJoined};
+ghost use Rattle.page_values.specs.Measured.{AreMeasured, Joins};
 ghost use Rattle.page_values.specs.Plain.{is_plain};
 ghost use Rattle.page_values.specs.Seen.{seen, seen_all};
 
@@ -35,26 +35,20 @@ impl Measure {
 
     /// That of these values and one more, and `None` where a list of them would be too heavy.
     pub(crate) fn with(self, item: &Value) -> Option<Measure>
-        ensures { MatchOption result
-            ((65535 < self.weight + weight (seen item.now)) ⊎ (63 < nesting (seen item.now)))
-            (IsJoined self (weight (seen item.now)) (nesting (seen item.now)) (is_plain (seen item.now))) }
+        ensures { Joins result self (weight (seen item.now)) (nesting (seen item.now)) (is_plain (seen item.now)) }
     {
         self.and(weight(item), nesting(item), is_plain(item))
     }
 
     /// That of all values together.
     pub(crate) fn and_all(self, more: Measure) -> Option<Measure>
-        ensures { MatchOption result
-            ((65535 < self.weight + more.weight) ⊎ (63 < more.nesting))
-            (IsJoined self more.weight more.nesting more.plain) }
+        ensures { Joins result self more.weight more.nesting more.plain }
     {
         self.and(more.weight as u64, more.nesting as u64, more.plain)
     }
 
     fn and(self, weight: u64, nesting: u64, plain: bool) -> Option<Measure>
-        ensures { MatchOption result
-            ((65535 < self.weight + weight) ⊎ (63 < nesting))
-            (IsJoined self weight nesting plain) }
+        ensures { Joins result self weight nesting plain }
     {
         let room = WEIGHT_LIMIT - 1 - self.weight as u64;
         if room < weight || nesting >= NESTING_LIMIT {

@@ -16,8 +16,12 @@ abbrev pub turns_text : List TurnOf → List ℕ
 turns_text [] = []
 turns_text (turn ∷ turns) = turn_text turn ++ turns_text turns
 
+-- the number of the turns
+abbrev pub total_text : (total : ℕ) → List ℕ
+total_text total = codes "total" ++ number_field total ++ codes "\n"
+
 abbrev pub blame_of_turns : List TurnOf → List ℕ
-blame_of_turns turns = turns_text turns ++ codes "total" ++ number_field (length turns) ++ codes "\n"
+blame_of_turns turns = turns_text turns ++ total_text (length turns)
 
 -- the text about a trace
 abbrev pub blame_text : List Stamped → List ℕ

@@ -1,9 +1,9 @@
 //! The text about long turns.
 
-ghost use Rattle.std.specs.Prelude.{◌≡◌, ◌++◌, map, codes, IfOk};
+ghost use Rattle.std.specs.Prelude.{◌≡◌, ◌++◌, map, IfOk};
 ghost use Rattle.page_parts.specs.TraceText.{field, number_field};
 ghost use Rattle.trace_text.specs.EventSeen.{stamped_seen};
-ghost use Rattle.trace_blame.specs.Blame.{turn_text, turns_text, blame_of_turns, blame_text};
+ghost use Rattle.trace_blame.specs.Blame.{turn_text, turns_text, total_text, blame_text};
 ghost use Rattle.trace_blame.specs.Seen.{turn_seen};
 
 use crate::{LongTurn, long_turns};
@@ -52,7 +52,7 @@ fn write_turn(turn: &LongTurn, into: &mut Vec<u8>) -> Result<(), AllocError>
 }
 
 fn write_total(total: u64, into: &mut Vec<u8>) -> Result<(), AllocError>
-    ensures { IfOk result (λ _. into.new.items ≡ into.old.items ++ (codes "total" ++ number_field total ++ codes "\n")) }
+    ensures { IfOk result (λ _. into.new.items ≡ into.old.items ++ total_text total) }
 {
     into.extend_from_slice(b"total")?;
     write_number(total, into)?;

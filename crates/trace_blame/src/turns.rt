@@ -1,14 +1,12 @@
 //! The long turns of a trace.
 
-ghost use Rattle.std.specs.Prelude.{◌≡◌, ◌≤◌, ◌<◌, ◌+◌, ◌^◌, List, [], map, length, option_map, IfOk};
-ghost use Rattle.page_types.specs.Events.{Stamped as StampedSeen};
+ghost use Rattle.std.specs.Prelude.{◌≡◌, ◌≤◌, ◌<◌, ◌+◌, ◌^◌, [], map, length, IfOk};
 ghost use Rattle.trace_text.specs.EventSeen.{event_seen, stamped_seen};
-ghost use Rattle.trace_export.specs.Calls.{called as called_by, end_of};
-ghost use Rattle.trace_export.specs.Ends.{with_end, ends_of};
+ghost use Rattle.trace_export.specs.Ends.{ends_of};
 ghost use Rattle.trace_export.specs.EndsSeen.{micros};
-ghost use Rattle.trace_blame.specs.Turns.{ends_turn as is_end_of_turn, open_after as open_behind, turns_of, long_ones};
-ghost use Rattle.trace_blame.specs.Walked.{opened, longest_with, with_line, closed_by};
-ghost use Rattle.trace_blame.specs.Seen.{turn_seen, call_seen, open_seen, ended_seen};
+ghost use Rattle.trace_blame.specs.Turns.{ends_turn as is_end_of_turn, open_after as open_behind, turns_of};
+ghost use Rattle.trace_blame.specs.Walked.{opened, longest_with, closed_by};
+ghost use Rattle.trace_blame.specs.Seen.{turn_seen, longest_seen, open_seen, ended_seen, AreLongTurns, TakesLine, TakesEnd};
 
 use page_base::{Micros, Source};
 use std::alloc::{AllocError, Global};
@@ -33,7 +31,7 @@ pub struct LongTurn {
 /// The long turns of a trace, in order: those above 50,000 microseconds from the `turn` line to the last line before the next `turn`,
 /// `wait` or `end` line. It takes time in proportion to the trace.
 pub fn long_turns(alloc: Global, trace: &Events) -> Result<Vec<LongTurn>, AllocError>
-    ensures { IfOk result (λ turns. map turn_seen turns.items ≡ long_ones (turns_of (map stamped_seen trace.now.events))) }
+    ensures { IfOk result (λ turns. AreLongTurns turns.items (map stamped_seen trace.now.events)) }
 {
     let mut ends = call_ends(alloc, trace.items())?;
     let mut turns = Vec::new(alloc);
@@ -79,10 +77,7 @@ fn walk_turn<'a>(
 
 // The registration that is called, and when the call ends, which is taken off the ends.
 fn next_call(event: &Event, ends: &mut VecDeque<Micros>) -> Option<(u64, Micros)>
-    ensures { (after : List StampedSeen)
-        → micros ends.old.items ≡ with_end (called_by (event_seen event.now)) after (ends_of after)
-        → (micros ends.new.items ≡ ends_of after)
-        × (ended_seen result ≡ option_map (λ r. (r, end_of 0 after)) (called_by (event_seen event.now))) }
+    ensures { TakesEnd event.now ends.old.items ends.new.items result }
 {
     let registration = called(event)?;
     let end = ends.pop_front()?;
@@ -149,7 +144,7 @@ impl OpenTurn {
     // Takes in a line of the turn, which may begin a call.
     fn add(&mut self, e: &Stamped, call: Option<(u64, Micros)>)
         requires { self.old.depth + 1 < 2 ^ 64 }
-        ensures line { open_seen self.new ≡ with_line (event_seen e.now.event) e.now.time.0 (ended_seen call) (open_seen self.old) }
+        ensures line { TakesLine e.now call self.old self.new }
         ensures grows { self.new.depth ≤ self.old.depth + 1 }
     {
         self.last = e.time;
@@ -182,7 +177,7 @@ fn longest_after(
     call: Option<(u64, Micros)>,
     longest: Option<LongestCall>,
 ) -> Option<LongestCall>
-    ensures { option_map call_seen result ≡ longest_with depth time.0 (ended_seen call) (option_map call_seen longest) }
+    ensures { longest_seen result ≡ longest_with depth time.0 (ended_seen call) (longest_seen longest) }
 {
     let Some((registration, end)) = call else {
         return longest;

@@ -1,5 +1,5 @@
 -- The calls of a trace.
-use Rattle.std.specs.Prelude.{ℕ, zero, suc, ◌==◌, List, [], ◌∷◌, ◌++◌, Option, Some, None, codes, if◌then◌else◌}
+use Rattle.std.specs.Prelude.{◌≡◌, ℕ, zero, suc, ◌==◌, List, [], ◌∷◌, ◌++◌, Option, Some, None, codes, if◌then◌else◌}
 use Rattle.page_types.specs.declared.RegKind.{RegKind}
 use Rattle.page_types.specs.Events.{Event, Call, Ret, Throw, Reg, EndLine, Stamped}
 use Rattle.page_parts.specs.Words.{decimal_of}
@@ -33,6 +33,10 @@ end_of inner (e ∷ es) = end_by e.event inner e.time (λ n. end_of n es)
 abbrev pub kind_by : (registration : ℕ) → Event → Option RegKind → Option RegKind
 kind_by registration (Reg r kind by) before = if r == registration then Some kind else before
 kind_by registration event before = before
+
+-- what each registration is for is known as before, but for what an event tells
+abbrev pub NotesKind : Event → (old new : (registration : ℕ) → Option RegKind) → Type 0
+NotesKind event old new = (r : ℕ) → new r ≡ kind_by r event (old r)
 
 -- what a registration is for, by its last `reg` line among these events, of which the last one comes first
 abbrev pub kind_told : (registration : ℕ) → List Stamped → Option RegKind

@@ -55,3 +55,15 @@ pub record IsSpan (span : Span) : Type 0 where
 pub record IsExport (bytes : List ℕ) (spans : List Span) : Type 0 where
   pub spelled : bytes ≡ export_text spans
   pub fit : All IsSpan spans
+
+-- the bytes are the export of no calls
+abbrev pub IsNoExport : List ℕ → Type 0
+IsNoExport bytes = (spans : List Span) → IsExport bytes spans → ⊥
+
+-- the bytes are the export of no calls but these
+abbrev pub ExportsOnly : List ℕ → List Span → Type 0
+ExportsOnly bytes calls = (spans : List Span) → IsExport bytes spans → spans ≡ calls
+
+-- all calls of which the bytes are the export are the same
+abbrev pub HasOneReading : List ℕ → Type 0
+HasOneReading bytes = (spans others : List Span) → IsExport bytes spans → IsExport bytes others → spans ≡ others

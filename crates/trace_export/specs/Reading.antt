@@ -1,5 +1,6 @@
 -- How an exported call is read, part by part.
-use Rattle.std.specs.Prelude.{ℕ, ◌+◌, Bool, ◌&&◌, ◌==◌, not, List, [], ◌∷◌, Option, Some, None, option_map, codes, nat_le, if◌then◌else◌}
+use Rattle.std.specs.Prelude.{◌≡◌, ℕ, ◌+◌, Bool, ◌&&◌, ◌==◌, not, List, [], ◌∷◌, Option, Some, None, option_map, MatchOption, codes, nat_le, if◌then◌else◌}
+use Rattle.std.specs.Borrow.{Bor}
 use Rattle.page_base.specs.Decimals.{number_at, after_digits}
 use Rattle.page_base.specs.Fields.{behind, ◌>>=◌, where_true}
 use Rattle.trace_export.specs.Export.{Span}
@@ -32,6 +33,11 @@ abbrev mutual
   pub escape_at : List ℕ → Option (List ℕ × List ℕ)
   escape_at [] = None
   escape_at (b ∷ bytes) = unescaped b >>= λ c. with_byte c (text_at bytes)
+
+-- what is answered of the first byte of a text: the byte that is spelled, and what stands behind it; none where no text is spelled
+abbrev pub IsFirstByte : Option (ℕ × Bor (List ℕ)) → (bytes : List ℕ) → Type 0
+IsFirstByte result bytes =
+    MatchOption result (text_at bytes ≡ None) (λ r. text_at bytes ≡ with_byte r.0 (text_at r.1.now))
 
 -- ---- Ours: calls
 

@@ -1,10 +1,9 @@
 //! When the calls of a trace end.
 
-ghost use Rattle.std.specs.Prelude.{◌≡◌, List, [], map, IfOk, OnOk};
-ghost use Rattle.page_types.specs.Events.{Stamped as StampedSeen};
-ghost use Rattle.trace_text.specs.EventSeen.{event_seen, stamped_seen};
-ghost use Rattle.trace_export.specs.Ends.{ends_of, known_with};
-ghost use Rattle.trace_export.specs.EndsSeen.{micros, known_seen};
+ghost use Rattle.std.specs.Prelude.{◌≡◌, [], map, IfOk, OnOk};
+ghost use Rattle.trace_text.specs.EventSeen.{stamped_seen};
+ghost use Rattle.trace_export.specs.Ends.{ends_of};
+ghost use Rattle.trace_export.specs.EndsSeen.{micros, known_seen, TakesIn};
 
 use page_base::Micros;
 use std::alloc::{AllocError, Global};
@@ -48,7 +47,7 @@ impl Known {
 
     // Takes in the event before these.
     fn add(&mut self, e: &Stamped) -> Result<(), AllocError>
-        ensures { OnOk result (known_seen self.new ≡ known_with (event_seen e.now.event) e.now.time.0 (known_seen self.old)) }
+        ensures { OnOk result (TakesIn e.now self.old self.new) }
     {
         match &e.event {
             Event::Call { .. } => {

@@ -1,9 +1,9 @@
 //! Exported calls, read again.
 
-ghost use Rattle.std.specs.Prelude.{◌≡◌, ◌≢◌, ◌<◌, ◌≤◌, ◌∷◌, List, map, option_map, length, IfOk, IfSome, MatchOption, None, Err, IsTrue};
+ghost use Rattle.std.specs.Prelude.{◌≡◌, ◌≢◌, ◌<◌, ◌≤◌, ◌∷◌, map, option_map, length, IfOk, IfSome, None, Err, IsTrue};
 ghost use Rattle.page_values.specs.Texts.{is_text_byte};
-ghost use Rattle.trace_export.specs.Export.{Span, IsExport};
-ghost use Rattle.trace_export.specs.Reading.{text_at, unescaped, with_byte, count_at, span_at};
+ghost use Rattle.trace_export.specs.Export.{IsExport, IsNoExport};
+ghost use Rattle.trace_export.specs.Reading.{text_at, unescaped, count_at, span_at, IsFirstByte};
 ghost use Rattle.trace_export.specs.Seen.{span_seen};
 ghost use Rattle.trace_export.specs.declared.fault.NotExport.{NotExport as NotExportSeen};
 ghost use Rattle.trace_export.specs.declared.fault.ExportFault.TheVariants as fault;
@@ -19,7 +19,7 @@ use std::alloc::{AllocError, Global};
 /// where memory ran out. It takes time in proportion to the bytes.
 pub fn read_export(alloc: Global, bytes: &[u8]) -> Result<Vec<CallSpan>, ExportFault>
     ensures calls { IfOk result (λ calls. IsExport bytes.now (map span_seen calls.items)) }
-    ensures none { (not : NotExportSeen) → result ≡ Err (fault.Is not) → (spans : List Span) → IsExport bytes.now spans → ⊥ }
+    ensures none { (not : NotExportSeen) → result ≡ Err (fault.Is not) → IsNoExport bytes.now }
 {
     let mut calls = Vec::new(alloc);
     let Some(list) = behind(bytes, b"{\"traceEvents\":[") else {
@@ -113,9 +113,7 @@ fn read_text(alloc: Global, bytes: &[u8]) -> Result<Option<(Str, &[u8])>, AllocE
 // The byte of a text whose spelling begins with this one, and what stands behind it.
 fn read_byte(byte: u8, after: &[u8]) -> Option<(u8, &[u8])>
     requires { byte ≢ 34 }
-    ensures part { MatchOption result
-        (text_at (byte ∷ after.now) ≡ None)
-        (λ r. text_at (byte ∷ after.now) ≡ with_byte r.0 (text_at r.1.now)) }
+    ensures part { IsFirstByte result (byte ∷ after.now) }
     ensures text { IfSome result (λ r. IsTrue (is_text_byte r.0)) }
     ensures shorter { IfSome result (λ r. length r.1.now ≤ length after.now) }
 {

@@ -1,11 +1,10 @@
 //! The calls of a trace.
 
-ghost use Rattle.std.specs.Prelude.{◌≡◌, ℕ, map, option_map, IfOk, OnOk, All, if◌then◌else◌, ◌==◌};
+ghost use Rattle.std.specs.Prelude.{◌≡◌, map, IfOk, OnOk, All, ◌==◌};
 ghost use Rattle.std.specs.BTreeMap.{get};
 ghost use Rattle.std.specs.Ordering.{nat_cmp};
-ghost use Rattle.page_types.specs.Events.{Event as EventSeen};
 ghost use Rattle.trace_text.specs.EventSeen.{event_seen, stamped_seen};
-ghost use Rattle.trace_export.specs.Calls.{called as called_by, kind_by, call_word_of, name_of};
+ghost use Rattle.trace_export.specs.Calls.{called as called_by, NotesKind, call_word_of, name_of};
 ghost use Rattle.trace_export.specs.Export.{IsSpan, spans_of};
 ghost use Rattle.trace_export.specs.Seen.{span_seen};
 
@@ -58,7 +57,7 @@ pub fn called(event: &Event) -> Option<u64>
 
 // Notes what a registration is for, where the event tells it.
 fn note_kind(kinds: &mut BTreeMap<u64, RegKind>, event: &Event) -> Result<(), AllocError>
-    ensures { OnOk result ((r : ℕ) → get nat_cmp kinds.new r ≡ kind_by r (event_seen event.now) (get nat_cmp kinds.old r)) }
+    ensures { OnOk result (NotesKind (event_seen event.now) (get nat_cmp kinds.old) (get nat_cmp kinds.new)) }
 {
     match event {
         Event::Reg { r, kind, .. } => {

@@ -1,8 +1,8 @@
 //! The text of calls.
 
-ghost use Rattle.std.specs.Prelude.{◌≡◌, ◌≤◌, ◌++◌, List, map, IfOk, All};
+ghost use Rattle.std.specs.Prelude.{◌≡◌, ◌≤◌, ◌++◌, map, IfOk, All};
 ghost use Rattle.trace_text.specs.EventSeen.{stamped_seen};
-ghost use Rattle.trace_export.specs.Export.{Span, IsSpan, IsExport, spans_of, export_text, span_text, spans_text, more_spans_text};
+ghost use Rattle.trace_export.specs.Export.{IsSpan, IsExport, ExportsOnly, spans_of, export_text, span_text, spans_text, more_spans_text};
 ghost use Rattle.trace_export.specs.Seen.{span_seen};
 
 use crate::{CallSpan, calls};
@@ -16,8 +16,7 @@ use trace_text::Events;
 /// in proportion to the trace, up to the logarithm of [`calls`].
 pub fn export(alloc: Global, trace: &Events) -> Result<Vec<u8>, AllocError>
     ensures export { IfOk result (λ text. IsExport text.items (spans_of (map stamped_seen trace.now.events))) }
-    ensures one_reading { IfOk result (λ text.
-        (spans : List Span) → IsExport text.items spans → spans ≡ spans_of (map stamped_seen trace.now.events)) }
+    ensures one_reading { IfOk result (λ text. ExportsOnly text.items (spans_of (map stamped_seen trace.now.events))) }
 {
     let calls = calls(alloc, trace)?;
     let mut text = Vec::new(alloc);

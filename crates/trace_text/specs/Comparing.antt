@@ -1,6 +1,8 @@
 -- What a comparison of lines is seen as.
-use Rattle.std.specs.Prelude.{ℕ, List, map}
+use Rattle.std.specs.Prelude.{ℕ, Bool, List, map}
 use Rattle.page_types.specs.Counts.{raised}
+use Rattle.page_parts.specs.Words.{same_bytes}
+use Rattle.page_parts.specs.TraceText.{line_text}
 use Rattle.trace_text.specs.declared.event.Stamped.{Stamped}
 use Rattle.trace_text.specs.EventSeen.{stamped_seen}
 use Rattle.trace_text.specs.Checks.{Kept, kept_lines}
@@ -18,3 +20,7 @@ kept_in c = record { left = kept_lines c.form (map stamped_seen c.left) c.matche
 -- the same comparison, in which one line more differed
 abbrev pub differed : Comparison → Comparison
 differed c = record c { refusals = raised c.refusals }
+
+-- whether two events have the same line
+abbrev pub have_same_text : (a b : Stamped) → Bool
+have_same_text a b = same_bytes (line_text (stamped_seen a)) (line_text (stamped_seen b))

@@ -1,11 +1,11 @@
 -- What a summary of a trace counts.
-use Rattle.std.specs.Prelude.{ℕ, suc, ◌-◌, ◌^◌, min, Bool, true, false, if◌then◌else◌, List, [], ◌∷◌, Option, Some, None, Result}
+use Rattle.std.specs.Prelude.{◌≡◌, ℕ, suc, ◌-◌, ◌^◌, min, Bool, true, false, if◌then◌else◌, List, [], ◌∷◌, Option, Some, None, MatchOption, Result}
 use Rattle.std.specs.Result.{result_err}
 use Rattle.page_types.specs.Counts.{raised}
 use Rattle.page_types.specs.declared.End.{End}
 use Rattle.page_types.specs.Events.{Event, Turn, Call, Drop, Settle, EndLine, Stamped}
 use Rattle.trace_text.specs.Line.{Line, Head, Of}
-use Rattle.trace_text.specs.Given.{Keeping, Seen, Gives}
+use Rattle.trace_text.specs.Given.{Keeping, Seen, Gives, after_all}
 use Rattle.trace_text.specs.declared.lines.NoLine.{NoLine}
 use Rattle.trace_text.specs.declared.summary.Summary.{Summary}
 
@@ -73,6 +73,10 @@ counts_of es = record {
 abbrev pub summarised : Summary → Counts
 summarised s = record { turns = s.turns; calls = s.calls; drops = s.drops; settles = s.settles; end = Some s.end }
 
+-- the summary that counts have, and none exactly where no end was told
+abbrev pub IsSummaryOf : Option Summary → Counts → Type 0
+IsSummaryOf summary counts = MatchOption summary (counts.end ≡ None) (λ s. summarised s ≡ counts)
+
 -- ---- Ours: counting line by line
 
 -- one more where the event is such a one
@@ -96,6 +100,10 @@ count_line before (Of e) = Some (counts_after before e.event)
 -- every line is taken
 abbrev pub count_keeping : Keeping Counts
 count_keeping = record { rule = count_line; left = λ counts line after. ⊥ }
+
+-- the counts of these lines, where none was counted before them
+abbrev pub counts_of_lines : List Line → Option Counts
+counts_of_lines lines = after_all count_keeping (Some (counts_of [])) lines
 
 -- what is seen of a count
 abbrev pub seen_counts : Counts → Seen Counts

@@ -122,3 +122,21 @@ pub data IsBadLine (bytes : List ℕ) (number : ℕ) : Type 0 where
       → ((e : Stamped) (more : List ℕ) → Fits form e → IsTrue (are_in_order (good ++ e ∷ [])) → rest ≢ line_text e ++ more)
       → (rest ≡ [] → ends good ≡ false)
       → IsBadLine bytes number
+
+-- the same, of what stands behind the head of a form
+abbrev pub IsBadBehindHead : (form : ℕ) → (text : List ℕ) → (number : ℕ) → Type 0
+IsBadBehindHead form text number = IsBadLine (head_text form ++ text) number
+
+-- ---- Ours: laws of traces
+
+-- no line of a trace is bad
+abbrev pub HasNoBadLine : (form : ℕ) → (bytes : List ℕ) → List Stamped → (number : ℕ) → Type 0
+HasNoBadLine form bytes es number = IsTrace form bytes es → IsBadLine bytes number → ⊥
+
+-- bytes that are traces in two forms are so in one
+abbrev pub HaveOneForm : (a b : ℕ) → (bytes : List ℕ) → (es others : List Stamped) → Type 0
+HaveOneForm a b bytes es others = IsTrace a bytes es → IsTrace b bytes others → a ≡ b
+
+-- bytes that are traces of two lists of events are so of one
+abbrev pub HaveSameEvents : (a b : ℕ) → (bytes : List ℕ) → (es others : List Stamped) → Type 0
+HaveSameEvents a b bytes es others = IsTrace a bytes es → IsTrace b bytes others → es ≡ others

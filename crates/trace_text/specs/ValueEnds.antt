@@ -1,5 +1,6 @@
 -- What stands behind a value at the front of some bytes.
-use Rattle.std.specs.Prelude.{◌≡◌, ℕ, Bool, true, false, if◌then◌else◌, ◌||◌, ◌==◌, ◌⊎◌, List, [], ◌∷◌, ◌++◌, length, drop, take_while, Option, Some, None, codes, IsTrue}
+use Rattle.std.specs.Prelude.{◌≡◌, ◌≢◌, ℕ, Bool, true, false, if◌then◌else◌, ◌||◌, ◌==◌, ◌⊎◌, List, [], ◌∷◌, ◌++◌, length, drop, take_while, Option, Some, None, MatchOption, codes, IsTrue}
+use Rattle.std.specs.Borrow.{Bor}
 use Rattle.std.specs.List.{join_with_byte}
 use Rattle.page_base.specs.Decimals.{is_digit, number_at, after_digits}
 use Rattle.page_base.specs.Fields.{behind, ◌>>=◌, read_or}
@@ -129,3 +130,18 @@ pub record Leaves (At : List ℕ → Type 0) (answer : Option (List ℕ)) : Type
 pub record LeavesValue (IsItem : List ℕ → Type 0) (bytes : List ℕ) (answer : Option (List ℕ)) : Type 0 where
   pub sound : (rest : List ℕ) → answer ≡ Some rest → ValueAt IsItem bytes rest
   pub complete : (rest : List ℕ) → ValueAt IsItem bytes rest → IsTrue (may_follow rest) → answer ≡ Some rest
+
+-- ---- Ours: bytes that a call lends again
+
+-- they are the rest that is told, and none exactly where none is told
+abbrev pub IsRest : Option (Bor (List ℕ)) → (told : Option (List ℕ)) → Type 0
+IsRest result told = MatchOption result (told ≡ None) (λ rest. told ≡ Some rest.now)
+
+-- they stand behind this byte, and there are none exactly where the byte does not stand at the front
+abbrev pub IsBehindByte : Option (Bor (List ℕ)) → (wanted : ℕ) → (bytes : List ℕ) → Type 0
+IsBehindByte result wanted bytes =
+    MatchOption result ((rest : List ℕ) → bytes ≢ wanted ∷ rest) (λ rest. bytes ≡ wanted ∷ rest.now)
+
+-- the text whose parts these bytes begin goes on with them, and there are none only where it never ends
+abbrev pub IsBehindPart : Option (Bor (List ℕ)) → (bytes : List ℕ) → Type 0
+IsBehindPart result bytes = MatchOption result (after_parts bytes ≡ None) (λ rest. after_parts bytes ≡ after_parts rest.now)

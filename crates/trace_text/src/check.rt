@@ -2,9 +2,7 @@
 
 ghost use Rattle.std.specs.Prelude.{◌≡◌, Err, IfOk};
 ghost use Rattle.page_parts.specs.Words.{same_bytes};
-ghost use Rattle.page_parts.specs.TraceText.{line_text};
-ghost use Rattle.trace_text.specs.EventSeen.{stamped_seen};
-ghost use Rattle.trace_text.specs.Comparing.{differed};
+ghost use Rattle.trace_text.specs.Comparing.{differed, have_same_text};
 ghost use Rattle.trace_text.specs.declared.lines.NoLine.TheVariants.{Differs};
 
 use crate::writing::write_line;
@@ -111,7 +109,7 @@ impl<'e> Lines for LineCheck<'e> {
 
 // Whether two events have the same line.
 fn have_same_line(alloc: Global, a: &Stamped, b: &Stamped) -> Result<bool, AllocError>
-    ensures { IfOk result (λ same. same ≡ same_bytes (line_text (stamped_seen a.now)) (line_text (stamped_seen b.now))) }
+    ensures { IfOk result (λ same. same ≡ have_same_text a.now b.now) }
 {
     let mut one = Vec::new(alloc);
     write_line(a, &mut one)?;

@@ -3,7 +3,7 @@
 ghost use Rattle.std.specs.Prelude.{◌≡◌, ◌+◌, ◌^◌, ◌<◌, ◌++◌, length, map, option_map, IfOk, Err};
 ghost use Rattle.page_parts.specs.TraceText.{head_text};
 ghost use Rattle.trace_text.specs.EventSeen.{event_seen, stamped_seen};
-ghost use Rattle.trace_text.specs.Trace.{IsForm, IsTrace, IsBadLine, is_end as ends};
+ghost use Rattle.trace_text.specs.Trace.{IsForm, IsTrace, IsBadLine, IsBadBehindHead, is_end as ends};
 ghost use Rattle.trace_text.specs.LineReading.{IsHeadRead};
 ghost use Rattle.trace_text.specs.declared.fault.BadLine.{BadLine as BadLineSeen};
 ghost use Rattle.trace_text.specs.declared.fault.TraceFault.TheVariants as fault;
@@ -56,7 +56,7 @@ pub fn read_head(bytes: &[u8]) -> Option<(u32, &[u8])>
 fn read_lines(alloc: Global, form: u32, text: &[u8]) -> Result<Vec<Stamped>, TraceFault>
     requires { IsForm form }
     ensures trace { IfOk result (λ items. IsTrace form (head_text form ++ text.now) (map stamped_seen items.items)) }
-    ensures bad { (line : BadLineSeen) → result ≡ Err (fault.Is line) → IsBadLine (head_text form ++ text.now) line.line }
+    ensures bad { (line : BadLineSeen) → result ≡ Err (fault.Is line) → IsBadBehindHead form text.now line.line }
 {
     let mut items = Vec::new(alloc);
     let mut last = 0;

@@ -1,12 +1,12 @@
 //! Whether some bytes are the spelling of a value.
 
-ghost use Rattle.std.specs.Prelude.{◌≡◌, ◌≢◌, ◌≤◌, ◌∷◌, length, ℕ, List, Some, None, IsTrue, MatchOption, IfSome, take_while};
+ghost use Rattle.std.specs.Prelude.{◌≡◌, ◌≢◌, ◌≤◌, ◌∷◌, length, Some, None, IsTrue, MatchOption, IfSome, take_while};
 ghost use Rattle.std.specs.List.{list_all};
 ghost use Rattle.std.specs.Option.{option_map};
 ghost use Rattle.page_values.specs.Names.{is_name as named, is_letter as letter, is_name_byte as name_byte};
 ghost use Rattle.page_values.specs.Spellings.{IsSpelling};
 ghost use Rattle.trace_text.specs.Trace.{IsPrinted};
-ghost use Rattle.trace_text.specs.ValueEnds.{begins_number as number_begins, after_number, after_negative, after_int, after_parts, after_cause, after_fault, after_deadline, after_numbered, after_word, after_simple, inside_name, inside, Leaves, LeavesValue, RowAt, ItemsAt, closes};
+ghost use Rattle.trace_text.specs.ValueEnds.{begins_number as number_begins, after_number, after_negative, after_int, after_parts, after_cause, after_fault, after_deadline, after_numbered, after_word, after_simple, inside_name, inside, Leaves, LeavesValue, RowAt, ItemsAt, closes, IsRest, IsBehindByte, IsBehindPart};
 
 use page_base::{Cursor, behind};
 
@@ -76,7 +76,7 @@ fn items_end(bytes: &[u8], close: u8, deep: u8) -> Option<&[u8]>
 
 // This byte.
 fn byte_end(bytes: &[u8], wanted: u8) -> Option<&[u8]>
-    ensures { MatchOption result ((rest : List ℕ) → bytes.now ≢ wanted ∷ rest) (λ rest. bytes.now ≡ wanted ∷ rest.now) }
+    ensures { IsBehindByte result wanted bytes.now }
 {
     match bytes.split_first() {
         Some((byte, rest)) => { if *byte == wanted { Some(rest) } else { None } }
@@ -177,7 +177,7 @@ fn int_end(bytes: &[u8]) -> Option<&[u8]>
 // The size of a negative number.
 #[tactic(auto, unfolding(crate::specs::ValueEnds::after_negative))]
 fn negative_end(bytes: &[u8]) -> Option<&[u8]>
-    ensures { MatchOption result (after_negative bytes.now ≡ None) (λ rest. after_negative bytes.now ≡ Some rest.now) }
+    ensures { IsRest result (after_negative bytes.now) }
 {
     let mut cursor = Cursor::new(bytes);
     let size = cursor.read_u64(1 << 63)?;
@@ -189,7 +189,7 @@ fn negative_end(bytes: &[u8]) -> Option<&[u8]>
 
 #[tactic(auto, unfolding(crate::specs::ValueEnds::after_number))]
 fn number_end(bytes: &[u8], most: u64) -> Option<&[u8]>
-    ensures { MatchOption result (after_number most bytes.now ≡ None) (λ rest. after_number most bytes.now ≡ Some rest.now) }
+    ensures { IsRest result (after_number most bytes.now) }
 {
     let mut cursor = Cursor::new(bytes);
     match cursor.read_u64(most) {
@@ -219,7 +219,7 @@ fn word_end(bytes: &[u8]) -> Option<&[u8]>
 
 #[tactic(auto, unfolding(crate::specs::ValueEnds::after_numbered))]
 fn numbered_end(bytes: &[u8]) -> Option<&[u8]>
-    ensures { MatchOption result (after_numbered bytes.now ≡ None) (λ rest. after_numbered bytes.now ≡ Some rest.now) }
+    ensures { IsRest result (after_numbered bytes.now) }
 {
     if let Some(number) = behind(bytes, b"promise#") {
         return number_end(number, u32::MAX as u64);
@@ -239,7 +239,7 @@ fn numbered_end(bytes: &[u8]) -> Option<&[u8]>
 // The time of a deadline, if it has one.
 #[tactic(auto, unfolding(crate::specs::ValueEnds::after_deadline))]
 fn deadline_end(bytes: &[u8]) -> Option<&[u8]>
-    ensures { MatchOption result (after_deadline bytes.now ≡ None) (λ rest. after_deadline bytes.now ≡ Some rest.now) }
+    ensures { IsRest result (after_deadline bytes.now) }
 {
     match behind(bytes, b"@") {
         Some(number) => number_end(number, u64::MAX),
@@ -299,9 +299,7 @@ fn parts_end(bytes: &[u8]) -> Option<&[u8]>
 // What follows the part of a text that begins with this byte.
 fn part_end(byte: u8, after: &[u8]) -> Option<&[u8]>
     requires { byte ≢ 34 }
-    ensures part { MatchOption result
-        (after_parts (byte ∷ after.now) ≡ None)
-        (λ rest. after_parts (byte ∷ after.now) ≡ after_parts rest.now) }
+    ensures part { IsBehindPart result (byte ∷ after.now) }
     ensures shorter { IfSome result (λ rest. length rest.now ≤ length after.now) }
 {
     match byte {

@@ -1,11 +1,10 @@
 //! The summary of a trace.
 
-ghost use Rattle.std.specs.Prelude.{◌≡◌, ℕ, List, [], map, MatchOption, Some, None};
+ghost use Rattle.std.specs.Prelude.{◌≡◌, ℕ, List, [], map, Some};
 ghost use Rattle.page_types.specs.Events.{Stamped as StampedSeen};
 ghost use Rattle.trace_text.specs.EventSeen.{event_seen, stamped_seen};
 ghost use Rattle.trace_text.specs.Checks.{lines_of};
-ghost use Rattle.trace_text.specs.Given.{after_all};
-ghost use Rattle.trace_text.specs.Summaries.{counts_of, counts_after, count_keeping, summarised};
+ghost use Rattle.trace_text.specs.Summaries.{counts_of, counts_after, summarised, IsSummaryOf, counts_of_lines};
 ghost use Rattle.trace_text.specs.Counters.{counts_in};
 
 use crate::{Event, Events, Lines, NoLine, Stamped};
@@ -48,7 +47,7 @@ impl LineCount {
 
     /// The summary of the events that were given. None exactly where no `End` was among them. Takes no memory.
     pub fn summary(&self) -> Option<Summary>
-        ensures { MatchOption result ((counts_in self.now).end ≡ None) (λ summary. summarised summary ≡ counts_in self.now) }
+        ensures { IsSummaryOf result (counts_in self.now) }
     {
         let end = self.end?;
         Some(Summary {
@@ -125,5 +124,5 @@ pub fn summary_of(events: &Events) -> Summary
 
 /// The law of the count: given the lines of some events, in any form, it has their counts.
 pub fn counting_gives_the_summary()
-    ensures { (form : ℕ) (es : List StampedSeen) → after_all count_keeping (Some (counts_of [])) (lines_of form es) ≡ Some (counts_of es) }
+    ensures { (form : ℕ) (es : List StampedSeen) → counts_of_lines (lines_of form es) ≡ Some (counts_of es) }
 {}

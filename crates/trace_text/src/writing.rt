@@ -1,10 +1,11 @@
 //! The lines of events.
 
-ghost use Rattle.std.specs.Prelude.{◌≡◌, ◌++◌, [], ◌∷◌, if◌then◌else◌, codes, OnOk, OnErr, IfOk};
+ghost use Rattle.std.specs.Prelude.{◌≡◌, ◌++◌, [], ◌∷◌, OnOk, OnErr, IfOk};
 ghost use Rattle.page_types.specs.Events.{Turn, Throw, Reg, Arm, Job, Settle, Enq, Prio, Host, Send, EndLine};
 ghost use Rattle.page_parts.specs.Spelling.{priority_text};
 ghost use Rattle.page_parts.specs.TraceText.{source_text, end_text, kind_text, field, number_field, int_field, by_field, queued_text, queue_text, how_text, answer_text, event_text, line_text};
 ghost use Rattle.trace_text.specs.EventSeen.{queued_seen, queue_seen, event_seen, stamped_seen};
+ghost use Rattle.trace_text.specs.Line.{form_text};
 
 use crate::words::{end_word, kind_word, priority_word, source_word};
 use crate::{Event, Printed, PrioName, QueueName, Queued, RegKind, Stamped};
@@ -190,7 +191,7 @@ fn write_queue(queue: QueueName, into: &mut Vec<u8>) -> Result<(), AllocError>
 }
 
 fn write_form(cont: bool, into: &mut Vec<u8>) -> Result<(), AllocError>
-    ensures { IfOk result (λ _. into.new.items ≡ into.old.items ++ (if cont then codes " cont" else codes " task")) }
+    ensures { IfOk result (λ _. into.new.items ≡ into.old.items ++ form_text cont) }
 {
     into.extend_from_slice(if cont { b" cont" } else { b" task" })
 }
