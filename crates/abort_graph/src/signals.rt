@@ -1,9 +1,10 @@
-ghost use Rattle.std.specs.Prelude.{◌≡◌, ◌+◌, ◌^◌, ◌<◌, ◌≤◌, ◌-◌, [], List, ℕ, take, length, Some, IfOk, IfSome, IfNone, OnOk, OnErr};
+ghost use Rattle.std.specs.Prelude.{◌≡◌, ◌+◌, ◌^◌, ◌<◌, ◌≤◌, [], length, Some, IfOk, IfSome, IfNone, OnOk, OnErr};
 ghost use Rattle.std.specs.Option.{option_copied};
 ghost use Rattle.page_parts.specs.Words.{with_numbered, and_last, has_number};
 ghost use Rattle.page_parts.specs.AbortGraph as parts;
 ghost use Rattle.page_parts.specs.AbortGraph.{the_signal, reason_of, fresh_signal};
 ghost use Rattle.abort_graph.specs.Seen.{signal_seen};
+ghost use Rattle.abort_graph.specs.Dependents.{new_signal, with_dependents, but_last, HasLeft};
 
 use crate::algorithms::Algorithms;
 use crate::numbers::Numbers;
@@ -170,8 +171,7 @@ impl<R: Copy> Signals<R> {
     fn put(&mut self, reason: Option<R>, sources: Vec<u32>) -> Result<u32, MemoryFault>
         requires { length self.old + 1 < 2 ^ 32 }
         ensures number { IfOk result (λ s. s ≡ length self.old + 1) }
-        ensures made { OnOk result (self.new ≡ and_last self.old
-            (record { reason = reason; sources = sources.items; dependents = []; algorithms = [] })) }
+        ensures made { OnOk result (self.new ≡ and_last self.old (new_signal reason sources.items)) }
         ensures err { OnErr result (self.new ≡ self.old) }
     {
         let number = self.made() + 1;
@@ -274,7 +274,7 @@ impl<R: Copy> Signals<R> {
 
     // The last dependent signal of each of these leaves, that of the last one first.
     fn leave(&mut self, sources: &[u32])
-        ensures { (d : ℕ) (before : parts.Signals R) → self.old ≡ parts.with_dependent d sources.now before → self.new ≡ before }
+        ensures { HasLeft sources.now self.old self.new }
     {
         let mut left = sources.len();
         while left > 0 {
@@ -284,8 +284,7 @@ impl<R: Copy> Signals<R> {
     }
 
     fn add_dependent(&mut self, s: u32, d: u32) -> Result<(), MemoryFault>
-        ensures added { OnOk result (self.new ≡ with_numbered self.old s
-            (record (the_signal self.old s) { dependents = and_last (the_signal self.old s).dependents d })) }
+        ensures added { OnOk result (self.new ≡ with_dependents s (and_last (the_signal self.old s).dependents d) self.old) }
         ensures err { OnErr result (self.new ≡ self.old) }
     {
         if let Some(at) = place_of(s, self.signals.len()) {
@@ -295,11 +294,7 @@ impl<R: Copy> Signals<R> {
     }
 
     fn drop_dependent(&mut self, s: u32)
-        ensures { self.new ≡ with_numbered self.old s
-            (record (the_signal self.old s) {
-              dependents = take (length (the_signal self.old s).dependents - 1)
-                  (the_signal self.old s).dependents;
-            }) }
+        ensures { self.new ≡ with_dependents s (but_last (the_signal self.old s).dependents) self.old }
     {
         if let Some(at) = place_of(s, self.signals.len()) {
             self.signals[at].dependents.pop();

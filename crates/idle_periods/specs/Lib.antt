@@ -1,2 +1,3 @@
 pub mod Runnable
 pub mod Seen
+pub mod Moments

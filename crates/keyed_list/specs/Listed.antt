@@ -3,7 +3,7 @@ use Rattle.std.specs.Prelude.{◌≡◌, ℕ, ◌<◌, if◌then◌else◌, List
 use Rattle.std.specs.BTreeMap.{BTreeMap, get, is_at}
 use Rattle.std.specs.List.{AllByRecursion}
 use Rattle.std.specs.List.Sorted.{IsStrictlySortedBy}
-use Rattle.std.specs.Map.{keys_of, remove_entry}
+use Rattle.std.specs.Map.{keys_of, lookup, remove_entry}
 use Rattle.std.specs.Ordering.{nat_cmp}
 use Rattle.std.specs.declared.alloc.Global.{Global}
 use Rattle.std.specs.declared.vec.Vec.{Vec}
@@ -18,6 +18,10 @@ module _ {T : Type 0} where
   -- the places of the items with a key
   abbrev pub places_in : List (ℕ × Keyed T) → ℕ → List ℕ
   places_in es key = keys_of (filter (λ (e : ℕ × Keyed T). e.1.key == key) es)
+
+  -- this item is there, with its key, at a place
+  abbrev pub HasItem : List (ℕ × Keyed T) → (place : ℕ) → Keyed T → Type 0
+  HasItem es place keyed = lookup (is_at (nat_cmp place)) es ≡ Some keyed
 
   -- the items with other keys
   abbrev pub others : ℕ → List (ℕ × Keyed T) → List (ℕ × Keyed T)

@@ -1,9 +1,9 @@
-ghost use Rattle.std.specs.Prelude.{◌≡◌, [], Some, length, IfOk, IfSome, IfNone, OnErr};
+ghost use Rattle.std.specs.Prelude.{◌≡◌, [], length, IfOk, IfSome, IfNone, OnErr};
 ghost use Rattle.std.specs.BTreeMap.{is_at, values};
-ghost use Rattle.std.specs.Map.{lookup, remove_entry, values_of};
+ghost use Rattle.std.specs.Map.{remove_entry, values_of};
 ghost use Rattle.std.specs.Ordering.{nat_cmp};
 ghost use Rattle.page_parts.specs.Words.{and_last, has_number};
-ghost use Rattle.keyed_list.specs.Listed.{AreBelow, keys_in, places_in, others, remove_each, AreOrdered};
+ghost use Rattle.keyed_list.specs.Listed.{AreBelow, keys_in, places_in, others, remove_each, AreOrdered, HasItem};
 
 use crate::places::{Places, drop_last, has_places, note};
 use crate::{Keyed, MemoryFault, Taken};
@@ -108,8 +108,7 @@ impl<T: Drop> KeyedList<T> {
     /// It costs three look-ups at most. Takes no memory.
     pub fn take_last(&mut self, key: u64) -> Option<Taken<T>>
         ensures last { IfSome result (λ taken. places_in self.old key ≡ and_last (places_in self.new key) taken.place) }
-        ensures item { IfSome result (λ taken.
-            lookup (is_at (nat_cmp taken.place)) self.old ≡ Some (record { key = key; item = taken.item })) }
+        ensures item { IfSome result (λ taken. HasItem self.old taken.place (record { key = key; item = taken.item })) }
         ensures gone { IfSome result (λ taken. self.new ≡ remove_entry (is_at (nat_cmp taken.place)) self.old) }
         ensures none { IfNone result (places_in self.old key ≡ []) }
         ensures kept { IfNone result (self.new ≡ self.old) }

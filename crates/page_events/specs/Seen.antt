@@ -1,5 +1,6 @@
 -- Targets and listeners of the code as those of the definitions.
-use Rattle.std.specs.Prelude.{ℕ, List, map, Option, None, Some}
+use Rattle.std.specs.Prelude.{◌≡◌, ℕ, List, map, Option, None, Some}
+use Rattle.page_parts.specs.Words.{and_last}
 use Rattle.page_parts.specs.Listeners as parts
 use Rattle.page_events.specs.declared.target.Target.{Target}
 use Rattle.page_events.specs.declared.target.Target.TheVariants.{Window, Signal}
@@ -22,3 +23,8 @@ listener_seen l = record { registration = l.key; target = target_at l.item.signa
 -- listeners with their places, without them
 abbrev pub listeners_of : List (ℕ × Keyed Kind) → List parts.Listener
 listeners_of es = map (λ (e : ℕ × Keyed Kind). listener_seen e.1) es
+
+-- there is one more listener, behind all others: of this kind, under this registration
+abbrev pub AddsListener : (registration : ℕ) → Kind → (old new : List (ℕ × Keyed Kind)) → Type 0
+AddsListener registration kind old new =
+    listeners_of new ≡ and_last (listeners_of old) (listener_seen (record { key = registration; item = kind }))

@@ -1,9 +1,9 @@
 //! Listeners by their registrations, found also by their target and name.
 ghost use Rattle.std.specs.Prelude.{◌≡◌, OnOk, OnErr, IfOk};
 ghost use Rattle.std.specs.BTreeMap.{values};
-ghost use Rattle.page_parts.specs.Words.{and_last, has_number};
+ghost use Rattle.page_parts.specs.Words.{has_number};
 ghost use Rattle.keyed_list.specs.Listed.{keys_in, others};
-ghost use Rattle.page_events.specs.Seen.{listener_seen, listeners_of};
+ghost use Rattle.page_events.specs.Seen.{AddsListener};
 ghost use Rattle.page_events.specs.Indexed.{AreKinds, AddsRegistration, RemovesRegistration, SameRegistrations};
 
 use crate::MemoryFault;
@@ -64,8 +64,7 @@ pub(crate) fn put(
     requires kinds { AreKinds listed.old kinds.old }
     requires signal { kind.signal ≡ own.signal }
     requires name { kind.name.items ≡ own.name.items }
-    ensures put { OnOk result (listeners_of listed.new ≡ and_last (listeners_of listed.old)
-        (listener_seen (record { key = registration; item = own }))) }
+    ensures put { OnOk result (AddsListener registration own listed.old listed.new) }
     ensures err { OnErr result (listed.new ≡ listed.old) }
     ensures kinds { AreKinds listed.new kinds.new }
 {

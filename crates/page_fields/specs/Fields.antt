@@ -1,9 +1,10 @@
 -- The views of a page's parts as the fields of the model's page. Ours: how code that owns the parts stands to the model
 use Rattle.std.specs.Prelude.{◌≡◌, ◌≢◌, ℕ, suc, false, List, ◌∷◌, [], map, Option, Some, None, pos, slice_get, slice_set, option_map, ◌==◌}
 use Rattle.page_types.specs.Values.{IntValue}
+use Rattle.page_types.specs.Events.{Frame}
 use Rattle.page_types.specs.declared.Source.{Source}
 use Rattle.page_parts.specs.Words.{and_last, without}
-use Rattle.page_parts.specs.Frames.{Callback, callback_in}
+use Rattle.page_parts.specs.Frames.{Callback, callback_in, keys}
 use Rattle.page_parts.specs.HostClosures.{HostClosure}
 use Rattle.raf_frames.specs.FrameInProgress.{FrameInProgress, next_callback, after_next}
 use Rattle.page_types.specs.declared.Source.TheVariants.{Sched}
@@ -13,7 +14,7 @@ use Rattle.host_jobs.specs.Closures.{dropped, changed_at, fired_at}
 use Rattle.host_jobs.specs.Overlay.{queued_at}
 use Rattle.std.specs.List.{find}
 use Rattle.lang_meaning.specs.Machine.{Done, afterwards, finish}
-use Rattle.page_model.specs.State.{Steps, Task, Page, State, on_page, queue_task}
+use Rattle.page_model.specs.State.{Steps, Task, Page, State, emit, on_page, queue_task}
 use Rattle.page_model.specs.Invoke.{Ways, invoke}
 use Rattle.page_model.specs.PageSignals.{each_in_turn, drop_at}
 use Rattle.page_model.specs.PageTime.{first_task, without_frame}
@@ -27,6 +28,10 @@ use Rattle.page_model.specs.View.{first_number}
 -- keys of a frame are visited in turn, with its timestamp
 abbrev pub visits : Ways → ℕ → List ℕ → State → Done Page
 visits w t left m = each_in_turn left (λ key m. frame_callback w t (callback_in m.host.frames.callbacks key) m) m
+
+-- a frame begins with its line, and then the keys of the map are visited
+abbrev pub from_keys : Ways → (timestamp : ℕ) → State → Done Page
+from_keys w t m = visits w t (keys m.host.frames) (on_page (emit (Frame t)) m)
 
 -- a callback leaves the map and is invoked with the timestamp
 abbrev pub frame_called : Ways → ℕ → Callback → State → Done Page
@@ -73,6 +78,10 @@ module _ {T : Type 0} (steps : T → Steps) where
   FirstNumberIs lists tasks p =
       (s : Source) → s ≢ Sched → IsOneList lists tasks → p.tasks ≡ tasks_of tasks
       → first_number p s ≡ option_map (λ (entry : Entry T). entry.number) (first_entry (lists s))
+
+  -- the same of all such lists, and of every page
+  abbrev pub FirstNumbersAre : BySource T → Type 0
+  FirstNumbersAre lists = (tasks : List (SourcedTask T)) (p : Page) → FirstNumberIs lists tasks p
 
 -- ---- closures
 

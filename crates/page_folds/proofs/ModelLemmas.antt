@@ -14,7 +14,7 @@ use Rattle.page_model.specs.State.{Page, the_registration}
 use Rattle.page_model.specs.Invoke.{when_reported, call_begun, call_ended}
 use Rattle.page_model.specs.PageSignals.{abort_registrations, run_algorithms, reason_value, priority_value, has_priority}
 use Rattle.page_model.specs.PageSignals as page
-use Rattle.page_model.specs.Folds.{ChangePiece, ChangeOf, EndChange, Rest, AbortsLeft, ChangesLeft, Reached, Finished, begin_listener, next_listener, fire, changes_of, each_change, rest_from}
+use Rattle.page_model.specs.Folds.{ChangePiece, ChangeOf, EndChange, Rest, AbortsLeft, ChangesLeft, Reached, begin_listener, next_listener, fire, changes_of, each_change, rest_from}
 use Rattle.page_model.specs.Folds as model
 use Rattle.page_model.specs.FoldBounds.{HasRecord, CanChange}
 use Rattle.page_events.specs.Dispatching.{next_listening, behind_next}
@@ -22,7 +22,7 @@ use Rattle.page_events.specs.declared.target.Target.{Target}
 use Rattle.page_events.specs.declared.target.Target.TheVariants.{Signal}
 use Rattle.page_folds.specs.declared.step.FoldStep.{FoldStep}
 use Rattle.page_folds.specs.declared.step.FoldStep.TheVariants as step
-use Rattle.page_folds.specs.Steps.{Parts, Stage, Between, Algorithms, ToTell, ToFire, Calling, OpenFold, Came, Ends, Gives, listener_next, stage_next, or_then, algorithms_taken, aborts_from, before_change, change_from, changes_from, change_begun, change_ended, goes_on}
+use Rattle.page_folds.specs.Steps.{Parts, Stage, Between, Algorithms, ToTell, ToFire, Calling, OpenFold, listener_next, stage_next, or_then, algorithms_taken, aborts_from, before_change, change_from, changes_from, change_begun, change_ended}
 use Rattle.page_folds.specs.Steps as steps
 use Rattle.page_folds.specs.OfModel.{page_with, Kind, OfDispatch, OfAbort, OfChange, arguments_of, stage_meaning, step_meaning, came_meaning, HaveReason, Fits, StepIs, DispatchIs, AbortIs, ChangeIs}
 

@@ -131,6 +131,10 @@ DispatchIs args target name ps p =
     model.begin_dispatch (seen_target target) name args (page_with ps p)
     ≡ meaning (OfDispatch args) (dispatch_fold target name ps) (page_with ps p)
 
+-- so it does on every page
+abbrev pub DispatchesBegin : (args : List Value) → Target → (name : List ℕ) → Type 0
+DispatchesBegin args target name = (ps : Parts Value) (p : Page) → DispatchIs args target name ps p
+
 -- an abort begins as its fold, once a line is written for each signal
 abbrev pub AbortIs : (s : ℕ) (reason : Value) → Parts Value → Page → Type 0
 AbortIs s reason ps p =

@@ -63,6 +63,10 @@ stage_next ls (ToTell s before) = Some (step.Changed s before, ToFire s)
 stage_next ls (ToFire s) = fired ls (codes "prioritychange") s
 stage_next ls (Calling target left) = listener_next ls target left
 
+-- the same while these abort algorithms of a signal are left
+abbrev pub algorithm_next : List Listener → (signal : ℕ) → (left : List ℕ) → Option (FoldStep × Stage)
+algorithm_next ls s left = stage_next ls (Algorithms s left)
+
 -- this step, or what comes where there is none
 abbrev pub or_then : {R : Type 0} → Option (FoldStep × Stage) → Rest → (Parts R → Came R) → Parts R → Came R
 or_then None rest next ps = next ps

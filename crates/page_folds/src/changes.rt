@@ -1,9 +1,6 @@
-ghost use Rattle.std.specs.Prelude.{◌≡◌, ◌<◌, ◌∷◌, IfOk, OnErr, OnOk, List, ℕ};
+ghost use Rattle.std.specs.Prelude.{◌≡◌, ◌<◌, ◌∷◌, IfOk, OnErr, OnOk};
 ghost use Rattle.std.specs.VecDeque.{deque_len, deque_capacity};
-ghost use Rattle.page_parts.specs.Listeners.{Listener};
-ghost use Rattle.page_parts.specs.AbortGraph.{Signals};
-ghost use Rattle.page_folds.specs.Steps.{changes_from};
-ghost use Rattle.page_folds.specs.Seen.{IsBegun, came_to_told, pieces_of};
+ghost use Rattle.page_folds.specs.Seen.{IsBegun, TellsOn};
 ghost use Rattle.page_folds.specs.AtRest.{at_rest};
 
 use crate::MemoryFault;
@@ -47,9 +44,7 @@ impl Changes {
     // Begins the next change that is not passed over, and ends those that are over on the way. None exactly where all are over. For want
     // of memory changes may have ended, and no priority is another.
     pub(crate) fn advance(self, prios: &mut Prios) -> Result<Option<Told>, MemoryFault>
-        ensures told { IfOk result (λ told. (ls : List Listener) (ss : Signals ℕ) →
-            came_to_told told (record { listeners = ls; signals = ss; prios = prios.new }) ≡
-            changes_from self.priority (pieces_of self.levels.items) (record { listeners = ls; signals = ss; prios = prios.old })) }
+        ensures told { IfOk result (λ told. TellsOn self prios.old told prios.new) }
         ensures err { OnErr result (at_rest prios.new ≡ at_rest prios.old) }
     {
         let Changes {

@@ -1,10 +1,6 @@
-ghost use Rattle.std.specs.Prelude.{◌≡◌, ℕ, List, IfOk, OnErr};
+ghost use Rattle.std.specs.Prelude.{◌≡◌, IfOk, OnErr};
 ghost use Rattle.std.specs.Vec.Iter.{into_iter_items};
-ghost use Rattle.page_parts.specs.AbortGraph as signals;
-ghost use Rattle.page_parts.specs.Listeners.{Listener};
-ghost use Rattle.page_parts.specs.TaskSignals as priorities;
-ghost use Rattle.page_folds.specs.Steps.{aborts_from, changes_from, goes_on};
-ghost use Rattle.page_folds.specs.Seen.{came_to, fold_seen, pieces_of};
+ghost use Rattle.page_folds.specs.Seen.{GoesOn, AbortsOn, ChangesOn};
 ghost use Rattle.page_folds.specs.AtRest.{at_rest};
 
 use crate::changes::Changes;
@@ -46,9 +42,7 @@ impl Fold {
         signals: &mut Signals<u32>,
         prios: &mut Prios,
     ) -> Result<Option<Next>, MemoryFault>
-        ensures step { IfOk result (λ next.
-            came_to next (record { listeners = listeners.now; signals = signals.new; prios = prios.new }) ≡
-            goes_on (fold_seen self) (record { listeners = listeners.now; signals = signals.old; prios = prios.old })) }
+        ensures step { IfOk result (λ next. GoesOn self listeners.now signals.old prios.old next signals.new prios.new) }
         ensures err { OnErr result (at_rest prios.new ≡ at_rest prios.old) }
     {
         let Fold { stage, rest } = self;
@@ -75,9 +69,7 @@ fn next_abort(
     signals: &mut Signals<u32>,
     mut left: vec::IntoIter<u32>,
 ) -> Result<Option<Next>, MemoryFault>
-    ensures { IfOk result (λ next. (prios : priorities.Prios) →
-        came_to next (record { listeners = listeners.now; signals = signals.new; prios = prios }) ≡
-        aborts_from (into_iter_items left) (record { listeners = listeners.now; signals = signals.old; prios = prios })) }
+    ensures { IfOk result (λ next. AbortsOn (into_iter_items left) listeners.now signals.old next signals.new) }
 {
     while let Some(signal) = left.next() {
         let algorithms = signals.take_algorithms(signal).into_iter();
@@ -100,9 +92,7 @@ fn next_abort(
 
 // The next change.
 fn next_change(changes: Changes, prios: &mut Prios) -> Result<Option<Next>, MemoryFault>
-    ensures step { IfOk result (λ next. (ls : List Listener) (ss : signals.Signals ℕ) →
-        came_to next (record { listeners = ls; signals = ss; prios = prios.new }) ≡
-        changes_from changes.priority (pieces_of changes.levels.items) (record { listeners = ls; signals = ss; prios = prios.old })) }
+    ensures step { IfOk result (λ next. ChangesOn changes prios.old next prios.new) }
     ensures err { OnErr result (at_rest prios.new ≡ at_rest prios.old) }
 {
     let told = changes.advance(prios)?;

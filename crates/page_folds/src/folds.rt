@@ -4,7 +4,7 @@ ghost use Rattle.task_signal.specs.Changes.{HasPriority};
 ghost use Rattle.page_folds.specs.Steps.{IsInnermost, outer, dispatch_begun, abort_begun, stepped};
 ghost use Rattle.page_folds.specs.Begins.{AbortLeaves, IsChange, ChangeLeaves};
 ghost use Rattle.page_folds.specs.Visits.{Falls};
-ghost use Rattle.page_folds.specs.Seen.{fold_seen, parts_of, open_of, standing};
+ghost use Rattle.page_folds.specs.Seen.{fold_of, parts_of, open_of, standing};
 ghost use Rattle.page_folds.specs.AtRest.{at_rest};
 ghost use Rattle.page_folds.specs.Calls.{calls_in};
 
@@ -183,7 +183,7 @@ impl Folds {
     fn begin(&mut self, stage: Stage, rest: Rest) -> Result<u64, MemoryFault>
         ensures ticket { IfOk result (λ ticket. ticket ≡ length (open_of self.old)) }
         ensures parts { parts_of self.new ≡ parts_of self.old }
-        ensures opened { OnOk result (open_of self.new ≡ fold_seen (record { stage = stage; rest = rest }) ∷ open_of self.old) }
+        ensures opened { OnOk result (open_of self.new ≡ fold_of stage rest ∷ open_of self.old) }
         ensures err { OnErr result (open_of self.new ≡ open_of self.old) }
     {
         let ticket = self.open_folds.len() as u64;

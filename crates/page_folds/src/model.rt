@@ -5,7 +5,7 @@ ghost use Rattle.page_types.specs.declared.Priority.{Priority};
 ghost use Rattle.page_events.specs.declared.target.Target.{Target};
 ghost use Rattle.page_model.specs.State.{Page};
 ghost use Rattle.page_folds.specs.Steps.{Parts, OpenFold};
-ghost use Rattle.page_folds.specs.OfModel.{Kind, StepIs, NumbersAre, DispatchIs, AbortIs, ChangeIs};
+ghost use Rattle.page_folds.specs.OfModel.{Kind, StepIs, NumbersAre, DispatchesBegin, AbortIs, ChangeIs};
 
 /// The steps of a fold are those that a page takes, in order: what a page does with an open fold is to do what the next step says,
 /// and then what it does with the fold after that step. What it does where a fold begins is what it does with the fold that begins
@@ -14,8 +14,7 @@ ghost use Rattle.page_folds.specs.OfModel.{Kind, StepIs, NumbersAre, DispatchIs,
 pub fn steps_are_those_of_a_page()
     ensures step { (kind : Kind) (fold : OpenFold) (ps : Parts Value) (p : Page) → StepIs kind fold ps p }
     ensures numbers { (f : ℕ → Value) (fold : OpenFold) (ps : Parts ℕ) → NumbersAre f fold ps }
-    ensures dispatch { (args : List Value) (target : Target) (name : List ℕ) (ps : Parts Value) (p : Page) →
-        DispatchIs args target name ps p }
+    ensures dispatch { (args : List Value) (target : Target) (name : List ℕ) → DispatchesBegin args target name }
     ensures abort { (s : ℕ) (reason : Value) (ps : Parts Value) (p : Page) → AbortIs s reason ps p }
     ensures change { (s : ℕ) (priority : Priority) (ps : Parts Value) (p : Page) → ChangeIs s priority ps p }
 {}

@@ -1,7 +1,7 @@
 ghost use Rattle.std.specs.Prelude.{◌≡◌, IfOk, IsTrue};
 ghost use Rattle.page_values.specs.Texts.{is_text};
 ghost use Rattle.std.specs.Vec.Iter.{into_iter_items};
-ghost use Rattle.page_folds.specs.Steps.{Algorithms, stage_next, listener_next, fired};
+ghost use Rattle.page_folds.specs.Steps.{algorithm_next, stage_next, listener_next, fired};
 ghost use Rattle.page_folds.specs.Seen.{stage_seen, advance_seen};
 ghost use Rattle.page_folds.specs.Calls.{calls};
 
@@ -84,7 +84,7 @@ fn next_algorithm(
     signal: u32,
     mut left: vec::IntoIter<u64>,
 ) -> Result<Option<Advance>, MemoryFault>
-    ensures { IfOk result (λ next. advance_seen next ≡ stage_next listeners.now (Algorithms signal (into_iter_items left))) }
+    ensures { IfOk result (λ next. advance_seen next ≡ algorithm_next listeners.now signal (into_iter_items left)) }
 {
     match left.next() {
         Some(algorithm) => Ok(Some(Advance {

@@ -6,6 +6,7 @@ ghost use Rattle.page_frames.specs.Fields.{no_callbacks};
 ghost use Rattle.page_frames.specs.Steps.{frame_requested, frame_registration, frame_gone, has_frames as has_frames_in, next_opportunity, opportunity_taken};
 ghost use Rattle.page_frames.specs.Steps.{idle_requested, idle_registration, idle_gone, has_runnable as has_runnable_in, first_registration, first_gone};
 ghost use Rattle.page_frames.specs.Steps.{awaited_rendering as awaited, deadline_from, idle_moment_at, idle_start_set, period_to_start, period_started, time_left};
+ghost use Rattle.page_frames.specs.Moments.{micros_in};
 
 use crate::MemoryFault;
 use crate::moments::next_multiple;
@@ -280,7 +281,7 @@ impl PageFrames {
     pub fn idle_moment(&self, now: Micros, next_timer: Option<Micros>) -> Option<Micros>
         requires { now.0 < 2 ^ 63 }
         ensures moment { option_map (λ moment. moment.0) result
-            ≡ idle_moment_at now.0 (option_map (λ moment. moment.0) next_timer) self.now }
+            ≡ idle_moment_at now.0 (micros_in next_timer) self.now }
         ensures in_range { IfSome result (λ moment. moment.0 < 2 ^ 63 + 50000) }
     {
         let moment = now.max(self.idle_period_end);
@@ -297,7 +298,7 @@ impl PageFrames {
     /// ended. Takes no memory.
     pub fn may_start(&self, now: Micros, next_timer: Option<Micros>) -> Option<Micros>
         ensures end { option_map (λ moment. moment.0) result
-            ≡ period_to_start now.0 (option_map (λ moment. moment.0) next_timer) self.now }
+            ≡ period_to_start now.0 (micros_in next_timer) self.now }
         ensures in_range { IfSome result (λ end. end.0 < 2 ^ 63 + 50000) }
     {
         let end = self.deadline(self.last_idle_start, next_timer);
@@ -326,8 +327,7 @@ impl PageFrames {
         now: Micros,
         next_timer: Option<Micros>,
     ) -> u64
-        ensures { result ≡ time_left (option_map (λ moment. moment.0) fixed) now.0
-            (option_map (λ moment. moment.0) next_timer) self.now }
+        ensures { result ≡ time_left (micros_in fixed) now.0 (micros_in next_timer) self.now }
     {
         let end = match fixed {
             Some(end) => end,

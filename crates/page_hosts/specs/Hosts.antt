@@ -8,6 +8,7 @@ use Rattle.page_types.specs.declared.HostMark.TheVariants.{Live, Queued, Fired, 
 use Rattle.page_parts.specs.HostClosures.{HostClosure, fired}
 use Rattle.host_jobs.specs.Overlay.{IsLiveOrDropped}
 use Rattle.page_model.specs.Operations.{is_fresh, queued_mark}
+use Rattle.page_model.specs.PageSignals.{drop_at}
 
 -- the closures in the order of their numbers, the same as the port has them so far, which drops none before it is handed back, the answers
 -- that are still kept, where they are told, and how often an answer was refused
@@ -16,6 +17,10 @@ pub record Hosts : Type 0 where
   pub at_port : List HostClosure
   pub kept : Option (List (Result ℤ ℤ))
   pub refusals : ℕ
+
+-- closures of which the page has changed none, with what is kept and how often an answer was refused
+abbrev pub at_first : List HostClosure → (kept : Option (List (Result ℤ ℤ))) → (refusals : ℕ) → Hosts
+at_first closures kept refusals = record { closures = closures; at_port = closures; kept = kept; refusals = refusals }
 
 -- ---- one closure by its number
 
@@ -36,6 +41,14 @@ IsUnfired hosts k = (c : HostClosure) → slice_get hosts k ≡ Some c → c.mar
 abbrev pub ask_at : ℕ → Option HostClosure → List HostClosure → List HostClosure
 ask_at k None hosts = hosts
 ask_at k (Some c) hosts = slice_set hosts k (queued_mark c)
+
+-- the same, with all else as it was
+abbrev pub with_asked : ℕ → Hosts → Hosts
+with_asked k hosts = record hosts { closures = ask_at k (slice_get hosts.closures k) hosts.closures }
+
+-- closure number k is dropped, with all else as it was
+abbrev pub with_dropped : ℕ → Hosts → Hosts
+with_dropped k hosts = record hosts { closures = drop_at k (slice_get hosts.closures k) hosts.closures }
 
 -- closure number k is fired, where there is one
 abbrev pub fire_at : ℕ → Option HostClosure → List HostClosure → List HostClosure

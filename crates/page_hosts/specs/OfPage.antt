@@ -1,7 +1,9 @@
 -- How host closures stand to those of the model's page. Ours: the field `hosts` is what the closures of a `PageHosts` are
 use Rattle.std.specs.Prelude.{◌≡◌, ℕ, ℤ, IsTrue, List, Option, Some, Result, slice_get, option_map}
 use Rattle.page_parts.specs.HostClosures.{HostClosure}
-use Rattle.page_parts.specs.WrittenChoices.{Choices}
+use Rattle.page_types.specs.declared.Source.{Source}
+use Rattle.page_parts.specs.Setup.{Policy}
+use Rattle.page_parts.specs.WrittenChoices.{Choices, Recorded, Written}
 use Rattle.host_jobs.specs.Closures.{meets_at}
 use Rattle.host_jobs.specs.KeptAnswers.{next_kept}
 use Rattle.page_model.specs.State.{Page, HostTask}
@@ -48,3 +50,11 @@ abbrev pub ChoosesKept : List HostClosure → (List (Result ℤ ℤ) → Choices
 ChoosesKept hosts left =
     (k : ℕ) (c : HostClosure) (x : ℤ) (kept : List (Result ℤ ℤ)) → slice_get hosts k ≡ Some c
     → chosen_answer choice_rules c.kind x (left kept) ≡ kept_choice left (next_kept (meets_at hosts k x) kept)
+
+-- so do recorded lists with these sources, whatever the readings are
+abbrev pub ChoosesRecorded : List HostClosure → List Source → Type 0
+ChoosesRecorded hosts sources = (readings : List ℕ) → ChoosesKept hosts (Recorded sources readings)
+
+-- so does this written policy, whatever the counts and the lateness are
+abbrev pub ChoosesWritten : List HostClosure → Policy → Type 0
+ChoosesWritten hosts policy = (counts late : List ℕ) → ChoosesKept hosts (Written policy counts late)

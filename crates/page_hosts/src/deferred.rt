@@ -4,6 +4,7 @@ ghost use Rattle.std.specs.Prelude.{◌≡◌, ◌≤◌, ◌^◌, length, vec_l
 ghost use Rattle.page_types.specs.Counts.{refusals_after};
 ghost use Rattle.host_jobs.specs.Closures.{is_live_at, takes_at, meets_at, fired_at, dropped_at};
 ghost use Rattle.host_jobs.specs.KeptAnswers.{FollowsKept};
+ghost use Rattle.page_hosts.specs.Hosts.{at_first};
 ghost use Rattle.page_hosts.specs.Deferred.{given_up_in, is_given_up, Covers};
 
 use crate::{HostPort, NoHost};
@@ -45,12 +46,7 @@ impl<P: HostPort> DeferredPort<P> {
     /// Want of memory is the one error, and hands the port back as it was. It costs what asking the port of each closure costs.
     pub(crate) fn new(alloc: Global, port: P) -> Result<DeferredPort<P>, P>
         requires { length (P.closures port) ≤ 2 ^ 32 }
-        ensures ok { IfOk result (λ deferred. deferred ≡ record {
-          closures = P.closures port;
-          at_port = P.closures port;
-          kept = P.kept port;
-          refusals = P.refusals port;
-        }) }
+        ensures ok { IfOk result (λ deferred. deferred ≡ at_first (P.closures port) (P.kept port) (P.refusals port)) }
         ensures err { IfErr result (λ back. back ≡ port) }
     {
         match none_given_up(alloc, &port) {

@@ -4,9 +4,8 @@ ghost use Rattle.page_types.specs.Counts.{refusals_after};
 ghost use Rattle.host_jobs.specs.Closures.{meets_at, fired_at};
 ghost use Rattle.host_jobs.specs.KeptAnswers.{FollowsKept};
 ghost use Rattle.page_model.specs.Operations.{fitting};
-ghost use Rattle.page_model.specs.PageSignals.{drop_at};
 ghost use Rattle.page_model.specs.Turns.{not_dropped};
-ghost use Rattle.page_hosts.specs.Hosts.{closure_in, is_fresh_at, ask_at, fire_at, IsUnfired, IsQueued, is_unqueued, unasked};
+ghost use Rattle.page_hosts.specs.Hosts.{at_first, closure_in, is_fresh_at, with_asked, with_dropped, fire_at, IsUnfired, IsQueued, is_unqueued, unasked};
 
 use crate::deferred::DeferredPort;
 use crate::{HostPort, MemoryFault, NoHost};
@@ -53,12 +52,7 @@ impl<P: HostPort> PageHosts<P> {
     pub fn new(alloc: Global, port: P) -> Result<PageHosts<P>, P>
         requires count { length (P.closures port) ≤ 2 ^ 32 }
         requires unqueued { IsTrue (list_all is_unqueued (P.closures port)) }
-        ensures first { IfOk result (λ hosts. hosts ≡ record {
-          closures = P.closures port;
-          at_port = P.closures port;
-          kept = P.kept port;
-          refusals = P.refusals port;
-        }) }
+        ensures first { IfOk result (λ hosts. hosts ≡ at_first (P.closures port) (P.kept port) (P.refusals port)) }
         ensures err { IfErr result (λ back. back ≡ port) }
     {
         Ok(PageHosts {
@@ -95,9 +89,7 @@ impl<P: HostPort> PageHosts<P> {
     /// Marks closure `k` as asked. Want of memory is the only error; then nothing has changed.
     pub fn ask(&mut self, k: u32) -> Result<(), MemoryFault>
         requires { IsTrue (is_fresh_at self.old.closures k) }
-        ensures ok { OnOk result (self.new ≡ record self.old {
-          closures = ask_at k (slice_get self.old.closures k) self.old.closures;
-        }) }
+        ensures ok { OnOk result (self.new ≡ with_asked k self.old) }
         ensures err { OnErr result (self.new ≡ self.old) }
     {
         self.asked.insert(k)?;
@@ -143,9 +135,7 @@ impl<P: HostPort> PageHosts<P> {
     /// Drops closure `k` uncalled, where it is there; it was not fired. Its port does so when it is handed back. Takes no memory.
     pub fn drop_closure(&mut self, k: u32)
         requires { IsUnfired self.old.closures k }
-        ensures { self.new ≡ record self.old {
-          closures = drop_at k (slice_get self.old.closures k) self.old.closures;
-        } }
+        ensures { self.new ≡ with_dropped k self.old }
     {
         self.port.give_up(k);
     }

@@ -7,7 +7,7 @@ use Rattle.page_base.specs.declared.memory.MemoryFault.{MemoryFault}
 use Rattle.page_parts.specs.Words.{and_last}
 use Rattle.page_parts.specs.Kinds.{promise_in, a_fault}
 use Rattle.page_parts.specs.Promises as Parts
-use Rattle.page_parts.specs.Promises.{PromiseRecord, Settled, Fulfilled, Failed, Reaction, pending_promise, the_promise, resolve, resolve_unlocked, reject, follow, subscribe, settle, adopt, no_change, settled_value}
+use Rattle.page_parts.specs.Promises.{PromiseRecord, Settled, Fulfilled, Failed, Reaction, the_promise, resolve, resolve_unlocked, reject, follow, subscribe, settle, adopt, no_change, settled_value}
 use Rattle.page_parts.specs.Notices.{Notices, promise_changed, make, note_outstanding}
 use Rattle.page_values.specs.Written.{IsNumbered}
 use Rattle.promise_core.specs.declared.record.Change.{Change}

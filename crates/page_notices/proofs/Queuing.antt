@@ -1,8 +1,8 @@
 -- Jobs of promises that are queued one after another.
-use Rattle.std.proofs.Common.{◌≡◌, ℕ, suc, ◌+◌, ◌<◌, ◌≤◌, List, ◌∷◌, length, drop, get_or, drop-cons, add-one, arith, refl, ap, sym, ◌∙◌, subst, Option, Some, None}
-use Rattle.std.proofs.lemmas.List.{drop_all, length-drop}
+use Rattle.std.proofs.Common.{◌≡◌, ℕ, ◌+◌, ◌<◌, ◌≤◌, List, ◌∷◌, length, drop, get_or, drop-cons, add-one, refl, ap, sym, ◌∙◌, subst, Option, Some, None}
+use Rattle.std.proofs.lemmas.List.{drop_all}
 use Rattle.page_parts.specs.Promises.{PromiseJob}
-use Rattle.page_parts.specs.Notices.{Notices, Context, Todo, OfPromise, queue_job, queue_jobs}
+use Rattle.page_parts.specs.Notices.{Notices, Context, OfPromise, queue_job, queue_jobs}
 use Rattle.trace_text.specs.declared.lines.NoLine.{NoLine}
 use Rattle.trace_text.specs.Given.{Keeping, Seen}
 use Rattle.trace_text.specs.Acts.{At, Does}

@@ -1,14 +1,13 @@
 -- From what is told of a change to the step of the definitions.
-use Rattle.std.proofs.Common.{◌≡◌, ℕ, ◌+◌, ◌<◌, ◌≤◌, arith, List, [], ◌∷◌, length, Bool, cond, refl, ap, sym, ◌∙◌, subst, Option}
-use Rattle.std.proofs.lemmas.List.{length-map}
+use Rattle.std.proofs.Common.{◌≡◌, ℕ, ◌<◌, ◌≤◌, List, [], length, Bool, cond, refl, ap, sym, ◌∙◌, subst, Option}
 use Rattle.page_parts.specs.Promises as Parts
-use Rattle.page_parts.specs.Promises.{PromiseRecord, PromiseJob, Settled, Fulfilled, Failed, pending_promise, the_promise, follow}
-use Rattle.page_parts.specs.Notices.{Notices, Noticed, Context, OfPromise, settle_line, queue_job, queue_jobs, followed_by, promise_changed, changed, settle_promise, follow_promise}
+use Rattle.page_parts.specs.Promises.{Settled, Fulfilled, Failed, pending_promise, the_promise, follow}
+use Rattle.page_parts.specs.Notices.{Notices, Noticed, Context, settle_line, queue_jobs, followed_by, promise_changed, changed, settle_promise, follow_promise}
 use Rattle.trace_text.specs.declared.lines.NoLine.{NoLine}
 use Rattle.trace_text.specs.Given.{Keeping, Seen, Gives}
 use Rattle.trace_text.specs.Acts.{At, Does}
 use Rattle.promise_core.specs.declared.record.Change.{Change}
-use Rattle.promise_core.specs.Seen.{job_seen, jobs_seen}
+use Rattle.promise_core.specs.Seen.{jobs_seen}
 use Rattle.promise_core.proofs.HeldLemmas.{numbered-with}
 use Rattle.page_notices.specs.Steps.{lines_at, timed, on}
 use Rattle.page_notices.specs.Changes.{Brings, settling, telling, IsNamed}

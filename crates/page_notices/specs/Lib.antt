@@ -3,3 +3,4 @@ pub mod Marks
 pub mod Steps
 pub mod State
 pub mod Changes
+pub mod Calls

@@ -1,24 +1,20 @@
 //! The promises, the jobs that wait and the outstanding rejections, with the lines of calls on them.
 
-ghost use Rattle.std.specs.Prelude.{◌≡◌, ◌∷◌, ◌+◌, ◌^◌, ◌<◌, not, [], Some, None, drop, length, nat_lt, IfOk, IfErr, OnOk, OnErr};
+ghost use Rattle.std.specs.Prelude.{◌≡◌, ◌∷◌, ◌+◌, ◌^◌, ◌<◌, not, [], drop, length, nat_lt, IfOk, IfErr, OnOk, OnErr};
 ghost use Rattle.std.specs.Prelude.{IsTrue, MatchOption};
-ghost use Rattle.std.specs.Result.{result_err};
-ghost use Rattle.page_parts.specs.Promises as promises;
 ghost use Rattle.page_parts.specs.Promises.{the_promise, settled_value};
 ghost use Rattle.page_parts.specs.Notices as parts;
 ghost use Rattle.page_parts.specs.Spelling.{spelled};
-ghost use Rattle.page_types.specs.Events.{Settle};
 ghost use Rattle.page_values.specs.Seen.{seen};
-ghost use Rattle.page_parts.specs.Notices.{no_notices, settle_promise, follow_promise, subscribe_promise, is_outstanding};
+ghost use Rattle.page_parts.specs.Notices.{no_notices, is_outstanding};
 ghost use Rattle.page_values.specs.Written.{IsNumbered};
 ghost use Rattle.promise_core.specs.Held.{IsMade, all_within};
-ghost use Rattle.promise_core.specs.Seen.{settled_seen, reaction_seen, jobs_seen};
-ghost use Rattle.trace_text.specs.Acts.{Does};
+ghost use Rattle.promise_core.specs.Seen.{settled_seen};
 ghost use Rattle.trace_text.specs.declared.lines.NoLine.TheVariants.{OutOfMemory};
-ghost use Rattle.trace_text.specs.Given.{Gives};
-ghost use Rattle.page_notices.specs.Seen.{current, waiting_seen, todo_seen};
-ghost use Rattle.page_notices.specs.Steps.{timed, on, held, lines_at};
-ghost use Rattle.page_notices.specs.Changes.{Brings, settling, no_longer_unhandled, telling, settled_line, IsNamed};
+ghost use Rattle.page_notices.specs.Seen.{waiting_seen, todo_seen};
+ghost use Rattle.page_notices.specs.Steps.{held};
+ghost use Rattle.page_notices.specs.Changes.{BringsWhereOk, settled_change, followed_change, subscribed_change, no_longer_unhandled, IsOutcome, IsNamed, settled_line_of, settle_lines};
+ghost use Rattle.page_notices.specs.Calls.{Writes, Settles, Follows, Subscribes, PutsMicro, TellsChange, QueuesJobs, QueuesJob, context_at};
 
 use crate::jobs::{Moment, NextJob, Todo};
 use crate::noted::Noted;
@@ -101,8 +97,7 @@ impl Notices {
     /// How a promise was settled, and None exactly while it is pending. Takes no memory.
     pub fn outcome(&self, p: u32) -> Option<&Settled>
         requires { IsMade (held self.now) p }
-        ensures { MatchOption result ((the_promise self.now.promises p).outcome ≡ None)
-            (λ how. (the_promise self.now.promises p).outcome ≡ Some (settled_seen how.now)) }
+        ensures { IsOutcome result (the_promise self.now.promises p).outcome }
     {
         self.promises.outcome(p)
     }
@@ -143,9 +138,7 @@ impl Notices {
     ) -> Result<(), NoLine>
         requires made { IsMade (held self.old) p }
         requires named { IsNumbered (length names.now) (settled_value (settled_seen how)) }
-        ensures { Does L.keeping (on self.old (L.seen lines.old))
-            (timed at.0 (settle_promise (current level state) names.now p (settled_seen how)))
-            (result_err result) (on self.new (L.seen lines.new)) }
+        ensures { Settles L.keeping L.seen self.old lines.old level state at names.now p how result self.new lines.new }
     {
         let Ok(change) = self.resolved_or_rejected(p, how) else {
             return Err(NoLine::OutOfMemory);
@@ -167,9 +160,7 @@ impl Notices {
     ) -> Result<(), NoLine>
         requires made { IsMade (held self.old) p }
         requires named { IsNumbered (length names.now) (settled_value (settled_seen o)) }
-        ensures { Does L.keeping (on self.old (L.seen lines.old))
-            (timed at.0 (follow_promise (current level state) names.now p (settled_seen o)))
-            (result_err result) (on self.new (L.seen lines.new)) }
+        ensures { Follows L.keeping L.seen self.old lines.old level state at names.now p o result self.new lines.new }
     {
         let Ok(change) = self.followed(p, o) else {
             return Err(NoLine::OutOfMemory);
@@ -192,9 +183,7 @@ impl Notices {
         lines: &mut L,
     ) -> Result<bool, NoLine>
         requires { IsMade (held self.old) p }
-        ensures does { Does L.keeping (on self.old (L.seen lines.old))
-            (timed at.0 (subscribe_promise (current level state) p (reaction_seen r)))
-            (result_err result) (on self.new (L.seen lines.new)) }
+        ensures does { Subscribes L.keeping L.seen self.old lines.old level state at p r result self.new lines.new }
         ensures was { IfOk result (λ was. was ≡ is_outstanding p self.old) }
     {
         let was = self.was_outstanding(p);
@@ -214,9 +203,7 @@ impl Notices {
         at: Micros,
         lines: &mut L,
     ) -> Result<(), NoLine>
-        ensures { Does L.keeping (on self.old (L.seen lines.old))
-            (timed at.0 (parts.queue_micro (current level state) registration))
-            (result_err result) (on self.new (L.seen lines.new)) }
+        ensures { PutsMicro L.keeping L.seen self.old lines.old level state at registration result self.new lines.new }
     {
         self.queue(
             Todo::Micro(registration),
@@ -266,8 +253,7 @@ impl Notices {
     // Resolves or rejects a promise, and tells the change.
     fn resolved_or_rejected(&mut self, p: u32, how: Settled) -> Result<Change, MemoryFault>
         requires { IsMade (held self.old) p }
-        ensures { IfOk result (λ told. Brings told p (settling p (the_promise self.old.promises p) (settled_seen how))
-            self.old self.new) }
+        ensures { BringsWhereOk result p (settled_change p how self.old) self.old self.new }
     {
         match how {
             Ok(v) => self.promises.resolve(p, v),
@@ -278,8 +264,7 @@ impl Notices {
     // Lets a promise follow another's outcome, and tells the change.
     fn followed(&mut self, p: u32, o: Settled) -> Result<Change, MemoryFault>
         requires { IsMade (held self.old) p }
-        ensures { IfOk result (λ told. Brings told p (promises.follow p (the_promise self.old.promises p) (settled_seen o))
-            self.old self.new) }
+        ensures { BringsWhereOk result p (followed_change p o self.old) self.old self.new }
     {
         self.promises.follow(p, o)
     }
@@ -287,8 +272,7 @@ impl Notices {
     // Gives a promise a reaction, and tells the change.
     fn subscribed(&mut self, p: u32, r: Reaction) -> Result<Change, MemoryFault>
         requires { IsMade (held self.old) p }
-        ensures { IfOk result (λ told. Brings told p (promises.subscribe p (the_promise self.old.promises p) (reaction_seen r))
-            (no_longer_unhandled p self.old) self.new) }
+        ensures { BringsWhereOk result p (subscribed_change p r self.old) (no_longer_unhandled p self.old) self.new }
     {
         self.promises.subscribe(p, r)
     }
@@ -304,9 +288,7 @@ impl Notices {
     ) -> Result<(), NoLine>
         requires made { IsMade (held self.old) p }
         requires named { IsNamed (length names.now) change.settled (the_promise self.old.promises p).outcome }
-        ensures { Does L.keeping (on self.old (L.seen lines.old))
-            (timed now.at.0 (telling (current now.level now.state) names.now p change.settled (jobs_seen change.jobs.items)))
-            (result_err result) (on self.new (L.seen lines.new)) }
+        ensures { TellsChange L.keeping L.seen self.old lines.old now names.now p change result self.new lines.new }
     {
         self.tell_settled(p, change.settled, now.at, names, lines)?;
         self.queue_all(&change.jobs, now, lines)
@@ -323,9 +305,7 @@ impl Notices {
     ) -> Result<(), NoLine>
         requires made { IsMade (held self.now) p }
         requires named { IsNamed (length names.now) settled (the_promise self.now.promises p).outcome }
-        ensures { Gives L.keeping (L.seen lines.old)
-            (lines_at at.0 (settled_line names.now p settled (the_promise self.now.promises p).outcome))
-            (result_err result) (L.seen lines.new) }
+        ensures { Writes L.keeping L.seen lines.old at (settled_line_of names.now p settled self.now) result lines.new }
     {
         if !settled {
             return Ok(());
@@ -344,9 +324,7 @@ impl Notices {
         now: Moment,
         lines: &mut L,
     ) -> Result<(), NoLine>
-        ensures { Does L.keeping (on self.old (L.seen lines.old))
-            (timed now.at.0 (parts.queue_jobs (current now.level now.state) (jobs_seen jobs.now)))
-            (result_err result) (on self.new (L.seen lines.new)) }
+        ensures { QueuesJobs L.keeping L.seen self.old lines.old now jobs.now result self.new lines.new }
     {
         for job in jobs {
             self.queue(Todo::Promise(*job), now, lines)?;
@@ -356,9 +334,7 @@ impl Notices {
 
     // Queues a job behind all others, with its line.
     fn queue<L: Lines>(&mut self, todo: Todo, now: Moment, lines: &mut L) -> Result<(), NoLine>
-        ensures { Does L.keeping (on self.old (L.seen lines.old))
-            (timed now.at.0 (parts.queue_job (current now.level now.state) (todo_seen todo)))
-            (result_err result) (on self.new (L.seen lines.new)) }
+        ensures { QueuesJob L.keeping L.seen self.old lines.old now todo result self.new lines.new }
     {
         let job = self.push(todo, now)?;
         lines.emit(&Stamped {
@@ -374,7 +350,7 @@ impl Notices {
     fn push(&mut self, todo: Todo, now: Moment) -> Result<u64, NoLine>
         ensures number { IfOk result (λ job. job ≡ self.old.jobs_made + 1) }
         ensures memory { IfErr result (λ why. why ≡ OutOfMemory) }
-        ensures queued { OnOk result (self.new ≡ (parts.queue_job (current now.level now.state) (todo_seen todo) self.old).notices) }
+        ensures queued { OnOk result (self.new ≡ (parts.queue_job (context_at now) (todo_seen todo) self.old).notices) }
     {
         let Some(job) = self.jobs_made.checked_add(1) else {
             return Err(NoLine::OutOfMemory);
@@ -404,8 +380,7 @@ fn emit_settle<L: Lines>(
     lines: &mut L,
 ) -> Result<(), NoLine>
     requires { IsNumbered (length names.now) (seen value.now) }
-    ensures { Gives L.keeping (L.seen lines.old) (lines_at at.0 (Settle p ok (spelled names.now (seen value.now)) ∷ []))
-        (result_err result) (L.seen lines.new) }
+    ensures { Writes L.keeping L.seen lines.old at (settle_lines names.now p ok value.now) result lines.new }
 {
     let Ok(v) = printed(alloc, value, names) else {
         return Err(NoLine::OutOfMemory);

@@ -1,4 +1,5 @@
 pub mod FoldActs
 pub mod Lined
 pub mod Ends
+pub mod HandedOn
 pub mod Steady

@@ -83,3 +83,23 @@ called_lined k program f args m = (host_after (call_from_outside program (host_o
 abbrev pub reached_page : Reached → Page
 reached_page (Finished p) = p
 reached_page (Calls f fold p) = p
+
+-- ---- Ours: what the laws say of each function, ask and call
+
+-- f takes no time, and leaves what stays within a script
+abbrev pub IsSteady : (f : Page → Page) → Type 0
+IsSteady f = (p : Page) → SteadyInScript p (f p)
+
+-- an ask of a page that hands its lines on takes no time, but for `busy`
+abbrev pub IsSteadyUnlessBusy : {T : Type 0} → Keeping T → Ask → Lined T → Type 0
+IsSteadyUnlessBusy k ask l = asks_busy ask ≡ false → SteadyInScript l.hosting.page (asked_lined k ask l)
+
+-- the page before each call of a script's function stands so to the one after it
+abbrev pub HoldsOverCalls : (stands : (before after : Page) → Type 0) → Program → (f : ℕ) → Type 0
+HoldsOverCalls stands program f =
+    (args : List Value) (m : Machine Hosting) → stands m.host.page (called_page program f args m)
+
+-- the same around a page that hands its lines on
+abbrev pub HoldsOverLined : {T : Type 0} → (stands : (before after : Page) → Type 0) → Keeping T → Program → (f : ℕ) → Type 0
+HoldsOverLined {T} stands k program f =
+    (args : List Value) (m : Machine (Lined T)) → stands m.host.hosting.page (called_lined k program f args m)

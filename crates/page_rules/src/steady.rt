@@ -7,7 +7,6 @@ ghost use Rattle.page_types.specs.Tree.{Program};
 ghost use Rattle.page_types.specs.declared.Priority.{Priority};
 ghost use Rattle.page_parts.specs.Notices.{WaitingJob};
 ghost use Rattle.page_parts.specs.Promises.{Settled, Reaction};
-ghost use Rattle.lang_meaning.specs.Machine.{Machine};
 ghost use Rattle.lang_meaning.specs.HostSteps.{Ask, CallbackEnd};
 ghost use Rattle.page_model.specs.State.{Page, Registration};
 ghost use Rattle.page_model.specs.PagePromises.{settle, follow, subscribe};
@@ -22,7 +21,8 @@ ghost use Rattle.page_model.specs.Folds.{Fold, go_on, callback_ended, begin_abor
 ghost use Rattle.page_model.specs.PageHost.{Hosting};
 ghost use Rattle.page_rules.specs.Lined.{Lined};
 ghost use Rattle.page_rules.specs.Steady.{StaysInScript, TakesAtMost, IsNotBefore, Steady, SteadyInScript};
-ghost use Rattle.page_rules.specs.Steady.{asks_busy, asked_page, called_page, asked_lined, called_lined, reached_page};
+ghost use Rattle.page_rules.specs.Steady.{asks_busy, asked_page, asked_lined, reached_page};
+ghost use Rattle.page_rules.specs.Steady.{IsSteady, IsSteadyUnlessBusy, HoldsOverCalls, HoldsOverLined};
 
 use trace_text::Lines;
 
@@ -40,29 +40,23 @@ pub fn asks_but_busy_take_no_time()
 
 /// So a whole call of a script's function leaves what stays within a script, and ends at the time at which it began or later.
 pub fn calls_leave_what_stays()
-    ensures stays { (program : Program) (f : ℕ) (args : List Value) (m : Machine Hosting)
-        → StaysInScript m.host.page (called_page program f args m) }
-    ensures time { (program : Program) (f : ℕ) (args : List Value) (m : Machine Hosting)
-        → IsNotBefore m.host.page (called_page program f args m) }
+    ensures stays { (program : Program) (f : ℕ) → HoldsOverCalls StaysInScript program f }
+    ensures time { (program : Program) (f : ℕ) → HoldsOverCalls IsNotBefore program f }
 {}
 
 /// The same of what is asked of a page that hands its lines on, and of calls around it.
 pub fn lined_pages_leave_what_stays<L: Lines>()
     ensures stays { (ask : Ask) (l : Lined L.Told) → StaysInScript l.hosting.page (asked_lined L.keeping ask l) }
     ensures time { (ask : Ask) (l : Lined L.Told) → TakesAtMost 1000000000 l.hosting.page (asked_lined L.keeping ask l) }
-    ensures steady { (ask : Ask) (l : Lined L.Told) → asks_busy ask ≡ false
-        → SteadyInScript l.hosting.page (asked_lined L.keeping ask l) }
-    ensures called { (program : Program) (f : ℕ) (args : List Value) (m : Machine (Lined L.Told))
-        → StaysInScript m.host.hosting.page (called_lined L.keeping program f args m) }
-    ensures later { (program : Program) (f : ℕ) (args : List Value) (m : Machine (Lined L.Told))
-        → IsNotBefore m.host.hosting.page (called_lined L.keeping program f args m) }
+    ensures steady { (ask : Ask) (l : Lined L.Told) → IsSteadyUnlessBusy L.keeping ask l }
+    ensures called { (program : Program) (f : ℕ) → HoldsOverLined StaysInScript L.keeping program f }
+    ensures later { (program : Program) (f : ℕ) → HoldsOverLined IsNotBefore L.keeping program f }
 {}
 
 /// An open fold takes no time: as it begins, at the end of a callback, and as it goes on.
 pub fn folds_take_no_time()
     ensures aborted { (s : ℕ) (reason : Value) (p : Page) → SteadyInScript p (reached_page (begin_abort s reason p)) }
-    ensures changed { (priority : Priority) (chain s : ℕ) (p : Page)
-        → SteadyInScript p (reached_page (begin_change priority chain s p)) }
+    ensures changed { (priority : Priority) (chain s : ℕ) → IsSteady (λ p. reached_page (begin_change priority chain s p)) }
     ensures callback { (when : WhenReported) (end : CallbackEnd) (p : Page) → SteadyInScript p (callback_ended when end p) }
     ensures further { (fold : Fold) (p : Page) → SteadyInScript p (reached_page (go_on fold p)) }
 {}
@@ -74,8 +68,7 @@ pub fn promises_take_no_time()
     ensures subscribed { (n : ℕ) (r : Reaction) (p : Page) → SteadyInScript p (subscribe n r p) }
     ensures led { (into : ℕ) (how : Settled) (p : Page) → SteadyInScript p (lead_into into how p) }
     ensures passed { (into : ℕ) (how : Settled) (v : Value) (p : Page) → SteadyInScript p (pass_on into how v p) }
-    ensures derived { (x : Registration) (into : ℕ) (how : Settled) (v : Value) (p : Page)
-        → SteadyInScript p (resolve_derived x into how v p) }
+    ensures derived { (x : Registration) (into : ℕ) (how : Settled) (v : Value) → IsSteady (resolve_derived x into how v) }
 {}
 
 /// The lines of a callback's beginning and end take no time, and neither do reports.

@@ -4,7 +4,7 @@ use Rattle.std.specs.Prelude.{find, ◌==◌}
 use Rattle.page_parts.specs.Promises.{Settled}
 use Rattle.page_parts.specs.Combinators.{Report, with_report, report_answer}
 use Rattle.page_model.specs.State as m
-use Rattle.page_model.specs.State.{Element, Page}
+use Rattle.page_model.specs.State.{Element}
 use Rattle.page_model.specs.PagePromises as promises
 use Rattle.page_model.specs.PageCombinators.{element_at, combining_at, settle_result, with_combining, report_to, report, lead_into}
 use Rattle.trace_text.specs.declared.lines.NoLine.{NoLine}

@@ -1,6 +1,8 @@
 -- The oldest job, and the promises that a checkpoint notifies about.
-use Rattle.std.specs.Prelude.{◌≡◌, ℕ, List, [], ◌∷◌}
+use Rattle.std.specs.Prelude.{◌≡◌, ℕ, List, [], ◌∷◌, Option, MatchOption}
 use Rattle.page_parts.specs.Notices.{WaitingJob}
+use Rattle.page_notices.specs.declared.jobs.NextJob.{NextJob}
+use Rattle.page_notices.specs.Seen.{waiting_seen}
 use Rattle.page_model.specs.State.{Steps, NotifyRejected, Page}
 use Rattle.page_model.specs.Invoke.{context_of_job, job_begun, under}
 use Rattle.page_script.specs.Script.{Script}
@@ -23,6 +25,10 @@ taken job others p = under (context_of_job p.form job) (record p { notices = rec
 pub record IsTaken (job : WaitingJob) (old new : Script) : Type 0 where
   pub oldest : old.notices.jobs ≡ job ∷ new.notices.jobs
   pub state : new ≡ changed_by (taken job new.notices.jobs) old
+
+-- this job was taken; none exactly where there was none
+abbrev pub TakesJob : Option NextJob → (old new : Script) → Type 0
+TakesJob result old new = MatchOption result (old.notices.jobs ≡ []) (λ job. IsTaken (waiting_seen job) old new)
 
 -- the steps of the tasks that notify about rejected promises: one, if there are any
 abbrev pub notified : List ℕ → List Steps

@@ -1,6 +1,6 @@
 -- The combinators of the code, when an element may report, and what may become an item.
 use Rattle.std.specs.Prelude.{◌≡◌, ℕ, false, ◌<◌, ◌≤◌, ◌+◌, ◌^◌, length, Option, Some, None, List, map}
-use Rattle.page_parts.specs.Words.{numbered}
+use Rattle.page_parts.specs.Words.{numbered, with_numbered}
 use Rattle.page_parts.specs.Combinators.{Report, with_report}
 use Rattle.promise_core.specs.Held.{IsMade}
 use Rattle.promise_combine.specs.Reports.{has_reported}
@@ -26,6 +26,10 @@ combining_in cs n = numbered (all_seen cs) n no_combining
 -- a combinator with one more report
 abbrev pub reported : Report → m.Combining → m.Combining
 reported r c = record c { combine = with_report r c.combine }
+
+-- a report was noted at combinator number n
+abbrev pub IsNotedAt : ℕ → Report → (old new : List Combining) → Type 0
+IsNotedAt n r old new = all_seen new ≡ with_numbered (all_seen old) n (reported r (combining_in old n))
 
 -- a report is noted at combinator number n, what it brings not yet
 abbrev pub noted_at : ℕ → Report → Page → Page

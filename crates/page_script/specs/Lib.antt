@@ -1,10 +1,13 @@
 pub mod Script
 pub mod PageActs
 pub mod ScriptActs
+pub mod ScriptLaws
 pub mod Seen
 pub mod Codes
 pub mod Marks
+pub mod MarkSteps
 pub mod Reports
+pub mod Calls
 pub mod First
 pub mod Lengths
 pub mod Leading

@@ -1,8 +1,9 @@
 //! The functions that a registration calls.
 
-ghost use Rattle.std.specs.Prelude.{◌≡◌, None, Some, IfOk, MatchOption};
+ghost use Rattle.std.specs.Prelude.{◌≡◌, None, IfOk};
 ghost use Rattle.std.specs.Option.{option_map};
 ghost use Rattle.page_script.specs.Seen.{function_seen, first_seen, second_seen};
+ghost use Rattle.page_script.specs.Calls.{LendsSeen};
 
 use page_values::{Func, MemoryFault};
 use std::alloc::Global;
@@ -58,8 +59,7 @@ impl Callbacks {
 
     /// The first callback, none exactly where there is none. Takes no memory.
     pub fn first(&self) -> Option<&Func>
-        ensures { MatchOption result (first_seen self.now ≡ None)
-            (λ f. first_seen self.now ≡ Some (function_seen f.now)) }
+        ensures { LendsSeen function_seen result (first_seen self.now) }
     {
         match self {
             Callbacks::First(first) => Some(first),
@@ -70,8 +70,7 @@ impl Callbacks {
 
     /// The second callback, none exactly where there is none. Takes no memory.
     pub fn second(&self) -> Option<&Func>
-        ensures { MatchOption result (second_seen self.now ≡ None)
-            (λ f. second_seen self.now ≡ Some (function_seen f.now)) }
+        ensures { LendsSeen function_seen result (second_seen self.now) }
     {
         match self {
             Callbacks::Second(second) => Some(second),

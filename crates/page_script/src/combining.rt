@@ -1,11 +1,9 @@
 //! A combinator of a page, and what it is told.
 
 ghost use Rattle.std.specs.Prelude.{◌≡◌, IfOk, OnOk, IsTrue};
-ghost use Rattle.page_parts.specs.Words.{with_numbered};
-ghost use Rattle.page_parts.specs.Combinators.{report_answer};
 ghost use Rattle.promise_combine.specs.Seen.{report_of};
-ghost use Rattle.promise_combine.specs.Answers.{answer_seen};
-ghost use Rattle.page_script.specs.Leading.{all_seen, combining_in, reported, MayReport};
+ghost use Rattle.page_script.specs.Leading.{combining_in, MayReport, IsNotedAt};
+ghost use Rattle.page_script.specs.Calls.{Brings};
 
 use crate::combiner::Combining;
 use page_notices::Settled;
@@ -40,11 +38,8 @@ pub(crate) fn note_report(
 ) -> Result<Answered, MemoryFault>
     requires { MayReport number place combinators.old.items }
     ensures result { IfOk result (λ a. a.result ≡ (combining_in combinators.old.items number).result) }
-    ensures answer { IfOk result (λ a. answer_seen a.answer
-        ≡ report_answer (report_of place how) (combining_in combinators.old.items number).combine) }
-    ensures noted { OnOk result (all_seen combinators.new.items
-        ≡ with_numbered (all_seen combinators.old.items) number
-        (reported (report_of place how) (combining_in combinators.old.items number))) }
+    ensures answer { IfOk result (Brings place how (combining_in combinators.old.items number)) }
+    ensures noted { OnOk result (IsNotedAt number (report_of place how) combinators.old.items combinators.new.items) }
 {
     let c = &mut combinators[number as usize - 1];
     let answer = c.combine.report(place, how)?;

@@ -1,11 +1,11 @@
 //! What the layer above goes by: what a call does to the script's part it does to a page that has this part. Laws alone, as
 //! functions with empty bodies.
 
-ghost use Rattle.std.specs.Prelude.{◌≡◌, ◌+◌, ℕ, suc, List, Option, None};
+ghost use Rattle.std.specs.Prelude.{◌≡◌, ◌+◌, ℕ, List, Option};
 ghost use Rattle.page_types.specs.Values.{Value};
 ghost use Rattle.page_types.specs.declared.RegKind.{RegKind};
 ghost use Rattle.page_types.specs.declared.Source.{Source};
-ghost use Rattle.page_types.specs.Events.{Event, Turn, Wait};
+ghost use Rattle.page_types.specs.Events.{Event, Wait};
 ghost use Rattle.page_parts.specs.Promises.{Settled, Reaction};
 ghost use Rattle.page_parts.specs.Notices.{Noticed, Notices, Context};
 ghost use Rattle.page_parts.specs.Combinators.{CombinatorKind};
@@ -15,31 +15,25 @@ ghost use Rattle.page_model.specs.Invoke.{report_after, under, notify_rejected, 
 ghost use Rattle.page_model.specs.PagePromises as promises;
 ghost use Rattle.page_model.specs.PageCombinators.{lead_into, combinator_made, item_made, with_element, element_made};
 ghost use Rattle.page_model.specs.PageCombinators.{all_made, race_made, pass_on, promises_for};
-ghost use Rattle.page_script.specs.Lengths.{made_in, Leaves};
+ghost use Rattle.page_script.specs.Lengths.{made_in, Leaves, MakesOne};
 ghost use Rattle.page_model.specs.Operations.{script_promise, posted, posts_taken};
 ghost use Rattle.page_model.specs.SchedulerTasks.{with_state};
 ghost use Rattle.page_model.specs.Tasks.{outstanding_if_unhandled};
 ghost use Rattle.page_model.specs.Turns.{at_time};
-ghost use Rattle.trace_text.specs.declared.lines.NoLine.{NoLine};
-ghost use Rattle.trace_text.specs.Given.{Seen};
-ghost use Rattle.trace_text.specs.Acts.{Does};
-ghost use Rattle.page_script.specs.Script.{Script, script_of, with_script, holding};
-ghost use Rattle.page_script.specs.PageActs.{act, bare, OnlyAdds, OnlyScript, OnlyScriptAndTasks, queue_each, on_page};
-ghost use Rattle.page_script.specs.ScriptActs.{on, on_script, changed_by};
+ghost use Rattle.page_script.specs.Script.{Script};
+ghost use Rattle.page_script.specs.PageActs.{OnlyAdds, OnlyScript, OnlyScriptAndTasks};
+ghost use Rattle.page_script.specs.ScriptActs.{changed_by};
 ghost use Rattle.page_script.specs.Jobs.{oldest_begun};
+ghost use Rattle.page_script.specs.Calls.{turn_begun};
+ghost use Rattle.page_script.specs.ScriptLaws.{IsDoneToPages, IsDoneWithTasks, Composes, FollowsOnScript, FollowsOnPage};
 
 use trace_text::Lines;
 
 /// A function of the page that touches the script's part alone is done to a page by doing it to this part: the same lines, and
 /// every other field stays. Where it queues tasks besides, those that it queues on a page with no other task are queued.
 pub fn what_is_done_to_the_script_is_done_to_the_page<L: Lines>()
-    ensures alone { (f : Page → Page) (p : Page) (s : Script) (old new : Seen L.Told) (why : Option NoLine) → OnlyScript f
-        → Does L.keeping (on (script_of p) old) (on_script f) why (on s new)
-        → Does L.keeping (on_page (bare p) old) (act f) why (on_page (with_script s (bare p)) new) }
-    ensures tasks { (f : Page → Page) (p : Page) (s : Script) (old new : Seen L.Told) (why : Option NoLine) → OnlyScriptAndTasks f
-        → Does L.keeping (on (script_of p) old) (on_script f) why (on s new)
-        → Does L.keeping (on_page (bare p) old) (act f) why
-        (on_page (queue_each (f (holding (script_of p))).tasks (with_script s (bare p))) new) }
+    ensures alone { (f : Page → Page) → IsDoneToPages L.keeping f }
+    ensures tasks { (f : Page → Page) → IsDoneWithTasks L.keeping f }
 {}
 
 /// Such functions only add lines, and one after another is such a function again.
@@ -47,7 +41,7 @@ pub fn functions_that_touch_the_script_alone_compose()
     ensures adds { (f : Page → Page) → OnlyScript f → OnlyAdds f }
     ensures alone { (f g : Page → Page) → OnlyScript f → OnlyScript g → OnlyScript (λ p. g (f p)) }
     ensures no_tasks { (f : Page → Page) → OnlyScript f → OnlyScriptAndTasks f }
-    ensures tasks { (f g : Page → Page) → OnlyScriptAndTasks f → OnlyScriptAndTasks g → OnlyScriptAndTasks (λ p. g (f p)) }
+    ensures tasks { Composes OnlyScriptAndTasks }
 {}
 
 /// Lines, registrations, calls, reports, time and turns touch the script's part alone.
@@ -61,7 +55,7 @@ pub fn calls_touch_the_script_alone()
     ensures before { (when : WhenReported) (v : Value) → OnlyScript (report_before when v) }
     ensures after { (when : WhenReported) (v : Value) → OnlyScript (report_after when v) }
     ensures time { (t : ℕ) → OnlyScript (at_time t) }
-    ensures turn { (source : Option Source) → OnlyScript (λ p. emit (Turn (suc p.turns) source) (record p { turns = suc p.turns })) }
+    ensures turn { (source : Option Source) → OnlyScript (turn_begun source) }
     ensures wait { (target t : ℕ) → OnlyScript (λ p. emit (Wait target) (at_time t p)) }
     ensures context { (now : Context) → OnlyScript (under now) }
     ensures level { (level : ℕ) → OnlyScript (λ p. record p { level = level }) }
@@ -99,14 +93,8 @@ pub fn what_queues_tasks_touches_the_script_alone()
 
 /// What two calls do one after another, on the script's part and on the whole page.
 pub fn acts_follow_one_another<L: Lines>()
-    ensures script { (f g : Page → Page) (s mid new : Script) (old seen after : Seen L.Told) (why : Option NoLine) → OnlyScript g
-        → Does L.keeping (on s old) (on_script f) None (on mid seen)
-        → Does L.keeping (on mid seen) (on_script g) why (on new after)
-        → Does L.keeping (on s old) (on_script (λ p. g (f p))) why (on new after) }
-    ensures page { (f g : Page → Page) (p mid new : Page) (old seen after : Seen L.Told) (why : Option NoLine) → OnlyAdds g
-        → Does L.keeping (on_page p old) (act f) None (on_page mid seen)
-        → Does L.keeping (on_page mid seen) (act g) why (on_page new after)
-        → Does L.keeping (on_page p old) (act (λ p. g (f p))) why (on_page new after) }
+    ensures script { (f g : Page → Page) → FollowsOnScript L.keeping f g }
+    ensures page { (f g : Page → Page) → FollowsOnPage L.keeping f g }
 {}
 
 /// How many promises there are after each function: what it was, but where one is made.
@@ -115,9 +103,7 @@ pub fn promises_are_counted()
     ensures followed { (n : ℕ) (how : Settled) → Leaves (promises.follow n how) }
     ensures subscribed { (n : ℕ) (r : Reaction) → Leaves (promises.subscribe n r) }
     ensures led { (into : ℕ) (how : Settled) → Leaves (lead_into into how) }
-    ensures combinator { (kind : CombinatorKind) (count : ℕ) (s : Script)
-        → made_in (changed_by (combinator_made kind count) s) ≡ made_in s + 1 }
-    ensures element { (combinator place n : ℕ) (s : Script)
-        → made_in (changed_by (element_made combinator place n) s) ≡ made_in s + 1 }
+    ensures combinator { (kind : CombinatorKind) (count : ℕ) → MakesOne (combinator_made kind count) }
+    ensures element { (combinator place n : ℕ) → MakesOne (element_made combinator place n) }
     ensures item { (v : Value) (s : Script) → made_in (changed_by (item_made v) s) ≡ made_in s + promises_for v }
 {}

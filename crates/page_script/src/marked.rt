@@ -1,21 +1,20 @@
 //! The notices, and what each promise is besides.
 
-ghost use Rattle.std.specs.Prelude.{◌≡◌, ◌∷◌, ◌+◌, ◌^◌, ◌<◌, ◌==◌, ◌↔◌, not, [], length, nat_lt, find, drop};
-ghost use Rattle.std.specs.Prelude.{IfOk, OnOk, OnErr, MatchOption, IsTrue};
+ghost use Rattle.std.specs.Prelude.{◌≡◌, ◌+◌, ◌^◌, ◌<◌, ◌==◌, ◌↔◌, not, [], length, nat_lt, find};
+ghost use Rattle.std.specs.Prelude.{IfOk, OnOk, OnErr, IsTrue};
 ghost use Rattle.std.specs.Option.{option_map};
-ghost use Rattle.std.specs.Result.{result_err};
 ghost use Rattle.page_parts.specs.Words.{has_number, numbered};
 ghost use Rattle.page_script.specs.declared.parts.Mark.TheVariants.{Plain};
 ghost use Rattle.page_parts.specs.Promises.{the_promise, settled_value};
 ghost use Rattle.page_parts.specs.Notices as parts;
-ghost use Rattle.page_parts.specs.Notices.{settle_promise, follow_promise, subscribe_promise, is_outstanding};
+ghost use Rattle.page_parts.specs.Notices.{is_outstanding};
 ghost use Rattle.page_values.specs.Written.{IsNumbered};
 ghost use Rattle.promise_core.specs.Held.{IsMade, all_within};
-ghost use Rattle.promise_core.specs.Seen.{settled_seen, reaction_seen};
-ghost use Rattle.trace_text.specs.Acts.{Does};
-ghost use Rattle.page_notices.specs.Seen.{current, waiting_seen};
-ghost use Rattle.page_notices.specs.Steps.{timed, held, on as noticed};
+ghost use Rattle.promise_core.specs.Seen.{settled_seen};
+ghost use Rattle.page_notices.specs.Steps.{held};
 ghost use Rattle.page_script.specs.Marks.{no_promises, with_promise};
+ghost use Rattle.page_script.specs.Calls.{LendsSeen};
+ghost use Rattle.page_script.specs.MarkSteps.{Notes, settle_at, follow_at, subscribe_at, micro_at, TakesOldest, without_oldest, element_at};
 
 use crate::parts::{Mark, Moment};
 use page_notices::{NextJob, Notices, Reaction, Settled};
@@ -89,9 +88,7 @@ impl Marked {
     ) -> Result<(), NoLine>
         requires made { IsMade (held self.old.notices) p }
         requires named { IsNumbered (length names.now) (settled_value (settled_seen how)) }
-        ensures does { Does L.keeping (noticed self.old.notices (L.seen lines.old))
-            (timed now.at.0 (settle_promise (current now.level now.state) names.now p (settled_seen how)))
-            (result_err result) (noticed self.new.notices (L.seen lines.new)) }
+        ensures does { Notes L.keeping L.seen self.old lines.old (settle_at now names.now p how) result self.new lines.new }
         ensures others { OnOk result (self.new ≡ record self.old { notices = self.new.notices }) }
     {
         let done = self
@@ -114,9 +111,7 @@ impl Marked {
     ) -> Result<(), NoLine>
         requires made { IsMade (held self.old.notices) p }
         requires named { IsNumbered (length names.now) (settled_value (settled_seen how)) }
-        ensures does { Does L.keeping (noticed self.old.notices (L.seen lines.old))
-            (timed now.at.0 (follow_promise (current now.level now.state) names.now p (settled_seen how)))
-            (result_err result) (noticed self.new.notices (L.seen lines.new)) }
+        ensures does { Notes L.keeping L.seen self.old lines.old (follow_at now names.now p how) result self.new lines.new }
         ensures others { OnOk result (self.new ≡ record self.old { notices = self.new.notices }) }
     {
         let done = self
@@ -137,9 +132,7 @@ impl Marked {
         lines: &mut L,
     ) -> Result<bool, NoLine>
         requires { IsMade (held self.old.notices) p }
-        ensures does { Does L.keeping (noticed self.old.notices (L.seen lines.old))
-            (timed now.at.0 (subscribe_promise (current now.level now.state) p (reaction_seen r)))
-            (result_err result) (noticed self.new.notices (L.seen lines.new)) }
+        ensures does { Notes L.keeping L.seen self.old lines.old (subscribe_at now p r) result self.new lines.new }
         ensures was { IfOk result (λ was. was ≡ is_outstanding p self.old.notices) }
         ensures others { OnOk result (self.new ≡ record self.old { notices = self.new.notices }) }
     {
@@ -159,9 +152,7 @@ impl Marked {
         now: Moment,
         lines: &mut L,
     ) -> Result<(), NoLine>
-        ensures does { Does L.keeping (noticed self.old.notices (L.seen lines.old))
-            (timed now.at.0 (parts.queue_micro (current now.level now.state) registration))
-            (result_err result) (noticed self.new.notices (L.seen lines.new)) }
+        ensures does { Notes L.keeping L.seen self.old lines.old (micro_at now registration) result self.new lines.new }
         ensures others { OnOk result (self.new ≡ record self.old { notices = self.new.notices }) }
     {
         let done = self
@@ -182,9 +173,8 @@ impl Marked {
 
     // Takes the oldest job out. Takes no memory.
     pub(crate) fn next_job(&mut self) -> Option<NextJob>
-        ensures oldest { MatchOption result (self.old.notices.jobs ≡ [])
-            (λ job. self.old.notices.jobs ≡ waiting_seen job ∷ self.new.notices.jobs) }
-        ensures others { self.new ≡ record self.old { notices = record self.old.notices { jobs = drop 1 self.old.notices.jobs } } }
+        ensures oldest { TakesOldest result self.old self.new }
+        ensures others { self.new ≡ without_oldest self.old }
     {
         self.notices.next_job()
     }
@@ -234,8 +224,7 @@ impl Marked {
 
     // How a promise was settled; one that was never made was not. Takes no memory.
     pub(crate) fn outcome(&self, p: u32) -> Option<&Settled>
-        ensures { MatchOption result ((the_promise self.now.notices.promises p).outcome ≡ None)
-            (λ how. (the_promise self.now.notices.promises p).outcome ≡ Some (settled_seen how.now)) }
+        ensures { LendsSeen settled_seen result (the_promise self.now.notices.promises p).outcome }
     {
         if !self.is_made(p) {
             return None;
@@ -257,8 +246,7 @@ impl Marked {
     // The combinator of which a promise is an element, and its place there. Takes no memory.
     pub(crate) fn element(&self, p: u32) -> Option<(u32, u32)>
         requires { 0 < p }
-        ensures { option_map (λ e. record { promise = p; combinator = e.0; place = e.1 }) result
-            ≡ find (λ e. e.promise == p) self.now.elements }
+        ensures { option_map (element_at p) result ≡ find (λ e. e.promise == p) self.now.elements }
     {
         match mark_of(&self.marks, p) {
             Mark::Element { combinator, place } => Some((combinator, place)),

@@ -1,20 +1,17 @@
 //! The script's part of a page: its state, its lines, its registrations and its calls.
 
-ghost use Rattle.std.specs.Prelude.{◌≡◌, ◌+◌, ◌^◌, ◌<◌, ◌≤◌, ◌↔◌, length, IfOk, IfErr, IfSome, OnOk, IsTrue, MatchOption, Some, None};
-ghost use Rattle.std.specs.Result.{result_err};
-ghost use Rattle.page_parts.specs.Words.{and_last};
+ghost use Rattle.std.specs.Prelude.{◌≡◌, ◌+◌, ◌^◌, ◌<◌, ◌≤◌, ◌↔◌, length, IfOk, IfErr, IfSome, OnOk, IsTrue};
 ghost use Rattle.page_parts.specs.Spelling.{spelled};
 ghost use Rattle.page_values.specs.Seen.{seen};
 ghost use Rattle.page_values.specs.Written.{IsNumbered};
 ghost use Rattle.page_model.specs.State as model;
-ghost use Rattle.page_model.specs.Invoke.{register_as, callback_of};
 ghost use Rattle.trace_text.specs.EventSeen.{event_seen};
 ghost use Rattle.trace_text.specs.declared.lines.NoLine.TheVariants.{OutOfMemory};
-ghost use Rattle.trace_text.specs.Acts.{Does};
-ghost use Rattle.page_script.specs.ScriptActs.{on, on_script, read_by};
+ghost use Rattle.page_script.specs.ScriptActs.{read_by};
 ghost use Rattle.page_script.specs.Seen.{registration_seen, function_seen};
 ghost use Rattle.page_script.specs.First.{IsFirst};
 ghost use Rattle.page_script.specs.TimerIds.{first_with_id};
+ghost use Rattle.page_script.specs.Calls.{Writes, LendsSeen, register_as, callback_at, with_registration};
 
 mod calls;
 mod combinators;
@@ -137,8 +134,7 @@ impl PageScript {
 
     /// Writes the line of an event, at the time now.
     pub fn emit<L: Lines>(&self, event: Event, lines: &mut L) -> Result<(), NoLine>
-        ensures { Does L.keeping (on self.now (L.seen lines.old)) (on_script (model.emit (event_seen event)))
-            (result_err result) (on self.now (L.seen lines.new)) }
+        ensures { Writes L.keeping L.seen self.now lines.old (model.emit (event_seen event)) result self.now lines.new }
     {
         lines.emit(&Stamped {
             time: self.moment.at,
@@ -155,8 +151,7 @@ impl PageScript {
         lines: &mut L,
     ) -> Result<u32, NoLine>
         requires { length self.old.registrations + 1 < 2 ^ 32 }
-        ensures does { Does L.keeping (on self.old (L.seen lines.old))
-            (on_script (register_as kind (registration_seen registration))) (result_err result) (on self.new (L.seen lines.new)) }
+        ensures does { Writes L.keeping L.seen self.old lines.old (register_as kind registration) result self.new lines.new }
         ensures number { IfOk result (λ r. r ≡ length self.old.registrations + 1) }
     {
         let by = self.caller();
@@ -186,8 +181,7 @@ impl PageScript {
     pub fn callback(&self, r: u32, second: bool) -> Option<&Func>
         requires counted { 0 < r }
         requires made { r ≤ length self.now.registrations }
-        ensures { MatchOption result (read_by (λ p. callback_of second (model.the_registration p r)) self.now ≡ None)
-            (λ f. read_by (λ p. callback_of second (model.the_registration p r)) self.now ≡ Some (function_seen f.now)) }
+        ensures { LendsSeen function_seen result (read_by (callback_at r second) self.now) }
     {
         let registration = self.registration(r);
         if second {
@@ -252,8 +246,7 @@ impl PageScript {
         requires { length self.old.registrations + 1 < 2 ^ 32 }
         ensures number { IfOk result (λ r. r ≡ length self.old.registrations + 1) }
         ensures memory { IfErr result (λ why. why ≡ OutOfMemory) }
-        ensures kept { OnOk result (self.new
-            ≡ record self.old { registrations = and_last self.old.registrations (registration_seen registration) }) }
+        ensures kept { OnOk result (self.new ≡ with_registration registration self.old) }
     {
         match self.registrations.push(registration) {
             Ok(r) => Ok(r),

@@ -16,7 +16,7 @@ use Rattle.abort_graph.proofs.AmongLemmas.{of_signal, more_among, reasons_among}
 use Rattle.abort_graph.proofs.ByValueLemmas.{count_by_value, reason_by, marked_by, with_reason_by}
 use Rattle.page_folds.specs.declared.folds.Folds.{Folds}
 use Rattle.page_folds.specs.Seen.{standing}
-use Rattle.page_folds.specs.Steps.{Parts, OpenFold, Standing, abort_fold, abort_begun, change_fold, change_begun}
+use Rattle.page_folds.specs.Steps.{Standing, abort_fold, abort_begun, change_fold, change_begun}
 use Rattle.page_folds.specs.Steps as folds
 use Rattle.page_folds.specs.OfModel.{OfAbort}
 use Rattle.page_signals.specs.declared.opened.Kind.{Kind}

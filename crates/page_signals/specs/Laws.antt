@@ -61,6 +61,10 @@ ListenerAddedIs target name f os p =
     listener_added target name f p
     ≡ with_signalling (on_listeners (parts.add target name (last_registration made)) (signalling_of made os)) made
 
+-- so it is with any open folds, on every page
+abbrev pub ListenersAreAdded : parts.Target → (name : List ℕ) → Func → Type 0
+ListenersAreAdded target name f = (os : List Open) (p : Page) → ListenerAddedIs target name f os p
+
 abbrev pub ListenerRemovedIs : ℕ → List Open → Page → Type 0
 ListenerRemovedIs r os p =
     parts.is_listening r p.listeners ≡ true
@@ -102,6 +106,10 @@ abbrev pub GoesOnIs : Kind → WhenReported → Target → List ℕ → folds.Re
 GoesOnIs kind when target left rest p =
     let o : Open = record { kind = kind; when = when; fold = record { stage = Calling target left; rest = rest } } in
     go_on (as_fold o) p ≡ meaning o.kind o.fold p
+
+-- so it does whatever is left, on every page
+abbrev pub FoldsGoOn : Kind → WhenReported → Target → Type 0
+FoldsGoOn kind when target = (left : List ℕ) (rest : folds.Rest) (p : Page) → GoesOnIs kind when target left rest p
 
 -- what a page does with the innermost of these folds
 abbrev pub innermost_meaning : List Open → Page → Reached
@@ -162,6 +170,10 @@ abbrev pub DispatchIs : Target → (name : List ℕ) → (args : List Value) →
 DispatchIs target name args st p =
     folds.begin_dispatch (seen_target target) name args (with_signalling st p)
     ≡ innermost_meaning (dispatch_opened target name args st).folds (with_signalling (dispatch_opened target name args st) p)
+
+-- so a dispatch begins on every page
+abbrev pub DispatchesBegin : Target → (name : List ℕ) → (args : List Value) → Type 0
+DispatchesBegin target name args = (st : Signalling) (p : Page) → DispatchIs target name args st p
 
 -- a line is written for each signal on which the reason was set
 abbrev pub AbortIs : ℕ → Value → Signalling → Page → Type 0

@@ -7,12 +7,11 @@ ghost use Rattle.page_parts.specs.AbortGraph.{Signals};
 ghost use Rattle.page_parts.specs.Listeners as parts;
 ghost use Rattle.page_model.specs.State.{Page};
 ghost use Rattle.page_model.specs.Invoke.{WhenReported};
-ghost use Rattle.page_model.specs.Folds.{Rest};
 ghost use Rattle.page_events.specs.declared.target.Target.{Target};
 ghost use Rattle.page_folds.specs.OfModel.{Kind};
 ghost use Rattle.page_signals.specs.Signalling.{Open, Signalling};
-ghost use Rattle.page_signals.specs.Laws.{SignallingIs, WithSignalsIs, GivePriorityIs, ChangeBegunIs, ChangeEndedIs, WatchIs, UnwatchIs, ListenerAddedIs, ListenerRemovedIs, ReasonSetIs, RunAlgorithmsIs};
-ghost use Rattle.page_signals.specs.Laws.{GoesOnIs, StepIs, CallingIs, CallIs, DispatchIs, AbortIs, ChangeIs, FallsAt};
+ghost use Rattle.page_signals.specs.Laws.{SignallingIs, WithSignalsIs, GivePriorityIs, ChangeBegunIs, ChangeEndedIs, WatchIs, UnwatchIs, ListenersAreAdded, ListenerRemovedIs, ReasonSetIs, RunAlgorithmsIs};
+ghost use Rattle.page_signals.specs.Laws.{FoldsGoOn, StepIs, CallingIs, CallIs, DispatchesBegin, AbortIs, ChangeIs, FallsAt};
 
 /// On every page the model's step is the call's on the fields of this part, and then the line that tells it.
 pub fn calls_are_steps_of_a_page()
@@ -26,8 +25,7 @@ pub fn calls_are_steps_of_a_page()
     ensures ended { (s : ℕ) (os : List Open) (p : Page) → ChangeEndedIs s os p }
     ensures watch { (s r : ℕ) (os : List Open) (p : Page) → WatchIs s r os p }
     ensures unwatch { (s r : ℕ) (os : List Open) (p : Page) → UnwatchIs s r os p }
-    ensures listen { (target : parts.Target) (name : List ℕ) (f : Func) (os : List Open) (p : Page) →
-        ListenerAddedIs target name f os p }
+    ensures listen { (target : parts.Target) (name : List ℕ) (f : Func) → ListenersAreAdded target name f }
     ensures unlisten { (r : ℕ) (os : List Open) (p : Page) → ListenerRemovedIs r os p }
     ensures reason { (s : ℕ) (reason : Value) (os : List Open) (p : Page) →
         ReasonSetIs s reason os p }
@@ -41,10 +39,8 @@ pub fn folds_are_those_of_a_page()
     ensures calling { (st : Signalling) → CallingIs st }
     ensures call { (f : Func) (when : WhenReported) (args : List Value) (o : Open) (p : Page) →
         CallIs f when args o p }
-    ensures goes_on { (kind : Kind) (when : WhenReported) (target : Target) (left : List ℕ) (rest : Rest) (p : Page) →
-        GoesOnIs kind when target left rest p }
-    ensures dispatch { (target : Target) (name : List ℕ) (args : List Value) (st : Signalling) (p : Page) →
-        DispatchIs target name args st p }
+    ensures goes_on { (kind : Kind) (when : WhenReported) (target : Target) → FoldsGoOn kind when target }
+    ensures dispatch { (target : Target) (name : List ℕ) (args : List Value) → DispatchesBegin target name args }
     ensures abort { (s : ℕ) (reason : Value) (st : Signalling) (p : Page) → AbortIs s reason st p }
     ensures change { (s : ℕ) (priority : Priority) (st : Signalling) (p : Page) →
         ChangeIs s priority st p }

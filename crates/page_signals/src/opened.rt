@@ -1,9 +1,9 @@
 //! What is known of an open fold besides what is left of it.
-ghost use Rattle.std.specs.Prelude.{◌≡◌, ◌<◌, ◌++◌, ℕ, List, map, length, IfOk};
-ghost use Rattle.page_types.specs.Values.{Value as ModelValue};
+ghost use Rattle.std.specs.Prelude.{◌≡◌, ◌<◌, map, length, IfOk};
 ghost use Rattle.page_model.specs.PageSignals.{priority_value};
 ghost use Rattle.page_values.specs.Seen.{seen};
-ghost use Rattle.page_folds.specs.OfModel.{arguments_of, reason_in, target_value};
+ghost use Rattle.page_folds.specs.OfModel.{reason_in};
+ghost use Rattle.page_signals.specs.Seen.{ArgumentsAre, AddsTarget};
 
 use crate::MemoryFault;
 use page_events::Target;
@@ -72,8 +72,7 @@ impl Kind {
 
     // The arguments of listeners, for an event at this target.
     pub(crate) fn arguments(&self, alloc: Global, target: Target) -> Result<Vec<Value>, MemoryFault>
-        ensures { IfOk result (λ args. (values : List ModelValue) →
-            map seen args.items ≡ arguments_of (kind_seen values self.now) target) }
+        ensures { IfOk result (λ args. ArgumentsAre args.items self.now target) }
     {
         let mut arguments = Vec::new(alloc);
         match self {
@@ -104,8 +103,7 @@ impl Kind {
 
 // A signal that is the target is an argument.
 fn add_target(arguments: &mut Vec<Value>, target: Target) -> Result<(), MemoryFault>
-    ensures { IfOk result (λ _.
-        map seen arguments.new.items ≡ map seen arguments.old.items ++ target_value target) }
+    ensures { IfOk result (λ _. AddsTarget arguments.old.items arguments.new.items target) }
 {
     if let Target::Signal(s) = target {
         arguments.push(Value::Signal(s))?;

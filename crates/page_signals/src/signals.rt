@@ -17,7 +17,7 @@ ghost use Rattle.page_signals.specs.Steps.{IsMade, dispatch_opened, reason_set, 
 ghost use Rattle.page_signals.specs.Made.{AbortLeaves, IsNumbered, LeavesPriorities};
 ghost use Rattle.page_folds.specs.AtRest.{at_rest};
 ghost use Rattle.page_folds.specs.Seen.{standing};
-ghost use Rattle.page_signals.specs.Seen.{when_seen, visit_seen, signalling_seen};
+ghost use Rattle.page_signals.specs.Seen.{when_seen, visit_seen, signalling_seen, StepsTo};
 ghost use Rattle.page_signals.specs.Kept.{AreFitting, IsKept};
 
 use crate::opened::{Kind, Open, WhenReported};
@@ -453,9 +453,7 @@ fn advance(
     opened: &mut Vec<Open>,
 ) -> Result<Visit, MemoryFault>
     requires { IsKept (length reasons.now) (standing folds.old) (reverse opened.old.items) }
-    ensures step { IfOk result (λ visit.
-        (visit_seen visit, signalling_seen reasons.now folds.new opened.new.items)
-        ≡ stepped (signalling_seen reasons.now folds.old opened.old.items)) }
+    ensures step { IfOk result (λ next. StepsTo reasons.now folds.old opened.old.items next folds.new opened.new.items) }
     ensures kept { OnOk result
         (IsKept (length reasons.now) (standing folds.new) (reverse opened.new.items)) }
     ensures err { OnErr result (at_rest folds.new.prios ≡ at_rest folds.old.prios) }

@@ -1,5 +1,5 @@
 -- All queued tasks of a page. HTML, "Event loops: definitions"; Prioritized Task Scheduling, "Scheduling Tasks and Continuations"
-use Rattle.std.specs.Prelude.{◌≡◌, ℕ, suc, Bool, List, [], Option, Some, None, IsSome, find, option_map, filter_map, slice_index_or, ◌==◌, if◌then◌else◌, refl}
+use Rattle.std.specs.Prelude.{◌≡◌, ℕ, suc, ◌+◌, Bool, List, [], Option, Some, None, IsSome, find, option_map, filter_map, slice_index_or, ◌==◌, if◌then◌else◌, refl}
 use Rattle.std.specs.Coded.{Coded, code_by, coded×, coded_ℕ, coded_list}
 use Rattle.page_types.specs.declared.Source.{Source}
 use Rattle.page_types.specs.declared.Priority.{Priority}
@@ -12,7 +12,7 @@ use Rattle.page_model.specs.State.{Steps, Task, SchedTask, Page}
 use Rattle.post_task.specs.declared.level.PrioSource.{PrioSource}
 use Rattle.post_task.specs.declared.level.PrioSource.TheVariants as P
 use Rattle.page_tasks.specs.declared.page_task.TaskSteps.{TaskSteps}
-use Rattle.page_tasks.specs.Seen.{steps_of}
+use Rattle.page_tasks.specs.Seen.{steps_of, prio_source}
 use Rattle.page_tasks.specs.Coded.{coded_priority, coded_task, coded_sched_task}
 
 -- the priority that the scheduler tasks of a signal have now
@@ -96,9 +96,21 @@ enqueued r source continuation q =
       });
     }
 
+-- a scheduler task is enqueued, whatever room is left then
+abbrev pub Enqueues : (registration : ℕ) → PrioSource → (continuation : Bool) → (old new : Queued) → Type 0
+Enqueues r source continuation old new = new ≡ with_spare new.spare (enqueued r (prio_source source) continuation old)
+
 -- a registration's scheduler task leaves its queue
 abbrev pub without_registration : ℕ → Queued → Queued
 without_registration r q = record q { sched_tasks = without (λ t. t.registration == r) q.sched_tasks }
+
+-- the task with a number is taken out, which leaves room for one more
+abbrev pub number_freed : ℕ → Queued → Queued
+number_freed n q = with_spare (q.spare + 1) (without_number n q)
+
+-- a registration's scheduler task is taken out, which leaves room for one more
+abbrev pub registration_freed : ℕ → Queued → Queued
+registration_freed r q = with_spare (q.spare + 1) (without_registration r q)
 
 -- the scheduler task of a registration
 abbrev pub sched_task_for : ℕ → Queued → Option SchedTask

@@ -1,5 +1,5 @@
 -- How the queued tasks stand in one pool. Ours: the standards do not say how queues are stored
-use Rattle.std.specs.Prelude.{◌≡◌, ◌≢◌, ℕ, suc, ◌≤◌, ◌<◌, List, [], map, Option, Some, None, IsTrue, filter_map, option_map}
+use Rattle.std.specs.Prelude.{◌≡◌, ◌≢◌, ℕ, suc, ◌≤◌, ◌<◌, ◌==◌, if◌then◌else◌, List, [], map, Option, Some, None, IsTrue, filter_map, option_map}
 use Rattle.std.specs.List.{AllByRecursion}
 use Rattle.page_types.specs.declared.Source.{Source}
 use Rattle.page_types.specs.declared.Source.TheVariants.{Sched}
@@ -133,3 +133,7 @@ pub record IsStanding (pool : Lists PageTask) (queues : Queues PageTask) (sched 
   pub scheduled : AreScheduled sched.levels (waiting sched.levels pool) tickets pool.inserts made
   pub once : AreOnce (merged (tasks_of queues pool)) (waiting sched.levels pool)
   pub inserts : pool.inserts ≤ made
+
+-- a registration has this ticket now, and every other one keeps what it had
+abbrev pub PutsTicket : (registration : ℕ) → Ticket → (old new : ℕ → Option Ticket) → Type 0
+PutsTicket registration ticket old new = (r : ℕ) → new r ≡ (if registration == r then Some ticket else old r)

@@ -1,4 +1,4 @@
-ghost use Rattle.std.specs.Prelude.{◌≡◌, ◌≢◌, ℕ, ◌+◌, ◌^◌, ◌<◌, ◌≤◌, map, None, Some, IsSome, IfOk, OnOk, OnErr, IsOk, IfSome, IfNone, if◌then◌else◌, option_map, is_some, not};
+ghost use Rattle.std.specs.Prelude.{◌≡◌, ◌≢◌, ◌+◌, ◌^◌, ◌<◌, ◌≤◌, map, None, Some, IfOk, OnOk, OnErr, IsOk, IfSome, IfNone, if◌then◌else◌, option_map, is_some, not};
 ghost use Rattle.std.specs.List.{list_all};
 
 use crate::asked::{Asked, asked_of, find_asked, forget, make_room, note};
@@ -55,13 +55,14 @@ impl<L: Ledger> PageTasks<L> {
     ghost use Rattle.page_parts.specs.Sources.{default_list};
     ghost use Rattle.page_parts.specs.Words.{is_empty, is_there};
     ghost use Rattle.page_model.specs.State.{Page};
-    ghost use Rattle.page_model.specs.PageSignals.{host_task_of, task_in_net, waiting_net_task};
+    ghost use Rattle.page_model.specs.PageSignals.{host_task_of};
     ghost use Rattle.page_model.specs.PageTime.{first_task};
     ghost use Rattle.page_model.specs.SchedulerTasks.{first_sched};
     ghost use Rattle.page_model.specs.View.{first_number, view};
-    ghost use Rattle.page_tasks.specs.Seen.{steps_of, host_task, prio_source, sched_task};
+    ghost use Rattle.page_tasks.specs.Seen.{steps_of, sched_task};
+    ghost use Rattle.page_tasks.specs.Asking.{IsNetTask};
     ghost use Rattle.page_tasks.specs.Held.{Holds};
-    ghost use Rattle.page_tasks.specs.Queued.{IsOf, HasPriority, IsMoved, HasRoomFor, none_queued, with_spare, queued, without_number, enqueued, without_registration, sched_task_for, taken, runnables};
+    ghost use Rattle.page_tasks.specs.Queued.{IsOf, HasPriority, IsMoved, HasRoomFor, none_queued, with_spare, queued, without_registration, sched_task_for, taken, runnables, Enqueues, number_freed, registration_freed};
 
     /// No task, and no number given out. At least so many tasks are sure to find room in the pool.
     ///
@@ -121,7 +122,7 @@ impl<L: Ledger> PageTasks<L> {
     pub fn take(&mut self, source: Source) -> Option<(u64, TaskSteps)>
         requires { source ≢ Sched }
         ensures first { option_map (taken source) result ≡ first_task source self.old.tasks }
-        ensures gone { IfSome result (λ given. self.new ≡ with_spare (self.old.spare + 1) (without_number given.0 self.old)) }
+        ensures gone { IfSome result (λ given. self.new ≡ number_freed given.0 self.old) }
         ensures none { IfNone result (self.new ≡ self.old) }
     {
         let (number, task) = self
@@ -148,8 +149,7 @@ impl<L: Ledger> PageTasks<L> {
         requires once { sched_task_for registration self.old ≡ None }
         requires room { HasPriority self.old source }
         ensures order { IfOk result (λ order. order ≡ self.new.tasks_made) }
-        ensures enqueued { OnOk result
-            (self.new ≡ with_spare self.new.spare (enqueued registration (prio_source source) continuation self.old)) }
+        ensures enqueued { OnOk result (Enqueues registration source continuation self.old self.new) }
         ensures spare { self.old.spare ≤ self.new.spare + 1 }
         ensures err { OnErr result (self.new ≡ self.old) }
     {
@@ -178,8 +178,7 @@ impl<L: Ledger> PageTasks<L> {
     /// where none waits (Prioritized Task Scheduling, "Selecting the Task Queue of the Next Scheduler Task"). Takes no memory.
     pub fn take_sched(&mut self) -> Option<SchedTask>
         ensures first { (p : Page) → IsOf self.old p → option_map sched_task result ≡ first_sched p }
-        ensures gone { IfSome result
-            (λ task. self.new ≡ with_spare (self.old.spare + 1) (without_registration task.registration self.old)) }
+        ensures gone { IfSome result (λ task. self.new ≡ registration_freed task.registration self.old) }
         ensures none { IfNone result (self.new ≡ self.old) }
     {
         let (order, task) = self.sched.take(&mut self.pool, &mut self.accesses)?;
@@ -220,7 +219,7 @@ impl<L: Ledger> PageTasks<L> {
 
     /// What a host closure is asked by the first task that waits for its answer to a registration. Takes no memory.
     pub fn net_task_of(&self, registration: u32) -> Option<HostTask>
-        ensures { (p : Page) → IsOf self.now p → option_map host_task result ≡ task_in_net (waiting_net_task registration p) }
+        ensures { (p : Page) → IsOf self.now p → IsNetTask result registration p }
     {
         find_asked(&self.asked, registration)
     }

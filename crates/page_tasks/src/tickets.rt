@@ -1,7 +1,8 @@
 //! The tickets of scheduler tasks by their registrations.
-ghost use Rattle.std.specs.Prelude.{◌≡◌, ℕ, ◌<◌, ◌==◌, None, Some, IfOk, OnOk, OnErr, IsErr, Ok, nat_eq, if◌then◌else◌};
+ghost use Rattle.std.specs.Prelude.{◌≡◌, ℕ, ◌<◌, ◌==◌, None, IfOk, OnOk, OnErr, IsErr, Ok, nat_eq, if◌then◌else◌};
 ghost use Rattle.std.specs.HashMap.{get, spare};
 ghost use Rattle.std.specs.Option.{is_some};
+ghost use Rattle.page_tasks.specs.Standing.{PutsTicket};
 
 use crate::page_task::PageTask;
 use std::alloc::AllocError;
@@ -19,7 +20,7 @@ pub fn make_place(tickets: &mut HashMap<u32, Ticket>) -> Result<(), AllocError>
 /// A registration has this ticket now. There is room.
 pub fn put_ticket(tickets: &mut HashMap<u32, Ticket>, registration: u32, ticket: Ticket)
     requires { 0 < spare tickets.old }
-    ensures { (r : ℕ) → get nat_eq tickets.new r ≡ (if registration == r then Some ticket else get nat_eq tickets.old r) }
+    ensures { PutsTicket registration ticket (get nat_eq tickets.old) (get nat_eq tickets.new) }
 {
     let put: Result<_, _> = tickets.insert(registration, ticket);
     put.unwrap();

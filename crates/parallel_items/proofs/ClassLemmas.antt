@@ -12,7 +12,6 @@ use Rattle.arrivals_text.specs.SeenParts.{arrival_of}
 use Rattle.arrivals_text.specs.declared.arrival.Arrival as read
 use Rattle.page_parts.specs.Setup.{Arrival, are_in_order, is_not_after}
 use Rattle.page_parts.specs.Words.{without, without_numbered}
-use Rattle.page_model.specs.State.{IdleTimer}
 use Rattle.page_model.specs.State as model
 use Rattle.page_model.specs.Parallel.{Item, ArrivalItem, first_item_from, first_item_of, arrival_items, with_arrival}
 use Rattle.parallel_items.specs.declared.taken.HostAnswer.{HostAnswer}

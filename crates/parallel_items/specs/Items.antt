@@ -6,7 +6,7 @@ use Rattle.page_parts.specs.Timers as Timers
 use Rattle.page_parts.specs.Timers.{ActiveTimer}
 use Rattle.page_model.specs.State.{Completion, Completing, HostTask, HostAnswer, IdleTimer}
 use Rattle.page_model.specs.PageTime.{completion_of}
-use Rattle.page_model.specs.Parallel.{Item, ItemKind, ArrivalItem, HostItem, TimerItem, IdleItem, FrameItem, arrival_items, first_item_of}
+use Rattle.page_model.specs.Parallel.{Item, ItemKind, ArrivalItem, HostItem, TimerItem, IdleItem, FrameItem, arrival_items, first_item_of, due_item}
 use Rattle.parallel_items.specs.InParallel.{Waiting, InParallel}
 
 -- ---- each class of items, in its order
@@ -36,6 +36,26 @@ waiting_items w = arrival_items 1 w.arrivals ++ answer_items w.host_answers ++ t
 -- the one that is due first
 abbrev pub first_waiting : Waiting → Option Item
 first_waiting w = first_item_of (waiting_items w)
+
+-- the same, where it is due
+abbrev pub first_due : (now : ℕ) → Waiting → Option Item
+first_due now w = due_item now (first_waiting w)
+
+-- the first of the arrivals
+abbrev pub first_arrival : List Arrival → Option Item
+first_arrival arrivals = first_item_of (arrival_items 1 arrivals)
+
+-- the first of the host answers
+abbrev pub first_answer : List HostAnswer → Option Item
+first_answer answers = first_item_of (answer_items answers)
+
+-- the first of the active timers
+abbrev pub first_timer : List ActiveTimer → Option Item
+first_timer timers = first_item_of (timer_items timers)
+
+-- the first of the idle timeouts
+abbrev pub first_idle : List IdleTimer → Option Item
+first_idle timers = first_item_of (idle_items timers)
 
 -- the moment at which an item is due
 abbrev pub due_of : Option Item → Option ℕ
@@ -80,6 +100,26 @@ taken_of (Some i) cs = taken_by i.what cs
 abbrev pub left_of : Option Item → Waiting → Waiting
 left_of None w = w
 left_of (Some i) w = left_by i.what w
+
+-- what taking the first active timer gives
+abbrev pub timer_taken : Waiting → Option Taken
+timer_taken w = taken_of (first_timer w.timers.active) w.completions
+
+-- taking an item leaves this
+abbrev pub without_item : Option Item → InParallel → InParallel
+without_item item s = record s { waiting = left_of item s.waiting }
+
+-- taking the first arrival leaves these, whatever else waits
+abbrev pub LeavesArrivals : (old new : List Arrival) → Waiting → Type 0
+LeavesArrivals old new w = left_of (first_arrival old) (record w { arrivals = old }) ≡ record w { arrivals = new }
+
+-- taking the first host answer leaves these, whatever else waits
+abbrev pub LeavesAnswers : (old new : List HostAnswer) → Waiting → Type 0
+LeavesAnswers old new w = left_of (first_answer old) (record w { host_answers = old }) ≡ record w { host_answers = new }
+
+-- taking the first idle timeout leaves these, whatever else waits
+abbrev pub LeavesIdle : (old new : List IdleTimer) → Waiting → Type 0
+LeavesIdle old new w = left_of (first_idle old) (record w { idle_timers = old }) ≡ record w { idle_timers = new }
 
 -- an item, where there is one, is taken: what is given, and what is left
 pub record Takes (item : Option Item) (old : InParallel) (given : Option Taken) (new : InParallel) : Type 0 where

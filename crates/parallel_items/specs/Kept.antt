@@ -1,5 +1,5 @@
 -- What the parts keep.
-use Rattle.std.specs.Prelude.{◌≡◌, ℕ, ◌+◌, ◌≤◌, Bool, true, List, [], ◌∷◌, map, nat_eq, if◌then◌else◌}
+use Rattle.std.specs.Prelude.{◌≡◌, ℕ, ◌+◌, ◌≤◌, not, ◌&&◌, ◌||◌, Bool, true, List, [], ◌∷◌, map, nat_eq, if◌then◌else◌}
 use Rattle.std.specs.BinaryHeap.{IsHeap}
 use Rattle.std.specs.List.{list_any, AllByRecursion}
 use Rattle.std.specs.Ordering.{nat_cmp, ordering_then}
@@ -18,7 +18,7 @@ use Rattle.parallel_items.specs.declared.completion.Completion.{Completion}
 use Rattle.parallel_items.specs.declared.idle.IdleTimeout.{IdleTimeout}
 use Rattle.parallel_items.specs.InParallel.{TimerOwner}
 use Rattle.parallel_items.specs.Steps.{owner_of}
-use Rattle.parallel_items.specs.Seen.{steps_of, completings_of, owners_of, idle_timers_of, arrivals_of}
+use Rattle.parallel_items.specs.Seen.{completion_seen, steps_of, completings_of, owners_of, idle_timers_of, arrivals_of}
 
 -- ---- timers
 
@@ -38,6 +38,14 @@ HaveSteps active cs = map (λ t. t.start) active ≡ map (λ c. c.start) cs
 -- the set of registrations tells which have a delayed `postTask`, and none has two
 abbrev pub AreDelays : List ℕ → List Completing → Type 0
 AreDelays set cs = (r : ℕ) → delays_of r cs ≡ (if list_any (nat_eq r) set then 1 else 0)
+
+-- the registration of which these completion steps are the delayed `postTask` is in the set now, and no other changed
+abbrev pub NotesDelay : Completion → (old new : ℕ → Bool) → Type 0
+NotesDelay completion old new = (r : ℕ) → new r ≡ (old r || is_delay_of r (completion_seen completion))
+
+-- that registration is in the set no longer, and no other changed
+abbrev pub ForgetsDelay : Completion → (old new : ℕ → Bool) → Type 0
+ForgetsDelay completion old new = (r : ℕ) → new r ≡ (old r && not (is_delay_of r (completion_seen completion)))
 
 -- each id in the map of ids has an owner, and no other id has
 abbrev pub HaveOwners : Timers → List TimerOwner → Type 0

@@ -1,9 +1,11 @@
 -- The types of the code as those of the model.
-use Rattle.std.specs.Prelude.{ℕ, List, map}
+use Rattle.std.specs.Prelude.{ℕ, List, map, Option}
+use Rattle.std.specs.Option.{option_map}
 use Rattle.std.specs.declared.cmp.Reverse.{Reverse}
 use Rattle.page_base.specs.declared.moment.Micros.{Micros}
 use Rattle.page_parts.specs.Setup.{Arrival}
 use Rattle.page_model.specs.State as model
+use Rattle.page_model.specs.Parallel.{Item}
 use Rattle.arrivals_text.specs.SeenParts.{arrival_of}
 use Rattle.arrivals_text.specs.declared.arrival.Arrival as read
 use Rattle.timer_map.specs.InOrder.{in_order}
@@ -13,9 +15,10 @@ use Rattle.parallel_items.specs.declared.idle.IdleTimeout.{IdleTimeout}
 use Rattle.parallel_items.specs.declared.taken.HostAnswer.{HostAnswer}
 use Rattle.parallel_items.specs.declared.taken.Taken as code
 use Rattle.parallel_items.specs.declared.taken.Taken.TheVariants as taken
+use Rattle.page_tasks.specs.declared.tasks.HostTask.{HostTask}
 use Rattle.page_tasks.specs.Seen.{timer_task, host_task, prio_source}
 use Rattle.parallel_items.specs.InParallel.{TimerOwner}
-use Rattle.parallel_items.specs.Items.{Taken, TakenArrival, TakenAnswer, TakenCompletion, TakenIdleTimeout}
+use Rattle.parallel_items.specs.Items.{answer_item, Taken, TakenArrival, TakenAnswer, TakenCompletion, TakenIdleTimeout}
 
 -- ---- completion steps
 
@@ -51,6 +54,14 @@ answer_seen a = record { due = a.due.0; task = host_task a.task }
 abbrev pub answers_of : List HostAnswer → List model.HostAnswer
 answers_of answers = map answer_seen answers
 
+-- the item of an answer
+abbrev pub item_of_answer : HostAnswer → Item
+item_of_answer a = answer_item (answer_seen a)
+
+-- the item of an answer that may not be there
+abbrev pub item_if_any : Option HostAnswer → Option Item
+item_if_any answer = option_map (λ a. answer_item (answer_seen a)) answer
+
 -- ---- idle timeouts
 
 abbrev pub idle_seen : Reverse IdleTimeout → model.IdleTimer
@@ -76,3 +87,19 @@ taken_seen (taken.Arrival a) = TakenArrival (arrival_of a)
 taken_seen (taken.HostAnswer t) = TakenAnswer (host_task t)
 taken_seen (taken.Completion c) = TakenCompletion (completion_seen c)
 taken_seen (taken.IdleTimeout handle r) = TakenIdleTimeout handle r
+
+-- an arrival, where one is taken
+abbrev pub arrival_taken : Option read.Arrival → Option Taken
+arrival_taken arrival = option_map (λ a. TakenArrival (arrival_of a)) arrival
+
+-- what a host is asked, where an answer is taken
+abbrev pub answer_taken : Option HostTask → Option Taken
+answer_taken task = option_map (λ t. TakenAnswer (host_task t)) task
+
+-- completion steps, where some are taken
+abbrev pub completion_taken : Option Completion → Option Taken
+completion_taken steps = option_map (λ c. TakenCompletion (completion_seen c)) steps
+
+-- an idle timeout, where one is taken
+abbrev pub timeout_taken : Option IdleTimeout → Option Taken
+timeout_taken timeout = option_map (λ (t : IdleTimeout). TakenIdleTimeout t.handle t.registration) timeout

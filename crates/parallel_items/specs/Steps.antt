@@ -3,8 +3,8 @@ use Rattle.std.specs.Prelude.{ℕ, suc, ◌+◌, ◌*◌, ◌==◌, Bool, List, 
 use Rattle.page_parts.specs.Words.{and_last, without, is_there}
 use Rattle.page_parts.specs.Setup.{Arrival}
 use Rattle.page_parts.specs.Timers as Timers
-use Rattle.page_parts.specs.Timers.{Armed, with_armed}
-use Rattle.page_model.specs.State.{Completion, Completing, QueueTimer, HostAnswer, HostTask}
+use Rattle.page_parts.specs.Timers.{Armed, armed, with_armed}
+use Rattle.page_model.specs.State.{Completion, Completing, QueueTimer, HostAnswer, HostTask, IdleTimer}
 use Rattle.page_model.specs.PageSignals.{is_delay_of}
 use Rattle.page_model.specs.Parallel.{with_arrival}
 use Rattle.parallel_items.specs.InParallel.{Waiting, TimerOwner, InParallel}
@@ -54,6 +54,10 @@ is_delayed r w = is_there (find (λ c. is_delay_of r c.completion) w.completions
 abbrev pub with_answer : HostAnswer → Waiting → Waiting
 with_answer answer w = record w { host_answers = and_last w.host_answers answer }
 
+-- what is asked by the answer of a registration, where it is among these
+abbrev pub pending_in : ℕ → List HostAnswer → Option HostTask
+pending_in r answers = option_map (λ a. a.task) (find (λ a. a.task.registration == r) answers)
+
 -- what is asked by the pending answer of a registration
 abbrev pub pending_answer : ℕ → Waiting → Option HostTask
 pending_answer r w = option_map (λ a. a.task) (find (λ a. a.task.registration == r) w.host_answers)
@@ -63,6 +67,11 @@ abbrev pub without_answer : ℕ → Waiting → Waiting
 without_answer r w = record w { host_answers = without (λ a. a.task.registration == r) w.host_answers }
 
 -- ---- requestIdleCallback, "The requestIdleCallback() method"
+
+-- the idle timeouts, after one more was started for the callback with this handle
+abbrev pub and_idle_timeout : (milliseconds : ℕ) → (now : ℕ) → (handle : ℕ) → (registration : ℕ) → List IdleTimer → List IdleTimer
+and_idle_timeout ms now handle registration timers =
+    and_last timers (record { due = now + ms * 1000; handle = handle; registration = registration })
 
 -- an idle timeout is started for the callback with this handle
 abbrev pub with_idle_timeout : (milliseconds : ℕ) → (now : ℕ) → (handle : ℕ) → (registration : ℕ) → Waiting → Waiting
@@ -88,6 +97,16 @@ timer_started again a registration repeats timeout s =
       waiting = with_timer again a registration repeats timeout s.waiting;
       owners = with_owner again (record { id = a.id; registration = registration }) s.owners;
     }
+
+-- what initialising a timer gives now
+abbrev pub armed_in : Option ℕ → (timeout : ℤ) → (nesting now : ℕ) → InParallel → Armed
+armed_in again timeout nesting now s = armed again timeout nesting now s.waiting.timers
+
+-- what initialising a timer makes of the part
+abbrev pub initialised : Option ℕ → (registration : ℕ) → (repeats : Bool) → (timeout : ℤ) → (nesting now : ℕ) → InParallel
+    → InParallel
+initialised again registration repeats timeout nesting now s =
+    timer_started again (armed_in again timeout nesting now s) registration repeats timeout s
 
 abbrev pub delay_started : (milliseconds : ℕ) → (now : ℕ) → Completion → InParallel → InParallel
 delay_started ms now completion s = record s { waiting = with_delay ms now completion s.waiting }

@@ -5,8 +5,9 @@ ghost use Rattle.page_parts.specs.Words.{and_last, without, is_there};
 ghost use Rattle.page_model.specs.State.{Completing};
 ghost use Rattle.page_model.specs.Parallel.{first_item_of};
 ghost use Rattle.parallel_items.specs.InParallel.{Waiting};
-ghost use Rattle.parallel_items.specs.Items.{answer_item, answer_items, due_of, earlier, TakenAnswer, taken_of, left_of};
-ghost use Rattle.parallel_items.specs.Seen.{answer_seen, answers_of};
+ghost use Rattle.parallel_items.specs.Items.{answer_items, first_answer, due_of, earlier, taken_of, LeavesAnswers};
+ghost use Rattle.parallel_items.specs.Steps.{pending_in};
+ghost use Rattle.parallel_items.specs.Seen.{answer_seen, answers_of, item_of_answer, item_if_any, answer_taken};
 ghost use Rattle.page_tasks.specs.Seen.{host_task};
 
 use crate::{HostAnswer, HostTask, MemoryFault};
@@ -45,8 +46,7 @@ fn asked_by(answers: &[HostAnswer], registration: u32) -> Option<HostAnswer>
 
 // The one that is due earlier, the first of them where they are due together.
 fn no_later(first: Option<HostAnswer>, answer: HostAnswer) -> HostAnswer
-    ensures { Some (answer_item (answer_seen result))
-        ≡ earlier (option_map (λ a. answer_item (answer_seen a)) first) (Some (answer_item (answer_seen answer))) }
+    ensures { Some (item_of_answer result) ≡ earlier (item_if_any first) (Some (item_of_answer answer)) }
 {
     match first {
         Some(before) if before.due <= answer.due => before,
@@ -56,7 +56,7 @@ fn no_later(first: Option<HostAnswer>, answer: HostAnswer) -> HostAnswer
 
 // The first of those that are due earliest.
 fn first_of(answers: &[HostAnswer]) -> Option<HostAnswer>
-    ensures { option_map (λ a. answer_item (answer_seen a)) result ≡ first_item_of (answer_items (answers_of answers.now)) }
+    ensures { item_if_any result ≡ first_answer (answers_of answers.now) }
 {
     let mut first = None;
     for answer in answers {
@@ -83,7 +83,7 @@ impl HostAnswers {
     }
 
     pub(crate) fn pending(&self, registration: u32) -> Option<HostTask>
-        ensures { option_map host_task result ≡ option_map (λ a. a.task) (find (λ a. a.task.registration == registration) self.now) }
+        ensures { option_map host_task result ≡ pending_in registration self.now }
     {
         let answer = asked_by(&self.answers, registration)?;
         Some(answer.task)
@@ -105,11 +105,9 @@ impl HostAnswers {
 
     // Takes the first of those that are due earliest.
     pub(crate) fn take_first(&mut self) -> Option<HostTask>
-        ensures taken { (cs : List Completing) →
-            option_map (λ t. TakenAnswer (host_task t)) result ≡ taken_of (first_item_of (answer_items self.old)) cs }
+        ensures taken { (cs : List Completing) → answer_taken result ≡ taken_of (first_answer self.old) cs }
         ensures some { is_some result ≡ is_there (first_item_of (answer_items self.old)) }
-        ensures left { (w : Waiting) → left_of (first_item_of (answer_items self.old)) (record w { host_answers = self.old })
-            ≡ record w { host_answers = self.new } }
+        ensures left { (w : Waiting) → LeavesAnswers self.old self.new w }
     {
         let first = first_of(&self.answers)?;
         self.give_up(first.task.registration);

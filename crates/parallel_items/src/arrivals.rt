@@ -7,7 +7,8 @@ ghost use Rattle.page_model.specs.State.{Completing};
 ghost use Rattle.page_model.specs.Parallel.{first_item_of, arrival_items, with_arrival};
 ghost use Rattle.arrivals_text.specs.SeenParts.{arrival_of};
 ghost use Rattle.parallel_items.specs.InParallel.{Waiting};
-ghost use Rattle.parallel_items.specs.Items.{due_of, TakenArrival, taken_of, left_of};
+ghost use Rattle.parallel_items.specs.Items.{due_of, first_arrival, taken_of, LeavesArrivals};
+ghost use Rattle.parallel_items.specs.Seen.{arrival_taken};
 
 use crate::MemoryFault;
 use arrivals_text::Arrival;
@@ -85,11 +86,9 @@ impl Arrivals {
 
     // Takes the first one.
     pub(crate) fn take_first(&mut self) -> Option<Arrival>
-        ensures taken { (cs : List Completing) → option_map (λ a. TakenArrival (arrival_of a)) result
-            ≡ taken_of (first_item_of (arrival_items 1 self.old.arrivals)) cs }
+        ensures taken { (cs : List Completing) → arrival_taken result ≡ taken_of (first_arrival self.old.arrivals) cs }
         ensures some { is_some result ≡ is_there (first_item_of (arrival_items 1 self.old.arrivals)) }
-        ensures left { (w : Waiting) → left_of (first_item_of (arrival_items 1 self.old.arrivals))
-            (record w { arrivals = self.old.arrivals }) ≡ record w { arrivals = self.new.arrivals } }
+        ensures left { (w : Waiting) → LeavesArrivals self.old.arrivals self.new.arrivals w }
         ensures made { self.new.made ≡ self.old.made }
     {
         let (_, arrival) = self.waiting.pop_first()?;

@@ -1,11 +1,13 @@
 //! The timeouts of idle callbacks.
-ghost use Rattle.std.specs.Prelude.{◌≡◌, ◌+◌, ◌*◌, ◌^◌, ◌<◌, [], List, is_some, OnOk, OnErr};
+ghost use Rattle.std.specs.Prelude.{◌≡◌, ◌^◌, ◌<◌, [], List, is_some, OnOk, OnErr};
 ghost use Rattle.std.specs.Option.{option_map};
-ghost use Rattle.page_parts.specs.Words.{and_last, is_there};
+ghost use Rattle.page_parts.specs.Words.{is_there};
 ghost use Rattle.page_model.specs.State.{Completing};
 ghost use Rattle.page_model.specs.Parallel.{first_item_of};
 ghost use Rattle.parallel_items.specs.InParallel.{Waiting};
-ghost use Rattle.parallel_items.specs.Items.{idle_items, due_of, TakenIdleTimeout, taken_of, left_of};
+ghost use Rattle.parallel_items.specs.Items.{idle_items, first_idle, due_of, taken_of, LeavesIdle};
+ghost use Rattle.parallel_items.specs.Steps.{and_idle_timeout};
+ghost use Rattle.parallel_items.specs.Seen.{timeout_taken};
 
 use crate::MemoryFault;
 use page_base::Micros;
@@ -65,8 +67,7 @@ impl IdleTimeouts {
         requires handle { self.old.last < handle }
         requires milliseconds { ms < 2 ^ 32 }
         requires moment { now.0 < 2 ^ 63 }
-        ensures started { OnOk result (self.new.timers ≡
-            and_last self.old.timers (record { due = now.0 + ms * 1000; handle = handle; registration = registration })) }
+        ensures started { OnOk result (self.new.timers ≡ and_idle_timeout ms now.0 handle registration self.old.timers) }
         ensures last { OnOk result (self.new.last ≡ handle) }
         ensures err { OnErr result (self.new ≡ self.old) }
     {
@@ -95,11 +96,9 @@ impl IdleTimeouts {
 
     // Takes the first of those that are due earliest.
     pub(crate) fn take_first(&mut self) -> Option<IdleTimeout>
-        ensures taken { (cs : List Completing) → option_map (λ t. TakenIdleTimeout t.handle t.registration) result
-            ≡ taken_of (first_item_of (idle_items self.old.timers)) cs }
+        ensures taken { (cs : List Completing) → timeout_taken result ≡ taken_of (first_idle self.old.timers) cs }
         ensures some { is_some result ≡ is_there (first_item_of (idle_items self.old.timers)) }
-        ensures left { (w : Waiting) → left_of (first_item_of (idle_items self.old.timers)) (record w { idle_timers = self.old.timers })
-            ≡ record w { idle_timers = self.new.timers } }
+        ensures left { (w : Waiting) → LeavesIdle self.old.timers self.new.timers w }
         ensures last { self.new.last ≡ self.old.last }
     {
         let first = self.waiting.pop()?;

@@ -1,16 +1,16 @@
 ghost use Rattle.std.specs.Prelude.{◌≡◌, ◌+◌, ◌^◌, ◌<◌, ℕ, [], length, map, true, false, Some, is_some, IfOk, OnOk, OnErr};
 ghost use Rattle.std.specs.Option.{option_map, ForNone};
 ghost use Rattle.page_parts.specs.Setup.{are_in_order};
-ghost use Rattle.page_parts.specs.Timers.{armed as armed_of, has_id, is_live, next_due as next_due_of};
+ghost use Rattle.page_parts.specs.Timers.{has_id, is_live, next_due as next_due_of};
 ghost use Rattle.page_parts.specs.Words.{is_there};
 ghost use Rattle.page_model.specs.PageSignals.{is_delay_of};
-ghost use Rattle.page_model.specs.Parallel.{due_item, first_item_of, arrival_items};
+ghost use Rattle.page_model.specs.Parallel.{first_item_of};
 ghost use Rattle.arrivals_text.specs.SeenParts.{arrival_of};
 ghost use Rattle.timer_map.specs.Seen.{seen_armed};
 ghost use Rattle.parallel_items.specs.InParallel.{only_arrivals};
-ghost use Rattle.parallel_items.specs.Steps.{timer_started, delay_started, id_cleared, owner_of, is_delayed as is_delay, answer_asked, pending_answer as pending_of, answer_given_up, idle_timeout_started, arrival_to_come};
-ghost use Rattle.parallel_items.specs.Items.{first_waiting, due_of, answer_items, timer_items, idle_items, TakenCompletion, taken_of, left_of, Takes, nothing_waits};
-ghost use Rattle.parallel_items.specs.Seen.{completion_seen, answer_seen, taken_seen};
+ghost use Rattle.parallel_items.specs.Steps.{armed_in, initialised, delay_started, id_cleared, owner_of, is_delayed as is_delay, answer_asked, pending_answer as pending_of, answer_given_up, idle_timeout_started, arrival_to_come};
+ghost use Rattle.parallel_items.specs.Items.{first_waiting, first_due, first_arrival, first_answer, first_timer, first_idle, due_of, timer_items, timer_taken, without_item, Takes, nothing_waits};
+ghost use Rattle.parallel_items.specs.Seen.{completion_seen, completion_taken, answer_seen, taken_seen};
 ghost use Rattle.page_tasks.specs.Seen.{host_task};
 
 use crate::answers::HostAnswers;
@@ -116,9 +116,8 @@ impl ParallelItems {
         requires start { self.old.waiting.timers.starts_made + 1 < 2 ^ 64 }
         requires level { nesting + 1 < 2 ^ 32 }
         requires moment { now.0 < 2 ^ 63 }
-        ensures armed { IfOk result (λ armed. seen_armed armed ≡ armed_of again timeout nesting now.0 self.old.waiting.timers) }
-        ensures started { OnOk result (self.new ≡
-            timer_started again (armed_of again timeout nesting now.0 self.old.waiting.timers) registration repeats timeout self.old) }
+        ensures armed { IfOk result (λ armed. seen_armed armed ≡ armed_in again timeout nesting now.0 self.old) }
+        ensures started { OnOk result (self.new ≡ initialised again registration repeats timeout nesting now.0 self.old) }
         ensures err { OnErr result (self.new ≡ self.old) }
     {
         counted::make_place(&mut self.owners, self.timers.made().saturating_add(1))?;
@@ -330,7 +329,7 @@ impl ParallelItems {
     ///
     /// None exactly where no item is due, and then nothing changes. Takes no memory.
     pub fn take_due(&mut self, now: Micros) -> Option<Taken>
-        ensures { Takes (due_item now.0 (first_waiting self.old.waiting)) self.old (option_map taken_seen result) self.new }
+        ensures { Takes (first_due now.0 self.old.waiting) self.old (option_map taken_seen result) self.new }
     {
         if self.next_due()? > now {
             return None;
@@ -357,28 +356,28 @@ impl ParallelItems {
     }
 
     fn take_arrival(&mut self) -> Option<Taken>
-        ensures { Takes (first_item_of (arrival_items 1 self.old.waiting.arrivals)) self.old (option_map taken_seen result) self.new }
+        ensures { Takes (first_arrival self.old.waiting.arrivals) self.old (option_map taken_seen result) self.new }
     {
         let arrival = self.arrivals.take_first()?;
         Some(Taken::Arrival(arrival))
     }
 
     fn take_answer(&mut self) -> Option<Taken>
-        ensures { Takes (first_item_of (answer_items self.old.waiting.host_answers)) self.old (option_map taken_seen result) self.new }
+        ensures { Takes (first_answer self.old.waiting.host_answers) self.old (option_map taken_seen result) self.new }
     {
         let task = self.answers.take_first()?;
         Some(Taken::HostAnswer(task))
     }
 
     fn take_completion(&mut self) -> Option<Taken>
-        ensures { Takes (first_item_of (timer_items self.old.waiting.timers.active)) self.old (option_map taken_seen result) self.new }
+        ensures { Takes (first_timer self.old.waiting.timers.active) self.old (option_map taken_seen result) self.new }
     {
         let completion = self.take_timer()?;
         Some(Taken::Completion(completion))
     }
 
     fn take_idle_timeout(&mut self) -> Option<Taken>
-        ensures { Takes (first_item_of (idle_items self.old.waiting.idle_timers)) self.old (option_map taken_seen result) self.new }
+        ensures { Takes (first_idle self.old.waiting.idle_timers) self.old (option_map taken_seen result) self.new }
     {
         let timeout = self.idle.take_first()?;
         Some(Taken::IdleTimeout {
@@ -389,11 +388,9 @@ impl ParallelItems {
 
     // Takes the active timer that is due first, with its completion steps.
     fn take_timer(&mut self) -> Option<Completion>
-        ensures taken { option_map (λ c. TakenCompletion (completion_seen c)) result
-            ≡ taken_of (first_item_of (timer_items self.old.waiting.timers.active)) self.old.waiting.completions }
+        ensures taken { completion_taken result ≡ timer_taken self.old.waiting }
         ensures some { is_some result ≡ is_there (first_item_of (timer_items self.old.waiting.timers.active)) }
-        ensures left { self.new ≡
-            record self.old { waiting = left_of (first_item_of (timer_items self.old.waiting.timers.active)) self.old.waiting } }
+        ensures left { self.new ≡ without_item (first_timer self.old.waiting.timers.active) self.old }
     {
         let due = self.timers.next_due()?;
         self.timers.complete(due)?;

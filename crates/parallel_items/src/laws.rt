@@ -11,7 +11,7 @@ ghost use Rattle.parallel_items.specs.Laws.{WaitingIs, RunAfterIs, InitIs, Clear
 pub fn calls_are_steps_of_a_page()
     ensures fields { (w : Waiting) (p : Page) → WaitingIs w p }
     ensures after { (ms : ℕ) (completion : Completion) (p : Page) → RunAfterIs ms completion p }
-    ensures init { (again : Option ℕ) (r : ℕ) (repeats : Bool) (timeout : ℤ) (p : Page) → InitIs again r repeats timeout p }
+    ensures init { (again : Option ℕ) (r : ℕ) (repeats : Bool) (ms : ℤ) (p : Page) → InitIs again r repeats ms p }
     ensures clear { (id : ℕ) (p : Page) → ClearIs id p }
     ensures clear_timer { (id : ℕ) (owners : List TimerOwner) (p : Page) → ClearTimerIs id owners p }
     ensures idle_timeout { (ms r : ℕ) (p : Page) → IdleTimeoutIs ms r p }

@@ -1,10 +1,9 @@
 //! The host closures of a page: which it has asked, and what its port tells of each.
 
-ghost use Rattle.std.specs.Prelude.{◌≡◌, [], ◌∷◌, pos, negsuc, IfOk};
-ghost use Rattle.page_types.specs.declared.HostKind.TheVariants.{Double, Any};
-ghost use Rattle.page_types.specs.declared.HostMark.TheVariants.{Live};
+ghost use Rattle.std.specs.Prelude.{◌≡◌, IfOk};
 ghost use Rattle.host_jobs.specs.ToldClosure.{told_once};
 ghost use Rattle.host_jobs.specs.ToldTable.{closures_of};
+ghost use Rattle.part_rows.specs.TwoClosures.{doubling_closure, answering_closure, both_closures};
 
 use crate::answers::double;
 use crate::rows::expect_met;
@@ -99,9 +98,7 @@ fn take_all<P: HostPort>(rt: &impl Abort, hosts: &mut PageHosts<P>) -> Result<()
 
 // The page's side of a port with two closures.
 fn hosts_of<P: HostPort + Drop>(alloc: Global, port: P) -> Result<PageHosts<P>, Fail>
-    requires { P.closures port ≡ record { kind = Double; low = negsuc 99; high = pos 100; mark = Live }
-        ∷ record { kind = Any; low = pos 0; high = pos 9; mark = Live }
-        ∷ [] }
+    requires { P.closures port ≡ both_closures }
 {
     match PageHosts::new(alloc, port) {
         Ok(hosts) => Ok(hosts),
@@ -111,9 +108,7 @@ fn hosts_of<P: HostPort + Drop>(alloc: Global, port: P) -> Result<PageHosts<P>, 
 
 // The port of a run that came to its end.
 fn ask_to_the_end<P: HostPort + Drop>(rt: &impl Abort, alloc: Global, port: P) -> Result<P, Fail>
-    requires { P.closures port ≡ record { kind = Double; low = negsuc 99; high = pos 100; mark = Live }
-        ∷ record { kind = Any; low = pos 0; high = pos 9; mark = Live }
-        ∷ [] }
+    requires { P.closures port ≡ both_closures }
 {
     let mut hosts = hosts_of(alloc, port)?;
     take_all(rt, &mut hosts)?;
@@ -122,9 +117,7 @@ fn ask_to_the_end<P: HostPort + Drop>(rt: &impl Abort, alloc: Global, port: P) -
 
 // The port of a run that stopped there.
 fn ask_so_far<P: HostPort + Drop>(rt: &impl Abort, alloc: Global, port: P) -> Result<P, Fail>
-    requires { P.closures port ≡ record { kind = Double; low = negsuc 99; high = pos 100; mark = Live }
-        ∷ record { kind = Any; low = pos 0; high = pos 9; mark = Live }
-        ∷ [] }
+    requires { P.closures port ≡ both_closures }
 {
     let mut hosts = hosts_of(alloc, port)?;
     take_all(rt, &mut hosts)?;
@@ -132,16 +125,14 @@ fn ask_so_far<P: HostPort + Drop>(rt: &impl Abort, alloc: Global, port: P) -> Re
 }
 
 fn doubling(alloc: Global) -> Result<HostOnce, AllocError>
-    ensures { IfOk result (λ once. told_once once
-        ≡ record { kind = Double; low = negsuc 99; high = pos 100; mark = Live }) }
+    ensures { IfOk result (λ once. told_once once ≡ doubling_closure) }
 {
     let job = Box::new(alloc, double)?;
     Ok(HostOnce::new(HostKind::Double, -100, 100, job))
 }
 
 fn answering_7(alloc: Global) -> Result<HostOnce, AllocError>
-    ensures { IfOk result (λ once. told_once once
-        ≡ record { kind = Any; low = pos 0; high = pos 9; mark = Live }) }
+    ensures { IfOk result (λ once. told_once once ≡ answering_closure) }
 {
     let job = Box::new(alloc, |_x: i64| Ok(7))?;
     Ok(HostOnce::new(HostKind::Any, 0, 9, job))
@@ -149,10 +140,7 @@ fn answering_7(alloc: Global) -> Result<HostOnce, AllocError>
 
 // The first closure answers with a number's double, and the second one with 7.
 fn both(alloc: Global) -> Result<HostTable, AllocError>
-    ensures { IfOk result (λ table. closures_of table
-        ≡ record { kind = Double; low = negsuc 99; high = pos 100; mark = Live }
-        ∷ record { kind = Any; low = pos 0; high = pos 9; mark = Live }
-        ∷ []) }
+    ensures { IfOk result (λ table. closures_of table ≡ both_closures) }
 {
     let mut table = HostTable::new(alloc);
     table.push(doubling(alloc)?)?;

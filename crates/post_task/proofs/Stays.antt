@@ -1,5 +1,5 @@
 -- No list leaves the queues, and a new one is that of a signal only where its room was made.
-use Rattle.std.proofs.Common.{◌≡◌, ℕ, None, List, [], ◌∷◌, ◌++◌, map, refl, sym, ap, subst, ◌∙◌}
+use Rattle.std.proofs.Common.{◌≡◌, ℕ, None, List, [], ◌∷◌, ◌++◌, map, refl, ap, subst, ◌∙◌}
 use Rattle.page_types.specs.declared.Priority.{Priority}
 use Rattle.page_types.specs.declared.Priority.TheVariants.{Background, UserVisible, UserBlocking}
 use Rattle.task_pool.specs.Lists.{Lists}

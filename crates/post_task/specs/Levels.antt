@@ -112,6 +112,10 @@ abbrev pub Lone : ℕ → List Queue → Type 0
 Lone list [] = Unit {0}
 Lone list (queue ∷ rest) = (queue.list ≢ list) × Lone list rest
 
+-- no queue of all has this list
+abbrev pub IsLone : ℕ → List Level → Type 0
+IsLone list levels = Lone list (all_queues levels)
+
 module _ {T : Type 0} where
   -- a task as it waits in a queue
   abbrev pub in_queue : Queue → Entry T → Waiting T
@@ -154,10 +158,11 @@ module _ {T : Type 0} where
   task_in sched source continuation order item cell = new_task sched.levels cell source continuation order item
 
   -- where it is enqueued, it is one task more
-  abbrev pub Enqueues : Result Ticket T → (Cell → Waiting T) → (before : Sched) → (old : Lists T) → (after : Sched)
-      → (new : Lists T) → Type 0
-  Enqueues result task before old after new =
-      IfOk result (λ ticket. Inserted (task ticket.0) (waiting before.levels old) (waiting after.levels new))
+  abbrev pub Enqueues : Result Ticket T → PrioSource → (continuation : Bool) → (order : ℕ) → (item : T)
+      → (before : Sched) → (old : Lists T) → (after : Sched) → (new : Lists T) → Type 0
+  Enqueues result source continuation order item before old after new =
+      IfOk result (λ ticket. Inserted (task_in before source continuation order item ticket.0)
+      (waiting before.levels old) (waiting after.levels new))
 
   -- the first task is taken
   pub record TakesFirst (old new : List (Waiting T)) (given : ℕ × T) : Type 0 where

@@ -1,6 +1,7 @@
 -- Scheduler tasks that wait, in one list. Prioritized Task Scheduling, "Scheduling Tasks and Continuations" and "Selecting the Task
 -- Queue of the Next Scheduler Task"
-use Rattle.std.specs.Prelude.{◌≡◌, ◌⊎◌, ℕ, ◌+◌, ◌*◌, ◌≤◌, Bool, false, if◌then◌else◌, not, ◌==◌, List, [], ◌∷◌, ◌++◌, Option, MatchOption}
+use Rattle.std.specs.Prelude.{◌≡◌, ◌⊎◌, ℕ, ◌+◌, ◌*◌, ◌≤◌, Bool, false, if◌then◌else◌, not, ◌==◌, List, [], ◌∷◌, ◌++◌, Option, Some, MatchOption}
+use Rattle.std.specs.Option.{option_map}
 use Rattle.page_types.specs.declared.Priority.{Priority}
 use Rattle.page_parts.specs.TaskSignals.{rank, same_priority}
 use Rattle.cell_room.specs.declared.room.Cell.{Cell}
@@ -63,6 +64,10 @@ module _ {T : Type 0} where
   -- the order of what is handed out
   abbrev pub order_of : ℕ × T → ℕ
   order_of given = given.0
+
+  -- what is handed out has the order of the first of these tasks, where there is one
+  abbrev pub HasFirstOrder : Option (ℕ × T) → List (Waiting T) → Type 0
+  HasFirstOrder given tasks = (order : ℕ) → IsFirstOrder order tasks → option_map order_of given ≡ Some order
 
   -- whether a task stands in this cell, or in another one
   abbrev pub has_cell : Cell → Waiting T → Bool

@@ -1,9 +1,9 @@
-ghost use Rattle.std.specs.Prelude.{◌≡◌, ◌≢◌, ℕ, ◌+◌, ◌^◌, ◌<◌, ◌≤◌, [], ◌∷◌, ◌++◌, map, length, None, Some, IfOk, IfErr, OnOk, OnErr, OnSome, IfNone, IsOk, MatchOption};
+ghost use Rattle.std.specs.Prelude.{◌≡◌, ◌≢◌, ℕ, ◌+◌, ◌^◌, ◌<◌, ◌≤◌, [], ◌∷◌, ◌++◌, map, length, None, Some, IfOk, IfErr, OnOk, OnErr, OnSome, IfNone, IsOk};
 ghost use Rattle.std.specs.List.{filter, find};
 ghost use Rattle.std.specs.Option.{option_map};
 ghost use Rattle.task_pool.specs.Lists.{Lists, list_of, entry_of, without};
-ghost use Rattle.post_task.specs.Waiting.{Waiting, Among, IsFirstOrder, IsSelected, ordered, order_of, has_cell, lacks_cell, moved};
-ghost use Rattle.post_task.specs.Levels.{all_queues, Lone, waiting, priority_in, place_of, HasRoom, Kept, AreKept, StandsNext, SameBut, ReadsAgain, Enqueues, IsTaken, task_in, moved_level, Added};
+ghost use Rattle.post_task.specs.Waiting.{Waiting, Among, IsSelected, ordered, has_cell, lacks_cell, moved, HasFirstOrder};
+ghost use Rattle.post_task.specs.Levels.{all_queues, Lone, waiting, priority_in, place_of, HasRoom, Kept, AreKept, StandsNext, SameBut, ReadsAgain, Enqueues, IsTaken, moved_level, Added, IsLone};
 
 use crate::PrioSource;
 use crate::heads::{place_of_list, read_first};
@@ -96,7 +96,7 @@ impl<T> SchedQueues<T> {
         ensures sources { OnOk result (SameBut (PrioSource.Signal s) self.old.levels self.new.levels) }
         ensures waiting { OnOk result (waiting self.new.levels pool.new ≡ map (moved s p) (waiting self.old.levels pool.old)) }
         ensures err { OnErr result (self.new ≡ self.old) }
-        ensures made { (l : ℕ) → l < length pool.old.lists → Lone l (all_queues self.old.levels) → Lone l (all_queues self.new.levels) }
+        ensures made { (l : ℕ) → l < length pool.old.lists → IsLone l self.old.levels → IsLone l self.new.levels }
         ensures stay { (l : ℕ) → Lone l (all_queues self.new.levels) → Lone l (all_queues self.old.levels) }
         ensures more { length pool.old.lists ≤ length pool.new.lists }
         ensures waiting_still { OnErr result (waiting self.new.levels pool.new ≡ waiting self.old.levels pool.old) }
@@ -131,7 +131,7 @@ impl<T> SchedQueues<T> {
         requires inserts { pool.old.inserts + 1 < 2 ^ 64 }
         ensures same { self.new.levels ≡ self.old.levels }
         ensures kept { Kept self.new pool.new }
-        ensures waits { Enqueues result (task_in self.old source continuation order item) self.old pool.old self.new pool.new }
+        ensures waits { Enqueues result source continuation order item self.old pool.old self.new pool.new }
         ensures others { (l : ℕ) → Lone l (all_queues self.old.levels) → list_of pool.new l ≡ list_of pool.old l }
         ensures count { length pool.new.lists ≡ length pool.old.lists }
         ensures fresh { IfOk result (λ ticket. entry_of pool.old ticket.0 ≡ None) }
@@ -168,7 +168,7 @@ impl<T> SchedQueues<T> {
         requires { Kept self.old pool.old }
         ensures same { self.new.levels ≡ self.old.levels }
         ensures kept { Kept self.new pool.new }
-        ensures order { (order : ℕ) → IsFirstOrder order (waiting self.old.levels pool.old) → option_map order_of result ≡ Some order }
+        ensures order { HasFirstOrder result (waiting self.old.levels pool.old) }
         ensures first { IsTaken result (waiting self.old.levels pool.old) (waiting self.new.levels pool.new) }
         ensures others { (l : ℕ) → Lone l (all_queues self.old.levels) → list_of pool.new l ≡ list_of pool.old l }
         ensures count { length pool.new.lists ≡ length pool.old.lists }

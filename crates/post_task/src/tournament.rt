@@ -1,7 +1,7 @@
 ghost use Rattle.std.specs.Prelude.{◌≡◌, ◌+◌, ◌*◌, ◌<◌, ◌∷◌, ◌++◌, [], map, length, slice_set, slice_index_or, Option, None, OnOk, OnErr, MatchOption};
 ghost use Rattle.std.specs.Option.{option_map};
 ghost use Rattle.post_task.specs.Tournament.{goes_before, Wins, HasNone, is_odd, moved_head};
-ghost use Rattle.post_task.specs.Tree.{better as better_of, best_at, champion, mended, own_of, IsRight, IsRightBut};
+ghost use Rattle.post_task.specs.Tree.{better as better_of, best_at, mended, own_of, IsRight, IsRightBut};
 
 use crate::level::rank;
 use std::alloc::{AllocError, Global};

@@ -1,9 +1,9 @@
 -- Whole sequences of calls, for the laws on them.
-use Rattle.std.specs.Prelude.{ℕ, ◌+◌, if◌then◌else◌, List, [], ◌∷◌, ◌++◌, ◌==◌}
+use Rattle.std.specs.Prelude.{◌≡◌, ℕ, ◌+◌, if◌then◌else◌, List, [], ◌∷◌, ◌++◌, ◌==◌, Option, None, is_some, IsTrue}
 use Rattle.page_types.specs.Values.{Value}
 use Rattle.page_parts.specs.Promises as Parts
 use Rattle.page_parts.specs.Promises.{PromiseRecord, Settled, Reaction, PromiseJob, React, Adopt, Change}
-use Rattle.promise_core.specs.Held.{Held, IsMade, made, changed, no_longer_rejected}
+use Rattle.promise_core.specs.Held.{Held, IsMade, nothing_held, made, changed, no_longer_rejected}
 use Rattle.page_parts.specs.Promises.{the_promise}
 
 -- what a call does to one promise
@@ -92,3 +92,21 @@ subscribed n [] = []
 subscribed n (Make ∷ cs) = subscribed n cs
 subscribed n (TakeRejected ∷ cs) = subscribed n cs
 subscribed n (Of m a ∷ cs) = (if m == n then given a else []) ++ subscribed n cs
+
+-- what the laws say of promise n after calls, the first of which found nothing
+module _ (calls : List Call) (n : ℕ) where
+  -- how it was settled, none where it is pending
+  abbrev pub outcome_after : Option Settled
+  outcome_after = (the_promise (after_all calls nothing_held).promises n).outcome
+
+  -- one of the calls settled it where it is settled, and none where it is pending
+  abbrev pub SettlesOnce : Type 0
+  SettlesOnce = times_settled n calls nothing_held ≡ (if is_some outcome_after then 1 else 0)
+
+  -- where it is settled, jobs came for the reactions that it got, in order
+  abbrev pub JobsAreReactions : Type 0
+  JobsAreReactions = IsTrue (is_some outcome_after) → reacted n calls nothing_held ≡ subscribed n calls
+
+  -- where it is pending, no job came
+  abbrev pub NoJobCame : Type 0
+  NoJobCame = outcome_after ≡ None → reacted n calls nothing_held ≡ []

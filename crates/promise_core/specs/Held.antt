@@ -33,6 +33,10 @@ changed n c s =
       rejected = if c.newly_rejected then and_last s.rejected n else s.rejected;
     }
 
+-- the numbers, with n behind them where it is newly rejected
+abbrev pub with_rejected : (newly_rejected : Bool) → ℕ → List ℕ → List ℕ
+with_rejected newly_rejected n rejected = if newly_rejected then and_last rejected n else rejected
+
 -- promise number n is not to be notified about
 abbrev pub no_longer_rejected : ℕ → Held → Held
 no_longer_rejected n s = record s { rejected = without (λ m. m == n) s.rejected }

@@ -1,13 +1,14 @@
 //! All promises, and the list of rejected ones about to be notified about.
 
-ghost use Rattle.std.specs.Prelude.{◌≡◌, ◌+◌, ◌^◌, ◌<◌, ◌≤◌, [], Some, None, length, IfOk, OnErr, OnOk, IsTrue, MatchOption, true, if◌then◌else◌};
-ghost use Rattle.page_parts.specs.Words.{and_last, numbered, with_numbered};
+ghost use Rattle.std.specs.Prelude.{◌≡◌, ◌+◌, ◌^◌, ◌<◌, ◌≤◌, [], length, IfOk, OnErr, OnOk, IsTrue, true};
+ghost use Rattle.page_parts.specs.Words.{numbered};
 ghost use Rattle.page_parts.specs.Promises as parts;
 ghost use Rattle.page_values.specs.Seen.{seen};
-ghost use Rattle.promise_core.specs.Held.{Held, IsMade, made, no_longer_rejected, unhandled, all_within};
+ghost use Rattle.promise_core.specs.Held.{Held, IsMade, made, unhandled, all_within, with_rejected};
 ghost use Rattle.page_parts.specs.Promises.{the_promise};
-ghost use Rattle.promise_core.specs.Seen.{settled_seen, reaction_seen, jobs_seen, records_seen, record_seen};
-ghost use Rattle.promise_core.specs.Changes.{Brings};
+ghost use Rattle.promise_core.specs.Seen.{settled_seen, reaction_seen, jobs_seen, records_seen, record_seen, IsOutcome};
+ghost use Rattle.promise_core.specs.Changes.{BringsBy, BringsReaction};
+ghost use Rattle.promise_core.specs.Records.{record_at, settled_at, subscribed_at, BecomesAt};
 
 use crate::record::{Change, Job, Reaction, Record, Settled};
 use page_values::{FaultName, MemoryFault, Value, as_promise, fault};
@@ -83,7 +84,7 @@ impl Promises {
     /// Functions"). For want of memory nothing changes.
     pub fn resolve(&mut self, p: u32, v: Value) -> Result<Change, MemoryFault>
         requires { IsMade self.old p }
-        ensures ok { IfOk result (λ told. Brings told p (parts.resolve p (the_promise self.old.promises p) (seen v)) self.old self.new) }
+        ensures ok { IfOk result (λ told. BringsBy told p (λ q. parts.resolve p q (seen v)) self.old self.new) }
         ensures err { OnErr result (self.new ≡ self.old) }
     {
         let record = record_of(&self.records, p);
@@ -104,7 +105,7 @@ impl Promises {
     /// memory nothing changes.
     pub fn reject(&mut self, p: u32, v: Value) -> Result<Change, MemoryFault>
         requires { IsMade self.old p }
-        ensures ok { IfOk result (λ told. Brings told p (parts.reject p (the_promise self.old.promises p) (seen v)) self.old self.new) }
+        ensures ok { IfOk result (λ told. BringsBy told p (λ q. parts.reject p q (seen v)) self.old self.new) }
         ensures err { OnErr result (self.new ≡ self.old) }
     {
         if record_of(&self.records, p).locked {
@@ -117,8 +118,7 @@ impl Promises {
     /// want of memory nothing changes.
     pub fn follow(&mut self, p: u32, o: Settled) -> Result<Change, MemoryFault>
         requires { IsMade self.old p }
-        ensures ok { IfOk result (λ told. Brings told p
-            (parts.follow p (the_promise self.old.promises p) (settled_seen o)) self.old self.new) }
+        ensures ok { IfOk result (λ told. BringsBy told p (λ q. parts.follow p q (settled_seen o)) self.old self.new) }
         ensures err { OnErr result (self.new ≡ self.old) }
     {
         if record_of(&self.records, p).outcome.is_some() {
@@ -132,8 +132,7 @@ impl Promises {
     /// changes.
     pub fn subscribe(&mut self, p: u32, r: Reaction) -> Result<Change, MemoryFault>
         requires { IsMade self.old p }
-        ensures ok { IfOk result (λ told. Brings told p (parts.subscribe p (the_promise self.old.promises p) (reaction_seen r))
-            (no_longer_rejected p self.old) self.new) }
+        ensures ok { IfOk result (λ told. BringsReaction told p (reaction_seen r) self.old self.new) }
         ensures err { OnErr result (self.new ≡ self.old) }
     {
         let jobs = subscribe_at(&mut self.records, p, self.alloc, r)?;
@@ -151,8 +150,7 @@ impl Promises {
     /// How the promise was settled, and None exactly while it is pending. Takes no memory.
     pub fn outcome(&self, p: u32) -> Option<&Settled>
         requires { IsMade self.now p }
-        ensures { MatchOption result ((the_promise self.now.promises p).outcome ≡ None)
-            (λ how. (the_promise self.now.promises p).outcome ≡ Some (settled_seen how.now)) }
+        ensures { IsOutcome result (the_promise self.now.promises p).outcome }
     {
         record_of(&self.records, p).outcome.as_ref()
     }
@@ -171,8 +169,7 @@ impl Promises {
     // Settles a promise, pending or not.
     fn settle(&mut self, p: u32, how: Settled) -> Result<Change, MemoryFault>
         requires { IsMade self.old p }
-        ensures ok { IfOk result (λ told. Brings told p
-            (parts.settle p (the_promise self.old.promises p) (settled_seen how)) self.old self.new) }
+        ensures ok { IfOk result (λ told. BringsBy told p (λ q. parts.settle p q (settled_seen how)) self.old self.new) }
         ensures err { OnErr result (self.new ≡ self.old) }
     {
         let record = record_of(&self.records, p);
@@ -190,7 +187,7 @@ impl Promises {
     // Locks a promise, and queues the job by which it subscribes to another.
     fn adopt(&mut self, p: u32, from: u32) -> Result<Change, MemoryFault>
         requires { IsMade self.old p }
-        ensures ok { IfOk result (λ told. Brings told p (parts.adopt p (the_promise self.old.promises p) from) self.old self.new) }
+        ensures ok { IfOk result (λ told. BringsBy told p (λ q. parts.adopt p q from) self.old self.new) }
         ensures err { OnErr result (self.new ≡ self.old) }
     {
         let jobs = vec![in self.alloc; Job::Adopt { into: p, from }]?;
@@ -231,7 +228,7 @@ fn unhandled_of(records: &[Record], mut numbers: Vec<u32>) -> Vec<u32>
 
 // Puts a promise at the end of the list, where it is newly rejected.
 fn note_rejected(rejected: &mut Vec<u32>, p: u32, newly_rejected: bool) -> Result<(), MemoryFault>
-    ensures ok { OnOk result (rejected.new.items ≡ (if newly_rejected then and_last rejected.old.items p else rejected.old.items)) }
+    ensures ok { OnOk result (rejected.new.items ≡ with_rejected newly_rejected p rejected.old.items) }
     ensures err { OnErr result (rejected.new.items ≡ rejected.old.items) }
 {
     if newly_rejected {
@@ -243,8 +240,7 @@ fn note_rejected(rejected: &mut Vec<u32>, p: u32, newly_rejected: bool) -> Resul
 fn settle_at(records: &mut [Record], p: u32, alloc: Global, how: Settled)
     requires within { p ≤ length records.old }
     requires counted { 0 < p }
-    ensures { records_seen records.new ≡ with_numbered (records_seen records.old) p
-        (parts.settle p (numbered (records_seen records.old) p parts.pending_promise) (settled_seen how)).promise }
+    ensures { BecomesAt p (settled_at records.old p how).promise records.old records.new }
 {
     records[p as usize - 1].settle(alloc, how);
 }
@@ -252,8 +248,7 @@ fn settle_at(records: &mut [Record], p: u32, alloc: Global, how: Settled)
 fn lock_at(records: &mut [Record], p: u32)
     requires within { p ≤ length records.old }
     requires counted { 0 < p }
-    ensures { records_seen records.new ≡ with_numbered (records_seen records.old) p
-        (record (numbered (records_seen records.old) p parts.pending_promise) { locked = true }) }
+    ensures { BecomesAt p (record (record_at records.old p) { locked = true }) records.old records.new }
 {
     records[p as usize - 1].lock();
 }
@@ -267,11 +262,8 @@ fn subscribe_at(
 ) -> Result<Vec<Job>, MemoryFault>
     requires within { p ≤ length records.old }
     requires counted { 0 < p }
-    ensures ok { OnOk result (records_seen records.new
-        ≡ with_numbered (records_seen records.old) p
-        (parts.subscribe p (numbered (records_seen records.old) p parts.pending_promise) (reaction_seen reaction)).promise) }
-    ensures jobs { IfOk result (λ jobs. jobs_seen jobs.items
-        ≡ (parts.subscribe p (numbered (records_seen records.old) p parts.pending_promise) (reaction_seen reaction)).jobs) }
+    ensures ok { OnOk result (BecomesAt p (subscribed_at records.old p reaction).promise records.old records.new) }
+    ensures jobs { IfOk result (λ jobs. jobs_seen jobs.items ≡ (subscribed_at records.old p reaction).jobs) }
     ensures err { OnErr result (records_seen records.new ≡ records_seen records.old) }
 {
     records[p as usize - 1].subscribe(alloc, p, reaction)

@@ -2,7 +2,7 @@
 
 ghost use Rattle.std.specs.Prelude.{◌≡◌, true, false, IfOk, OnOk, OnErr, map};
 ghost use Rattle.page_parts.specs.Promises as parts;
-ghost use Rattle.promise_core.specs.Seen.{settled_seen, reaction_seen, jobs_seen, record_seen};
+ghost use Rattle.promise_core.specs.Seen.{settled_seen, subscribe_seen, jobs_seen, record_seen};
 
 use page_values::{MemoryFault, Value};
 use std::alloc::Global;
@@ -120,9 +120,8 @@ impl Record {
         of: u32,
         reaction: Reaction,
     ) -> Result<Vec<Job>, MemoryFault>
-        ensures ok { OnOk result (record_seen self.new ≡ (parts.subscribe of (record_seen self.old) (reaction_seen reaction)).promise) }
-        ensures jobs { IfOk result (λ jobs. jobs_seen jobs.items
-            ≡ (parts.subscribe of (record_seen self.old) (reaction_seen reaction)).jobs) }
+        ensures ok { OnOk result (record_seen self.new ≡ (subscribe_seen of self.old reaction).promise) }
+        ensures jobs { IfOk result (λ jobs. jobs_seen jobs.items ≡ (subscribe_seen of self.old reaction).jobs) }
         ensures err { OnErr result (record_seen self.new ≡ record_seen self.old) }
     {
         let jobs = match self.outcome {

@@ -25,3 +25,7 @@ pub record AreKept (last : ℕ) (waiting : ℕ) (entries : List (ℕ × Option �
   pub given : All (λ handle. handle ≤ last) (keys_of entries)
   pub counted : waiting ≡ length (callbacks_of entries)
   pub bounded : waiting ≤ last
+
+-- what was kept of the entries is kept of others
+abbrev pub StayKept : (old new : List (ℕ × Option ℕ)) → Type 0
+StayKept old new = (last waiting : ℕ) → AreKept last waiting old → AreKept last waiting new

@@ -1,5 +1,5 @@
 -- The map of animation frame callbacks while a frame runs them. HTML, "Animation frames": run the animation frame callbacks
-use Rattle.std.specs.Prelude.{ℕ, List, [], ◌∷◌, Option, Some, None}
+use Rattle.std.specs.Prelude.{◌≡◌, ℕ, List, [], ◌∷◌, Option, Some, None}
 use Rattle.page_parts.specs.Frames.{Frames, Callback, callback_in, cancel}
 
 -- the map of callbacks, and the handles of the frame that were not looked at yet: those that the map had at the frame's start, in order
@@ -21,6 +21,10 @@ behind_first callbacks (handle ∷ left) = elim (callback_in callbacks handle) [
 -- the next callback that the frame calls
 abbrev pub next_callback : FrameInProgress → Option Callback
 next_callback f = first_waiting f.map.callbacks f.left
+
+-- it is this one
+abbrev pub IsNext : FrameInProgress → Callback → Type 0
+IsNext f c = next_callback f ≡ Some c
 
 -- and what is left then: the callback is out of the map
 abbrev pub after_next : FrameInProgress → FrameInProgress

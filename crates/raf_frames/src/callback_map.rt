@@ -1,9 +1,9 @@
-ghost use Rattle.std.specs.Prelude.{◌≡◌, ℕ, ◌+◌, ◌^◌, ◌<◌, None, nat_eq, IfOk, OnOk, OnErr};
+ghost use Rattle.std.specs.Prelude.{◌≡◌, ◌+◌, ◌^◌, ◌<◌, None, nat_eq, IfOk, OnOk, OnErr};
 ghost use Rattle.std.specs.Map.{lookup, set_value};
 ghost use Rattle.std.specs.Option.{option_map};
 ghost use Rattle.page_parts.specs.Words.{is_empty as has_none};
 ghost use Rattle.page_parts.specs.Frames.{no_frames, callback_in, request as requested, cancel as cancelled, keys as handles};
-ghost use Rattle.raf_frames.specs.Entries.{callbacks_of, unmarked, AreKept};
+ghost use Rattle.raf_frames.specs.Entries.{callbacks_of, unmarked, StayKept};
 
 use crate::MemoryFault;
 use indexmap::IndexMap;
@@ -131,7 +131,7 @@ fn mark(callbacks: &mut IndexMap<u32, Option<u32>>, handle: u32) -> Option<u32>
 // Takes the marks out.
 fn forget(callbacks: &mut IndexMap<u32, Option<u32>>)
     ensures same { callbacks_of callbacks.new.entries ≡ callbacks_of callbacks.old.entries }
-    ensures kept { (last waiting : ℕ) → AreKept last waiting callbacks.old.entries → AreKept last waiting callbacks.new.entries }
+    ensures kept { StayKept callbacks.old.entries callbacks.new.entries }
 {
     callbacks.retain(|_, callback| callback.is_some());
 }

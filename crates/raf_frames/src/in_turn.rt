@@ -1,7 +1,7 @@
 //! A frame callback by callback, and the frame as one fold over keys.
 ghost use Rattle.std.specs.Prelude.{◌≡◌, Some};
 ghost use Rattle.page_parts.specs.Frames.{Callback, callback_in, cancel};
-ghost use Rattle.raf_frames.specs.FrameInProgress.{FrameInProgress, next_callback, after_next};
+ghost use Rattle.raf_frames.specs.FrameInProgress.{FrameInProgress, IsNext, after_next};
 ghost use Rattle.raf_frames.specs.InTurn.{Visits, AreInTurn, GoesByNext};
 
 /// The law that taking the callbacks of a frame one after another is visiting the keys of its start in turn, whatever the calls
@@ -11,6 +11,6 @@ ghost use Rattle.raf_frames.specs.InTurn.{Visits, AreInTurn, GoesByNext};
 /// A page visits keys by its own definition, with its own states. It does nothing when it runs.
 pub fn callbacks_one_by_one_are_the_frame<S, D>()
     ensures visits { (v : Visits S D) → AreInTurn v → GoesByNext v }
-    ensures next { (f : FrameInProgress) (c : Callback) → next_callback f ≡ Some c → callback_in f.map.callbacks c.handle ≡ Some c }
-    ensures taken { (f : FrameInProgress) (c : Callback) → next_callback f ≡ Some c → (after_next f).map ≡ cancel c.handle f.map }
+    ensures next { (f : FrameInProgress) (c : Callback) → IsNext f c → callback_in f.map.callbacks c.handle ≡ Some c }
+    ensures taken { (f : FrameInProgress) (c : Callback) → IsNext f c → (after_next f).map ≡ cancel c.handle f.map }
 {}

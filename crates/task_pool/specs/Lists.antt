@@ -1,5 +1,5 @@
 -- Lists of numbered items that stand in cells. Ours: the standards do not say how queues are stored.
-use Rattle.std.specs.Prelude.{ℕ, ◌==◌, Bool, ◌&&◌, not, List, [], ◌∷◌, length, Option, Some, None, slice_index_or}
+use Rattle.std.specs.Prelude.{◌≡◌, ℕ, ◌==◌, Bool, ◌&&◌, not, List, [], ◌∷◌, ◌++◌, length, Option, Some, None, slice_index_or, slice_set}
 use Rattle.std.specs.List.{find, filter, flat_map}
 use Rattle.cell_room.specs.declared.room.Cell.{Cell}
 
@@ -24,6 +24,14 @@ module _ {T : Type 0} where
   abbrev pub list_of : Lists T → ℕ → List (Entry T)
   list_of pool l = slice_index_or pool.lists l []
 
+  -- an item with a number, in this cell
+  abbrev pub entry_at : Cell → (number : ℕ) → T → Entry T
+  entry_at cell number item = record { cell = cell; number = number; item = item }
+
+  -- the lists, with one more entry at the end of list l
+  abbrev pub with_last : Lists T → (l : ℕ) → Entry T → List (List (Entry T))
+  with_last pool l entry = slice_set pool.lists l (list_of pool l ++ entry ∷ [])
+
   -- what is handed out of an entry
   abbrev pub numbered : Entry T → ℕ × T
   numbered entry = (entry.number, entry.item)
@@ -40,6 +48,10 @@ module _ {T : Type 0} where
   -- whether an entry stands in this cell
   abbrev pub in_cell : Cell → Entry T → Bool
   in_cell cell entry = same_cell entry.cell cell
+
+  -- this is the entry of list l in a cell
+  abbrev pub StandsIn : Lists T → (l : ℕ) → Cell → Entry T → Type 0
+  StandsIn pool l cell entry = find (in_cell cell) (list_of pool l) ≡ Some entry
 
   -- the entry in this cell, in whatever list
   abbrev pub entry_of : Lists T → Cell → Option (Entry T)

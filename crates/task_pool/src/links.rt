@@ -1,5 +1,5 @@
 ghost use Rattle.std.specs.Prelude.{◌≡◌, ◌+◌, ◌≤◌};
-ghost use Rattle.cell_room.specs.Cells.{Cells, item_at};
+ghost use Rattle.cell_room.specs.Cells.{item_at};
 ghost use Rattle.task_pool.specs.Links.{Relinks, with_before, with_after, first_at, joined as joining};
 
 use cell_room::{Cell, Room, Steps};

@@ -1,7 +1,6 @@
 ghost use Rattle.std.specs.Prelude.{◌≡◌, ℕ, ◌+◌, ◌^◌, ◌<◌, ◌≤◌, [], ◌∷◌, ◌++◌, length, map, drop, slice_set, None, Some, IfOk, IfErr, OnOk, OnErr, OnSome, IfSome, IfNone, IsOk};
 ghost use Rattle.std.specs.Option.{option_map};
-ghost use Rattle.std.specs.List.{find};
-ghost use Rattle.task_pool.specs.Lists.{Entry, in_cell, list_of, entry_of, without, numbered, first_entry, count};
+ghost use Rattle.task_pool.specs.Lists.{Entry, list_of, entry_of, without, numbered, first_entry, count, entry_at, with_last, StandsIn};
 ghost use Rattle.task_pool.specs.Taken.{taken, taken_from, Leaves};
 
 use crate::links::{Ends, First, Node, set_after, set_before};
@@ -117,8 +116,7 @@ impl<T> Pool<T> {
     ) -> Result<Ticket, T>
         requires list { l.0 < length self.old.lists }
         requires inserts { self.old.inserts + 1 < 2 ^ 64 }
-        ensures put { IfOk result (λ ticket. self.new.lists
-            ≡ slice_set self.old.lists l.0 (list_of self.old l.0 ++ record { cell = ticket.0; number = number; item = item } ∷ [])) }
+        ensures put { IfOk result (λ ticket. self.new.lists ≡ with_last self.old l.0 (entry_at ticket.0 number item)) }
         ensures fresh { IfOk result (λ ticket. entry_of self.old ticket.0 ≡ None) }
         ensures generation { IfOk result (λ ticket. ticket.0.generation ≡ self.old.inserts) }
         ensures inserts { OnOk result (self.new.inserts ≡ self.old.inserts + 1) }
@@ -177,7 +175,7 @@ impl<T> Pool<T> {
     /// changes. Every other list is as it was. Three accesses at most. Takes no memory.
     pub fn unlink<L: Ledger>(&mut self, t: Ticket, steps: &mut Steps<L>) -> Option<(u64, T)>
         ensures item { result ≡ option_map numbered (entry_of self.old t.0) }
-        ensures there { (l : ℕ) (entry : Entry T) → find (in_cell t.0) (list_of self.old l) ≡ Some entry → result ≡ Some (numbered entry) }
+        ensures there { (l : ℕ) (entry : Entry T) → StandsIn self.old l t.0 entry → result ≡ Some (numbered entry) }
         ensures gone { self.new.lists ≡ map (without t.0) self.old.lists }
         ensures one { OnSome result (count self.new.lists + 1 ≡ count self.old.lists) }
         ensures spare { OnSome result (self.new.spare ≡ self.old.spare + 1) }
@@ -201,8 +199,7 @@ impl<T> Pool<T> {
         steps: &mut Steps<L>,
     ) -> Option<Unlinked<T>>
         ensures item { option_map taken result ≡ option_map numbered (entry_of self.old t.0) }
-        ensures there { (l : ℕ) (entry : Entry T) → find (in_cell t.0) (list_of self.old l) ≡ Some entry
-            → result ≡ Some (taken_from l entry) }
+        ensures there { (l : ℕ) (entry : Entry T) → StandsIn self.old l t.0 entry → result ≡ Some (taken_from l entry) }
         ensures list { IfSome result (λ unlinked. Leaves t.0 unlinked.list.0 self.old self.new) }
         ensures gone { self.new.lists ≡ map (without t.0) self.old.lists }
         ensures one { OnSome result (count self.new.lists + 1 ≡ count self.old.lists) }

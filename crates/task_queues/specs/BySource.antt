@@ -1,5 +1,5 @@
 -- One list of a pool for each task source other than the scheduler's. HTML, "Event loops: definitions": task sources and task queues
-use Rattle.std.specs.Prelude.{◌≡◌, ◌≢◌, ℕ, ◌<◌, List, [], length, Option, slice_set}
+use Rattle.std.specs.Prelude.{◌≡◌, ◌≢◌, ℕ, ◌<◌, List, [], ◌∷◌, ◌++◌, length, Option, slice_set}
 use Rattle.std.specs.Option.{option_map}
 use Rattle.page_types.specs.declared.Source.{Source}
 use Rattle.page_types.specs.declared.Source.TheVariants.{User, Net, Dom, Timer, Render, Sched, Idle}
@@ -39,3 +39,7 @@ module _ {T : Type 0} where
     pub tasks_are : tasks_of queues new s ≡ tasks
     pub others : (o : Source) → o ≢ s → tasks_of queues new o ≡ tasks_of queues old o
     pub lists : new.lists ≡ slice_set old.lists (list_number queues s) tasks
+
+  -- a source has one task more, behind its others
+  abbrev pub AddsTask : (queues : Queues T) → (old new : Lists T) → Source → Entry T → Type 0
+  AddsTask queues old new s entry = Queued queues old new s (tasks_of queues old s ++ entry ∷ [])

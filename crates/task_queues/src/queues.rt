@@ -1,9 +1,9 @@
-ghost use Rattle.std.specs.Prelude.{◌≡◌, ◌≢◌, ℕ, ◌+◌, ◌^◌, ◌<◌, ◌≤◌, [], ◌∷◌, ◌++◌, length, map, drop, slice_set, None, IfOk, IfErr, OnOk, OnErr, OnSome, IfNone, IsOk};
+ghost use Rattle.std.specs.Prelude.{◌≡◌, ◌≢◌, ℕ, ◌+◌, ◌^◌, ◌<◌, ◌≤◌, [], length, map, drop, None, IfOk, IfErr, OnOk, OnErr, OnSome, IfNone, IsOk};
 ghost use Rattle.std.specs.Option.{option_map};
 ghost use Rattle.page_types.specs.declared.Source.{Source as TaskSource};
 ghost use Rattle.page_types.specs.declared.Source.TheVariants.{Sched};
 ghost use Rattle.page_parts.specs.Sources.{default_list};
-ghost use Rattle.task_pool.specs.Lists.{list_of, entry_of, numbered, first_entry};
+ghost use Rattle.task_pool.specs.Lists.{list_of, entry_at, entry_of, numbered, first_entry};
 
 use page_base::Source;
 use std::marker::PhantomData;
@@ -26,7 +26,7 @@ pub struct Queues<T> {
 }
 
 impl<T> Queues<T> {
-    ghost use Rattle.task_queues.specs.BySource.{tasks_of, list_number, StandIn, IsApart, Queued, head};
+    ghost use Rattle.task_queues.specs.BySource.{tasks_of, list_number, StandIn, IsApart, Queued, AddsTask, head};
 
     /// Six empty lists, which are new in the pool. Every other list of the pool is as it was, after an error too; then the pool
     /// may have further empty lists, which nothing names.
@@ -65,8 +65,7 @@ impl<T> Queues<T> {
         requires stand { StandIn self.old pool.old }
         requires inserts { pool.old.inserts + 1 < 2 ^ 64 }
         ensures same { self.new ≡ self.old }
-        ensures queued { IfOk result (λ ticket. Queued self.old pool.old pool.new s
-            (tasks_of self.old pool.old s ++ record { cell = ticket.0; number = number; item = item } ∷ [])) }
+        ensures queued { IfOk result (λ ticket. AddsTask self.old pool.old pool.new s (entry_at ticket.0 number item)) }
         ensures others { (l : ℕ) → IsApart self.old l → list_of pool.new l ≡ list_of pool.old l }
         ensures stand { StandIn self.new pool.new }
         ensures count { length pool.new.lists ≡ length pool.old.lists }

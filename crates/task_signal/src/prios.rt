@@ -1,4 +1,4 @@
-ghost use Rattle.std.specs.Prelude.{◌≡◌, ◌≢◌, [], length, None, Some, OnOk, OnErr, IsTrue, is_some};
+ghost use Rattle.std.specs.Prelude.{◌≡◌, ◌≢◌, [], length, None, Some, OnOk, OnErr};
 ghost use Rattle.page_parts.specs.TaskSignals.{priority_of, followed as followed_by, is_changing as changing_at, give as given, depend as depending, ended};
 ghost use Rattle.task_signal.specs.Changes.{IsAnswer, Leaves, HasPriority};
 ghost use Rattle.task_signal.specs.Places.{place_in, signals};

@@ -27,6 +27,10 @@ abbrev pub with_due : {V : Type 0} → (due : ℕ) → V → List (ℕ × V) →
 with_due due v [] = (due, v) ∷ []
 with_due due v (e ∷ es) = if nat_lt due e.0 then (due, v) ∷ e ∷ es else e ∷ with_due due v es
 
+-- the rows have this value too
+abbrev pub AddsDue : {V : Type 0} → (due : ℕ) → V → (old new : List (Row V)) → Type 0
+AddsDue due v old new = values_of_rows new ≡ with_due due v (values_of_rows old)
+
 -- the first of them, and the others
 abbrev pub first_due : {V : Type 0} → List (ℕ × V) → Option (ℕ × V)
 first_due [] = None

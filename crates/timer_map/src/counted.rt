@@ -1,8 +1,8 @@
 //! What stands for numbers that are counted up, each at its place in a row.
-ghost use Rattle.std.specs.Prelude.{◌≡◌, ◌<◌, ◌∷◌, length, nat_eq, OnOk};
+ghost use Rattle.std.specs.Prelude.{◌≡◌, ◌<◌, length, nat_eq, OnOk};
 ghost use Rattle.std.specs.List.Sorted.{IsPermutation};
 ghost use Rattle.std.specs.Map.{lookup, remove_entry};
-ghost use Rattle.timer_map.specs.Counted.{entries_of};
+ghost use Rattle.timer_map.specs.Counted.{entries_of, with_value};
 
 use crate::MemoryFault;
 
@@ -24,8 +24,7 @@ pub fn make_place<V: Copy>(places: &mut Counted<V>, number: u32) -> Result<(), M
 /// A number that has a place has this value now. Takes no memory.
 pub fn put<V: Copy>(places: &mut Counted<V>, number: u32, value: V)
     requires placed { number < length places.old.items }
-    ensures { IsPermutation ((number, value) ∷ remove_entry (nat_eq number) (entries_of places.old.items))
-        (entries_of places.new.items) }
+    ensures { IsPermutation (with_value number value (entries_of places.old.items)) (entries_of places.new.items) }
 {
     places[number as usize] = Some(value);
 }

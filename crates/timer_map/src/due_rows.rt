@@ -1,7 +1,7 @@
 //! What comes due, in rows of one moment each.
 ghost use Rattle.std.specs.Prelude.{◌≡◌, [], OnOk, OnErr};
 ghost use Rattle.std.specs.Option.{option_map};
-ghost use Rattle.timer_map.specs.Rows.{values_of_rows, AreFilled, with_due, first_due, after_first, TakesBack};
+ghost use Rattle.timer_map.specs.Rows.{values_of_rows, AreFilled, with_due, first_due, after_first, TakesBack, AddsDue};
 
 use crate::MemoryFault;
 use page_base::Micros;
@@ -42,7 +42,7 @@ fn add_to_row<V: Copy>(
     value: V,
 ) -> Result<(), MemoryFault>
     requires { AreFilled rows.old.entries }
-    ensures added { OnOk result (values_of_rows rows.new.entries ≡ with_due due.0 value (values_of_rows rows.old.entries)) }
+    ensures added { OnOk result (AddsDue due.0 value rows.old.entries rows.new.entries) }
     ensures filled { AreFilled rows.new.entries }
     ensures err { OnErr result (values_of_rows rows.new.entries ≡ values_of_rows rows.old.entries) }
 {

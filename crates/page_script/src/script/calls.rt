@@ -1,16 +1,14 @@
 //! The calls of a script's callbacks: their beginning, their end and the reports of what they throw.
 
 ghost use Rattle.std.specs.Prelude.{◌≡◌, ◌∷◌, length, IfErr, OnOk};
-ghost use Rattle.std.specs.Result.{result_err};
 ghost use Rattle.page_types.specs.Events.{Ret};
 ghost use Rattle.page_values.specs.Seen.{seen};
 ghost use Rattle.page_values.specs.Written.{IsNumbered};
 ghost use Rattle.lang_meaning.specs.Evaluation.{without_first};
 ghost use Rattle.page_model.specs.Invoke as model;
 ghost use Rattle.trace_text.specs.declared.lines.NoLine.TheVariants.{OutOfMemory};
-ghost use Rattle.trace_text.specs.Acts.{Does};
-ghost use Rattle.page_script.specs.ScriptActs.{on, on_script};
-ghost use Rattle.page_script.specs.Reports.{when_seen, logged};
+ghost use Rattle.page_script.specs.Reports.{logged};
+ghost use Rattle.page_script.specs.Calls.{Writes, report_before, report_after};
 
 use super::PageScript;
 use crate::parts::WhenReported;
@@ -20,8 +18,7 @@ use trace_text::{Event, Lines, NoLine};
 impl PageScript {
     /// The call of a registration's callback begins, with its line: it is the innermost one that is open.
     pub fn call_begun<L: Lines>(&mut self, r: u32, lines: &mut L) -> Result<(), NoLine>
-        ensures { Does L.keeping (on self.old (L.seen lines.old)) (on_script (model.call_begun r))
-            (result_err result) (on self.new (L.seen lines.new)) }
+        ensures { Writes L.keeping L.seen self.old lines.old (model.call_begun r) result self.new lines.new }
     {
         self.open_call(r)?;
         self.emit(Event::Call { r: r as u64 }, lines)
@@ -29,8 +26,7 @@ impl PageScript {
 
     /// The innermost call returns, with its line.
     pub fn returned<L: Lines>(&mut self, lines: &mut L) -> Result<(), NoLine>
-        ensures { Does L.keeping (on self.old (L.seen lines.old)) (on_script (model.call_ended Ret))
-            (result_err result) (on self.new (L.seen lines.new)) }
+        ensures { Writes L.keeping L.seen self.old lines.old (model.call_ended Ret) result self.new lines.new }
     {
         self.close_call();
         self.emit(Event::Ret, lines)
@@ -39,8 +35,7 @@ impl PageScript {
     /// The innermost call ends with a throw, with its line.
     pub fn thrown<L: Lines>(&mut self, value: &Value, lines: &mut L) -> Result<(), NoLine>
         requires { IsNumbered (length self.old.names) (seen value.now) }
-        ensures { Does L.keeping (on self.old (L.seen lines.old)) (on_script (model.thrown (seen value.now)))
-            (result_err result) (on self.new (L.seen lines.new)) }
+        ensures { Writes L.keeping L.seen self.old lines.old (model.thrown (seen value.now)) result self.new lines.new }
     {
         let v = self.printed(value)?;
         self.close_call();
@@ -50,8 +45,7 @@ impl PageScript {
     /// A value that was thrown is reported, with its line (HTML, "Runtime script errors").
     pub fn report<L: Lines>(&self, value: &Value, lines: &mut L) -> Result<(), NoLine>
         requires { IsNumbered (length self.now.names) (seen value.now) }
-        ensures { Does L.keeping (on self.now (L.seen lines.old)) (on_script (model.report (seen value.now)))
-            (result_err result) (on self.now (L.seen lines.new)) }
+        ensures { Writes L.keeping L.seen self.now lines.old (model.report (seen value.now)) result self.now lines.new }
     {
         let v = self.printed(value)?;
         self.emit(Event::Report { v }, lines)
@@ -60,8 +54,7 @@ impl PageScript {
     /// Logs a value, with its line. It costs what the spelling of the value costs.
     pub fn log<L: Lines>(&self, value: &Value, lines: &mut L) -> Result<(), NoLine>
         requires { IsNumbered (length self.now.names) (seen value.now) }
-        ensures { Does L.keeping (on self.now (L.seen lines.old)) (on_script (logged (seen value.now)))
-            (result_err result) (on self.now (L.seen lines.new)) }
+        ensures { Writes L.keeping L.seen self.now lines.old (logged (seen value.now)) result self.now lines.new }
     {
         let v = self.printed(value)?;
         self.emit(Event::Log { v }, lines)
@@ -75,8 +68,7 @@ impl PageScript {
         lines: &mut L,
     ) -> Result<(), NoLine>
         requires { IsNumbered (length self.now.names) (seen value.now) }
-        ensures { Does L.keeping (on self.now (L.seen lines.old)) (on_script (model.report_before (when_seen when) (seen value.now)))
-            (result_err result) (on self.now (L.seen lines.new)) }
+        ensures { Writes L.keeping L.seen self.now lines.old (report_before when value.now) result self.now lines.new }
     {
         match when {
             WhenReported::BeforeCheckpoint => self.report(value, lines),
@@ -92,8 +84,7 @@ impl PageScript {
         lines: &mut L,
     ) -> Result<(), NoLine>
         requires { IsNumbered (length self.now.names) (seen value.now) }
-        ensures { Does L.keeping (on self.now (L.seen lines.old)) (on_script (model.report_after (when_seen when) (seen value.now)))
-            (result_err result) (on self.now (L.seen lines.new)) }
+        ensures { Writes L.keeping L.seen self.now lines.old (report_after when value.now) result self.now lines.new }
     {
         match when {
             WhenReported::AfterCheckpoint => self.report(value, lines),

@@ -1,24 +1,21 @@
 //! Combinators of promises, and what their elements report (ECMA-262, "Promise.all" and its like).
 
 ghost use Rattle.std.specs.Prelude.{◌≡◌, ◌+◌, ◌^◌, ◌<◌, length, IfOk, IfErr, OnOk};
-ghost use Rattle.std.specs.Result.{result_err};
-ghost use Rattle.page_parts.specs.Combinators.{combine, answer_of, report_answer};
+ghost use Rattle.page_parts.specs.Combinators.{combine, answer_of};
 ghost use Rattle.page_parts.specs.Notices.{is_outstanding};
 ghost use Rattle.page_values.specs.Seen.{seen};
 ghost use Rattle.page_values.specs.Written.{IsNumbered};
 ghost use Rattle.promise_core.specs.Held.{IsMade};
 ghost use Rattle.page_notices.specs.Steps.{held};
-ghost use Rattle.page_model.specs.PagePromises.{new_promise};
-ghost use Rattle.promise_core.specs.Seen.{settled_seen};
 ghost use Rattle.promise_combine.specs.Seen.{kind_seen, report_of};
 ghost use Rattle.promise_combine.specs.Answers.{answer_seen};
 ghost use Rattle.promise_combine.specs.Reports.{HasCount};
 ghost use Rattle.page_model.specs.PageCombinators as model;
 ghost use Rattle.trace_text.specs.declared.lines.NoLine.TheVariants.{OutOfMemory};
-ghost use Rattle.trace_text.specs.Acts.{Does};
 ghost use Rattle.page_script.specs.Script.{holding};
-ghost use Rattle.page_script.specs.ScriptActs.{on, on_script, changed_by, read_by};
+ghost use Rattle.page_script.specs.ScriptActs.{changed_by, read_by};
 ghost use Rattle.page_script.specs.Leading.{noted_at, IsItem};
+ghost use Rattle.page_script.specs.Calls.{Writes, Brings, lead_into, combinator_made, combinator_added, element_of, led, settle_result};
 
 use super::PageScript;
 use crate::combiner::Combining;
@@ -42,8 +39,7 @@ impl PageScript {
         how: Settled,
         lines: &mut L,
     ) -> Result<(), NoLine>
-        ensures { Does L.keeping (on self.old (L.seen lines.old)) (on_script (model.lead_into into (settled_seen how)))
-            (result_err result) (on self.new (L.seen lines.new)) }
+        ensures { Writes L.keeping L.seen self.old lines.old (lead_into into how) result self.new lines.new }
     {
         if !self.is_promise(into) {
             return Err(NoLine::OutOfMemory);
@@ -67,8 +63,7 @@ impl PageScript {
         requires count { HasCount (kind_seen kind) count }
         requires promises { length self.old.notices.promises + 1 < 2 ^ 32 }
         requires combinators { length self.old.combinators + 1 < 2 ^ 32 }
-        ensures does { Does L.keeping (on self.old (L.seen lines.old)) (on_script (model.combinator_made (kind_seen kind) count))
-            (result_err result) (on self.new (L.seen lines.new)) }
+        ensures does { Writes L.keeping L.seen self.old lines.old (combinator_made kind count) result self.new lines.new }
         ensures combinator { IfOk result (λ made. made.combinator ≡ length self.old.combinators + 1) }
         ensures promise { IfOk result (λ made. made.result ≡ length self.old.notices.promises + 1) }
     {
@@ -88,8 +83,7 @@ impl PageScript {
     ) -> Result<bool, NoLine>
         requires made { IsMade (held self.old.notices) p }
         requires left { length self.old.notices.promises + 1 < 2 ^ 32 }
-        ensures does { Does L.keeping (on self.old (L.seen lines.old)) (on_script (model.element_made combinator place p))
-            (result_err result) (on self.new (L.seen lines.new)) }
+        ensures does { Writes L.keeping L.seen self.old lines.old (element_of combinator place p) result self.new lines.new }
         ensures was { IfOk result (λ was. was ≡ is_outstanding p self.old.notices) }
     {
         let into = self.make_marked(Mark::Element { combinator, place })?;
@@ -106,8 +100,7 @@ impl PageScript {
     pub fn item<L: Lines>(&mut self, value: Value, lines: &mut L) -> Result<u32, NoLine>
         requires item { IsItem (seen value) self.old }
         requires named { IsNumbered (length self.old.names) (seen value) }
-        ensures does { Does L.keeping (on self.old (L.seen lines.old)) (on_script (model.item_made (seen value)))
-            (result_err result) (on self.new (L.seen lines.new)) }
+        ensures does { Writes L.keeping L.seen self.old lines.old (model.item_made (seen value)) result self.new lines.new }
         ensures number { IfOk result (λ n. n ≡ read_by (model.item_number (seen value)) self.new) }
     {
         match as_promise(&value) {
@@ -135,8 +128,7 @@ impl PageScript {
         ensures combinator { IfOk result (λ made. made.0.combinator ≡ length self.old.combinators + 1) }
         ensures promise { IfOk result (λ made. made.0.result ≡ length self.old.notices.promises + 1) }
         ensures answer { IfOk result (λ made. answer_seen made.1 ≡ answer_of (combine (kind_seen kind) count)) }
-        ensures added { OnOk result (self.new
-            ≡ changed_by (λ p. model.with_combinator (combine (kind_seen kind) count) (new_promise p)) self.old) }
+        ensures added { OnOk result (self.new ≡ changed_by (combinator_added kind count) self.old) }
         ensures memory { IfErr result (λ why. why ≡ OutOfMemory) }
     {
         let Ok(combine) = Combine::new(self.alloc, kind, count) else {
@@ -164,9 +156,7 @@ impl PageScript {
         how: Settled,
         lines: &mut L,
     ) -> Result<(), NoLine>
-        ensures { Does L.keeping (on self.old (L.seen lines.old))
-            (on_script (model.report (record { promise = into; combinator = combinator; place = place }) (settled_seen how)))
-            (result_err result) (on self.new (L.seen lines.new)) }
+        ensures { Writes L.keeping L.seen self.old lines.old (led into combinator place how) result self.new lines.new }
     {
         let Answered { result, answer } = self.note(combinator, place, how)?;
         self.settle_result(answer, result, lines)
@@ -179,8 +169,7 @@ impl PageScript {
         promise: u32,
         lines: &mut L,
     ) -> Result<(), NoLine>
-        ensures { Does L.keeping (on self.old (L.seen lines.old)) (on_script (model.settle_result (answer_seen answer) promise))
-            (result_err result) (on self.new (L.seen lines.new)) }
+        ensures { Writes L.keeping L.seen self.old lines.old (settle_result answer promise) result self.new lines.new }
     {
         match answer {
             None => Ok(()),
@@ -191,8 +180,7 @@ impl PageScript {
     // Notes the report of a combinator's element, where it may report, and answers what it brings.
     fn note(&mut self, combinator: u32, place: u32, how: Settled) -> Result<Answered, NoLine>
         ensures result { IfOk result (λ a. a.result ≡ (model.combining_at (holding self.old) combinator).result) }
-        ensures answer { IfOk result (λ a. answer_seen a.answer
-            ≡ report_answer (report_of place how) (model.combining_at (holding self.old) combinator).combine) }
+        ensures answer { IfOk result (Brings place how (model.combining_at (holding self.old) combinator)) }
         ensures noted { OnOk result (self.new ≡ changed_by (noted_at combinator (report_of place how)) self.old) }
         ensures memory { IfErr result (λ why. why ≡ OutOfMemory) }
     {

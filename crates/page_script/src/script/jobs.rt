@@ -1,8 +1,7 @@
 //! The jobs of a page, the microtask checkpoint and the rejected promises.
 
-ghost use Rattle.std.specs.Prelude.{◌≡◌, [], None, length, nat_lt, not, IfOk, OnOk, OnErr, IsTrue, MatchOption, slice_get};
+ghost use Rattle.std.specs.Prelude.{◌≡◌, None, length, nat_lt, not, IfOk, OnOk, OnErr, IsTrue, slice_get};
 ghost use Rattle.std.specs.Option.{option_map};
-ghost use Rattle.std.specs.Result.{result_err};
 ghost use Rattle.page_parts.specs.Promises.{the_promise};
 ghost use Rattle.promise_core.specs.Held.{IsMade, all_within};
 ghost use Rattle.page_notices.specs.Steps.{held};
@@ -10,9 +9,9 @@ ghost use Rattle.page_notices.specs.Seen.{current, waiting_seen};
 ghost use Rattle.page_model.specs.Invoke as model;
 ghost use Rattle.page_model.specs.PagePromises.{promise_at};
 ghost use Rattle.page_model.specs.Tasks.{outstanding_if_unhandled};
-ghost use Rattle.trace_text.specs.Acts.{Does};
-ghost use Rattle.page_script.specs.ScriptActs.{on, on_script, changed_by, read_by, queued_by};
-ghost use Rattle.page_script.specs.Jobs.{oldest_begun, IsTaken, notified};
+ghost use Rattle.page_script.specs.ScriptActs.{changed_by, read_by, queued_by};
+ghost use Rattle.page_script.specs.Jobs.{oldest_begun, notified, TakesJob};
+ghost use Rattle.page_script.specs.Calls.{Writes};
 
 use super::PageScript;
 use page_notices::NextJob;
@@ -30,8 +29,7 @@ impl PageScript {
     /// The oldest job leaves the queue, with its `run` line, and its nesting level and scheduling state are the current ones:
     /// in form 2 those that were current when it was queued, and else level 0 and no state. None exactly where no job waits.
     pub fn next_job<L: Lines>(&mut self, lines: &mut L) -> Result<Option<NextJob>, NoLine>
-        ensures does { Does L.keeping (on self.old (L.seen lines.old)) (on_script oldest_begun)
-            (result_err result) (on self.new (L.seen lines.new)) }
+        ensures does { Writes L.keeping L.seen self.old lines.old oldest_begun result self.new lines.new }
         ensures oldest { IfOk result (λ job. option_map waiting_seen job ≡ slice_get self.old.notices.jobs 0) }
     {
         let Some(job) = self.take_job() else {
@@ -90,7 +88,7 @@ impl PageScript {
 
     // The oldest job leaves the queue, and what is current is that of the job. Takes no memory.
     fn take_job(&mut self) -> Option<NextJob>
-        ensures none { MatchOption result (self.old.notices.jobs ≡ []) (λ job. IsTaken (waiting_seen job) self.old self.new) }
+        ensures none { TakesJob result self.old self.new }
         ensures stays { result ≡ None → self.new ≡ self.old }
     {
         let job = self.promises.next_job()?;

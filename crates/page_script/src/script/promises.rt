@@ -1,23 +1,19 @@
 //! The promises of a page: making and settling them, and giving them handlers.
 
-ghost use Rattle.std.specs.Prelude.{◌≡◌, ◌+◌, ◌^◌, ◌<◌, ◌↔◌, ◌==◌, length, find, IfOk, IfErr, OnOk, OnErr, IsTrue, MatchOption, None, Some};
-ghost use Rattle.std.specs.Option.{option_map};
-ghost use Rattle.std.specs.Result.{result_err};
+ghost use Rattle.std.specs.Prelude.{◌≡◌, ◌+◌, ◌^◌, ◌<◌, ◌↔◌, length, IfOk, IfErr, OnOk, OnErr, IsTrue};
 ghost use Rattle.page_parts.specs.Words.{has_number};
 ghost use Rattle.page_parts.specs.Promises.{settled_value};
-ghost use Rattle.page_parts.specs.Notices as parts;
 ghost use Rattle.page_parts.specs.Notices.{is_outstanding};
 ghost use Rattle.page_values.specs.Written.{IsNumbered};
 ghost use Rattle.promise_core.specs.Held.{IsMade};
-ghost use Rattle.promise_core.specs.Seen.{settled_seen, reaction_seen};
+ghost use Rattle.promise_core.specs.Seen.{settled_seen};
 ghost use Rattle.page_notices.specs.Steps.{held};
-ghost use Rattle.page_model.specs.State.{on_notices, context};
 ghost use Rattle.page_model.specs.PagePromises as model;
 ghost use Rattle.page_model.specs.Operations.{script_promise};
-ghost use Rattle.trace_text.specs.Acts.{Does};
-ghost use Rattle.page_script.specs.ScriptActs.{on, on_script, changed_by, read_by};
+ghost use Rattle.page_script.specs.ScriptActs.{changed_by, read_by};
 ghost use Rattle.trace_text.specs.declared.lines.NoLine.TheVariants.{OutOfMemory};
-ghost use Rattle.page_script.specs.Marks.{made_with, settled_at_once};
+ghost use Rattle.page_script.specs.Marks.{made_with};
+ghost use Rattle.page_script.specs.Calls.{Writes, LendsSeen, MaySettle, settle, made_settled, follow, subscribe, queue_micro};
 
 use super::PageScript;
 use crate::parts::Mark;
@@ -72,8 +68,7 @@ impl PageScript {
     /// Whether a promise may be settled so, by [`PageScript::settle`] or [`PageScript::follow`]: it was made, and each function
     /// that the outcome names has a name here. Takes no memory, and costs at most the weight of the outcome's value.
     pub fn may_settle(&self, p: u32, how: &Settled) -> bool
-        ensures { IsTrue result ↔ (IsMade (held self.now.notices) p
-            × IsNumbered (length self.now.names) (settled_value (settled_seen how.now))) }
+        ensures { IsTrue result ↔ MaySettle p (settled_seen how.now) self.now }
     {
         match how {
             Ok(value) | Err(value) => self.is_promise(p) && self.is_numbered(value),
@@ -82,8 +77,7 @@ impl PageScript {
 
     /// How a promise was settled, and None exactly while it is pending or where it was never made. Takes no memory.
     pub fn outcome(&self, p: u32) -> Option<&Settled>
-        ensures { MatchOption result (read_by (λ q. (model.promise_at q p).outcome) self.now ≡ None)
-            (λ how. read_by (λ q. (model.promise_at q p).outcome) self.now ≡ Some (settled_seen how.now)) }
+        ensures { LendsSeen settled_seen result (read_by (λ q. (model.promise_at q p).outcome) self.now) }
     {
         self.promises.outcome(p)
     }
@@ -96,8 +90,7 @@ impl PageScript {
     pub fn settle<L: Lines>(&mut self, p: u32, how: Settled, lines: &mut L) -> Result<(), NoLine>
         requires made { IsMade (held self.old.notices) p }
         requires named { IsNumbered (length self.old.names) (settled_value (settled_seen how)) }
-        ensures { Does L.keeping (on self.old (L.seen lines.old)) (on_script (model.settle p (settled_seen how)))
-            (result_err result) (on self.new (L.seen lines.new)) }
+        ensures { Writes L.keeping L.seen self.old lines.old (settle p how) result self.new lines.new }
     {
         self.promises
             .settle(p, how, self.moment, &self.names, lines)
@@ -108,8 +101,7 @@ impl PageScript {
     pub fn settled_promise<L: Lines>(&mut self, how: Settled, lines: &mut L) -> Result<u32, NoLine>
         requires left { length self.old.notices.promises + 1 < 2 ^ 32 }
         requires named { IsNumbered (length self.old.names) (settled_value (settled_seen how)) }
-        ensures does { Does L.keeping (on self.old (L.seen lines.old)) (on_script (settled_at_once (settled_seen how)))
-            (result_err result) (on self.new (L.seen lines.new)) }
+        ensures does { Writes L.keeping L.seen self.old lines.old (made_settled how) result self.new lines.new }
         ensures number { IfOk result (λ p. p ≡ length self.old.notices.promises + 1) }
         ensures count { OnOk result (length self.new.notices.promises ≡ length self.old.notices.promises + 1) }
     {
@@ -123,8 +115,7 @@ impl PageScript {
     pub fn follow<L: Lines>(&mut self, p: u32, how: Settled, lines: &mut L) -> Result<(), NoLine>
         requires made { IsMade (held self.old.notices) p }
         requires named { IsNumbered (length self.old.names) (settled_value (settled_seen how)) }
-        ensures { Does L.keeping (on self.old (L.seen lines.old)) (on_script (model.follow p (settled_seen how)))
-            (result_err result) (on self.new (L.seen lines.new)) }
+        ensures { Writes L.keeping L.seen self.old lines.old (follow p how) result self.new lines.new }
     {
         self.promises
             .follow(p, how, self.moment, &self.names, lines)
@@ -141,8 +132,7 @@ impl PageScript {
         lines: &mut L,
     ) -> Result<bool, NoLine>
         requires { IsMade (held self.old.notices) p }
-        ensures does { Does L.keeping (on self.old (L.seen lines.old)) (on_script (model.subscribe p (reaction_seen reaction)))
-            (result_err result) (on self.new (L.seen lines.new)) }
+        ensures does { Writes L.keeping L.seen self.old lines.old (subscribe p reaction) result self.new lines.new }
         ensures was { IfOk result (λ was. was ≡ is_outstanding p self.old.notices) }
     {
         self.promises.subscribe(p, reaction, self.moment, lines)
@@ -150,9 +140,7 @@ impl PageScript {
 
     /// Queues the job of a `queueMicrotask` registration behind all others, with its `job` line (HTML, "Microtask queuing").
     pub fn queue_micro<L: Lines>(&mut self, registration: u32, lines: &mut L) -> Result<(), NoLine>
-        ensures { Does L.keeping (on self.old (L.seen lines.old))
-            (on_script (λ p. on_notices (parts.queue_micro (context p) registration) p))
-            (result_err result) (on self.new (L.seen lines.new)) }
+        ensures { Writes L.keeping L.seen self.old lines.old (queue_micro registration) result self.new lines.new }
     {
         self.promises.queue_micro(registration, self.moment, lines)
     }
@@ -164,8 +152,7 @@ impl PageScript {
         how: Settled,
         lines: &mut L,
     ) -> Result<(), NoLine>
-        ensures { Does L.keeping (on self.old (L.seen lines.old)) (on_script (model.follow p (settled_seen how)))
-            (result_err result) (on self.new (L.seen lines.new)) }
+        ensures { Writes L.keeping L.seen self.old lines.old (follow p how) result self.new lines.new }
     {
         if !self.may_settle(p, &how) {
             return Err(NoLine::OutOfMemory);

@@ -1,14 +1,13 @@
 //! The time of a page, its turns, and what is current.
 
 ghost use Rattle.std.specs.Prelude.{◌≡◌, ◌+◌, ◌^◌, ◌<◌, suc};
-ghost use Rattle.std.specs.Result.{result_err};
-ghost use Rattle.page_types.specs.Events.{Turn, Wait, EndLine};
+ghost use Rattle.page_types.specs.Events.{EndLine};
 ghost use Rattle.page_notices.specs.Seen.{current};
 ghost use Rattle.page_model.specs.State as model;
 ghost use Rattle.page_model.specs.Turns.{at_time};
 ghost use Rattle.page_model.specs.Invoke.{under};
-ghost use Rattle.trace_text.specs.Acts.{Does};
-ghost use Rattle.page_script.specs.ScriptActs.{on, on_script, changed_by};
+ghost use Rattle.page_script.specs.ScriptActs.{changed_by};
+ghost use Rattle.page_script.specs.Calls.{Writes, turn_begun, wait_over};
 
 use super::PageScript;
 use page_base::{End, Micros, Source};
@@ -43,9 +42,7 @@ impl PageScript {
         lines: &mut L,
     ) -> Result<(), NoLine>
         requires { self.old.turns + 1 < 2 ^ 64 }
-        ensures { Does L.keeping (on self.old (L.seen lines.old))
-            (on_script (λ p. model.emit (Turn (suc p.turns) source) (record p { turns = suc p.turns })))
-            (result_err result) (on self.new (L.seen lines.new)) }
+        ensures { Writes L.keeping L.seen self.old lines.old (turn_begun source) result self.new lines.new }
     {
         let n = self.count_turn();
         self.emit(Event::Turn { n, source }, lines)
@@ -58,8 +55,7 @@ impl PageScript {
         time: Micros,
         lines: &mut L,
     ) -> Result<(), NoLine>
-        ensures { Does L.keeping (on self.old (L.seen lines.old)) (on_script (λ p. model.emit (Wait target.0) (at_time time.0 p)))
-            (result_err result) (on self.new (L.seen lines.new)) }
+        ensures { Writes L.keeping L.seen self.old lines.old (wait_over target.0 time.0) result self.new lines.new }
     {
         self.set_now(time);
         self.emit(Event::Wait { t: target }, lines)
@@ -67,8 +63,7 @@ impl PageScript {
 
     /// The run ends, with its line.
     pub fn finish<L: Lines>(&self, end: End, lines: &mut L) -> Result<(), NoLine>
-        ensures { Does L.keeping (on self.now (L.seen lines.old)) (on_script (model.emit (EndLine end)))
-            (result_err result) (on self.now (L.seen lines.new)) }
+        ensures { Writes L.keeping L.seen self.now lines.old (model.emit (EndLine end)) result self.now lines.new }
     {
         self.emit(Event::End(end), lines)
     }

@@ -1,16 +1,15 @@
 //! The scheduling states of a page, and the messages that it posted.
 
 ghost use Rattle.std.specs.Prelude.{◌≡◌, ◌+◌, ◌^◌, ◌<◌, length, map, IfOk, IfErr, OnOk, OnErr};
-ghost use Rattle.std.specs.Result.{result_err};
-ghost use Rattle.page_parts.specs.Words.{and_last, numbered};
+ghost use Rattle.page_parts.specs.Words.{numbered};
 ghost use Rattle.page_values.specs.Seen.{seen};
 ghost use Rattle.page_values.specs.Written.{IsNumbered};
 ghost use Rattle.page_model.specs.SchedulerTasks as model;
 ghost use Rattle.page_model.specs.Operations.{posted, posts_taken};
 ghost use Rattle.trace_text.specs.declared.lines.NoLine.TheVariants.{OutOfMemory};
-ghost use Rattle.trace_text.specs.Acts.{Does};
-ghost use Rattle.page_script.specs.ScriptActs.{on, on_script, changed_by, read_by};
+ghost use Rattle.page_script.specs.ScriptActs.{changed_by, read_by};
 ghost use Rattle.page_script.specs.Seen.{state_seen, post_seen};
+ghost use Rattle.page_script.specs.Calls.{Writes, with_post};
 
 use super::PageScript;
 use crate::parts::{Post, SchedulingState};
@@ -60,8 +59,7 @@ impl PageScript {
     /// Posts a message on a port, with its line (HTML, "Posting messages").
     pub fn post<L: Lines>(&mut self, port: u32, value: Value, lines: &mut L) -> Result<(), NoLine>
         requires { IsNumbered (length self.old.names) (seen value) }
-        ensures { Does L.keeping (on self.old (L.seen lines.old)) (on_script (posted port (seen value)))
-            (result_err result) (on self.new (L.seen lines.new)) }
+        ensures { Writes L.keeping L.seen self.old lines.old (posted port (seen value)) result self.new lines.new }
     {
         let v = self.printed(&value)?;
         self.keep_post(port, value)?;
@@ -79,9 +77,7 @@ impl PageScript {
     // Keeps a message, of the time now.
     fn keep_post(&mut self, port: u32, value: Value) -> Result<(), NoLine>
         ensures memory { IfErr result (λ why. why ≡ OutOfMemory) }
-        ensures kept { OnOk result (self.new ≡ record self.old {
-          posts = and_last self.old.posts (record { port = port; value = seen value; at = self.old.now });
-        }) }
+        ensures kept { OnOk result (self.new ≡ with_post port value self.old) }
     {
         let post = Post {
             port,

@@ -1,4 +1,4 @@
-use Rattle.std.proofs.Common.{◌<◌, sym, arith}
+use Rattle.std.proofs.Common.{◌<◌, arith}
 use Rattle.idle_periods.proofs.CallbackLemmas.{joined, above_absent, above_kept}
 use Rattle.idle_periods.proofs.idle.Idle.cancel_number.Goals as goal
 

@@ -1,4 +1,4 @@
-use Rattle.std.proofs.Common.{◌≡◌, ◌<◌, ◌≤◌, length, get_or, false, ap, sym, subst, ◌∙◌, List, Bool}
+use Rattle.std.proofs.Common.{◌<◌, ◌≤◌, length, get_or, false, ap, sym, subst, ◌∙◌, List, Bool}
 use Rattle.page_parts.specs.Words.{has_number}
 use Rattle.page_parts.specs.Combinators.{Combine}
 use Rattle.promise_combine.specs.Reports.{has_reported}

@@ -1,4 +1,4 @@
-use Rattle.std.proofs.Common.{◌≡◌, ℕ, List, [], Bool, false, arith, length, sym, subst}
+use Rattle.std.proofs.Common.{◌≡◌, ℕ, List, [], Bool, false, arith, sym, subst}
 use Rattle.std.specs.Prelude.{replicate}
 use Rattle.promise_combine.specs.Seen.{kind_seen}
 use Rattle.promise_combine.specs.Reports.{AreMarked}

@@ -1,7 +1,7 @@
 use Rattle.std.proofs.Common.{◌≡◌, ◌∙◌, ap, sym, true}
 use Rattle.page_parts.specs.Words.{numbered}
 use Rattle.page_parts.specs.Promises as parts
-use Rattle.page_parts.specs.Promises.{PromiseRecord, pending_promise, no_change, has_failed}
+use Rattle.page_parts.specs.Promises.{pending_promise}
 use Rattle.page_values.specs.Seen.{seen}
 use Rattle.promise_core.specs.Seen.{record_seen, records_seen}
 use Rattle.page_parts.specs.Promises.{the_promise}

@@ -3,7 +3,7 @@ use Rattle.std.specs.Vec.{with_items}
 use Rattle.std.proofs.lemmas.List.{with_items_is, length-map}
 use Rattle.page_parts.specs.Words.{and_last, numbered, with_numbered}
 use Rattle.page_parts.specs.Promises as parts
-use Rattle.page_parts.specs.Promises.{PromiseRecord, pending_promise, no_change, has_failed}
+use Rattle.page_parts.specs.Promises.{PromiseRecord, pending_promise}
 use Rattle.promise_core.specs.declared.record.Record.{Record}
 use Rattle.promise_core.specs.Seen.{record_seen, records_seen, settled_seen}
 use Rattle.promise_core.specs.Held.{changed, all_within}

@@ -2,7 +2,7 @@ use Rattle.std.proofs.Common.{◌≡◌, ◌≤◌, ◌∙◌, ap, subst, sym, l
 use Rattle.std.proofs.lemmas.List.{with_items_is}
 use Rattle.page_parts.specs.Words.{numbered, with_numbered}
 use Rattle.page_parts.specs.Promises as parts
-use Rattle.page_parts.specs.Promises.{PromiseRecord, pending_promise, no_change, has_failed}
+use Rattle.page_parts.specs.Promises.{PromiseRecord, pending_promise}
 use Rattle.promise_core.specs.declared.record.Record.{Record}
 use Rattle.promise_core.specs.Seen.{records_seen, jobs_seen, reaction_seen}
 use Rattle.promise_core.specs.Held.{changed, no_longer_rejected}
