@@ -7,3 +7,4 @@ pub mod RunStops
 pub mod TurnActs
 pub mod Runs
 pub mod Lawful
+pub mod ByRules

@@ -1,22 +1,18 @@
 //! Whole runs of a page.
 
-ghost use Rattle.std.specs.Prelude.{◌≡◌, ◌≤◌, ◌^◌, ℤ, List, None, Result, true, is_some, suc, length, map, IsTrue};
+ghost use Rattle.std.specs.Prelude.{◌≡◌, ◌≤◌, ◌^◌, ℤ, List, None, Result, true, is_some, length, map, IsTrue};
 ghost use Rattle.std.specs.List.{list_all};
 ghost use Rattle.lang_ast.specs.SeenProgram.{seen_program};
 ghost use Rattle.arrivals_text.specs.Seen.{settings_of};
-ghost use Rattle.page_interp.specs.MachineNow.{MachineNow};
 ghost use Rattle.page_hosts.specs.Hosts.{is_unqueued, unasked};
-ghost use Rattle.page_model.specs.Bounds.{row_of, turn_or};
-ghost use Rattle.page_model.specs.Turns.{run_by, Stuck, AtBound};
+ghost use Rattle.page_model.specs.Turns.{run_by};
 ghost use Rattle.page_host.specs.Starts.{Starts};
-ghost use Rattle.page_host.specs.Moments.{state_of, calling};
-ghost use Rattle.loop_turn.specs.Outcomes.{Turns};
 ghost use Rattle.loop_turn.specs.RunRules.{run_rules};
-ghost use Rattle.loop_turn.specs.Answers.{AreKept, ByAnswers};
-ghost use Rattle.loop_turn.specs.RunStops.{line_fault, run_outcome, readings_refused, choices_refused};
-ghost use Rattle.loop_turn.specs.Lawful.{KeepsLaws};
+ghost use Rattle.loop_turn.specs.Answers.{AreKept};
+ghost use Rattle.loop_turn.specs.RunStops.{line_fault, readings_refused, choices_refused};
 ghost use Rattle.loop_turn.specs.Runs.{DoesRun, event_lines, run_lines, port_then};
-ghost use Rattle.loop_turn.specs.TurnActs.{CanTurn, PortRefuses, holding, reached, shown};
+ghost use Rattle.loop_turn.specs.TurnActs.{CanTurn, PortRefuses, holding};
+ghost use Rattle.loop_turn.specs.ByRules.{AreLawfulRuns, DoesTurns, RunsTurns};
 
 use crate::run_stop::RunStop;
 use crate::turn::turn;
@@ -66,9 +62,7 @@ pub fn run_page<C: Clock, K: Chooser, P: HostPort, L: Lines, M: Ledger>(
         (holding C.held K.held clock.old chooser.old answers)
         in DoesRun L.keeping (L.seen lines) (run_lines setup.now.trace run) run result.outcome (C.held clock.new) (K.held chooser.new)
         (port_then P.closures P.kept (P.closures port) result.port) (L.seen result.lines)) }
-    ensures laws { (answers : List (Result ℤ ℤ)) → KeepsLaws (settings_of setup.now).setup
-        (run_by (run_rules C.rule K.rule) (seen_program program.now) (settings_of setup.now).setup (P.closures port)
-        (holding C.held K.held clock.old chooser.old answers)) }
+    ensures laws { AreLawfulRuns C.Clock K.Chooser program.now setup.now (P.closures port) clock.old chooser.old }
     ensures readings { C.refusals clock.new ≡ readings_refused (C.refusals clock.old) result.outcome }
     ensures choices { K.refusals chooser.new ≡ choices_refused (K.refusals chooser.old) result.outcome }
     ensures answers { PortRefuses result.outcome (P.refusals port) (P.refusals result.port) }
@@ -150,12 +144,8 @@ fn run_turns<C: Clock, K: Chooser, P: HostPort, L: Lines, M: Ledger>(
     chooser: &mut K,
 ) -> Result<End, RunStop>
     requires { Starts (seen_program program.now) (settings_of setup.now).setup page.old.state.hosts page.old }
-    ensures does { ByAnswers page.old.state.kept result page.new.state.kept (λ first left. (machine : MachineNow) ×
-        Turns L.keeping (shown L.seen page.old)
-        (run_by (run_rules C.rule K.rule) (seen_program program.now) (settings_of setup.now).setup page.old.state.hosts
-        (holding C.held K.held clock.old chooser.old first))
-        (line_fault result) (run_outcome result)
-        (reached L.seen machine page.new (holding C.held K.held clock.new chooser.new left))) }
+    ensures does { RunsTurns C.Clock K.Chooser L.Lines program.now setup.now result
+        clock.old chooser.old page.old clock.new chooser.new page.new }
     ensures readings { C.refusals clock.new ≡ readings_refused (C.refusals clock.old) result }
     ensures choices { K.refusals chooser.new ≡ choices_refused (K.refusals chooser.old) result }
     ensures answers { PortRefuses result page.old.state.refusals page.new.state.refusals }
@@ -175,12 +165,8 @@ fn turns<C: Clock, K: Chooser, P: HostPort, L: Lines, M: Ledger>(
     chooser: &mut K,
 ) -> Result<End, RunStop>
     requires { CanTurn machine.old page.old until.0 }
-    ensures does { ByAnswers page.old.state.kept result page.new.state.kept (λ first left.
-        Turns L.keeping (shown L.seen page.old)
-        (row_of (turn_or (Stuck AtBound) until.0 (run_rules C.rule K.rule) (calling machine.old) until.0) (suc page.old.fuel)
-        (state_of machine.old page.old) (holding C.held K.held clock.old chooser.old first))
-        (line_fault result) (run_outcome result)
-        (reached L.seen machine.new page.new (holding C.held K.held clock.new chooser.new left))) }
+    ensures does { DoesTurns C.Clock K.Chooser L.Lines until.0 result
+        clock.old chooser.old machine.old page.old clock.new chooser.new machine.new page.new }
     ensures readings { C.refusals clock.new ≡ readings_refused (C.refusals clock.old) result }
     ensures choices { K.refusals chooser.new ≡ choices_refused (K.refusals chooser.old) result }
     ensures answers { PortRefuses result page.old.state.refusals page.new.state.refusals }

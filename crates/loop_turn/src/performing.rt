@@ -3,15 +3,10 @@
 ghost use Rattle.std.specs.Prelude.{◌≡◌, ◌≢◌, ◌≤◌, IfErr, IsTrue};
 ghost use Rattle.page_parts.specs.WrittenChoices.{is_runnable};
 ghost use Rattle.page_model.specs.View as seeing;
-ghost use Rattle.page_model.specs.Turns as model;
 ghost use Rattle.page_state.specs.PageActs.{read_by};
-ghost use Rattle.page_host.specs.Moments.{state_of, calling};
-ghost use Rattle.loop_turn.specs.Outcomes.{Turns};
-ghost use Rattle.loop_turn.specs.RunRules.{answer_rules};
-ghost use Rattle.loop_turn.specs.Answers.{ByAnswers};
-ghost use Rattle.loop_turn.specs.RunStops.{line_fault, turn_outcome};
 ghost use Rattle.loop_turn.specs.declared.run_stop.RunStop.TheVariants.{NoReading, NoChoice};
-ghost use Rattle.loop_turn.specs.TurnActs.{CanTurn, IfGoesOn, PortRefuses, StillCan, reached, shown};
+ghost use Rattle.loop_turn.specs.TurnActs.{CanTurn, IfGoesOn, PortRefuses, StillCan};
+ghost use Rattle.loop_turn.specs.ByRules.{PerformsTask};
 
 use crate::run_stop::RunStop;
 use page_base::{End, Source};
@@ -34,9 +29,7 @@ pub(crate) fn perform<P: HostPort, L: Lines, M: Ledger>(
     requires ready { CanTurn machine.old page.old page.old.until }
     requires in_time { read_by (λ p. p.now) page.old.state ≤ page.old.until }
     requires runnable { IsTrue (is_runnable (read_by seeing.view page.old.state) source) }
-    ensures does { ByAnswers page.old.state.kept result page.new.state.kept (λ first left. Turns L.keeping (shown L.seen page.old)
-        (model.perform answer_rules (calling machine.old) source (state_of machine.old page.old) first)
-        (line_fault result) (turn_outcome result) (reached L.seen machine.new page.new left)) }
+    ensures does { PerformsTask L.Lines source result machine.old page.old machine.new page.new }
     ensures reads_nothing { IfErr result (λ why. why ≢ NoReading) }
     ensures chooses_nothing { IfErr result (λ why. why ≢ NoChoice) }
     ensures answers { PortRefuses result page.old.state.refusals page.new.state.refusals }

@@ -1,16 +1,11 @@
 //! One turn of a page (HTML, "Event loops: processing model").
 
 ghost use Rattle.std.specs.Prelude.{◌≡◌, ◌≢◌, ◌≤◌, ◌<◌, IfErr};
-ghost use Rattle.page_model.specs.Bounds.{turn_or};
-ghost use Rattle.page_model.specs.Turns.{from_step_three, with_turn_fuel, Stuck, AtBound};
 ghost use Rattle.page_state.specs.PageActs.{read_by};
-ghost use Rattle.page_host.specs.Moments.{state_of, calling};
-ghost use Rattle.loop_turn.specs.Outcomes.{Turns};
-ghost use Rattle.loop_turn.specs.RunRules.{run_rules, no_reading};
-ghost use Rattle.loop_turn.specs.Answers.{ByAnswers};
-ghost use Rattle.loop_turn.specs.RunStops.{line_fault, turn_outcome, readings_refused, choices_refused};
+ghost use Rattle.loop_turn.specs.RunStops.{readings_refused, choices_refused};
 ghost use Rattle.loop_turn.specs.declared.run_stop.RunStop.TheVariants.{NoReading};
-ghost use Rattle.loop_turn.specs.TurnActs.{CanTurn, IfGoesOn, PortRefuses, holding, reached, serving, TurnTaken, shown};
+ghost use Rattle.loop_turn.specs.TurnActs.{CanTurn, IfGoesOn, PortRefuses, TurnTaken};
+ghost use Rattle.loop_turn.specs.ByRules.{DoesNext, DoesTurn, Serves};
 
 use crate::finding::{NextStep, find_next, idle, is_dry, is_over, take_items};
 use crate::performing::perform;
@@ -32,12 +27,8 @@ pub(crate) fn turn<C: Clock, K: Chooser, P: HostPort, L: Lines, M: Ledger>(
     chooser: &mut K,
 ) -> Result<Option<End>, RunStop>
     requires { CanTurn machine.old page.old until.0 }
-    ensures does { ByAnswers page.old.state.kept result page.new.state.kept (λ first left.
-        Turns L.keeping (shown L.seen page.old)
-        (turn_or (Stuck AtBound) until.0 (run_rules C.rule K.rule) (calling machine.old) until.0 (state_of machine.old page.old)
-        (holding C.held K.held clock.old chooser.old first))
-        (line_fault result) (turn_outcome result)
-        (reached L.seen machine.new page.new (holding C.held K.held clock.new chooser.new left))) }
+    ensures does { DoesTurn C.Clock K.Chooser L.Lines until.0 result
+        clock.old chooser.old machine.old page.old clock.new chooser.new machine.new page.new }
     ensures readings { C.refusals clock.new ≡ readings_refused (C.refusals clock.old) result }
     ensures choices { K.refusals chooser.new ≡ choices_refused (K.refusals chooser.old) result }
     ensures answers { PortRefuses result page.old.state.refusals page.new.state.refusals }
@@ -69,12 +60,7 @@ fn serve<K: Chooser, P: HostPort, L: Lines, M: Ledger>(
     chooser: &mut K,
 ) -> Result<Option<End>, RunStop>
     requires { CanTurn machine.old page.old until.0 }
-    ensures does { ByAnswers page.old.state.kept result page.new.state.kept (λ first left.
-        Turns L.keeping (shown L.seen page.old)
-        (from_step_three (run_rules no_reading K.rule) (calling machine.old) until.0 (serving K.held chooser.old first)
-        (state_of machine.old page.old))
-        (line_fault result) (turn_outcome result)
-        (reached L.seen machine.new page.new (serving K.held chooser.new left))) }
+    ensures does { Serves K.Chooser L.Lines until.0 result chooser.old machine.old page.old chooser.new machine.new page.new }
     ensures choices { K.refusals chooser.new ≡ choices_refused (K.refusals chooser.old) result }
     ensures answers { PortRefuses result page.old.state.refusals page.new.state.refusals }
     ensures reads_nothing { IfErr result (λ why. why ≢ NoReading) }
@@ -107,12 +93,7 @@ fn perform_next<K: Chooser, P: HostPort, L: Lines, M: Ledger>(
     requires ready { CanTurn machine.old page.old page.old.until }
     requires in_time { read_by (λ p. p.now) page.old.state < page.old.until }
     requires fuel { 1 ≤ page.old.fuel }
-    ensures does { ByAnswers page.old.state.kept result page.new.state.kept (λ first left.
-        Turns L.keeping (shown L.seen page.old)
-        (with_turn_fuel (run_rules no_reading K.rule) (calling machine.old) page.old.fuel (state_of machine.old page.old)
-        (serving K.held chooser.old first))
-        (line_fault result) (turn_outcome result)
-        (reached L.seen machine.new page.new (serving K.held chooser.new left))) }
+    ensures does { DoesNext K.Chooser L.Lines result chooser.old machine.old page.old chooser.new machine.new page.new }
     ensures choices { K.refusals chooser.new ≡ choices_refused (K.refusals chooser.old) result }
     ensures answers { PortRefuses result page.old.state.refusals page.new.state.refusals }
     ensures reads_nothing { IfErr result (λ why. why ≢ NoReading) }

@@ -1,12 +1,10 @@
 //! Promises that are settled at once, as the answers of operations.
 
-ghost use Rattle.std.specs.Prelude.{◌≡◌};
 ghost use Rattle.page_parts.specs.Kinds.{a_fault};
 ghost use Rattle.page_values.specs.Seen.{seen};
 ghost use Rattle.promise_core.specs.Seen.{settled_seen};
 ghost use Rattle.page_model.specs.Operations.{rejected_with};
-ghost use Rattle.page_state.specs.PageActs.{at};
-ghost use Rattle.page_answers.specs.Answers.{Answers};
+ghost use Rattle.page_answers.specs.Serving.{Serves};
 ghost use Rattle.page_answers.specs.Settling.{outcome_given};
 
 use crate::left::is_promise_left;
@@ -26,8 +24,7 @@ pub fn give_settled<P: HostPort, M: Ledger, L: Lines>(
     how: Settled,
     lines: &mut L,
 ) -> Result<HostStep, NoLine>
-    ensures { Answers L.keeping (at page.old (L.seen lines.old)) (outcome_given (settled_seen how)) result
-        (at page.new (L.seen lines.new)) }
+    ensures { Serves L.Lines page.old lines.old (outcome_given (settled_seen how)) result page.new lines.new }
 {
     if !is_promise_left(page) {
         return Ok(throw(page.alloc(), FaultName::RangeError));
@@ -42,8 +39,7 @@ pub fn reject_with<P: HostPort, M: Ledger, L: Lines>(
     reason: Value,
     lines: &mut L,
 ) -> Result<HostStep, NoLine>
-    ensures { Answers L.keeping (at page.old (L.seen lines.old)) (rejected_with (seen reason)) result
-        (at page.new (L.seen lines.new)) }
+    ensures { Serves L.Lines page.old lines.old (rejected_with (seen reason)) result page.new lines.new }
 {
     give_settled(page, Err(reason), lines)
 }
@@ -54,8 +50,7 @@ pub fn reject_fault<P: HostPort, M: Ledger, L: Lines>(
     name: FaultName,
     lines: &mut L,
 ) -> Result<HostStep, NoLine>
-    ensures { Answers L.keeping (at page.old (L.seen lines.old)) (rejected_with (a_fault name)) result
-        (at page.new (L.seen lines.new)) }
+    ensures { Serves L.Lines page.old lines.old (rejected_with (a_fault name)) result page.new lines.new }
 {
     let reason = fault(page.alloc(), name);
     reject_with(page, reason, lines)

@@ -13,7 +13,6 @@ use Rattle.lang_meaning.specs.Machine.{Done, Gives, Throws, Returns, OutOfFuel, 
 use Rattle.page_interp.specs.MachineNow.{MachineNow, program_in}
 use Rattle.page_model.specs.State.{Page, State, on_page as on_state, the_registration, context}
 use Rattle.page_model.specs.PagePromises as promises
-use Rattle.page_model.specs.PagePromises.{promise_at}
 use Rattle.page_model.specs.Invoke.{invoke, in_checkpoint, callback_of, settle_by, resolve_derived, handler_arguments, react_then, run_job, run_oldest, run_jobs, begin_job, under, checkpoint_begun, checkpoint_ended, perform_checkpoint, checkpoint}
 use Rattle.page_model.specs.Additions.{Adds, AddsAll}
 use Rattle.page_model.proofs.Adding.Lines.{finish-adds, reject-adds, resolve-adds, checkpoint_ended-adds}

@@ -10,3 +10,6 @@ pub mod Turning
 pub mod Tasking
 pub mod Performed
 pub mod Performing
+pub mod StepsOfCalls
+pub mod StepsOfTasks
+pub mod Running

@@ -1,5 +1,5 @@
 -- What a call does that performs the task of a source, whose host port may be asked.
-use Rattle.std.specs.Prelude.{◌≡◌, ◌≤◌, ◌⊎◌, ℤ, IsTrue, List, [], Option, Some, None, Result, Ok, Err}
+use Rattle.std.specs.Prelude.{◌≡◌, ◌≤◌, ◌⊎◌, ℕ, ℤ, IsTrue, List, [], Option, Some, None, Result, Ok, Err, slice_get}
 use Rattle.page_types.specs.Counts.{raised}
 use Rattle.page_parts.specs.HostClosures.{HostClosure, meets}
 use Rattle.lang_meaning.specs.Machine.{Done, Caller}
@@ -9,10 +9,12 @@ use Rattle.host_jobs.specs.declared.answer.NoHost.{NoHost}
 use Rattle.page_interp.specs.MachineNow.{MachineNow}
 use Rattle.page_interp.specs.Machines.{functions_in}
 use Rattle.page_model.specs.State.{Page, State}
+use Rattle.page_model.specs.Tasks.{fire_closure}
 use Rattle.trace_text.specs.declared.lines.NoLine.{NoLine}
 use Rattle.trace_text.specs.declared.lines.NoLine.TheVariants as no_line
 use Rattle.trace_text.specs.Given.{Keeping, Seen}
 use Rattle.page_state.specs.Standing.{port_of}
+use Rattle.page_state.specs.PageActs.{changed_by}
 use Rattle.page_host.specs.PageNow.{PageNow}
 use Rattle.page_host.specs.StateActs.{How, RanOut}
 use Rattle.page_host.specs.Doing.{Runs, did_how}
@@ -47,7 +49,30 @@ fired_for (Some x) closures = fired_at closures x.asked.closure
 abbrev pub with_answer : {L : Type 0} → Option Asking → (kept : Option (List (Result ℤ ℤ))) → PageNow L → PageNow L
 with_answer asks kept p = record p { state = record p.state { at_port = fired_for asks p.state.at_port; kept = kept } }
 
+-- a closure was asked and is fired, on the page and at the port, which keeps other answers then
+abbrev pub IsFired : {L : Type 0} → (k : ℕ) → (old new : PageNow L) → Type 0
+IsFired k old new =
+    new ≡ record old {
+      state = record (changed_by (λ p. fire_closure k (slice_get p.hosts k) p) old.state) {
+        at_port = fired_at old.state.at_port k;
+        kept = new.state.kept;
+      };
+    }
+
+-- the port refused to answer, and the page stopped
+abbrev pub RefusedByPort : {L : Type 0} → (old new : PageNow L) → Type 0
+RefusedByPort old new =
+    new ≡ record old {
+      state = record old.state { kept = new.state.kept; refusals = raised old.state.refusals };
+      stopped = Some no_line.OutOfMemory;
+      stops = new.stops;
+    }
+
 -- ---- Ours: what performing a task does
+
+-- a page, to whose fields f is done
+abbrev pub page_changed : {L : Type 0} → (f : Page → Page) → PageNow L → PageNow L
+page_changed f p = record p { state = changed_by f p.state }
 
 -- A task can be performed: the page has not stopped, no fold is open, the machine has the page's functions, and the time is within that of
 -- a run.

@@ -4,13 +4,13 @@ ghost use Rattle.std.specs.Prelude.{◌≡◌, None, IfOk};
 ghost use Rattle.std.specs.Result.{result_err};
 ghost use Rattle.page_parts.specs.AbortGraph.{marked};
 ghost use Rattle.page_values.specs.Seen.{seen};
-ghost use Rattle.page_model.specs.Invoke as model;
 ghost use Rattle.page_model.specs.PageSignals as aborting;
 ghost use Rattle.page_state.specs.AbortActs.{reason_marked};
 ghost use Rattle.page_state.specs.PageActs.{read_by};
 ghost use Rattle.page_host.specs.Moments.{CanCall};
-ghost use Rattle.page_host.specs.Doing.{Acts, Runs, did_how};
-ghost use Rattle.page_host.specs.Tasking.{abort_fired};
+ghost use Rattle.page_host.specs.Doing.{Acts};
+ghost use Rattle.page_host.specs.StepsOfTasks.{abort_done, abort_told, each_abort_done, signal_aborted};
+ghost use Rattle.page_host.specs.Running.{RunsWork};
 
 use crate::event_tasks::lone_argument;
 use crate::pieces::noted;
@@ -31,8 +31,7 @@ impl<P: HostPort, L: Lines, M: Ledger> Page<P, L, M> {
         reason: Value,
     ) -> Result<Did, NoLine>
         requires { CanCall machine.old self.old }
-        ensures { Runs L.keeping L.seen (λ call. aborting.abort (model.in_task call) s (seen reason))
-            (result_err result) (did_how result) machine.old self.old machine.new self.new }
+        ensures { RunsWork L.Lines (signal_aborted s reason) result machine.old self.old machine.new self.new }
     {
         let signals = self.reason_set(s, reason)?;
         self.abort_each(machine, &signals)
@@ -41,8 +40,7 @@ impl<P: HostPort, L: Lines, M: Ledger> Page<P, L, M> {
     // The abort steps of these signals, one after another.
     fn abort_each(&mut self, machine: &mut Machine<'_>, signals: &[u32]) -> Result<Did, NoLine>
         requires { CanCall machine.old self.old }
-        ensures { Runs L.keeping L.seen (λ call. aborting.each_in_turn signals.now (aborting.abort_steps (model.in_task call)))
-            (result_err result) (did_how result) machine.old self.old machine.new self.new }
+        ensures { RunsWork L.Lines (each_abort_done signals.now) result machine.old self.old machine.new self.new }
     {
         for s in signals {
             match self.abort_steps(machine, *s)? {
@@ -56,8 +54,7 @@ impl<P: HostPort, L: Lines, M: Ledger> Page<P, L, M> {
     // The abort steps of a signal: its algorithms, and then `abort` is fired at it.
     fn abort_steps(&mut self, machine: &mut Machine<'_>, s: u32) -> Result<Did, NoLine>
         requires { CanCall machine.old self.old }
-        ensures { Runs L.keeping L.seen (λ call. aborting.abort_steps (model.in_task call) s)
-            (result_err result) (did_how result) machine.old self.old machine.new self.new }
+        ensures { RunsWork L.Lines (abort_done s) result machine.old self.old machine.new self.new }
     {
         self.run_algorithms(s)?;
         self.fire_abort(machine, s)
@@ -66,8 +63,7 @@ impl<P: HostPort, L: Lines, M: Ledger> Page<P, L, M> {
     // `abort` is fired at a signal, with the signal.
     fn fire_abort(&mut self, machine: &mut Machine<'_>, s: u32) -> Result<Did, NoLine>
         requires { CanCall machine.old self.old }
-        ensures { Runs L.keeping L.seen (λ call. abort_fired (model.in_task call) s)
-            (result_err result) (did_how result) machine.old self.old machine.new self.new }
+        ensures { RunsWork L.Lines (abort_told s) result machine.old self.old machine.new self.new }
     {
         let Ok(args) = lone_argument(self.state.alloc(), Value::Signal(s)) else {
             return Err(self.wanting());

@@ -1,23 +1,24 @@
 //! Callbacks of a page: each is called with its line, and what comes behind it (HTML, "Calling scripts").
 
-ghost use Rattle.std.specs.Prelude.{◌≡◌, ◌≢◌, ◌≤◌, false, map, IfErr, IfOk};
+ghost use Rattle.std.specs.Prelude.{◌≡◌, ◌≢◌, ◌≤◌, map, IfErr, IfOk};
 ghost use Rattle.std.specs.Option.{option_map};
-ghost use Rattle.std.specs.Result.{result_err};
 ghost use Rattle.page_values.specs.Seen.{seen};
 ghost use Rattle.page_values.specs.Written.{AreNumbered};
 ghost use Rattle.lang_ast.specs.Steps.{AllNumbered};
-ghost use Rattle.page_interp.specs.Machines.{functions_in, bound_args};
+ghost use Rattle.page_interp.specs.Machines.{functions_in};
 ghost use Rattle.page_model.specs.State.{the_registration};
 ghost use Rattle.page_model.specs.Invoke as model;
 ghost use Rattle.page_script.specs.Seen.{function_seen};
 ghost use Rattle.page_script.specs.Reports.{when_seen};
 ghost use Rattle.page_state.specs.PageActs.{read_by};
 ghost use Rattle.page_state.specs.Standing.{port_of};
-ghost use Rattle.page_host.specs.StateActs.{Steps};
-ghost use Rattle.page_host.specs.Moments.{calling, how_of, moment, CanCall, IfEnded, SamePort};
-ghost use Rattle.page_host.specs.Doing.{Runs, called, did_how, ended_in_task, threw_in_task, IsDry};
-ghost use Rattle.page_host.specs.Tasking.{did_of, regardless};
+ghost use Rattle.page_host.specs.Moments.{CanCall, IfEnded, SamePort};
+ghost use Rattle.page_host.specs.Doing.{ended_in_task, IsDry};
+ghost use Rattle.page_host.specs.Tasking.{did_of};
 ghost use Rattle.page_host.specs.Stops.{fault_of};
+ghost use Rattle.page_host.specs.StepsOfCalls.{bound_called, callback_read, callback_run, called_with, function_called};
+ghost use Rattle.page_host.specs.StepsOfCalls.{invoked, job_invoked, thrown_in_task};
+ghost use Rattle.page_host.specs.Running.{Invokes, RunsCall, RunsWork};
 ghost use Rattle.page_host.specs.declared.stop.PageStop.TheVariants.{NoHost};
 
 use crate::stop::stop_for;
@@ -46,9 +47,7 @@ impl<P: HostPort, L: Lines, M: Ledger> Page<P, L, M> {
         args: Vec<Value>,
     ) -> Result<Ran, PageStop>
         requires { CanCall machine.old self.old }
-        ensures steps { Steps L.keeping (moment L.seen machine.old self.old)
-            (model.invoke (model.in_task (calling machine.old)) registration second (map seen args.items)) (fault_of result) (how_of result)
-            (moment L.seen machine.new self.new) }
+        ensures steps { Invokes L.Lines registration second args.items result machine.old self.old machine.new self.new }
         ensures ready { IfEnded result (CanCall machine.new self.new) }
         ensures port { IfOk result (λ ran. SamePort self.old self.new) }
         ensures left { port_of self.new.state ≡ port_of self.old.state }
@@ -73,8 +72,7 @@ impl<P: HostPort, L: Lines, M: Ledger> Page<P, L, M> {
         args: Vec<Value>,
     ) -> Result<Ran, NoLine>
         requires { CanCall machine.old self.old }
-        ensures { Runs L.keeping L.seen (λ call. model.invoke (model.in_task call) r second (map seen args.items))
-            (result_err result) (how_of result) machine.old self.old machine.new self.new }
+        ensures { RunsCall L.Lines (invoked r second args.items) result machine.old self.old machine.new self.new }
     {
         let when = when_reported(&self.state, r);
         match self.called(machine, r, second, args)? {
@@ -92,8 +90,7 @@ impl<P: HostPort, L: Lines, M: Ledger> Page<P, L, M> {
         args: Vec<Value>,
     ) -> Result<Did, NoLine>
         requires { CanCall machine.old self.old }
-        ensures { Runs L.keeping L.seen (λ call. regardless (model.invoke (model.in_task call) r false (map seen args.items)))
-            (result_err result) (did_how result) machine.old self.old machine.new self.new }
+        ensures { RunsWork L.Lines (callback_run r args.items) result machine.old self.old machine.new self.new }
     {
         let ran = self.invoke_in_task(machine, r, false, args)?;
         Ok(did_of(&ran))
@@ -102,8 +99,7 @@ impl<P: HostPort, L: Lines, M: Ledger> Page<P, L, M> {
     // In a task a callback has returned: its line, and a checkpoint.
     fn ended_in_task(&mut self, machine: &mut Machine<'_>, value: Value) -> Result<Ran, NoLine>
         requires { CanCall machine.old self.old }
-        ensures { Runs L.keeping L.seen (ended_in_task (seen value)) (result_err result) (how_of result)
-            machine.old self.old machine.new self.new }
+        ensures { RunsCall L.Lines (ended_in_task (seen value)) result machine.old self.old machine.new self.new }
     {
         self.returned()?;
         match self.perform_checkpoint(machine)? {
@@ -120,8 +116,7 @@ impl<P: HostPort, L: Lines, M: Ledger> Page<P, L, M> {
         value: Value,
     ) -> Result<Ran, NoLine>
         requires { CanCall machine.old self.old }
-        ensures { Runs L.keeping L.seen (threw_in_task (when_seen when) (seen value)) (result_err result) (how_of result)
-            machine.old self.old machine.new self.new }
+        ensures { RunsCall L.Lines (thrown_in_task when value) result machine.old self.old machine.new self.new }
     {
         self.threw(when, &value)?;
         match self.perform_checkpoint(machine)? {
@@ -142,8 +137,7 @@ impl<P: HostPort, L: Lines, M: Ledger> Page<P, L, M> {
         args: Vec<Value>,
     ) -> Result<Ran, NoLine>
         requires { CanCall machine.old self.old }
-        ensures { Runs L.keeping L.seen (λ call. model.invoke (model.in_checkpoint call) r second (map seen args.items))
-            (result_err result) (how_of result) machine.old self.old machine.new self.new }
+        ensures { RunsCall L.Lines (job_invoked r second args.items) result machine.old self.old machine.new self.new }
     {
         let when = when_reported(&self.state, r);
         match self.called(machine, r, second, args)? {
@@ -169,8 +163,7 @@ impl<P: HostPort, L: Lines, M: Ledger> Page<P, L, M> {
         args: Vec<Value>,
     ) -> Result<Ran, NoLine>
         requires { CanCall machine.old self.old }
-        ensures { Runs L.keeping L.seen (called r second (map seen args.items)) (result_err result) (how_of result)
-            machine.old self.old machine.new self.new }
+        ensures { RunsCall L.Lines (called_with r second args.items) result machine.old self.old machine.new self.new }
     {
         let Ok(fun) = callback_copied(&self.state, r, second) else {
             return Err(self.wanting());
@@ -188,8 +181,7 @@ impl<P: HostPort, L: Lines, M: Ledger> Page<P, L, M> {
         args: Vec<Value>,
     ) -> Result<Ran, NoLine>
         requires { CanCall machine.old self.old }
-        ensures { Runs L.keeping L.seen (λ call. model.call_back call (option_map function_seen fun) (map seen args.items))
-            (result_err result) (how_of result) machine.old self.old machine.new self.new }
+        ensures { RunsCall L.Lines (function_called fun args.items) result machine.old self.old machine.new self.new }
     {
         let Some(fun) = fun else {
             return Ok(Ran::Value(Value::Unit));
@@ -212,8 +204,7 @@ impl<P: HostPort, L: Lines, M: Ledger> Page<P, L, M> {
         requires since { L.seen self.old.since ≡ L.seen self.old.lines }
         requires bound { AreNumbered (functions_in machine.old) fun.now.bound }
         requires args { AllNumbered (functions_in machine.old) (map seen args.items) }
-        ensures { Runs L.keeping L.seen (λ call. call fun.now.function (bound_args fun.now args))
-            (result_err result) (how_of result) machine.old self.old machine.new self.new }
+        ensures { RunsCall L.Lines (bound_called fun.now args) result machine.old self.old machine.new self.new }
     {
         let mut fuel = self.fuel;
         let done = machine.call(self, fun, args, &mut fuel);
@@ -255,8 +246,7 @@ fn callback_copied<P: HostPort, M: Ledger>(
     r: u32,
     second: bool,
 ) -> Result<Option<Func>, MemoryFault>
-    ensures { IfOk result (λ fun. option_map function_seen fun
-        ≡ read_by (λ p. model.callback_of second (the_registration p r)) state.now) }
+    ensures { IfOk result (λ fun. option_map function_seen fun ≡ callback_read r second state.now) }
 {
     let Some(fun) = state.callback_of(r, second) else {
         return Ok(None);

@@ -1,14 +1,13 @@
 //! The microtask checkpoint of a page (HTML, "Event loops: processing model": perform a microtask checkpoint).
 
-ghost use Rattle.std.specs.Prelude.{◌≡◌, ◌≢◌, ◌<◌, ◌≤◌, ◌-◌, suc, IfErr, IfOk};
-ghost use Rattle.std.specs.Result.{result_err};
+ghost use Rattle.std.specs.Prelude.{◌≡◌, ◌≢◌, ◌<◌, ◌≤◌, ◌-◌, IfErr, IfOk};
 ghost use Rattle.page_model.specs.Invoke as model;
 ghost use Rattle.page_state.specs.Standing.{port_of};
-ghost use Rattle.page_host.specs.StateActs.{Steps};
-ghost use Rattle.page_host.specs.Moments.{calling, how_of, moment, CanCall, SamePort};
-ghost use Rattle.page_host.specs.Doing.{Runs, did_how, run_next, IfFinished, IsDried};
-ghost use Rattle.page_host.specs.Tasking.{regardless};
+ghost use Rattle.page_host.specs.Moments.{CanCall, SamePort};
+ghost use Rattle.page_host.specs.Doing.{run_next, IfFinished, IsDried};
 ghost use Rattle.page_host.specs.Stops.{fault_of};
+ghost use Rattle.page_host.specs.StepsOfCalls.{jobs_run, oldest_run};
+ghost use Rattle.page_host.specs.Running.{RunsCall, RunsWork, StepsWork};
 ghost use Rattle.page_host.specs.declared.stop.PageStop.TheVariants.{NoHost};
 
 use crate::callbacks::did_of;
@@ -28,8 +27,7 @@ impl<P: HostPort, L: Lines, M: Ledger> Page<P, L, M> {
     /// `Fuel` comes only where no unit of fuel is left. It never ends with `NoHost`.
     pub fn checkpoint(&mut self, machine: &mut Machine<'_>) -> Result<Did, PageStop>
         requires { CanCall machine.old self.old }
-        ensures steps { Steps L.keeping (moment L.seen machine.old self.old) (model.checkpoint (calling machine.old))
-            (fault_of result) (did_how result) (moment L.seen machine.new self.new) }
+        ensures steps { StepsWork L.Lines model.checkpoint result machine.old self.old machine.new self.new }
         ensures ready { IfFinished result (CanCall machine.new self.new) }
         ensures port { IfOk result (λ did. SamePort self.old self.new) }
         ensures left { port_of self.new.state ≡ port_of self.old.state }
@@ -48,8 +46,7 @@ impl<P: HostPort, L: Lines, M: Ledger> Page<P, L, M> {
     // The same, with the reason of a stop.
     pub(crate) fn perform_checkpoint(&mut self, machine: &mut Machine<'_>) -> Result<Did, NoLine>
         requires { CanCall machine.old self.old }
-        ensures { Runs L.keeping L.seen model.checkpoint (result_err result) (did_how result)
-            machine.old self.old machine.new self.new }
+        ensures { RunsWork L.Lines model.checkpoint result machine.old self.old machine.new self.new }
     {
         if self.state.is_performing() {
             return Ok(Did::Finished);
@@ -60,8 +57,7 @@ impl<P: HostPort, L: Lines, M: Ledger> Page<P, L, M> {
     // A checkpoint is performed.
     fn run_checkpoint(&mut self, machine: &mut Machine<'_>) -> Result<Did, NoLine>
         requires { CanCall machine.old self.old }
-        ensures { Runs L.keeping L.seen model.perform_checkpoint (result_err result) (did_how result)
-            machine.old self.old machine.new self.new }
+        ensures { RunsWork L.Lines model.perform_checkpoint result machine.old self.old machine.new self.new }
     {
         let (level, state) = self.state.context();
         self.checkpoint_begun();
@@ -77,8 +73,7 @@ impl<P: HostPort, L: Lines, M: Ledger> Page<P, L, M> {
     // The oldest job runs until there is none, a unit of fuel for each.
     fn run_jobs(&mut self, machine: &mut Machine<'_>) -> Result<Did, NoLine>
         requires { CanCall machine.old self.old }
-        ensures { Runs L.keeping L.seen (λ call m. model.run_jobs call (suc m.fuel) m) (result_err result) (did_how result)
-            machine.old self.old machine.new self.new }
+        ensures { RunsWork L.Lines jobs_run result machine.old self.old machine.new self.new }
     {
         'jobs: while self.state.has_job() {
             if self.fuel == 0 {
@@ -96,8 +91,7 @@ impl<P: HostPort, L: Lines, M: Ledger> Page<P, L, M> {
     fn run_one_job(&mut self, machine: &mut Machine<'_>) -> Result<Did, NoLine>
         requires ready { CanCall machine.old self.old }
         requires fuel { 0 < self.old.fuel }
-        ensures runs { Runs L.keeping L.seen (λ call. regardless (run_next call)) (result_err result) (did_how result)
-            machine.old self.old machine.new self.new }
+        ensures runs { RunsWork L.Lines oldest_run result machine.old self.old machine.new self.new }
         ensures taken { self.new.fuel < self.old.fuel }
     {
         let ran = self.run_oldest(machine)?;
@@ -108,7 +102,7 @@ impl<P: HostPort, L: Lines, M: Ledger> Page<P, L, M> {
     fn run_oldest(&mut self, machine: &mut Machine<'_>) -> Result<Ran, NoLine>
         requires ready { CanCall machine.old self.old }
         requires fuel { 0 < self.old.fuel }
-        ensures runs { Runs L.keeping L.seen run_next (result_err result) (how_of result) machine.old self.old machine.new self.new }
+        ensures runs { RunsCall L.Lines run_next result machine.old self.old machine.new self.new }
         ensures taken { self.new.fuel < self.old.fuel }
     {
         self.take_unit();

@@ -1,20 +1,18 @@
 //! Events that tasks fire (DOM, "Dispatching events").
 
-ghost use Rattle.std.specs.Prelude.{◌≡◌, ◌∷◌, [], None, false, map, IfOk, IsTrue};
+ghost use Rattle.std.specs.Prelude.{◌≡◌, ◌∷◌, [], None, map, IfOk, IsTrue};
 ghost use Rattle.std.specs.Result.{result_err};
-ghost use Rattle.page_parts.specs.Listeners as parts;
 ghost use Rattle.page_values.specs.Seen.{seen};
 ghost use Rattle.page_values.specs.Texts.{is_text};
 ghost use Rattle.page_events.specs.Dispatching.{next_listening, behind_next};
-ghost use Rattle.page_events.specs.Seen.{seen_target};
 ghost use Rattle.page_model.specs.State.{emit};
-ghost use Rattle.page_model.specs.Invoke as model;
-ghost use Rattle.page_model.specs.PageSignals as firing;
 ghost use Rattle.trace_text.specs.EventSeen.{event_seen};
 ghost use Rattle.page_state.specs.PageActs.{read_by};
 ghost use Rattle.page_host.specs.Moments.{CanCall};
-ghost use Rattle.page_host.specs.Doing.{Acts, Runs, did_how};
-ghost use Rattle.page_host.specs.Tasking.{regardless};
+ghost use Rattle.page_host.specs.Doing.{Acts};
+ghost use Rattle.page_host.specs.StepsOfCalls.{callback_run};
+ghost use Rattle.page_host.specs.StepsOfTasks.{arrival_fired, fired, listeners_called};
+ghost use Rattle.page_host.specs.Running.{RunsWork};
 
 use crate::pieces::noted;
 use crate::{Did, Page};
@@ -35,9 +33,7 @@ impl<P: HostPort, L: Lines, M: Ledger> Page<P, L, M> {
         event: WindowEvent,
     ) -> Result<Did, NoLine>
         requires { CanCall machine.old self.old }
-        ensures { Runs L.keeping L.seen
-            (λ call. firing.dispatch (model.in_task call) parts.Window event.name (seen event.value ∷ []))
-            (result_err result) (did_how result) machine.old self.old machine.new self.new }
+        ensures { RunsWork L.Lines (arrival_fired event) result machine.old self.old machine.new self.new }
     {
         let WindowEvent { name, value } = event;
         let Ok(args) = lone_argument(self.state.alloc(), value) else {
@@ -56,9 +52,7 @@ impl<P: HostPort, L: Lines, M: Ledger> Page<P, L, M> {
     ) -> Result<Did, NoLine>
         requires ready { CanCall machine.old self.old }
         requires text { IsTrue (is_text name.now) }
-        ensures { Runs L.keeping L.seen
-            (λ call. firing.dispatch (model.in_task call) (seen_target target) name.now (map seen args.now))
-            (result_err result) (did_how result) machine.old self.old machine.new self.new }
+        ensures { RunsWork L.Lines (fired target name.now args.now) result machine.old self.old machine.new self.new }
     {
         let Ok(bytes) = Vec::from_slice(self.state.alloc(), name) else {
             return Err(self.wanting());
@@ -77,9 +71,7 @@ impl<P: HostPort, L: Lines, M: Ledger> Page<P, L, M> {
         args: &[Value],
     ) -> Result<Did, NoLine>
         requires { CanCall machine.old self.old }
-        ensures { Runs L.keeping L.seen
-            (λ call. firing.dispatch (model.in_task call) (seen_target target) name.now (map seen args.now))
-            (result_err result) (did_how result) machine.old self.old machine.new self.new }
+        ensures { RunsWork L.Lines (fired target name.now args.now) result machine.old self.old machine.new self.new }
     {
         let Ok(left) = self.state.begin_dispatch(target, name) else {
             return Err(self.wanting());
@@ -95,9 +87,7 @@ impl<P: HostPort, L: Lines, M: Ledger> Page<P, L, M> {
         args: &[Value],
     ) -> Result<Did, NoLine>
         requires { CanCall machine.old self.old }
-        ensures { Runs L.keeping L.seen
-            (λ call. firing.each_in_turn left (firing.call_listener (model.in_task call) (map seen args.now)))
-            (result_err result) (did_how result) machine.old self.old machine.new self.new }
+        ensures { RunsWork L.Lines (listeners_called left args.now) result machine.old self.old machine.new self.new }
     {
         let mut left = left;
         'listeners: while let Some(r) = self.next_listener(&mut left) {
@@ -125,8 +115,7 @@ impl<P: HostPort, L: Lines, M: Ledger> Page<P, L, M> {
         args: &[Value],
     ) -> Result<Did, NoLine>
         requires { CanCall machine.old self.old }
-        ensures { Runs L.keeping L.seen (λ call. regardless (model.invoke (model.in_task call) r false (map seen args.now)))
-            (result_err result) (did_how result) machine.old self.old machine.new self.new }
+        ensures { RunsWork L.Lines (callback_run r args.now) result machine.old self.old machine.new self.new }
     {
         let Ok(given) = arguments_copied(self.state.alloc(), args) else {
             return Err(self.wanting());

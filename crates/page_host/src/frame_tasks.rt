@@ -9,13 +9,11 @@ ghost use Rattle.page_frames.specs.Fields.{fields_of};
 ghost use Rattle.page_frames.specs.Steps.{frame_registration};
 ghost use Rattle.page_model.specs.State.{emit};
 ghost use Rattle.page_model.specs.PageTime.{without_frame};
-ghost use Rattle.page_model.specs.PageSignals.{each_in_turn};
-ghost use Rattle.page_model.specs.Invoke.{in_task};
-ghost use Rattle.page_model.specs.Tasks as model;
 ghost use Rattle.page_state.specs.PageActs.{read_by};
 ghost use Rattle.page_host.specs.Moments.{CanCall};
-ghost use Rattle.page_host.specs.Doing.{Acts, Runs, did_how};
-ghost use Rattle.page_host.specs.Tasking.{frame_visit, regardless};
+ghost use Rattle.page_host.specs.Doing.{Acts};
+ghost use Rattle.page_host.specs.StepsOfTasks.{frame_run, key_visited, keys_visited};
+ghost use Rattle.page_host.specs.Running.{RunsWork};
 
 use crate::pieces::noted;
 use crate::{Did, Page};
@@ -36,8 +34,7 @@ impl<P: HostPort, L: Lines, M: Ledger> Page<P, L, M> {
         time: Micros,
     ) -> Result<Did, NoLine>
         requires { CanCall machine.old self.old }
-        ensures { Runs L.keeping L.seen (λ call. model.run_frame (in_task call) time.0) (result_err result) (did_how result)
-            machine.old self.old machine.new self.new }
+        ensures { RunsWork L.Lines (frame_run time.0) result machine.old self.old machine.new self.new }
     {
         let Ok(keys) = self.state.frame_keys() else {
             return Err(self.wanting());
@@ -54,8 +51,7 @@ impl<P: HostPort, L: Lines, M: Ledger> Page<P, L, M> {
         keys: &[u32],
     ) -> Result<Did, NoLine>
         requires { CanCall machine.old self.old }
-        ensures { Runs L.keeping L.seen (λ call. each_in_turn keys.now (frame_visit (in_task call) time.0))
-            (result_err result) (did_how result) machine.old self.old machine.new self.new }
+        ensures { RunsWork L.Lines (keys_visited time.0 keys.now) result machine.old self.old machine.new self.new }
     {
         for key in keys {
             match self.visit_key(machine, time, *key)? {
@@ -74,8 +70,7 @@ impl<P: HostPort, L: Lines, M: Ledger> Page<P, L, M> {
         key: u32,
     ) -> Result<Did, NoLine>
         requires { CanCall machine.old self.old }
-        ensures { Runs L.keeping L.seen (λ call. regardless (frame_visit (in_task call) time.0 key))
-            (result_err result) (did_how result) machine.old self.old machine.new self.new }
+        ensures { RunsWork L.Lines (key_visited time.0 key) result machine.old self.old machine.new self.new }
     {
         let Some(r) = self.take_frame(key) else {
             return Ok(Did::Finished);

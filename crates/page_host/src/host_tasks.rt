@@ -1,25 +1,20 @@
 //! The task of a host answer: a host closure that the script asked gives its answer. Ours: host closures.
 
-ghost use Rattle.std.specs.Prelude.{◌≡◌, None, Some, is_some, slice_get, IfOk, IsTrue, OnErr, OnOk};
+ghost use Rattle.std.specs.Prelude.{◌≡◌, None, is_some, slice_get, IfOk, IsTrue, OnErr, OnOk};
 ghost use Rattle.std.specs.Result.{result_err};
-ghost use Rattle.page_types.specs.Counts.{raised};
 ghost use Rattle.promise_core.specs.Seen.{settled_seen};
-ghost use Rattle.host_jobs.specs.Closures.{fired_at, meets_at};
+ghost use Rattle.host_jobs.specs.Closures.{meets_at};
 ghost use Rattle.host_jobs.specs.KeptAnswers.{FollowsKept};
 ghost use Rattle.page_hosts.specs.Hosts.{IsUnfired};
 ghost use Rattle.page_tasks.specs.Seen.{host_task};
 ghost use Rattle.page_interp.specs.MachineNow.{MachineNow};
-ghost use Rattle.page_model.specs.State.{the_registration};
 ghost use Rattle.page_model.specs.Operations.{fitting};
-ghost use Rattle.page_model.specs.Tasks.{fire_closure};
 ghost use Rattle.page_model.specs.Turns.{not_dropped};
-ghost use Rattle.trace_text.specs.declared.lines.NoLine.TheVariants.{OutOfMemory};
-ghost use Rattle.page_state.specs.PageActs.{at, changed_by, on_page, read_by, Does};
 ghost use Rattle.page_host.specs.Moments.{CanCall};
 ghost use Rattle.page_host.specs.Doing.{Acts};
-ghost use Rattle.page_host.specs.Performed.{answered, asking, live_closure};
-ghost use Rattle.page_host.specs.Performing.{Performs};
-ghost use Rattle.page_host.specs.Tasking.{answer_settles, answer_told, regardless};
+ghost use Rattle.page_host.specs.Tasking.{answer_settles, answer_told};
+ghost use Rattle.page_host.specs.Performing.{IsFired, RefusedByPort};
+ghost use Rattle.page_host.specs.Running.{ActsOn, AnswersHost};
 
 use crate::pieces::noted;
 use crate::sched_tasks::promise_of;
@@ -40,10 +35,7 @@ impl<P: HostPort, L: Lines, M: Ledger> Page<P, L, M> {
     // Want of memory is told also where the closure was not asked or does not take the number, which no run comes to.
     pub(crate) fn answer_host(&mut self, task: HostTask) -> Result<Did, PageStop>
         requires { self.old.stopped ≡ None }
-        ensures { (m : MachineNow) → CanCall m self.old → Performs L.keeping L.seen
-            (asking (host_task task) (read_by (λ p. live_closure p (host_task task)) self.old.state))
-            (λ answer call. regardless (λ s. answered (live_closure s.host (host_task task)) (host_task task) answer s))
-            result m self.old m self.new }
+        ensures { (m : MachineNow) → CanCall m self.old → AnswersHost L.Lines task result m self.old self.new }
     {
         if !can_answer(&self.state, task) {
             return Err(stop_for(self.wanting()));
@@ -68,17 +60,8 @@ impl<P: HostPort, L: Lines, M: Ledger> Page<P, L, M> {
         requires fits { IsTrue (is_some (fitting (slice_get self.old.state.hosts k) x)) }
         ensures met { IfOk result (λ answer. IsTrue (meets_at self.old.state.hosts k x answer)) }
         ensures kept { FollowsKept (meets_at self.old.state.hosts k x) self.old.state.kept result self.new.state.kept }
-        ensures fired { OnOk result (self.new ≡ record self.old {
-          state = record (changed_by (λ p. fire_closure k (slice_get p.hosts k) p) self.old.state) {
-            at_port = fired_at self.old.state.at_port k;
-            kept = self.new.state.kept;
-          };
-        }) }
-        ensures refused { OnErr result (self.new ≡ record self.old {
-          state = record self.old.state { kept = self.new.state.kept; refusals = raised self.old.state.refusals };
-          stopped = Some OutOfMemory;
-          stops = self.new.stops;
-        }) }
+        ensures fired { OnOk result (IsFired k self.old self.new) }
+        ensures refused { OnErr result (RefusedByPort self.old self.new) }
     {
         match self.state.fire(k, x) {
             Ok(answer) => Ok(answer),
@@ -114,8 +97,7 @@ fn answer_told_in<P: HostPort, L: Lines, M: Ledger>(
     answer: Result<i64, i64>,
     lines: &mut L,
 ) -> Result<(), NoLine>
-    ensures { Does L.keeping (at state.old (L.seen lines.old)) (on_page (answer_told (host_task task) answer))
-        (result_err result) (at state.new (L.seen lines.new)) }
+    ensures { ActsOn L.Lines (answer_told (host_task task) answer) result state.old lines.old state.new lines.new }
 {
     let promise = promise_of(state, task.registration);
     let line = Event::Host {

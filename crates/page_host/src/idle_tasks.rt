@@ -4,14 +4,15 @@ ghost use Rattle.std.specs.Prelude.{◌≡◌, ◌∷◌, [], map, IfErr, IfOk, 
 ghost use Rattle.std.specs.Result.{result_err};
 ghost use Rattle.page_types.specs.Values.{DeadlineValue};
 ghost use Rattle.page_values.specs.Seen.{seen};
-ghost use Rattle.page_model.specs.Invoke.{in_task};
 ghost use Rattle.page_model.specs.Tasks as model;
 ghost use Rattle.page_frames.specs.Steps.{idle_registration};
 ghost use Rattle.page_script.specs.Seen.{state_seen};
-ghost use Rattle.page_state.specs.PageActs.{at, on_page, changed_by, read_by, Does, IsWanted};
+ghost use Rattle.page_state.specs.PageActs.{changed_by, read_by, IsWanted};
 ghost use Rattle.page_host.specs.Moments.{CanCall};
-ghost use Rattle.page_host.specs.Doing.{Acts, Runs, did_how};
-ghost use Rattle.page_host.specs.Tasking.{idle_begun, idle_next, regardless, timeout_begun, timeout_task};
+ghost use Rattle.page_host.specs.Doing.{Acts};
+ghost use Rattle.page_host.specs.Tasking.{idle_begun, idle_next, timeout_begun};
+ghost use Rattle.page_host.specs.StepsOfTasks.{idle_invoked, idle_timed_out};
+ghost use Rattle.page_host.specs.Running.{ActsOn, RunsWork};
 
 use crate::pieces::noted;
 use crate::{Did, Page};
@@ -30,8 +31,7 @@ impl<P: HostPort, L: Lines, M: Ledger> Page<P, L, M> {
     // nothing once the deadline has come.
     pub(crate) fn invoke_idle(&mut self, machine: &mut Machine<'_>) -> Result<Did, NoLine>
         requires { CanCall machine.old self.old }
-        ensures { Runs L.keeping L.seen (λ call. model.invoke_idle (in_task call)) (result_err result) (did_how result)
-            machine.old self.old machine.new self.new }
+        ensures { RunsWork L.Lines idle_invoked result machine.old self.old machine.new self.new }
     {
         let Some(r) = self.idle_begun()? else {
             return Ok(Did::Finished);
@@ -55,8 +55,7 @@ impl<P: HostPort, L: Lines, M: Ledger> Page<P, L, M> {
         handle: u32,
     ) -> Result<Did, NoLine>
         requires { CanCall machine.old self.old }
-        ensures { Runs L.keeping L.seen (λ call. regardless (timeout_task (in_task call) handle)) (result_err result) (did_how result)
-            machine.old self.old machine.new self.new }
+        ensures { RunsWork L.Lines (idle_timed_out handle) result machine.old self.old machine.new self.new }
     {
         let now = self.state.now();
         let Some(r) = self.timeout_begun(handle)? else {
@@ -104,8 +103,7 @@ fn idle_begun_in<P: HostPort, L: Lines, M: Ledger>(
     state: &mut PageState<P, M>,
     lines: &mut L,
 ) -> Result<Option<u32>, NoLine>
-    ensures does { Does L.keeping (at state.old (L.seen lines.old)) (on_page idle_begun)
-        (result_err result) (at state.new (L.seen lines.new)) }
+    ensures does { ActsOn L.Lines idle_begun result state.old lines.old state.new lines.new }
     ensures taken { IfOk result (λ r. r ≡ read_by idle_next state.old) }
 {
     let deadline = state.idle_deadline();

@@ -2,17 +2,15 @@
 
 ghost use Rattle.std.specs.Prelude.{◌≡◌, map, IfOk};
 ghost use Rattle.std.specs.Option.{option_map};
-ghost use Rattle.std.specs.Result.{result_err};
-ghost use Rattle.page_parts.specs.Promises as parts;
 ghost use Rattle.page_values.specs.Seen.{seen};
-ghost use Rattle.promise_core.specs.Seen.{settled_seen, reaction_seen};
-ghost use Rattle.page_notices.specs.Seen.{todo_seen};
+ghost use Rattle.promise_core.specs.Seen.{settled_seen};
 ghost use Rattle.page_model.specs.State.{the_registration};
 ghost use Rattle.page_model.specs.PagePromises.{promise_at};
-ghost use Rattle.page_model.specs.Invoke as model;
 ghost use Rattle.page_state.specs.PageActs.{read_by};
-ghost use Rattle.page_host.specs.Moments.{how_of, CanCall};
-ghost use Rattle.page_host.specs.Doing.{Runs, handled, arguments_of};
+ghost use Rattle.page_host.specs.Moments.{CanCall};
+ghost use Rattle.page_host.specs.Doing.{arguments_of};
+ghost use Rattle.page_host.specs.StepsOfCalls.{handler_called, job_run, reacted, reacted_then};
+ghost use Rattle.page_host.specs.Running.{RunsCall};
 
 use crate::Page;
 use page_hosts::HostPort;
@@ -27,8 +25,7 @@ impl<P: HostPort, L: Lines, M: Ledger> Page<P, L, M> {
     // A job runs.
     pub(crate) fn run_job(&mut self, machine: &mut Machine<'_>, todo: Todo) -> Result<Ran, NoLine>
         requires { CanCall machine.old self.old }
-        ensures { Runs L.keeping L.seen (λ call. model.run_job call (todo_seen todo)) (result_err result) (how_of result)
-            machine.old self.old machine.new self.new }
+        ensures { RunsCall L.Lines (job_run todo) result machine.old self.old machine.new self.new }
     {
         match todo {
             Todo::Micro(r) => {
@@ -56,8 +53,7 @@ impl<P: HostPort, L: Lines, M: Ledger> Page<P, L, M> {
         reaction: Reaction,
     ) -> Result<Ran, NoLine>
         requires { CanCall machine.old self.old }
-        ensures { Runs L.keeping L.seen (λ call m. model.react call (reaction_seen reaction) (promise_at m.host of).outcome m)
-            (result_err result) (how_of result) machine.old self.old machine.new self.new }
+        ensures { RunsCall L.Lines (reacted of reaction) result machine.old self.old machine.new self.new }
     {
         let Ok(outcome) = outcome_copied(&self.state, of) else {
             return Err(self.wanting());
@@ -81,10 +77,7 @@ impl<P: HostPort, L: Lines, M: Ledger> Page<P, L, M> {
         how: Settled,
     ) -> Result<Ran, NoLine>
         requires { CanCall machine.old self.old }
-        ensures { Runs L.keeping L.seen (λ call m. model.react_then call r
-            (model.callback_of (parts.has_failed (settled_seen how)) (the_registration m.host r)) (reaction_seen reaction)
-            (settled_seen how) m)
-            (result_err result) (how_of result) machine.old self.old machine.new self.new }
+        ensures { RunsCall L.Lines (reacted_then r reaction how) result machine.old self.old machine.new self.new }
     {
         if self.state.callback_of(r, how.is_err()).is_none() {
             self.settle(reaction.into, how)?;
@@ -103,8 +96,7 @@ impl<P: HostPort, L: Lines, M: Ledger> Page<P, L, M> {
         how: Settled,
     ) -> Result<Ran, NoLine>
         requires { CanCall machine.old self.old }
-        ensures { Runs L.keeping L.seen (handled r (reaction_seen reaction) (settled_seen how))
-            (result_err result) (how_of result) machine.old self.old machine.new self.new }
+        ensures { RunsCall L.Lines (handler_called r reaction how) result machine.old self.old machine.new self.new }
     {
         let finally = is_finally(&self.state, r);
         let second = how.is_err();

@@ -7,7 +7,7 @@ ghost use Rattle.arrivals_text.specs.Seen.{settings_of};
 ghost use Rattle.page_hosts.specs.Hosts.{is_unqueued};
 ghost use Rattle.page_state.specs.Pooled.{spare_of};
 ghost use Rattle.page_state.specs.Standing.{port_of};
-ghost use Rattle.page_host.specs.Starts.{Starts};
+ghost use Rattle.page_host.specs.Starts.{Starts, port_told};
 
 use crate::Page;
 use arrivals_text::PageSetup;
@@ -46,11 +46,7 @@ impl<P: HostPort, L: Lines, M: Ledger> Page<P, L, M> {
         requires unqueued { IsTrue (list_all is_unqueued (P.closures port)) }
         ensures first { IfOk result (Starts (seen_program program.now) (settings_of setup.now).setup (P.closures port)) }
         ensures lines { IfOk result (λ page. page.lines ≡ lines) }
-        ensures at_port { IfOk result (λ page. port_of page.state ≡ record {
-          closures = P.closures port;
-          kept = P.kept port;
-          refusals = P.refusals port;
-        }) }
+        ensures at_port { IfOk result (λ page. port_of page.state ≡ port_told P.closures P.kept P.refusals port) }
         ensures room { IfOk result (λ page. setup.now.room ≤ spare_of page.state) }
         ensures port { IfErr result (λ back. back.port ≡ port) }
         ensures back { IfErr result (λ back. back.lines ≡ lines) }

@@ -1,7 +1,5 @@
 //! A page, and its face to the script machine.
 
-ghost use Rattle.std.specs.Prelude.{◌≡◌};
-
 use crate::PageStop;
 use crate::stop::stopped_by;
 use lang_ast::{Host, HostStep, Op, Outcome};

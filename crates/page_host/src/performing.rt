@@ -2,24 +2,23 @@
 
 ghost use Rattle.std.specs.Prelude.{◌≡◌, ◌≢◌, ◌≤◌, None, IfNone, IfOk, IfSome};
 ghost use Rattle.std.specs.Option.{option_map};
-ghost use Rattle.std.specs.Result.{result_err};
 ghost use Rattle.page_types.specs.declared.Source.TheVariants.{Sched};
 ghost use Rattle.page_tasks.specs.Queued.{taken};
 ghost use Rattle.page_tasks.specs.Seen.{host_task, sched_task, steps_of};
-ghost use Rattle.page_model.specs.Invoke.{in_task};
 ghost use Rattle.page_model.specs.PageSignals as asks;
 ghost use Rattle.page_model.specs.State as steps;
 ghost use Rattle.page_model.specs.PageTime.{first_task};
 ghost use Rattle.page_model.specs.SchedulerTasks.{first_sched, without_sched};
 ghost use Rattle.page_model.specs.Tasks as model;
 ghost use Rattle.page_model.specs.Turns.{without_task};
-ghost use Rattle.page_state.specs.PageActs.{changed_by, read_by};
+ghost use Rattle.page_state.specs.PageActs.{read_by};
 ghost use Rattle.page_host.specs.Moments.{CanCall};
-ghost use Rattle.page_host.specs.Doing.{Acts, Runs, did_how, IfFinished, IsDried};
+ghost use Rattle.page_host.specs.Doing.{Acts, IfFinished, IsDried};
 ghost use Rattle.page_host.specs.Stops.{stop_result};
-ghost use Rattle.page_host.specs.Tasking.{no_task, regardless};
-ghost use Rattle.page_host.specs.Performed.{first_asking, performed, sched_with, source_with, steps_asking, steps_with};
-ghost use Rattle.page_host.specs.Performing.{CanPerform, Performs, stopped_by};
+ghost use Rattle.page_host.specs.Tasking.{no_task};
+ghost use Rattle.page_host.specs.Performing.{CanPerform, stopped_by, page_changed};
+ghost use Rattle.page_host.specs.StepsOfTasks.{next_sched_performed, signal_timed_out, steps_done};
+ghost use Rattle.page_host.specs.Running.{PerformsFirst, PerformsSteps, PerformsTask, RunsWork};
 
 use crate::stop::stop_for;
 use crate::{Did, Page, PageStop};
@@ -41,8 +40,7 @@ impl<P: HostPort, L: Lines, M: Ledger> Page<P, L, M> {
     /// It costs what the callbacks, the jobs and their lines cost.
     pub fn perform(&mut self, machine: &mut Machine<'_>, source: Source) -> Result<Did, PageStop>
         requires { CanPerform machine.old self.old }
-        ensures performs { Performs L.keeping L.seen (read_by (first_asking source) self.old.state)
-            (λ answer call. performed call source answer) result machine.old self.old machine.new self.new }
+        ensures performs { PerformsTask L.Lines source result machine.old self.old machine.new self.new }
         ensures ready { IfFinished result (CanCall machine.new self.new) }
         ensures program { machine.new.script ≡ machine.old.script }
         ensures fuel { self.new.fuel ≤ self.old.fuel }
@@ -60,8 +58,7 @@ impl<P: HostPort, L: Lines, M: Ledger> Page<P, L, M> {
     // The first task of a source leaves its queue and is done.
     fn perform_first(&mut self, machine: &mut Machine<'_>, source: Source) -> Result<Did, PageStop>
         requires { CanCall machine.old self.old }
-        ensures { Performs L.keeping L.seen (read_by (first_asking source) self.old.state)
-            (λ answer call. regardless (source_with call source answer)) result machine.old self.old machine.new self.new }
+        ensures { PerformsFirst L.Lines source result machine.old self.old machine.new self.new }
     {
         if source == Source::Sched {
             return or_page_stop(self.perform_next_sched(machine));
@@ -75,8 +72,7 @@ impl<P: HostPort, L: Lines, M: Ledger> Page<P, L, M> {
     // The scheduler task that is next leaves its queue and is done.
     fn perform_next_sched(&mut self, machine: &mut Machine<'_>) -> Result<Did, NoLine>
         requires { CanCall machine.old self.old }
-        ensures { Runs L.keeping L.seen (λ call. regardless (λ s. sched_with call (first_sched s.host) s))
-            (result_err result) (did_how result) machine.old self.old machine.new self.new }
+        ensures { RunsWork L.Lines next_sched_performed result machine.old self.old machine.new self.new }
     {
         let Some(task) = self.take_sched() else {
             return Ok(Did::Finished);
@@ -87,9 +83,7 @@ impl<P: HostPort, L: Lines, M: Ledger> Page<P, L, M> {
     // A task of another source is done, which has left its queue.
     fn perform_task(&mut self, machine: &mut Machine<'_>, steps: TaskSteps) -> Result<Did, PageStop>
         requires { CanCall machine.old self.old }
-        ensures { Performs L.keeping L.seen (read_by (λ p. steps_asking p (steps_of steps)) self.old.state)
-            (λ answer call. regardless (steps_with call (steps_of steps) (asks.host_task_of (steps_of steps)) answer))
-            result machine.old self.old machine.new self.new }
+        ensures { PerformsSteps L.Lines (steps_of steps) result machine.old self.old machine.new self.new }
     {
         match host_task_of(&steps) {
             Some(task) => self.answer_host(task),
@@ -100,8 +94,7 @@ impl<P: HostPort, L: Lines, M: Ledger> Page<P, L, M> {
     // The steps of a task that asks no host closure.
     fn run_steps(&mut self, machine: &mut Machine<'_>, steps: TaskSteps) -> Result<Did, NoLine>
         requires { CanCall machine.old self.old }
-        ensures { Runs L.keeping L.seen (λ call. regardless (model.perform_steps (in_task call) (steps_of steps)))
-            (result_err result) (did_how result) machine.old self.old machine.new self.new }
+        ensures { RunsWork L.Lines (steps_done (steps_of steps)) result machine.old self.old machine.new self.new }
     {
         match steps {
             TaskSteps::RunScript => self.run_script(machine),
@@ -120,8 +113,7 @@ impl<P: HostPort, L: Lines, M: Ledger> Page<P, L, M> {
     // The script's own body runs, which is the first registration.
     fn run_script(&mut self, machine: &mut Machine<'_>) -> Result<Did, NoLine>
         requires { CanCall machine.old self.old }
-        ensures { Runs L.keeping L.seen (λ call. regardless (model.perform_steps (in_task call) steps.RunScript))
-            (result_err result) (did_how result) machine.old self.old machine.new self.new }
+        ensures { RunsWork L.Lines (steps_done steps.RunScript) result machine.old self.old machine.new self.new }
     {
         let none = Vec::new(self.state.alloc());
         self.run_callback(machine, 1, none)
@@ -130,8 +122,7 @@ impl<P: HostPort, L: Lines, M: Ledger> Page<P, L, M> {
     // A signal is aborted by its timeout.
     fn time_out_signal(&mut self, machine: &mut Machine<'_>, s: u32) -> Result<Did, NoLine>
         requires { CanCall machine.old self.old }
-        ensures { Runs L.keeping L.seen (λ call. model.perform_steps (in_task call) (steps.TimeOutSignal s))
-            (result_err result) (did_how result) machine.old self.old machine.new self.new }
+        ensures { RunsWork L.Lines (signal_timed_out s) result machine.old self.old machine.new self.new }
     {
         let reason = fault(self.state.alloc(), FaultName::TimeoutError);
         self.abort_in_task(machine, s, reason)
@@ -140,8 +131,7 @@ impl<P: HostPort, L: Lines, M: Ledger> Page<P, L, M> {
     // No task is current, and a microtask checkpoint is performed.
     fn after_task(&mut self, machine: &mut Machine<'_>) -> Result<Did, NoLine>
         requires { CanCall machine.old self.old }
-        ensures { Runs L.keeping L.seen model.after_task (result_err result) (did_how result)
-            machine.old self.old machine.new self.new }
+        ensures { RunsWork L.Lines model.after_task result machine.old self.old machine.new self.new }
     {
         self.no_task();
         self.perform_checkpoint(machine)
@@ -160,8 +150,7 @@ impl<P: HostPort, L: Lines, M: Ledger> Page<P, L, M> {
         requires running { self.old.stopped ≡ None }
         requires source { source ≢ Sched }
         ensures first { option_map (taken source) result ≡ read_by (λ p. first_task source p.tasks) self.old.state }
-        ensures gone { IfSome result
-            (λ given. self.new ≡ record self.old { state = changed_by (without_task given.0) self.old.state }) }
+        ensures gone { IfSome result (λ given. self.new ≡ page_changed (without_task given.0) self.old) }
         ensures none { IfNone result (self.new ≡ self.old) }
     {
         self.state.take_task(source)
@@ -171,8 +160,7 @@ impl<P: HostPort, L: Lines, M: Ledger> Page<P, L, M> {
     fn take_sched(&mut self) -> Option<SchedTask>
         requires { self.old.stopped ≡ None }
         ensures first { option_map sched_task result ≡ read_by first_sched self.old.state }
-        ensures gone { IfSome result
-            (λ task. self.new ≡ record self.old { state = changed_by (without_sched task.registration) self.old.state }) }
+        ensures gone { IfSome result (λ task. self.new ≡ page_changed (without_sched task.registration) self.old) }
         ensures none { IfNone result (self.new ≡ self.old) }
     {
         self.state.take_sched()

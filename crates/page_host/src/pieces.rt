@@ -7,16 +7,17 @@ ghost use Rattle.std.specs.Result.{result_err};
 ghost use Rattle.page_types.specs.Events.{Ret};
 ghost use Rattle.page_values.specs.Seen.{seen};
 ghost use Rattle.promise_core.specs.Seen.{settled_seen, reaction_seen};
-ghost use Rattle.page_notices.specs.Seen.{current, waiting_seen};
+ghost use Rattle.page_notices.specs.Seen.{waiting_seen};
 ghost use Rattle.page_model.specs.Invoke as model;
 ghost use Rattle.page_model.specs.PagePromises.{settle, subscribe};
 ghost use Rattle.page_model.specs.PageCombinators.{lead_into};
 ghost use Rattle.page_script.specs.Jobs.{oldest_begun};
 ghost use Rattle.page_script.specs.Reports.{when_seen};
 ghost use Rattle.trace_text.specs.declared.lines.NoLine.TheVariants.{OutOfMemory};
-ghost use Rattle.page_state.specs.PageActs.{at, on_page, Does};
 ghost use Rattle.page_host.specs.Doing.{Acts};
-ghost use Rattle.page_host.specs.Pieces.{threw, derived, stop_kept, stops_counted, WantsMemory};
+ghost use Rattle.page_host.specs.Pieces.{stop_kept, stops_counted, WantsMemory};
+ghost use Rattle.page_host.specs.StepsOfCalls.{checkpoint_over, derived_from, throw_told};
+ghost use Rattle.page_host.specs.Running.{ActsBy, ActsOn};
 
 use crate::Page;
 use page_hosts::HostPort;
@@ -48,7 +49,7 @@ impl<P: HostPort, L: Lines, M: Ledger> Page<P, L, M> {
     // The innermost call ends with a throw, with its line and the report that comes before a checkpoint.
     pub(crate) fn threw(&mut self, when: WhenReported, value: &Value) -> Result<(), NoLine>
         requires { self.old.stopped ≡ None }
-        ensures { Acts L.keeping L.seen (threw (when_seen when) (seen value.now)) (result_err result) self.old self.new }
+        ensures { ActsBy L.Lines (throw_told when value.now) result self.old self.new }
     {
         let done = threw_in(&mut self.state, when, value, &mut self.lines);
         noted(done, &mut self.stopped, &mut self.stops)
@@ -57,7 +58,7 @@ impl<P: HostPort, L: Lines, M: Ledger> Page<P, L, M> {
     // The report of a throw that comes after a checkpoint.
     pub(crate) fn reported(&mut self, when: WhenReported, value: &Value) -> Result<(), NoLine>
         requires { self.old.stopped ≡ None }
-        ensures { Acts L.keeping L.seen (model.report_after (when_seen when) (seen value.now)) (result_err result) self.old self.new }
+        ensures { ActsBy L.Lines (model.report_after (when_seen when) (seen value.now)) result self.old self.new }
     {
         let done = self.state.report_after(when, value, &mut self.lines);
         noted(done, &mut self.stopped, &mut self.stops)
@@ -110,7 +111,7 @@ impl<P: HostPort, L: Lines, M: Ledger> Page<P, L, M> {
         value: Value,
     ) -> Result<(), NoLine>
         requires { self.old.stopped ≡ None }
-        ensures { Acts L.keeping L.seen (derived finally into (settled_seen how) (seen value)) (result_err result) self.old self.new }
+        ensures { ActsBy L.Lines (derived_from finally into how value) result self.old self.new }
     {
         let done = derive_in(&mut self.state, finally, into, how, value, &mut self.lines);
         noted(done, &mut self.stopped, &mut self.stops)
@@ -135,8 +136,7 @@ impl<P: HostPort, L: Lines, M: Ledger> Page<P, L, M> {
     // A microtask checkpoint ends, and this nesting level and this scheduling state are the current ones again.
     pub(crate) fn checkpoint_ended(&mut self, level: u32, state: Option<u32>) -> Result<(), NoLine>
         requires { self.old.stopped ≡ None }
-        ensures { Acts L.keeping L.seen (λ p. model.checkpoint_ended (model.under (current level state) p) p) (result_err result)
-            self.old self.new }
+        ensures { ActsBy L.Lines (checkpoint_over level state) result self.old self.new }
     {
         let done = self.state.checkpoint_ended(level, state);
         noted(done, &mut self.stopped, &mut self.stops)
@@ -181,8 +181,7 @@ fn threw_in<P: HostPort, L: Lines, M: Ledger>(
     value: &Value,
     lines: &mut L,
 ) -> Result<(), NoLine>
-    ensures { Does L.keeping (at state.old (L.seen lines.old)) (on_page (threw (when_seen when) (seen value.now)))
-        (result_err result) (at state.new (L.seen lines.new)) }
+    ensures { ActsOn L.Lines (throw_told when value.now) result state.old lines.old state.new lines.new }
 {
     state.thrown(value, lines)?;
     state.report_before(when, value, lines)
@@ -197,8 +196,7 @@ fn derive_in<P: HostPort, L: Lines, M: Ledger>(
     value: Value,
     lines: &mut L,
 ) -> Result<(), NoLine>
-    ensures { Does L.keeping (at state.old (L.seen lines.old)) (on_page (derived finally into (settled_seen how) (seen value)))
-        (result_err result) (at state.new (L.seen lines.new)) }
+    ensures { ActsOn L.Lines (derived_from finally into how value) result state.old lines.old state.new lines.new }
 {
     if finally {
         state.pass_on(into, how, value, lines)

@@ -6,13 +6,13 @@ ghost use Rattle.std.specs.Result.{result_err};
 ghost use Rattle.page_parts.specs.Promises.{settled_value};
 ghost use Rattle.page_values.specs.Seen.{seen};
 ghost use Rattle.promise_core.specs.Seen.{settled_seen};
-ghost use Rattle.page_model.specs.Invoke as model;
-ghost use Rattle.page_model.specs.PageSignals.{each_in_turn};
 ghost use Rattle.page_model.specs.Tasks as tasks;
 ghost use Rattle.page_state.specs.PageActs.{read_by};
 ghost use Rattle.page_host.specs.Moments.{CanCall};
-ghost use Rattle.page_host.specs.Doing.{Acts, Runs, did_how};
-ghost use Rattle.page_host.specs.Tasking.{handled_fired, handled_task, rejection_args, unhandled_fired};
+ghost use Rattle.page_host.specs.Doing.{Acts};
+ghost use Rattle.page_host.specs.Tasking.{rejection_args};
+ghost use Rattle.page_host.specs.StepsOfTasks.{each_notified, handled_told, handling_notified, rejection_notified, unhandled_told};
+ghost use Rattle.page_host.specs.Running.{RunsWork};
 
 use crate::pieces::noted;
 use crate::{Did, Page};
@@ -34,8 +34,7 @@ impl<P: HostPort, L: Lines, M: Ledger> Page<P, L, M> {
         promises: Vec<u32>,
     ) -> Result<Did, NoLine>
         requires { CanCall machine.old self.old }
-        ensures { Runs L.keeping L.seen (λ call. each_in_turn promises.items (tasks.notify_one (model.in_task call)))
-            (result_err result) (did_how result) machine.old self.old machine.new self.new }
+        ensures { RunsWork L.Lines (each_notified promises.items) result machine.old self.old machine.new self.new }
     {
         for n in &promises {
             match self.notify_one(machine, *n)? {
@@ -50,8 +49,7 @@ impl<P: HostPort, L: Lines, M: Ledger> Page<P, L, M> {
     // the outstanding ones.
     fn notify_one(&mut self, machine: &mut Machine<'_>, n: u32) -> Result<Did, NoLine>
         requires { CanCall machine.old self.old }
-        ensures { Runs L.keeping L.seen (λ call. tasks.notify_one (model.in_task call) n)
-            (result_err result) (did_how result) machine.old self.old machine.new self.new }
+        ensures { RunsWork L.Lines (rejection_notified n) result machine.old self.old machine.new self.new }
     {
         if self.state.handled(n) {
             return Ok(Did::Finished);
@@ -76,8 +74,7 @@ impl<P: HostPort, L: Lines, M: Ledger> Page<P, L, M> {
         args: &[Value],
     ) -> Result<Did, NoLine>
         requires { CanCall machine.old self.old }
-        ensures { Runs L.keeping L.seen (λ call. unhandled_fired (model.in_task call) n (map seen args.now))
-            (result_err result) (did_how result) machine.old self.old machine.new self.new }
+        ensures { RunsWork L.Lines (unhandled_told n args.now) result machine.old self.old machine.new self.new }
     {
         self.event_told(Event::Unhandled { p: n as u64 })?;
         self.fire(machine, Target::Window, b"unhandledrejection", args)
@@ -99,8 +96,7 @@ impl<P: HostPort, L: Lines, M: Ledger> Page<P, L, M> {
         n: u32,
     ) -> Result<Did, NoLine>
         requires { CanCall machine.old self.old }
-        ensures { Runs L.keeping L.seen (λ call. handled_task (model.in_task call) n)
-            (result_err result) (did_how result) machine.old self.old machine.new self.new }
+        ensures { RunsWork L.Lines (handling_notified n) result machine.old self.old machine.new self.new }
     {
         let Ok(args) = rejection_arguments(&self.state, n) else {
             return Err(self.wanting());
@@ -116,8 +112,7 @@ impl<P: HostPort, L: Lines, M: Ledger> Page<P, L, M> {
         args: &[Value],
     ) -> Result<Did, NoLine>
         requires { CanCall machine.old self.old }
-        ensures { Runs L.keeping L.seen (λ call. handled_fired (model.in_task call) n (map seen args.now))
-            (result_err result) (did_how result) machine.old self.old machine.new self.new }
+        ensures { RunsWork L.Lines (handled_told n args.now) result machine.old self.old machine.new self.new }
     {
         self.event_told(Event::Handled { p: n as u64 })?;
         self.fire(machine, Target::Window, b"rejectionhandled", args)

@@ -5,12 +5,13 @@ ghost use Rattle.std.specs.Result.{result_err};
 ghost use Rattle.promise_core.specs.Seen.{settled_seen};
 ghost use Rattle.page_tasks.specs.Seen.{sched_task};
 ghost use Rattle.page_model.specs.State.{the_registration};
-ghost use Rattle.page_model.specs.Invoke.{in_task};
 ghost use Rattle.page_model.specs.Tasks as model;
-ghost use Rattle.page_state.specs.PageActs.{at, on_page, read_by, Does};
+ghost use Rattle.page_state.specs.PageActs.{read_by};
 ghost use Rattle.page_host.specs.Moments.{CanCall};
-ghost use Rattle.page_host.specs.Doing.{Acts, Runs, did_how};
+ghost use Rattle.page_host.specs.Doing.{Acts};
 ghost use Rattle.page_host.specs.Tasking.{post_over};
+ghost use Rattle.page_host.specs.StepsOfTasks.{post_settled, sched_performed};
+ghost use Rattle.page_host.specs.Running.{ActsOn, RunsWork};
 
 use crate::pieces::noted;
 use crate::{Did, Page};
@@ -31,8 +32,7 @@ impl<P: HostPort, L: Lines, M: Ledger> Page<P, L, M> {
         task: SchedTask,
     ) -> Result<Did, NoLine>
         requires { CanCall machine.old self.old }
-        ensures { Runs L.keeping L.seen (λ call. model.perform_sched (in_task call) (sched_task task)) (result_err result) (did_how result)
-            machine.old self.old machine.new self.new }
+        ensures { RunsWork L.Lines (sched_performed task) result machine.old self.old machine.new self.new }
     {
         if task.continuation {
             self.continued(task.registration)?;
@@ -45,8 +45,7 @@ impl<P: HostPort, L: Lines, M: Ledger> Page<P, L, M> {
     fn run_post(&mut self, machine: &mut Machine<'_>, task: SchedTask) -> Result<Did, NoLine>
         requires ready { CanCall machine.old self.old }
         requires posted { task.continuation ≡ false }
-        ensures { Runs L.keeping L.seen (λ call. model.perform_sched (in_task call) (sched_task task)) (result_err result) (did_how result)
-            machine.old self.old machine.new self.new }
+        ensures { RunsWork L.Lines (sched_performed task) result machine.old self.old machine.new self.new }
     {
         let r = task.registration;
         let promise = promise_of(&self.state, r);
@@ -103,8 +102,7 @@ fn continued_in<P: HostPort, L: Lines, M: Ledger>(
     r: u32,
     lines: &mut L,
 ) -> Result<(), NoLine>
-    ensures { Does L.keeping (at state.old (L.seen lines.old)) (on_page (model.continued r))
-        (result_err result) (at state.new (L.seen lines.new)) }
+    ensures { ActsOn L.Lines (model.continued r) result state.old lines.old state.new lines.new }
 {
     let promise = promise_of(state, r);
     state.call_begun(r, lines)?;
@@ -122,8 +120,7 @@ fn post_over_in<P: HostPort, L: Lines, M: Ledger>(
     how: Settled,
     lines: &mut L,
 ) -> Result<(), NoLine>
-    ensures { Does L.keeping (at state.old (L.seen lines.old)) (on_page (post_over r promise (settled_seen how)))
-        (result_err result) (at state.new (L.seen lines.new)) }
+    ensures { ActsOn L.Lines (post_settled r promise how) result state.old lines.old state.new lines.new }
 {
     state.settle(promise, how, lines)?;
     state.unwatch(r);

@@ -3,12 +3,11 @@
 ghost use Rattle.std.specs.Prelude.{◌≡◌, None};
 ghost use Rattle.std.specs.Result.{result_err};
 ghost use Rattle.page_tasks.specs.Seen.{timer_task};
-ghost use Rattle.page_model.specs.Invoke.{in_task};
-ghost use Rattle.page_model.specs.Tasks as model;
-ghost use Rattle.page_state.specs.PageActs.{at, on_page, Does};
 ghost use Rattle.page_host.specs.Moments.{CanCall};
-ghost use Rattle.page_host.specs.Doing.{Acts, Runs, did_how};
+ghost use Rattle.page_host.specs.Doing.{Acts};
 ghost use Rattle.page_host.specs.Tasking.{level_set, timer_over};
+ghost use Rattle.page_host.specs.StepsOfTasks.{timer_run};
+ghost use Rattle.page_host.specs.Running.{ActsOn, RunsWork};
 
 use crate::pieces::noted;
 use crate::{Did, Page};
@@ -28,8 +27,7 @@ impl<P: HostPort, L: Lines, M: Ledger> Page<P, L, M> {
         task: TimerTask,
     ) -> Result<Did, NoLine>
         requires { CanCall machine.old self.old }
-        ensures { Runs L.keeping L.seen (λ call. model.run_timer (in_task call) (timer_task task)) (result_err result) (did_how result)
-            machine.old self.old machine.new self.new }
+        ensures { RunsWork L.Lines (timer_run task) result machine.old self.old machine.new self.new }
     {
         self.set_level(task.level);
         if !self.state.is_live(task.id, task.handle) {
@@ -69,8 +67,7 @@ fn timer_over_in<P: HostPort, L: Lines, M: Ledger>(
     task: TimerTask,
     lines: &mut L,
 ) -> Result<(), NoLine>
-    ensures { Does L.keeping (at state.old (L.seen lines.old)) (on_page (timer_over (timer_task task)))
-        (result_err result) (at state.new (L.seen lines.new)) }
+    ensures { ActsOn L.Lines (timer_over (timer_task task)) result state.old lines.old state.new lines.new }
 {
     if !state.is_live(task.id, task.handle) {
         return Ok(());

@@ -3,23 +3,19 @@
 ghost use Rattle.std.specs.Prelude.{◌≡◌, ◌≤◌, ℕ, Option};
 ghost use Rattle.page_types.specs.declared.Source.{Source};
 ghost use Rattle.page_types.specs.declared.End.TheVariants.{Clock};
-ghost use Rattle.page_types.specs.Events.{EndLine, Wait};
+ghost use Rattle.page_types.specs.Events.{EndLine};
 ghost use Rattle.page_model.specs.State.{Page, State, emit};
-ghost use Rattle.page_model.specs.Turns.{at_time, counted_turn, turn_line};
 ghost use Rattle.page_state.specs.Standing.{Standing};
-ghost use Rattle.page_state.specs.PageActs.{changed_by, on_page};
-ghost use Rattle.page_host.specs.Turning.{run_ended, turn_begun};
+ghost use Rattle.page_host.specs.Turning.{run_ended, model_turn, model_wait, page_turn, page_wait};
 
 /// A turn begins as the model's: a unit of fuel is taken and the turn is counted, and then comes its line.
 pub fn turns_begin_as_in_the_model()
-    ensures { (source : Option Source) (left : ℕ) (m : State)
-        → turn_line source (counted_turn left m) ≡ record m { fuel = left; host = turn_begun source m.host } }
+    ensures { (source : Option Source) (left : ℕ) (m : State) → model_turn source left m ≡ page_turn source left m }
 {}
 
 /// A wait ends as the model's: the reading becomes the time, and then comes the line.
 pub fn waits_end_as_in_the_model()
-    ensures { (target reading : ℕ) (s : Standing)
-        → on_page (emit (Wait target)) (changed_by (at_time reading) s) ≡ on_page (λ p. emit (Wait target) (at_time reading p)) s }
+    ensures { (target reading : ℕ) (s : Standing) → page_wait target reading s ≡ model_wait target reading s }
 {}
 
 /// Where the time is up already, a run that ends by the clock ends with its line alone.

@@ -1,7 +1,7 @@
 //! The steps of a turn besides its task: what goes on in parallel, what is waited for, and the idle step (HTML, "Event loops: processing
 //! model").
 
-ghost use Rattle.std.specs.Prelude.{◌≡◌, ◌≤◌, IfErr, IfOk, is_some, true, None};
+ghost use Rattle.std.specs.Prelude.{◌≡◌, ◌≤◌, IfErr, IfOk, true, None};
 ghost use Rattle.std.specs.Option.{option_map};
 ghost use Rattle.loop_policy.specs.Views.{runnables};
 ghost use Rattle.page_parts.specs.Words.{is_empty};
@@ -12,6 +12,7 @@ ghost use Rattle.page_model.specs.View as seeing;
 ghost use Rattle.page_state.specs.PageActs.{on_page, read_by};
 ghost use Rattle.page_state.specs.Pooled.{HoldsTasks, spare_of};
 ghost use Rattle.page_host.specs.Stops.{KeepsSetting, PageDoes, Stops};
+ghost use Rattle.page_host.specs.Turning.{AwaitsPending, no_task_runs};
 ghost use Rattle.page_host.specs.declared.stop.PageStop.TheVariants.{OutOfMemory};
 
 use crate::stopping::or_stop;
@@ -86,8 +87,7 @@ impl<P: HostPort, L: Lines, M: Ledger> Page<P, L, M> {
     /// and costs some reads.
     pub fn target(&self) -> Result<Option<Micros>, PageStop>
         ensures moment { IfOk result (λ moment. option_map (λ m. m.0) moment ≡ read_by model.target self.now.state) }
-        ensures pending { read_by (λ p. is_empty (seeing.view p)) self.now.state ≡ true
-            → IfOk result (λ moment. is_some moment ≡ read_by model.is_pending self.now.state) }
+        ensures pending { no_task_runs self.now.state ≡ true → IfOk result (AwaitsPending self.now.state) }
         ensures memory { IfErr result (λ stop. stop ≡ OutOfMemory) }
     {
         match self.state.target() {

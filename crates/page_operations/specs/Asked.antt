@@ -7,11 +7,13 @@ use Rattle.lang_meaning.specs.HostSteps.{Ask, AskOp, StepValue, Stepped, on_ask}
 use Rattle.lang_ast.specs.declared.host.HostStep as code
 use Rattle.lang_ast.specs.Steps.{seen_step}
 use Rattle.page_model.specs.PageHost.{Hosting, page_rules}
+use Rattle.trace_text.specs.declared.lines.Lines.{Ghosts}
 use Rattle.trace_text.specs.declared.lines.NoLine.{NoLine}
 use Rattle.trace_text.specs.Given.{Keeping, Gives}
 use Rattle.trace_text.specs.Acts.{At}
 use Rattle.page_rules.specs.Lined.{bare_hosting, lines_in}
 use Rattle.page_state.specs.Standing.{Standing, port_of}
+use Rattle.page_state.specs.PageActs.{at}
 use Rattle.page_state.specs.FoldActs.{hosting_of}
 
 -- ---- Ours
@@ -40,3 +42,9 @@ pub record Asked {T : Type 0} (k : Keeping T) (old : At Standing T) (ask : Ask) 
   pub host : IfOk result (λ step. hosting_of new.state ≡ bare_hosting (asked_of ask old.state).host)
   pub step : IfOk result (λ step. seen_step step ≡ (asked_of ask old.state).step)
   pub port : port_of new.state ≡ port_of old.state
+
+-- the same of a page, and of lines that are given to it. `Ghosts L` is what is told of them
+abbrev pub Replies : {L : Type 0} → Ghosts L → (old : Standing) → (before : L) → Ask → Result code.HostStep NoLine
+    → (new : Standing) → (after : L) → Type 0
+Replies g old before ask result new after =
+    Asked g.keeping (at old (g.seen before)) ask result (at new (g.seen after))

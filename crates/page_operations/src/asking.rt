@@ -9,7 +9,7 @@ ghost use Rattle.page_model.specs.Operations as model;
 ghost use Rattle.trace_text.specs.Given.{Seen};
 ghost use Rattle.page_state.specs.PageActs.{at};
 ghost use Rattle.page_state.specs.Standing.{page_of};
-ghost use Rattle.page_operations.specs.Asked.{Asked, functions_of};
+ghost use Rattle.page_operations.specs.Asked.{Asked, Replies, functions_of};
 ghost use Rattle.page_operations.specs.Plain.{is_plain, IsSameOrWants};
 
 use crate::folding::{abort, is_numbered, set_priority};
@@ -33,7 +33,7 @@ pub fn answer<P: HostPort, L: Lines, M: Ledger>(
 ) -> Result<HostStep, NoLine>
     requires count { length args.items ≡ count_of op }
     requires numbered { AllNumbered (functions_of page.old) (map seen args.items) }
-    ensures asked { Asked L.keeping (at page.old (L.seen lines.old)) (ask_op op args) result (at page.new (L.seen lines.new)) }
+    ensures asked { Replies L.Lines page.old lines.old (ask_op op args) result page.new lines.new }
     ensures numbered { IfOk result (λ step. StepIsNumbered (functions_of page.old) (seen_step step)) }
 {
     if !may_operate(page, op, &args) {
@@ -81,7 +81,7 @@ fn answer_known<P: HostPort, L: Lines, M: Ledger>(
     lines: &mut L,
 ) -> Result<HostStep, NoLine>
     requires known { IsTrue (model.may_operate (page_of page.old) op (map seen args.items)) }
-    ensures { Asked L.keeping (at page.old (L.seen lines.old)) (ask_op op args) result (at page.new (L.seen lines.new)) }
+    ensures { Replies L.Lines page.old lines.old (ask_op op args) result page.new lines.new }
 {
     match op {
         Op::AbortOp => {
@@ -105,7 +105,7 @@ fn answer_plainly<P: HostPort, L: Lines, M: Ledger>(
 ) -> Result<HostStep, NoLine>
     requires plain { IsTrue (is_plain op) }
     requires known { IsTrue (model.may_operate (page_of page.old) op (map seen args.items)) }
-    ensures { Asked L.keeping (at page.old (L.seen lines.old)) (ask_op op args) result (at page.new (L.seen lines.new)) }
+    ensures { Replies L.Lines page.old lines.old (ask_op op args) result page.new lines.new }
 {
     operate(page, op, args, lines)
 }
@@ -137,8 +137,7 @@ pub fn go_on<P: HostPort, L: Lines, M: Ledger>(
     lines: &mut L,
 ) -> Result<HostStep, NoLine>
     requires numbered { EndIsNumbered (functions_of page.old) (seen_outcome outcome) }
-    ensures asked { Asked L.keeping (at page.old (L.seen lines.old)) (ask_end ticket outcome) result
-        (at page.new (L.seen lines.new)) }
+    ensures asked { Replies L.Lines page.old lines.old (ask_end ticket outcome) result page.new lines.new }
     ensures numbered { IfOk result (λ step. StepIsNumbered (functions_of page.old) (seen_step step)) }
 {
     let done = page.resume_innermost(outcome, lines);

@@ -4,10 +4,8 @@
 ghost use Rattle.std.specs.Prelude.{◌↔◌, IsTrue, map};
 ghost use Rattle.lang_ast.specs.Steps.{AllNumbered, StepIsNumbered, seen_step};
 ghost use Rattle.page_values.specs.Seen.{seen};
-ghost use Rattle.page_state.specs.FoldActs.{Reaches, hosting_of};
-ghost use Rattle.page_state.specs.PageActs.{at};
 ghost use Rattle.page_operations.specs.Asked.{functions_of};
-ghost use Rattle.page_operations.specs.Folding.{abort_asked, change_asked};
+ghost use Rattle.page_operations.specs.Folding.{Begins, abort_of, change_of};
 
 use lang_ast::HostStep;
 use page_answers::throw;
@@ -25,8 +23,7 @@ pub(crate) fn abort<P: HostPort, L: Lines, M: Ledger>(
     reason: Value,
     lines: &mut L,
 ) -> Result<HostStep, NoLine>
-    ensures { Reaches L.keeping (at page.old (L.seen lines.old)) (abort_asked (seen controller.now) (seen reason) (hosting_of page.old))
-        result (at page.new (L.seen lines.new)) }
+    ensures { Begins L.Lines page.old lines.old (abort_of controller.now reason) result page.new lines.new }
 {
     let Some(s) = as_controller(controller) else {
         return Ok(throw(page.alloc(), FaultName::TypeError));
@@ -43,9 +40,7 @@ pub(crate) fn set_priority<P: HostPort, L: Lines, M: Ledger>(
     priority: &Value,
     lines: &mut L,
 ) -> Result<HostStep, NoLine>
-    ensures { Reaches L.keeping (at page.old (L.seen lines.old))
-        (change_asked (seen controller.now) (seen priority.now) (hosting_of page.old))
-        result (at page.new (L.seen lines.new)) }
+    ensures { Begins L.Lines page.old lines.old (change_of controller.now priority.now) result page.new lines.new }
 {
     let Some(s) = as_controller(controller) else {
         return Ok(throw(page.alloc(), FaultName::TypeError));

@@ -1,10 +1,7 @@
 //! What an operation that calls nothing back answers.
 
-ghost use Rattle.std.specs.Prelude.{map};
-ghost use Rattle.page_values.specs.Seen.{seen};
-ghost use Rattle.page_answers.specs.Answers.{Answers};
-ghost use Rattle.page_state.specs.PageActs.{at};
-ghost use Rattle.page_operations.specs.Plain.{plain_operation};
+ghost use Rattle.page_answers.specs.Serving.{Serves};
+ghost use Rattle.page_operations.specs.Plain.{plain_of};
 
 use crate::promises::of_promises;
 use lang_ast::{HostStep, Op};
@@ -24,8 +21,7 @@ pub(crate) fn operate<P: HostPort, M: Ledger, L: Lines>(
     args: Vec<Value>,
     lines: &mut L,
 ) -> Result<HostStep, NoLine>
-    ensures { Answers L.keeping (at page.old (L.seen lines.old)) (plain_operation op (map seen args.items)) result
-        (at page.new (L.seen lines.new)) }
+    ensures { Serves L.Lines page.old lines.old (plain_of op args.items) result page.new lines.new }
 {
     match op {
         Op::Log => log(page, first(args), lines),

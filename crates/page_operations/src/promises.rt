@@ -1,11 +1,9 @@
 //! The operations of promises, by their names.
 
-ghost use Rattle.std.specs.Prelude.{◌≡◌, [], map};
+ghost use Rattle.std.specs.Prelude.{[]};
 ghost use Rattle.page_types.specs.declared.Op.TheVariants.{MakePromise};
-ghost use Rattle.page_values.specs.Seen.{seen};
-ghost use Rattle.page_answers.specs.Answers.{Answers};
-ghost use Rattle.page_state.specs.PageActs.{at};
-ghost use Rattle.page_operations.specs.Plain.{plain_operation};
+ghost use Rattle.page_answers.specs.Serving.{Serves};
+ghost use Rattle.page_operations.specs.Plain.{plain_of, plain_operation};
 
 use crate::times::of_time;
 use lang_ast::{HostStep, Op};
@@ -27,8 +25,7 @@ pub(crate) fn of_promises<P: HostPort, M: Ledger, L: Lines>(
     args: Vec<Value>,
     lines: &mut L,
 ) -> Result<HostStep, NoLine>
-    ensures { Answers L.keeping (at page.old (L.seen lines.old)) (plain_operation op (map seen args.items)) result
-        (at page.new (L.seen lines.new)) }
+    ensures { Serves L.Lines page.old lines.old (plain_of op args.items) result page.new lines.new }
 {
     match op {
         Op::QueueMicrotask => queue_microtask(page, first(args), lines),
@@ -64,8 +61,7 @@ fn promise<P: HostPort, M: Ledger, L: Lines>(
     page: &mut PageState<P, M>,
     _lines: &L,
 ) -> Result<HostStep, NoLine>
-    ensures { Answers L.keeping (at page.old (L.seen _lines.now)) (plain_operation MakePromise []) result
-        (at page.new (L.seen _lines.now)) }
+    ensures { Serves L.Lines page.old _lines.now (plain_operation MakePromise []) result page.new _lines.now }
 {
     make_promise::<P, M, L>(page)
 }

@@ -10,7 +10,7 @@ use Rattle.trace_text.specs.Given.{Keeping, Seen, Gives}
 use Rattle.trace_text.specs.Acts.{Act, At, seq, Does as ScriptDoes}
 use Rattle.trace_text.proofs.Giving.{Gives-none}
 use Rattle.page_notices.proofs.Timing.{Does-memory}
-use Rattle.page_script.specs.Script.{Script, script_of, with_script}
+use Rattle.page_script.specs.Script.{Script}
 use Rattle.page_script.specs.Script as parts
 use Rattle.page_script.specs.PageActs.{lines_of, OnlyAdds, OnlyScript}
 use Rattle.page_script.specs.ScriptActs.{on_script, on}

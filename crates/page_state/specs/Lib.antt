@@ -1,4 +1,7 @@
 pub mod Standing
+pub mod Makes
+pub mod JobActs
+pub mod DueActs
 pub mod PageActs
 pub mod Seen
 pub mod TimeActs
@@ -13,3 +16,7 @@ pub mod FoldActs
 pub mod CodeFolds
 pub mod AbortActs
 pub mod Pooled
+pub mod CodeValues
+pub mod CodeSteps
+pub mod HostChanges
+pub mod StillSelected

@@ -1,10 +1,9 @@
 //! Room for the scheduler tasks of a priority source.
-ghost use Rattle.std.specs.Prelude.{◌≡◌, ℕ, Some, IfErr, OnErr, OnOk};
-ghost use Rattle.page_parts.specs.TaskSignals.{Prios, priority_of};
-ghost use Rattle.post_task.specs.declared.level.PrioSource.TheVariants.{Signal};
+ghost use Rattle.std.specs.Prelude.{◌≡◌, Some, IfErr, OnErr, OnOk};
+ghost use Rattle.page_parts.specs.TaskSignals.{Prios};
 ghost use Rattle.page_tasks.specs.Queued.{HasPriority};
 ghost use Rattle.trace_text.specs.declared.lines.NoLine.TheVariants.{OutOfMemory};
-ghost use Rattle.page_state.specs.Selecting.{AreSelectedBy};
+ghost use Rattle.page_state.specs.StillSelected.{Give, Select};
 
 use page_tasks::{PageTasks, PrioSource, Priority};
 use std::sync::ledger::Ledger;
@@ -19,8 +18,7 @@ pub(crate) fn make_room<M: Ledger>(
 ) -> Result<(), NoLine>
     ensures room { OnOk result (HasPriority tasks.new source) }
     ensures same { OnOk result (tasks.new ≡ record tasks.old { priorities = tasks.new.priorities }) }
-    ensures selected { (prios : Prios) → ((s : ℕ) → source ≡ Signal s → priority ≡ priority_of prios s)
-        → AreSelectedBy prios tasks.old.priorities → AreSelectedBy prios tasks.new.priorities }
+    ensures selected { (prios : Prios) → Give prios source priority → Select prios tasks.old → Select prios tasks.new }
     ensures err { OnErr result (tasks.new ≡ tasks.old) }
     ensures memory { IfErr result (λ why. why ≡ OutOfMemory) }
 {

@@ -1,14 +1,13 @@
-ghost use Rattle.std.specs.Prelude.{◌≡◌, ◌+◌, ◌^◌, ◌<◌, ◌≤◌, length, IfOk, IfErr, OnOk, OnErr};
-ghost use Rattle.std.specs.Result.{result_err};
+ghost use Rattle.std.specs.Prelude.{◌≡◌, ◌<◌, IfErr, OnOk};
 ghost use Rattle.page_model.specs.State as model;
 ghost use Rattle.page_model.specs.PageTime as model_time;
 ghost use Rattle.page_model.specs.Invoke as model_invoke;
 ghost use Rattle.trace_text.specs.EventSeen.{event_seen};
 ghost use Rattle.page_tasks.specs.Seen.{steps_of};
-ghost use Rattle.parallel_items.specs.Seen.{completion_seen};
-ghost use Rattle.page_state.specs.PageActs.{at, on_page, changed_by, read_by, Does, IsWanted};
+ghost use Rattle.page_state.specs.PageActs.{changed_by, IsWanted};
 ghost use Rattle.page_types.specs.declared.Source.TheVariants.{Sched};
 ghost use Rattle.std.specs.Prelude.{◌≢◌};
+ghost use Rattle.page_state.specs.Makes.{Makes};
 
 mod aborts;
 mod callbacks;
@@ -106,16 +105,14 @@ impl<P: HostPort, M: Ledger> PageState<P, M> {
 
     /// Writes the line of an event, at the time now.
     pub fn emit<L: Lines>(&self, event: Event, lines: &mut L) -> Result<(), NoLine>
-        ensures { Does L.keeping (at self.now (L.seen lines.old)) (on_page (model.emit (event_seen event)))
-            (result_err result) (at self.now (L.seen lines.new)) }
+        ensures { Makes L.Lines self.now lines.old (model.emit (event_seen event)) result self.now lines.new }
     {
         self.script.emit(event, lines)
     }
 
     /// The call of a registration's callback begins, with its line.
     pub fn call_begun<L: Lines>(&mut self, r: u32, lines: &mut L) -> Result<(), NoLine>
-        ensures { Does L.keeping (at self.old (L.seen lines.old)) (on_page (model_invoke.call_begun r))
-            (result_err result) (at self.new (L.seen lines.new)) }
+        ensures { Makes L.Lines self.old lines.old (model_invoke.call_begun r) result self.new lines.new }
     {
         self.script.call_begun(r, lines)
     }

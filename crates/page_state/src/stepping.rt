@@ -1,15 +1,15 @@
 //! Steps of open folds, and by which priorities scheduler tasks are selected then (Prioritized Task Scheduling, "The TaskSignal
 //! Interface").
 ghost use Rattle.std.specs.Prelude.{◌≡◌, not, IfErr, IfOk, OnOk};
-ghost use Rattle.page_parts.specs.TaskSignals.{Prios, is_changing};
+ghost use Rattle.page_parts.specs.TaskSignals.{is_changing};
 ghost use Rattle.page_model.specs.PageSignals.{has_priority};
 ghost use Rattle.task_signal.specs.Changes.{HasPriority, IsStill};
 ghost use Rattle.page_signals.specs.Steps.{change_opened, stepped, Falls};
 ghost use Rattle.page_signals.specs.Seen.{visit_seen};
 ghost use Rattle.page_signals.specs.Kept.{AreFitting};
 ghost use Rattle.trace_text.specs.declared.lines.NoLine.TheVariants.{OutOfMemory};
-ghost use Rattle.page_state.specs.Selecting.{AreSelectedBy};
-ghost use Rattle.page_state.specs.FoldActs.{AllBut, changed_in};
+ghost use Rattle.page_state.specs.FoldActs.{changed_in};
+ghost use Rattle.page_state.specs.StillSelected.{Select, SelectsChanged};
 
 use page_signals::{PageSignals, Visit};
 use page_tasks::{PageTasks, Priority};
@@ -26,7 +26,7 @@ pub(crate) fn next_step<M: Ledger>(
     ensures before { AreFitting signals.old }
     ensures after { AreFitting signals.new }
     ensures same { tasks.new ≡ record tasks.old { priorities = tasks.new.priorities } }
-    ensures selected { AreSelectedBy signals.old.prios tasks.old.priorities → AreSelectedBy signals.new.prios tasks.new.priorities }
+    ensures selected { Select signals.old.prios tasks.old → Select signals.new.prios tasks.new }
     ensures memory { IfErr result (λ why. why ≡ OutOfMemory) }
 {
     match signals.step() {
@@ -53,7 +53,7 @@ pub(crate) fn open_change<M: Ledger>(
     ensures still { OnOk result (IsStill s signals.old.prios) }
     ensures opened { OnOk result (signals.new ≡ change_opened s priority signals.old) }
     ensures same { tasks.new ≡ record tasks.old { priorities = tasks.new.priorities } }
-    ensures selected { AreSelectedBy signals.old.prios tasks.old.priorities → AreSelectedBy signals.new.prios tasks.new.priorities }
+    ensures selected { Select signals.old.prios tasks.old → Select signals.new.prios tasks.new }
     ensures memory { IfErr result (λ why. why ≡ OutOfMemory) }
 {
     if !signals.has_priority(s) || signals.is_changing(s) {
@@ -82,8 +82,7 @@ fn changed_signal(visit: &Visit) -> Option<u32>
 // memory.
 fn select_changed<M: Ledger>(tasks: &mut PageTasks<M>, signals: &PageSignals, changed: Option<u32>)
     ensures same { tasks.new ≡ record tasks.old { priorities = tasks.new.priorities } }
-    ensures selected { (before : Prios) → AllBut changed before signals.now.prios
-        → AreSelectedBy before tasks.old.priorities → AreSelectedBy signals.now.prios tasks.new.priorities }
+    ensures selected { SelectsChanged changed signals.now.prios tasks.old tasks.new }
 {
     let Some(s) = changed else {
         return;

@@ -7,8 +7,8 @@ ghost use Rattle.promise_combine.specs.Seen.{kind_seen};
 ghost use Rattle.promise_combine.specs.Reports.{HasCount};
 ghost use Rattle.page_model.specs.PageCombinators as made;
 ghost use Rattle.page_model.specs.Operations as model;
-ghost use Rattle.page_state.specs.PageActs.{at};
-ghost use Rattle.page_answers.specs.Answers.{Answers};
+ghost use Rattle.page_answers.specs.Serving.{Serves};
+ghost use Rattle.promise_operations.specs.OfValues.{combined_of};
 
 use lang_ast::HostStep;
 use page_answers::{are_promises_left, give, list_of, reject_fault, throw};
@@ -29,8 +29,7 @@ pub fn all<P: HostPort, M: Ledger, L: Lines>(
     items: Value,
     lines: &mut L,
 ) -> Result<HostStep, NoLine>
-    ensures { Answers L.keeping (at page.old (L.seen lines.old)) (model.combined All (seen items)) result
-        (at page.new (L.seen lines.new)) }
+    ensures { Serves L.Lines page.old lines.old (model.combined All (seen items)) result page.new lines.new }
 {
     combined(page, Kind::All, items, lines)
 }
@@ -42,8 +41,7 @@ pub fn any<P: HostPort, M: Ledger, L: Lines>(
     items: Value,
     lines: &mut L,
 ) -> Result<HostStep, NoLine>
-    ensures { Answers L.keeping (at page.old (L.seen lines.old)) (model.combined AnyOf (seen items)) result
-        (at page.new (L.seen lines.new)) }
+    ensures { Serves L.Lines page.old lines.old (model.combined AnyOf (seen items)) result page.new lines.new }
 {
     combined(page, Kind::Any, items, lines)
 }
@@ -54,8 +52,7 @@ pub fn all_settled<P: HostPort, M: Ledger, L: Lines>(
     items: Value,
     lines: &mut L,
 ) -> Result<HostStep, NoLine>
-    ensures { Answers L.keeping (at page.old (L.seen lines.old)) (model.combined AllSettled (seen items)) result
-        (at page.new (L.seen lines.new)) }
+    ensures { Serves L.Lines page.old lines.old (model.combined AllSettled (seen items)) result page.new lines.new }
 {
     combined(page, Kind::AllSettled, items, lines)
 }
@@ -68,8 +65,7 @@ fn combined<P: HostPort, M: Ledger, L: Lines>(
     lines: &mut L,
 ) -> Result<HostStep, NoLine>
     requires { (n : ℕ) → HasCount (kind_seen kind) n }
-    ensures { Answers L.keeping (at page.old (L.seen lines.old)) (model.combined (kind_seen kind) (seen argument)) result
-        (at page.new (L.seen lines.new)) }
+    ensures { Serves L.Lines page.old lines.old (combined_of kind argument) result page.new lines.new }
 {
     let Some(list) = list_of(argument) else {
         return reject_fault(page, FaultName::TypeError, lines);

@@ -1,10 +1,7 @@
 //! Handlers of promises (ECMA-262, "Promise.prototype.then" and "Promise.prototype.finally").
 
-ghost use Rattle.std.specs.Prelude.{◌≡◌};
-ghost use Rattle.page_values.specs.Seen.{seen};
-ghost use Rattle.page_model.specs.Operations as model;
-ghost use Rattle.page_state.specs.PageActs.{at};
-ghost use Rattle.page_answers.specs.Answers.{Answers};
+ghost use Rattle.page_answers.specs.Serving.{Serves};
+ghost use Rattle.promise_operations.specs.OfValues.{finally_of, then_of};
 
 use lang_ast::HostStep;
 use page_answers::{are_both_left, give, reject_fault, throw};
@@ -23,8 +20,7 @@ pub fn then<P: HostPort, M: Ledger, L: Lines>(
     rejected: Value,
     lines: &mut L,
 ) -> Result<HostStep, NoLine>
-    ensures { Answers L.keeping (at page.old (L.seen lines.old))
-        (model.then_value (seen promise) (seen fulfilled) (seen rejected)) result (at page.new (L.seen lines.new)) }
+    ensures { Serves L.Lines page.old lines.old (then_of promise fulfilled rejected) result page.new lines.new }
 {
     let Some(number) = as_promise(&promise) else {
         return Ok(throw(page.alloc(), FaultName::TypeError));
@@ -45,8 +41,7 @@ pub fn finally<P: HostPort, M: Ledger, L: Lines>(
     handler: Value,
     lines: &mut L,
 ) -> Result<HostStep, NoLine>
-    ensures { Answers L.keeping (at page.old (L.seen lines.old)) (model.finally_value (seen promise) (seen handler)) result
-        (at page.new (L.seen lines.new)) }
+    ensures { Serves L.Lines page.old lines.old (finally_of promise handler) result page.new lines.new }
 {
     let Some(number) = as_promise(&promise) else {
         return reject_fault(page, FaultName::TypeError, lines);

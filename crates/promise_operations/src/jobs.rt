@@ -1,10 +1,8 @@
 //! `queueMicrotask` (HTML, "Microtask queuing").
 
-ghost use Rattle.std.specs.Prelude.{◌≡◌};
 ghost use Rattle.page_values.specs.Seen.{seen};
 ghost use Rattle.page_model.specs.Operations as model;
-ghost use Rattle.page_state.specs.PageActs.{at};
-ghost use Rattle.page_answers.specs.Answers.{Answers};
+ghost use Rattle.page_answers.specs.Serving.{Serves};
 
 use lang_ast::HostStep;
 use page_answers::{function_of, give_unit, is_registration_left, throw};
@@ -21,8 +19,7 @@ pub fn queue_microtask<P: HostPort, M: Ledger, L: Lines>(
     callback: Value,
     lines: &mut L,
 ) -> Result<HostStep, NoLine>
-    ensures { Answers L.keeping (at page.old (L.seen lines.old)) (model.queue_microtask (seen callback)) result
-        (at page.new (L.seen lines.new)) }
+    ensures { Serves L.Lines page.old lines.old (model.queue_microtask (seen callback)) result page.new lines.new }
 {
     let Some(function) = function_of(callback) else {
         return Ok(throw(page.alloc(), FaultName::TypeError));

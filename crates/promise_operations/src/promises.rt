@@ -1,14 +1,9 @@
 //! Promises that a script makes and settles (ECMA-262, "Promise Objects").
 
-ghost use Rattle.std.specs.Prelude.{◌≡◌};
-ghost use Rattle.page_types.specs.Values.{UnitValue};
 ghost use Rattle.page_values.specs.Seen.{seen};
-ghost use Rattle.promise_core.specs.Seen.{settled_seen};
-ghost use Rattle.page_model.specs.PagePromises as promises;
 ghost use Rattle.page_model.specs.Operations as model;
-ghost use Rattle.trace_text.specs.Given.{Seen};
-ghost use Rattle.page_state.specs.PageActs.{at};
-ghost use Rattle.page_answers.specs.Answers.{Answers};
+ghost use Rattle.page_answers.specs.Serving.{Serves, ServesSilently};
+ghost use Rattle.promise_operations.specs.OfValues.{promise_told, reject_of, rejected_of, resolve_of, settle_of};
 
 use lang_ast::HostStep;
 use page_answers::{give, give_settled, give_unit, is_promise_left, reject_with, throw};
@@ -23,9 +18,7 @@ use trace_text::{Lines, NoLine};
 pub fn make_promise<P: HostPort, M: Ledger, L: Lines>(
     page: &mut PageState<P, M>,
 ) -> Result<HostStep, NoLine>
-    ensures { (lines : Seen L.Told) → Answers L.keeping (at page.old lines)
-        (λ m. model.where_left (model.promise_left m.host) m (model.answers model.last_promise_value model.script_promise))
-        result (at page.new lines) }
+    ensures { ServesSilently L.Lines page.old promise_told result page.new }
 {
     if !is_promise_left(page) {
         return Ok(throw(page.alloc(), FaultName::RangeError));
@@ -42,8 +35,7 @@ pub fn resolve<P: HostPort, M: Ledger, L: Lines>(
     value: Value,
     lines: &mut L,
 ) -> Result<HostStep, NoLine>
-    ensures { Answers L.keeping (at page.old (L.seen lines.old)) (model.settle_own promises.resolve (seen promise) (seen value))
-        result (at page.new (L.seen lines.new)) }
+    ensures { Serves L.Lines page.old lines.old (resolve_of promise value) result page.new lines.new }
 {
     settle_own(page, &promise, Ok(value), lines)
 }
@@ -56,8 +48,7 @@ pub fn reject<P: HostPort, M: Ledger, L: Lines>(
     reason: Value,
     lines: &mut L,
 ) -> Result<HostStep, NoLine>
-    ensures { Answers L.keeping (at page.old (L.seen lines.old)) (model.settle_own promises.reject (seen promise) (seen reason))
-        result (at page.new (L.seen lines.new)) }
+    ensures { Serves L.Lines page.old lines.old (reject_of promise reason) result page.new lines.new }
 {
     settle_own(page, &promise, Err(reason), lines)
 }
@@ -69,8 +60,7 @@ pub fn resolved<P: HostPort, M: Ledger, L: Lines>(
     value: Value,
     lines: &mut L,
 ) -> Result<HostStep, NoLine>
-    ensures { Answers L.keeping (at page.old (L.seen lines.old)) (model.resolved_value (seen value)) result
-        (at page.new (L.seen lines.new)) }
+    ensures { Serves L.Lines page.old lines.old (model.resolved_value (seen value)) result page.new lines.new }
 {
     if as_promise(&value).is_some() {
         return Ok(give(value));
@@ -84,8 +74,7 @@ pub fn rejected<P: HostPort, M: Ledger, L: Lines>(
     reason: Value,
     lines: &mut L,
 ) -> Result<HostStep, NoLine>
-    ensures { Answers L.keeping (at page.old (L.seen lines.old)) (model.settled_promise promises.reject (seen reason)) result
-        (at page.new (L.seen lines.new)) }
+    ensures { Serves L.Lines page.old lines.old (rejected_of reason) result page.new lines.new }
 {
     reject_with(page, reason, lines)
 }
@@ -97,9 +86,7 @@ fn settle_own<P: HostPort, M: Ledger, L: Lines>(
     how: Settled,
     lines: &mut L,
 ) -> Result<HostStep, NoLine>
-    ensures { Answers L.keeping (at page.old (L.seen lines.old))
-        (model.settle_own (λ n _. promises.settle n (settled_seen how)) (seen promise.now) UnitValue)
-        result (at page.new (L.seen lines.new)) }
+    ensures { Serves L.Lines page.old lines.old (settle_of promise.now how) result page.new lines.new }
 {
     let Some(number) = as_promise(promise) else {
         return Ok(throw(page.alloc(), FaultName::TypeError));

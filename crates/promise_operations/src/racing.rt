@@ -1,10 +1,8 @@
 //! `race` (ECMA-262, "Promise.race").
 
-ghost use Rattle.std.specs.Prelude.{◌≡◌};
 ghost use Rattle.page_values.specs.Seen.{seen};
 ghost use Rattle.page_model.specs.Operations as model;
-ghost use Rattle.page_state.specs.PageActs.{at};
-ghost use Rattle.page_answers.specs.Answers.{Answers};
+ghost use Rattle.page_answers.specs.Serving.{Serves};
 
 use crate::combinators::promises_for_all;
 use lang_ast::HostStep;
@@ -24,8 +22,7 @@ pub fn race<P: HostPort, M: Ledger, L: Lines>(
     argument: Value,
     lines: &mut L,
 ) -> Result<HostStep, NoLine>
-    ensures { Answers L.keeping (at page.old (L.seen lines.old)) (model.raced (seen argument)) result
-        (at page.new (L.seen lines.new)) }
+    ensures { Serves L.Lines page.old lines.old (model.raced (seen argument)) result page.new lines.new }
 {
     let Some(list) = list_of(argument) else {
         return reject_fault(page, FaultName::TypeError, lines);

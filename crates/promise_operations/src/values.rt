@@ -7,9 +7,8 @@ ghost use Rattle.page_values.specs.Seen.{seen};
 ghost use Rattle.page_script.specs.Reports.{logged};
 ghost use Rattle.page_model.specs.Invoke.{Ways};
 ghost use Rattle.page_model.specs.Operations as model;
-ghost use Rattle.trace_text.specs.Given.{Seen};
-ghost use Rattle.page_state.specs.PageActs.{at};
-ghost use Rattle.page_answers.specs.Answers.{Answers};
+ghost use Rattle.page_model.specs.Operations.{operation};
+ghost use Rattle.page_answers.specs.Serving.{Serves, ServesSilently};
 
 use lang_ast::{HostStep, Op};
 use page_answers::give_unit;
@@ -26,9 +25,7 @@ pub fn log<P: HostPort, M: Ledger, L: Lines>(
     value: Value,
     lines: &mut L,
 ) -> Result<HostStep, NoLine>
-    ensures { Answers L.keeping (at page.now (L.seen lines.old))
-        (model.does (logged (seen value))) result
-        (at page.now (L.seen lines.new)) }
+    ensures { Serves L.Lines page.now lines.old (model.does (logged (seen value))) result page.now lines.new }
 {
     page.log(&value, lines)?;
     Ok(give_unit())
@@ -45,8 +42,7 @@ pub fn pure_operation<P: HostPort, M: Ledger, L: Lines>(
 ) -> Result<HostStep, NoLine>
     requires count { length args.items ≡ count_of op }
     requires numbered { AllNumbered (length page.now.script.names) (map seen args.items) }
-    ensures answer { (w : Ways) (lines : Seen L.Told) → Answers L.keeping (at page.now lines)
-        (model.operation w op (map seen args.items)) result (at page.now lines) }
+    ensures answer { (w : Ways) → ServesSilently L.Lines page.now (operation w op (map seen args.items)) result page.now }
     ensures numbered { IfOk result (λ step. StepIsNumbered (length page.now.script.names) (seen_step step)) }
 {
     let Ok(answer) = pure_op_of(page.alloc(), op, args, page.names()) else {

@@ -1,1 +1,4 @@
 pub mod Delays
+pub mod OfValues
+pub mod Asking
+pub mod Arguments

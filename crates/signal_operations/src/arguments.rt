@@ -1,6 +1,6 @@
 //! What the arguments of these operations are, by their kinds.
 
-ghost use Rattle.std.specs.Prelude.{◌≡◌, ◌≤◌, map, IfErr, IfOk, IfSome};
+ghost use Rattle.std.specs.Prelude.{◌≡◌, ◌≤◌, map, IfErr, IfSome};
 ghost use Rattle.std.specs.Option.{option_map};
 ghost use Rattle.page_parts.specs.Words as words;
 ghost use Rattle.page_parts.specs.Words.{same_bytes};
@@ -8,6 +8,7 @@ ghost use Rattle.page_values.specs.Seen.{seen};
 ghost use Rattle.page_events.specs.Seen.{seen_target};
 ghost use Rattle.page_model.specs.Operations as model;
 ghost use Rattle.trace_text.specs.declared.lines.NoLine.TheVariants.{OutOfMemory};
+ghost use Rattle.signal_operations.specs.Arguments.{FindsNumbers};
 
 use page_signals::{Priority, Target};
 use page_values::{FaultName, Str, Value, as_int, as_list, as_signal, as_text, fault, is_unit};
@@ -76,8 +77,7 @@ pub(crate) fn int_within(low: i64, high: i64, n: i64) -> bool
 
 /// The numbers of the signals in a list, none for any other value. The one error is want of memory.
 pub(crate) fn signals_in(alloc: Global, value: &Value) -> Result<Option<Vec<u32>>, NoLine>
-    ensures numbers { IfOk result (λ found.
-        option_map (λ numbers. numbers.items) found ≡ model.signals_in (seen value.now)) }
+    ensures numbers { FindsNumbers result (model.signals_in (seen value.now)) }
     ensures memory { IfErr result (λ why. why ≡ OutOfMemory) }
 {
     match as_list(value) {
@@ -88,8 +88,7 @@ pub(crate) fn signals_in(alloc: Global, value: &Value) -> Result<Option<Vec<u32>
 
 // The numbers of these values, none where one is no signal.
 fn all_signals(alloc: Global, values: &[Value]) -> Result<Option<Vec<u32>>, NoLine>
-    ensures numbers { IfOk result (λ found.
-        option_map (λ numbers. numbers.items) found ≡ model.all_signals (map seen values.now)) }
+    ensures numbers { FindsNumbers result (model.all_signals (map seen values.now)) }
     ensures memory { IfErr result (λ why. why ≡ OutOfMemory) }
 {
     let mut numbers = Vec::new(alloc);

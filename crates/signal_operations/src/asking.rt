@@ -1,11 +1,9 @@
 //! `host`: what a script asks a closure of its host. Ours
 
-ghost use Rattle.std.specs.Prelude.{◌≡◌, Some, slice_get};
-ghost use Rattle.page_parts.specs.HostClosures.{HostClosure};
-ghost use Rattle.page_values.specs.Seen.{seen};
 ghost use Rattle.page_model.specs.Operations as model;
-ghost use Rattle.page_state.specs.PageActs.{at};
-ghost use Rattle.page_answers.specs.Answers.{Answers};
+ghost use Rattle.page_answers.specs.Serving.{Serves};
+ghost use Rattle.signal_operations.specs.Asking.{AcceptsHost};
+ghost use Rattle.signal_operations.specs.OfValues.{host_of};
 
 use crate::arguments::signal_or_unit;
 use crate::queueing::host_queued;
@@ -29,8 +27,7 @@ pub fn host<P: HostPort, M: Ledger, L: Lines>(
     signal: Value,
     lines: &mut L,
 ) -> Result<HostStep, NoLine>
-    ensures { Answers L.keeping (at page.old (L.seen lines.old)) (model.host (seen closure) (seen number) (seen signal))
-        result (at page.new (L.seen lines.new)) }
+    ensures { Serves L.Lines page.old lines.old (host_of closure number signal) result page.new lines.new }
 {
     let Some(k) = as_int(&closure) else {
         return reject_fault(page, FaultName::TypeError, lines);
@@ -52,8 +49,7 @@ fn host_asked<P: HostPort, M: Ledger, L: Lines>(
     signal: Option<u32>,
     lines: &mut L,
 ) -> Result<HostStep, NoLine>
-    ensures { Answers L.keeping (at page.old (L.seen lines.old)) (model.host_asked k x signal)
-        result (at page.new (L.seen lines.new)) }
+    ensures { Serves L.Lines page.old lines.old (model.host_asked k x signal) result page.new lines.new }
 {
     if !page.takes(k, x) {
         return reject_fault(page, FaultName::RangeError, lines);
@@ -72,9 +68,7 @@ fn host_accepted<P: HostPort, M: Ledger, L: Lines>(
     signal: Option<u32>,
     lines: &mut L,
 ) -> Result<HostStep, NoLine>
-    ensures { (c : HostClosure) → slice_get page.old.hosts k ≡ Some c
-        → Answers L.keeping (at page.old (L.seen lines.old)) (model.host_accepted k c x signal)
-        result (at page.new (L.seen lines.new)) }
+    ensures { AcceptsHost L.Lines page.old lines.old k x signal result page.new lines.new }
 {
     if !page.is_fresh(k) {
         return reject_fault(page, FaultName::NotAllowedError, lines);

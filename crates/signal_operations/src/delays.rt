@@ -1,13 +1,9 @@
 //! Delays, and what is started by one.
 
-ghost use Rattle.std.specs.Prelude.{◌+◌, ◌*◌, ◌≤◌};
-ghost use Rattle.std.specs.Result.{result_err};
-ghost use Rattle.page_types.specs.Events.{Arm};
-ghost use Rattle.page_model.specs.State.{emit};
+ghost use Rattle.std.specs.Prelude.{◌≤◌};
 ghost use Rattle.page_model.specs.Operations as model;
-ghost use Rattle.parallel_items.specs.Seen.{completion_seen};
-ghost use Rattle.page_state.specs.PageActs.{at, on_page, Does};
-ghost use Rattle.signal_operations.specs.Delays.{started_after};
+ghost use Rattle.page_state.specs.Makes.{Makes};
+ghost use Rattle.signal_operations.specs.Delays.{delay_told, starts_in};
 
 use page_base::Micros;
 use page_hosts::HostPort;
@@ -29,9 +25,7 @@ pub(crate) fn start_after<P: HostPort, M: Ledger, L: Lines>(
     lines: &mut L,
 ) -> Result<(), NoLine>
     requires { ms ≤ 1000000000 }
-    ensures { Does L.keeping (at page.old (L.seen lines.old))
-        (on_page (started_after ms registration (completion_seen completion)))
-        (result_err result) (at page.new (L.seen lines.new)) }
+    ensures { Makes L.Lines page.old lines.old (starts_in ms registration completion) result page.new lines.new }
 {
     tell_delay(page, ms, registration, lines)?;
     page.run_after(ms, completion)
@@ -45,9 +39,7 @@ fn tell_delay<P: HostPort, M: Ledger, L: Lines>(
     lines: &mut L,
 ) -> Result<(), NoLine>
     requires { ms ≤ 1000000000 }
-    ensures { Does L.keeping (at page.now (L.seen lines.old))
-        (on_page (λ p. emit (Arm registration (p.now + ms * 1000) 0) p))
-        (result_err result) (at page.now (L.seen lines.new)) }
+    ensures { Makes L.Lines page.now lines.old (delay_told ms registration) result page.now lines.new }
 {
     let Some(due) = page.now().0.checked_add(ms * 1000) else {
         return Err(NoLine::OutOfMemory);
@@ -72,8 +64,7 @@ pub(crate) fn timeout_signal_made<P: HostPort, M: Ledger, L: Lines>(
     lines: &mut L,
 ) -> Result<(), NoLine>
     requires { ms ≤ 1000000000 }
-    ensures { Does L.keeping (at page.old (L.seen lines.old)) (on_page (model.timeout_signal_made ms))
-        (result_err result) (at page.new (L.seen lines.new)) }
+    ensures { Makes L.Lines page.old lines.old (model.timeout_signal_made ms) result page.new lines.new }
 {
     let signal = page.make_signal()?;
     let registration = Registration {

@@ -1,9 +1,7 @@
 //! Listeners (DOM, "Interface EventTarget").
 
-ghost use Rattle.page_values.specs.Seen.{seen};
-ghost use Rattle.page_model.specs.Operations as model;
-ghost use Rattle.page_state.specs.PageActs.{at};
-ghost use Rattle.page_answers.specs.Answers.{Answers};
+ghost use Rattle.page_answers.specs.Serving.{Serves};
+ghost use Rattle.signal_operations.specs.OfValues.{listen_of, unlisten_of};
 
 use crate::arguments::target_in;
 use lang_ast::HostStep;
@@ -23,8 +21,7 @@ pub fn listen<P: HostPort, M: Ledger, L: Lines>(
     callback: Value,
     lines: &mut L,
 ) -> Result<HostStep, NoLine>
-    ensures { Answers L.keeping (at page.old (L.seen lines.old)) (model.listen (seen target) (seen name) (seen callback))
-        result (at page.new (L.seen lines.new)) }
+    ensures { Serves L.Lines page.old lines.old (listen_of target name callback) result page.new lines.new }
 {
     let Some(target) = target_in(&target) else {
         return Ok(throw(page.alloc(), FaultName::TypeError));
@@ -49,8 +46,7 @@ pub fn unlisten<P: HostPort, M: Ledger, L: Lines>(
     registration: Value,
     lines: &mut L,
 ) -> Result<HostStep, NoLine>
-    ensures { Answers L.keeping (at page.old (L.seen lines.old)) (model.with_handle (seen registration) model.listener_removed)
-        result (at page.new (L.seen lines.new)) }
+    ensures { Serves L.Lines page.old lines.old (unlisten_of registration) result page.new lines.new }
 {
     let Some(number) = as_int(&registration) else {
         return Ok(throw(page.alloc(), FaultName::TypeError));

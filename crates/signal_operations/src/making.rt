@@ -3,8 +3,9 @@
 
 ghost use Rattle.page_values.specs.Seen.{seen};
 ghost use Rattle.page_model.specs.Operations as model;
-ghost use Rattle.page_state.specs.PageActs.{at};
-ghost use Rattle.page_answers.specs.Answers.{Answers};
+ghost use Rattle.page_model.specs.Operations.{make_task_controller};
+ghost use Rattle.page_answers.specs.Serving.{Serves};
+ghost use Rattle.signal_operations.specs.OfValues.{any_of, task_any_of};
 
 use crate::arguments::{delay_in, priority_in, reason_given, signals_in};
 use crate::delays::timeout_signal_made;
@@ -23,7 +24,7 @@ pub fn controller<P: HostPort, M: Ledger, L: Lines>(
     page: &mut PageState<P, M>,
     lines: &L,
 ) -> Result<HostStep, NoLine>
-    ensures { Answers L.keeping (at page.old (L.seen lines.now)) model.make_controller result (at page.new (L.seen lines.now)) }
+    ensures { Serves L.Lines page.old lines.now model.make_controller result page.new lines.now }
 {
     if !is_signal_left(page) {
         return Ok(throw(page.alloc(), FaultName::RangeError));
@@ -38,8 +39,7 @@ pub fn task_controller<P: HostPort, M: Ledger, L: Lines>(
     priority: Value,
     lines: &mut L,
 ) -> Result<HostStep, NoLine>
-    ensures { Answers L.keeping (at page.old (L.seen lines.old)) (model.make_task_controller (seen priority))
-        result (at page.new (L.seen lines.new)) }
+    ensures { Serves L.Lines page.old lines.old (make_task_controller (seen priority)) result page.new lines.new }
 {
     let Some(priority) = priority_in(&priority) else {
         return Ok(throw(page.alloc(), FaultName::TypeError));
@@ -57,8 +57,7 @@ pub fn aborted_signal<P: HostPort, M: Ledger, L: Lines>(
     reason: Value,
     lines: &L,
 ) -> Result<HostStep, NoLine>
-    ensures { Answers L.keeping (at page.old (L.seen lines.now)) (model.aborted_signal (seen reason))
-        result (at page.new (L.seen lines.now)) }
+    ensures { Serves L.Lines page.old lines.now (model.aborted_signal (seen reason)) result page.new lines.now }
 {
     if !is_signal_left(page) {
         return Ok(throw(page.alloc(), FaultName::RangeError));
@@ -74,8 +73,7 @@ pub fn any_signal<P: HostPort, M: Ledger, L: Lines>(
     list: Value,
     lines: &L,
 ) -> Result<HostStep, NoLine>
-    ensures { Answers L.keeping (at page.old (L.seen lines.now)) (model.make_any (seen list))
-        result (at page.new (L.seen lines.now)) }
+    ensures { Serves L.Lines page.old lines.now (model.make_any (seen list)) result page.new lines.now }
 {
     let Some(of) = signals_in(page.alloc(), &list)? else {
         return Ok(throw(page.alloc(), FaultName::TypeError));
@@ -95,8 +93,7 @@ pub fn task_any<P: HostPort, M: Ledger, L: Lines>(
     priority: Value,
     lines: &mut L,
 ) -> Result<HostStep, NoLine>
-    ensures { Answers L.keeping (at page.old (L.seen lines.old)) (model.make_task_any (seen list) (seen priority))
-        result (at page.new (L.seen lines.new)) }
+    ensures { Serves L.Lines page.old lines.old (task_any_of list priority) result page.new lines.new }
 {
     let Some(of) = signals_in(page.alloc(), &list)? else {
         return Ok(throw(page.alloc(), FaultName::TypeError));
@@ -117,8 +114,7 @@ fn any_following<P: HostPort, M: Ledger, L: Lines>(
     s: u32,
     lines: &mut L,
 ) -> Result<HostStep, NoLine>
-    ensures { Answers L.keeping (at page.old (L.seen lines.old)) (model.any_following of.now s)
-        result (at page.new (L.seen lines.new)) }
+    ensures { Serves L.Lines page.old lines.old (model.any_following of.now s) result page.new lines.new }
 {
     let on = page.followed_through(s);
     match page.priority_of(on) {
@@ -135,8 +131,7 @@ fn any_with_priority<P: HostPort, M: Ledger, L: Lines>(
     follows: Option<u32>,
     lines: &mut L,
 ) -> Result<HostStep, NoLine>
-    ensures { Answers L.keeping (at page.old (L.seen lines.old)) (model.any_with_priority of.now priority follows)
-        result (at page.new (L.seen lines.new)) }
+    ensures { Serves L.Lines page.old lines.old (any_of of.now priority follows) result page.new lines.new }
 {
     if !is_signal_left(page) {
         return Ok(throw(page.alloc(), FaultName::RangeError));
@@ -151,8 +146,7 @@ pub fn timeout_signal<P: HostPort, M: Ledger, L: Lines>(
     ms: Value,
     lines: &mut L,
 ) -> Result<HostStep, NoLine>
-    ensures { Answers L.keeping (at page.old (L.seen lines.old)) (model.make_timeout_signal (seen ms))
-        result (at page.new (L.seen lines.new)) }
+    ensures { Serves L.Lines page.old lines.old (model.make_timeout_signal (seen ms)) result page.new lines.new }
 {
     let Some(ms) = delay_in(&ms) else {
         return Ok(throw(page.alloc(), FaultName::TypeError));

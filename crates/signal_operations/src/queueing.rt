@@ -1,13 +1,12 @@
 //! Scheduler tasks and questions to host closures that are made and wait (Prioritized Task Scheduling, "Scheduling Tasks and
 //! Continuations"). Want of memory is told also where a number is wanted that is not left.
 
-ghost use Rattle.std.specs.Prelude.{◌≡◌, ◌≤◌, Some, slice_get};
-ghost use Rattle.std.specs.Result.{result_err};
-ghost use Rattle.page_parts.specs.HostClosures.{HostClosure};
-ghost use Rattle.page_model.specs.Operations as model;
-ghost use Rattle.page_script.specs.Seen.{function_seen, state_seen};
-ghost use Rattle.page_tasks.specs.Seen.{prio_source};
-ghost use Rattle.page_state.specs.PageActs.{at, on_page, Does};
+ghost use Rattle.std.specs.Prelude.{◌≤◌};
+ghost use Rattle.page_model.specs.Operations.{continuation_queued};
+ghost use Rattle.page_script.specs.Seen.{state_seen};
+ghost use Rattle.page_state.specs.Makes.{Makes};
+ghost use Rattle.signal_operations.specs.Asking.{QueuesHost};
+ghost use Rattle.signal_operations.specs.OfValues.{queued_with};
 
 use crate::delays::start_after;
 use page_hosts::HostPort;
@@ -31,9 +30,7 @@ pub(crate) fn post_queued<P: HostPort, M: Ledger, L: Lines>(
     lines: &mut L,
 ) -> Result<(), NoLine>
     requires { ms ≤ 1000000000 }
-    ensures { Does L.keeping (at page.old (L.seen lines.old))
-        (on_page (model.post_queued (function_seen callback) (prio_source source) signal ms))
-        (result_err result) (at page.new (L.seen lines.new)) }
+    ensures { Makes L.Lines page.old lines.old (queued_with callback source signal ms) result page.new lines.new }
 {
     let registration = page.promised(RegKind::Post, Some(callback), signal, lines)?;
     if ms == 0 {
@@ -54,8 +51,7 @@ pub(crate) fn continuation_queued<P: HostPort, M: Ledger, L: Lines>(
     state: SchedulingState,
     lines: &mut L,
 ) -> Result<(), NoLine>
-    ensures { Does L.keeping (at page.old (L.seen lines.old)) (on_page (model.continuation_queued (state_seen state)))
-        (result_err result) (at page.new (L.seen lines.new)) }
+    ensures { Makes L.Lines page.old lines.old (continuation_queued (state_seen state)) result page.new lines.new }
 {
     let registration = page.promised(RegKind::Yield, None, state.abort_source, lines)?;
     page.enqueue(registration, state.prio_source, true, lines)
@@ -71,9 +67,7 @@ pub(crate) fn host_queued<P: HostPort, M: Ledger, L: Lines>(
     signal: Option<u32>,
     lines: &mut L,
 ) -> Result<(), NoLine>
-    ensures { (c : HostClosure) → slice_get page.old.hosts k ≡ Some c
-        → Does L.keeping (at page.old (L.seen lines.old)) (on_page (model.host_queued k c x signal))
-        (result_err result) (at page.new (L.seen lines.new)) }
+    ensures { QueuesHost L.Lines page.old lines.old k x signal result page.new lines.new }
 {
     let registration = page.promised(RegKind::Host, None, signal, lines)?;
     page.await_answer(k, x, registration, lines)

@@ -1,16 +1,8 @@
 //! What is read of a signal or a controller (DOM, "Interface AbortController" and "Interface AbortSignal"; Prioritized Task
 //! Scheduling, "The TaskSignal Interface"). No line is written.
 
-ghost use Rattle.page_types.specs.Values.{BoolValue, SignalValue};
-ghost use Rattle.page_types.specs.declared.FaultName.TheVariants.{TypeError};
-ghost use Rattle.page_parts.specs.Kinds.{controller_in};
-ghost use Rattle.page_parts.specs.TaskSignals.{priority_of};
-ghost use Rattle.page_values.specs.Seen.{seen};
-ghost use Rattle.lang_meaning.specs.Machine.{Gives, given};
-ghost use Rattle.page_model.specs.Operations.{of_signal};
-ghost use Rattle.page_model.specs.PageSignals.{is_aborted, priority_value, reason_value};
-ghost use Rattle.page_state.specs.PageActs.{at};
-ghost use Rattle.page_answers.specs.Answers.{Answers};
+ghost use Rattle.page_answers.specs.Serving.{Serves};
+ghost use Rattle.signal_operations.specs.OfValues.{aborted_told, priority_told, reason_told, signal_told};
 
 use crate::priorities::priority_word;
 use lang_ast::HostStep;
@@ -27,9 +19,7 @@ pub fn signal<P: HostPort, M: Ledger, L: Lines>(
     controller: Value,
     lines: &L,
 ) -> Result<HostStep, NoLine>
-    ensures { Answers L.keeping (at page.now (L.seen lines.now))
-        (λ m. given (controller_in (seen controller)) TypeError m (λ s m. Gives (SignalValue s) m))
-        result (at page.now (L.seen lines.now)) }
+    ensures { Serves L.Lines page.now lines.now (signal_told controller) result page.now lines.now }
 {
     match as_controller(&controller) {
         Some(s) => Ok(give(Value::Signal(s))),
@@ -43,8 +33,7 @@ pub fn aborted<P: HostPort, M: Ledger, L: Lines>(
     signal: Value,
     lines: &L,
 ) -> Result<HostStep, NoLine>
-    ensures { Answers L.keeping (at page.now (L.seen lines.now))
-        (of_signal (seen signal) (λ s p. BoolValue (is_aborted p s))) result (at page.now (L.seen lines.now)) }
+    ensures { Serves L.Lines page.now lines.now (aborted_told signal) result page.now lines.now }
 {
     match as_signal(&signal) {
         Some(s) => Ok(give(Value::Bool(page.is_aborted(s)))),
@@ -58,8 +47,7 @@ pub fn reason<P: HostPort, M: Ledger, L: Lines>(
     signal: Value,
     lines: &L,
 ) -> Result<HostStep, NoLine>
-    ensures { Answers L.keeping (at page.now (L.seen lines.now))
-        (of_signal (seen signal) (λ s p. reason_value p s)) result (at page.now (L.seen lines.now)) }
+    ensures { Serves L.Lines page.now lines.now (reason_told signal) result page.now lines.now }
 {
     let Some(s) = as_signal(&signal) else {
         return Ok(throw(page.alloc(), FaultName::TypeError));
@@ -74,8 +62,7 @@ pub fn priority<P: HostPort, M: Ledger, L: Lines>(
     signal: Value,
     lines: &L,
 ) -> Result<HostStep, NoLine>
-    ensures { Answers L.keeping (at page.now (L.seen lines.now))
-        (of_signal (seen signal) (λ s p. priority_value (priority_of p.prios s))) result (at page.now (L.seen lines.now)) }
+    ensures { Serves L.Lines page.now lines.now (priority_told signal) result page.now lines.now }
 {
     let Some(s) = as_signal(&signal) else {
         return Ok(throw(page.alloc(), FaultName::TypeError));

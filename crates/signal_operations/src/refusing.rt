@@ -3,9 +3,10 @@
 ghost use Rattle.std.specs.Prelude.{◌≡◌, IfErr, IfOk};
 ghost use Rattle.page_values.specs.Seen.{seen};
 ghost use Rattle.page_model.specs.Operations as model;
-ghost use Rattle.page_state.specs.PageActs.{at, read_by};
-ghost use Rattle.page_answers.specs.Answers.{Answers};
+ghost use Rattle.page_state.specs.PageActs.{read_by};
+ghost use Rattle.page_answers.specs.Serving.{Serves};
 ghost use Rattle.trace_text.specs.declared.lines.NoLine.TheVariants.{OutOfMemory};
+ghost use Rattle.signal_operations.specs.OfValues.{rejected_for};
 
 use lang_ast::HostStep;
 use page_answers::reject_with;
@@ -21,8 +22,7 @@ pub(crate) fn reject_aborted<P: HostPort, M: Ledger, L: Lines>(
     signal: Option<u32>,
     lines: &mut L,
 ) -> Result<HostStep, NoLine>
-    ensures { Answers L.keeping (at page.old (L.seen lines.old))
-        (λ m. model.rejected_with (model.source_reason m.host signal) m) result (at page.new (L.seen lines.new)) }
+    ensures { Serves L.Lines page.old lines.old (rejected_for signal) result page.new lines.new }
 {
     let reason = source_reason(page, signal)?;
     reject_with(page, reason, lines)

@@ -2,11 +2,10 @@
 //! is refused rejects the promise; only where no number is left, RangeError is thrown.
 
 ghost use Rattle.std.specs.Prelude.{◌≤◌};
-ghost use Rattle.page_values.specs.Seen.{seen};
 ghost use Rattle.page_model.specs.Operations as model;
-ghost use Rattle.page_script.specs.Seen.{function_seen, state_seen};
-ghost use Rattle.page_state.specs.PageActs.{at};
-ghost use Rattle.page_answers.specs.Answers.{Answers};
+ghost use Rattle.page_script.specs.Seen.{state_seen};
+ghost use Rattle.page_answers.specs.Serving.{Serves};
+ghost use Rattle.signal_operations.specs.OfValues.{post_of, post_with};
 
 use crate::arguments::{delay_in, priority_or_unit, signal_or_unit};
 use crate::priorities::prio_source_of;
@@ -33,8 +32,7 @@ pub fn post_task<P: HostPort, M: Ledger, L: Lines>(
     ms: Value,
     lines: &mut L,
 ) -> Result<HostStep, NoLine>
-    ensures { Answers L.keeping (at page.old (L.seen lines.old))
-        (model.post_task (seen callback) (seen priority) (seen signal) (seen ms)) result (at page.new (L.seen lines.new)) }
+    ensures { Serves L.Lines page.old lines.old (post_of callback priority signal ms) result page.new lines.new }
 {
     let Some(callback) = function_of(callback) else {
         return reject_fault(page, FaultName::TypeError, lines);
@@ -61,8 +59,7 @@ fn post_accepted<P: HostPort, M: Ledger, L: Lines>(
     lines: &mut L,
 ) -> Result<HostStep, NoLine>
     requires { ms ≤ 1000000000 }
-    ensures { Answers L.keeping (at page.old (L.seen lines.old)) (model.post_accepted (function_seen callback) priority signal ms)
-        result (at page.new (L.seen lines.new)) }
+    ensures { Serves L.Lines page.old lines.old (post_with callback priority signal ms) result page.new lines.new }
 {
     if page.is_aborted_source(signal) {
         return reject_aborted(page, signal, lines);
@@ -81,7 +78,7 @@ pub fn yield_task<P: HostPort, M: Ledger, L: Lines>(
     page: &mut PageState<P, M>,
     lines: &mut L,
 ) -> Result<HostStep, NoLine>
-    ensures { Answers L.keeping (at page.old (L.seen lines.old)) model.yield_task result (at page.new (L.seen lines.new)) }
+    ensures { Serves L.Lines page.old lines.old model.yield_task result page.new lines.new }
 {
     let state = page.current_state();
     yield_in(page, state, lines)
@@ -93,8 +90,7 @@ fn yield_in<P: HostPort, M: Ledger, L: Lines>(
     state: SchedulingState,
     lines: &mut L,
 ) -> Result<HostStep, NoLine>
-    ensures { Answers L.keeping (at page.old (L.seen lines.old)) (model.yield_in (state_seen state))
-        result (at page.new (L.seen lines.new)) }
+    ensures { Serves L.Lines page.old lines.old (model.yield_in (state_seen state)) result page.new lines.new }
 {
     if page.is_aborted_source(state.abort_source) {
         return reject_aborted(page, state.abort_source, lines);

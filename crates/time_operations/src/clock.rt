@@ -1,10 +1,8 @@
 //! The clock of a page, which only `busy` moves while the script runs.
 
-ghost use Rattle.std.specs.Prelude.{◌≡◌};
 ghost use Rattle.page_model.specs.Operations as model;
-ghost use Rattle.page_state.specs.PageActs.{at};
 ghost use Rattle.page_values.specs.Seen.{seen};
-ghost use Rattle.page_answers.specs.Answers.{Answers};
+ghost use Rattle.page_answers.specs.Serving.{Serves};
 ghost use Rattle.time_operations.specs.Rows.{now_given};
 
 use crate::arguments::{LONGEST, is_within, long_number};
@@ -22,7 +20,7 @@ pub fn now<P: HostPort, M: Ledger, L: Lines>(
     page: &PageState<P, M>,
     lines: &L,
 ) -> Result<HostStep, NoLine>
-    ensures { Answers L.keeping (at page.now (L.seen lines.now)) now_given result (at page.now (L.seen lines.now)) }
+    ensures { Serves L.Lines page.now lines.now now_given result page.now lines.now }
 {
     let _unused = lines;
     match long_number(page.now().0) {
@@ -37,8 +35,7 @@ pub fn busy<P: HostPort, M: Ledger, L: Lines>(
     span: Value,
     lines: &L,
 ) -> Result<HostStep, NoLine>
-    ensures { Answers L.keeping (at page.old (L.seen lines.now)) (model.busy (seen span)) result
-        (at page.new (L.seen lines.now)) }
+    ensures { Serves L.Lines page.old lines.now (model.busy (seen span)) result page.new lines.now }
 {
     let _unused = lines;
     let Some(span) = as_int(&span) else {

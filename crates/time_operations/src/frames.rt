@@ -1,13 +1,13 @@
 //! `requestAnimationFrame` and `cancelAnimationFrame` (HTML, "Animation frames").
 
 ghost use Rattle.std.specs.Prelude.{◌≡◌};
-ghost use Rattle.page_model.specs.Operations as model;
-ghost use Rattle.page_model.specs.PageTime as time;
-ghost use Rattle.page_script.specs.Seen.{function_seen};
-ghost use Rattle.page_state.specs.PageActs.{at, read_by};
+ghost use Rattle.page_model.specs.Operations.{with_handle};
+ghost use Rattle.page_model.specs.PageTime.{cancel_frame};
+ghost use Rattle.page_state.specs.PageActs.{read_by};
 ghost use Rattle.page_values.specs.Seen.{seen};
-ghost use Rattle.page_answers.specs.Answers.{Answers};
-ghost use Rattle.time_operations.specs.Rows.{frame_accepted, frame_left};
+ghost use Rattle.page_answers.specs.Serving.{Serves};
+ghost use Rattle.time_operations.specs.Rows.{frame_left};
+ghost use Rattle.time_operations.specs.OfValues.{frame_of, frame_with};
 
 use crate::arguments::number;
 use crate::requests::frame_requested;
@@ -25,8 +25,7 @@ pub fn request_frame<P: HostPort, M: Ledger, L: Lines>(
     callback: Value,
     lines: &mut L,
 ) -> Result<HostStep, NoLine>
-    ensures { Answers L.keeping (at page.old (L.seen lines.old))
-        (model.request_animation_frame (seen callback)) result (at page.new (L.seen lines.new)) }
+    ensures { Serves L.Lines page.old lines.old (frame_of callback) result page.new lines.new }
 {
     let Some(callback) = function_of(callback) else {
         return Ok(throw(page.alloc(), FaultName::TypeError));
@@ -40,8 +39,7 @@ pub fn cancel_frame<P: HostPort, M: Ledger, L: Lines>(
     handle: Value,
     lines: &mut L,
 ) -> Result<HostStep, NoLine>
-    ensures { Answers L.keeping (at page.old (L.seen lines.old))
-        (model.with_handle (seen handle) time.cancel_frame) result (at page.new (L.seen lines.new)) }
+    ensures { Serves L.Lines page.old lines.old (with_handle (seen handle) cancel_frame) result page.new lines.new }
 {
     let Some(handle) = as_int(&handle) else {
         return Ok(throw(page.alloc(), FaultName::TypeError));
@@ -59,8 +57,7 @@ fn accept_frame<P: HostPort, M: Ledger, L: Lines>(
     callback: Func,
     lines: &mut L,
 ) -> Result<HostStep, NoLine>
-    ensures { Answers L.keeping (at page.old (L.seen lines.old))
-        (frame_accepted (function_seen callback)) result (at page.new (L.seen lines.new)) }
+    ensures { Serves L.Lines page.old lines.old (frame_with callback) result page.new lines.new }
 {
     if !has_frame_left(page) {
         return Ok(throw(page.alloc(), FaultName::RangeError));

@@ -3,13 +3,13 @@
 
 ghost use Rattle.std.specs.Prelude.{◌≡◌};
 ghost use Rattle.std.specs.Option.{option_map};
-ghost use Rattle.page_model.specs.Operations as model;
-ghost use Rattle.page_model.specs.PageTime as time;
-ghost use Rattle.page_script.specs.Seen.{function_seen};
-ghost use Rattle.page_state.specs.PageActs.{at, read_by};
+ghost use Rattle.page_model.specs.Operations.{remaining, with_handle};
+ghost use Rattle.page_model.specs.PageTime.{cancel_idle};
+ghost use Rattle.page_state.specs.PageActs.{read_by};
 ghost use Rattle.page_values.specs.Seen.{seen};
-ghost use Rattle.page_answers.specs.Answers.{Answers};
-ghost use Rattle.time_operations.specs.Rows.{idle_accepted, idle_left};
+ghost use Rattle.page_answers.specs.Serving.{Serves};
+ghost use Rattle.time_operations.specs.Rows.{idle_left};
+ghost use Rattle.time_operations.specs.OfValues.{idle_of, idle_with};
 
 use crate::arguments::{LONGEST, long_number, not_below_zero, number};
 use crate::requests::idle_requested;
@@ -30,8 +30,7 @@ pub fn request_idle<P: HostPort, M: Ledger, L: Lines>(
     timeout: Value,
     lines: &mut L,
 ) -> Result<HostStep, NoLine>
-    ensures { Answers L.keeping (at page.old (L.seen lines.old))
-        (model.request_idle_callback (seen callback) (seen timeout)) result (at page.new (L.seen lines.new)) }
+    ensures { Serves L.Lines page.old lines.old (idle_of callback timeout) result page.new lines.new }
 {
     let Some(callback) = function_of(callback) else {
         return Ok(throw(page.alloc(), FaultName::TypeError));
@@ -48,8 +47,7 @@ pub fn cancel_idle<P: HostPort, M: Ledger, L: Lines>(
     handle: Value,
     lines: &mut L,
 ) -> Result<HostStep, NoLine>
-    ensures { Answers L.keeping (at page.old (L.seen lines.old))
-        (model.with_handle (seen handle) time.cancel_idle) result (at page.new (L.seen lines.new)) }
+    ensures { Serves L.Lines page.old lines.old (with_handle (seen handle) cancel_idle) result page.new lines.new }
 {
     let Some(handle) = as_int(&handle) else {
         return Ok(throw(page.alloc(), FaultName::TypeError));
@@ -67,8 +65,7 @@ pub fn time_remaining<P: HostPort, M: Ledger, L: Lines>(
     deadline: Value,
     lines: &L,
 ) -> Result<HostStep, NoLine>
-    ensures { Answers L.keeping (at page.now (L.seen lines.now)) (model.remaining (seen deadline)) result
-        (at page.now (L.seen lines.now)) }
+    ensures { Serves L.Lines page.now lines.now (remaining (seen deadline)) result page.now lines.now }
 {
     let _unused = lines;
     let Some(fixed) = as_deadline(&deadline) else {
@@ -87,8 +84,7 @@ fn accept_idle<P: HostPort, M: Ledger, L: Lines>(
     timeout: i64,
     lines: &mut L,
 ) -> Result<HostStep, NoLine>
-    ensures { Answers L.keeping (at page.old (L.seen lines.old))
-        (idle_accepted (function_seen callback) timeout) result (at page.new (L.seen lines.new)) }
+    ensures { Serves L.Lines page.old lines.old (idle_with callback timeout) result page.new lines.new }
 {
     if !has_idle_left(page, timeout) {
         return Ok(throw(page.alloc(), FaultName::RangeError));

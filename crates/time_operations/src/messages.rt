@@ -3,9 +3,9 @@
 ghost use Rattle.std.specs.Prelude.{◌≡◌};
 ghost use Rattle.page_parts.specs.Kinds as kinds;
 ghost use Rattle.page_model.specs.Operations as model;
-ghost use Rattle.page_state.specs.PageActs.{at};
+ghost use Rattle.page_model.specs.Operations.{post_message};
 ghost use Rattle.page_values.specs.Seen.{seen};
-ghost use Rattle.page_answers.specs.Answers.{Answers};
+ghost use Rattle.page_answers.specs.Serving.{Serves};
 ghost use Rattle.time_operations.specs.Rows.{may_post};
 
 use crate::arguments::is_within;
@@ -25,8 +25,7 @@ pub fn post_message<P: HostPort, M: Ledger, L: Lines>(
     value: Value,
     lines: &mut L,
 ) -> Result<HostStep, NoLine>
-    ensures { Answers L.keeping (at page.old (L.seen lines.old)) (model.post_message (seen port) (seen value)) result
-        (at page.new (L.seen lines.new)) }
+    ensures { Serves L.Lines page.old lines.old (post_message (seen port) (seen value)) result page.new lines.new }
 {
     let Some(port) = port_of(&port) else {
         return Ok(throw(page.alloc(), FaultName::TypeError));

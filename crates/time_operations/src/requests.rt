@@ -2,11 +2,10 @@
 //! requestIdleCallback).
 
 ghost use Rattle.std.specs.Prelude.{◌≡◌, ◌^◌, ◌<◌};
-ghost use Rattle.std.specs.Result.{result_err};
-ghost use Rattle.page_model.specs.Operations as model;
 ghost use Rattle.page_script.specs.Seen.{function_seen, registration_seen};
-ghost use Rattle.page_state.specs.PageActs.{at, on_page, Does};
+ghost use Rattle.page_state.specs.Makes.{Makes};
 ghost use Rattle.time_operations.specs.Rows.{callback_of_kind};
+ghost use Rattle.time_operations.specs.OfValues.{frame_requested_with, idle_requested_with, set_with};
 
 use page_hosts::HostPort;
 use page_script::{Callbacks, Registration, Role};
@@ -26,9 +25,7 @@ pub(crate) fn timer_set<P: HostPort, M: Ledger, L: Lines>(
     timeout: i64,
     lines: &mut L,
 ) -> Result<(), NoLine>
-    ensures { Does L.keeping (at page.old (L.seen lines.old))
-        (on_page (model.timer_set kind repeats (function_seen callback) timeout))
-        (result_err result) (at page.new (L.seen lines.new)) }
+    ensures { Makes L.Lines page.old lines.old (set_with kind repeats callback timeout) result page.new lines.new }
 {
     let made = page.timer_ids_made();
     if made == u32::MAX {
@@ -47,8 +44,7 @@ pub(crate) fn frame_requested<P: HostPort, M: Ledger, L: Lines>(
     callback: Func,
     lines: &mut L,
 ) -> Result<(), NoLine>
-    ensures { Does L.keeping (at page.old (L.seen lines.old)) (on_page (model.frame_requested (function_seen callback)))
-        (result_err result) (at page.new (L.seen lines.new)) }
+    ensures { Makes L.Lines page.old lines.old (frame_requested_with callback) result page.new lines.new }
 {
     let registration = callback_of_kind(RegKind::Frame, callback, 0);
     let r = page.register_as(RegKind::Frame, registration, lines)?;
@@ -65,8 +61,7 @@ pub(crate) fn idle_requested<P: HostPort, M: Ledger, L: Lines>(
     lines: &mut L,
 ) -> Result<(), NoLine>
     requires { ms < 2 ^ 32 }
-    ensures { Does L.keeping (at page.old (L.seen lines.old)) (on_page (model.idle_requested (function_seen callback) ms))
-        (result_err result) (at page.new (L.seen lines.new)) }
+    ensures { Makes L.Lines page.old lines.old (idle_requested_with callback ms) result page.new lines.new }
 {
     let registration = callback_of_kind(RegKind::Idle, callback, 0);
     let r = page.register_as(RegKind::Idle, registration, lines)?;

@@ -2,13 +2,13 @@
 
 ghost use Rattle.std.specs.Prelude.{◌≡◌, true, false};
 ghost use Rattle.page_types.specs.declared.RegKind.TheVariants.{Timeout as TimeoutKind, Interval as IntervalKind};
-ghost use Rattle.page_model.specs.Operations as model;
-ghost use Rattle.page_model.specs.PageTime as time;
-ghost use Rattle.page_script.specs.Seen.{function_seen};
-ghost use Rattle.page_state.specs.PageActs.{at, read_by};
+ghost use Rattle.page_model.specs.Operations.{with_handle};
+ghost use Rattle.page_model.specs.PageTime.{clear_timer};
+ghost use Rattle.page_state.specs.PageActs.{read_by};
 ghost use Rattle.page_values.specs.Seen.{seen};
-ghost use Rattle.page_answers.specs.Answers.{Answers};
-ghost use Rattle.time_operations.specs.Rows.{timer_accepted, timer_left};
+ghost use Rattle.page_answers.specs.Serving.{Serves};
+ghost use Rattle.time_operations.specs.Rows.{timer_left};
+ghost use Rattle.time_operations.specs.OfValues.{timed, timer_with};
 
 use crate::arguments::number;
 use crate::requests::timer_set;
@@ -27,8 +27,7 @@ pub fn set_timeout<P: HostPort, M: Ledger, L: Lines>(
     delay: Value,
     lines: &mut L,
 ) -> Result<HostStep, NoLine>
-    ensures { Answers L.keeping (at page.old (L.seen lines.old))
-        (model.set_timer TimeoutKind false (seen callback) (seen delay)) result (at page.new (L.seen lines.new)) }
+    ensures { Serves L.Lines page.old lines.old (timed TimeoutKind false callback delay) result page.new lines.new }
 {
     set_timer(page, RegKind::Timeout, false, callback, delay, lines)
 }
@@ -40,8 +39,7 @@ pub fn set_interval<P: HostPort, M: Ledger, L: Lines>(
     delay: Value,
     lines: &mut L,
 ) -> Result<HostStep, NoLine>
-    ensures { Answers L.keeping (at page.old (L.seen lines.old))
-        (model.set_timer IntervalKind true (seen callback) (seen delay)) result (at page.new (L.seen lines.new)) }
+    ensures { Serves L.Lines page.old lines.old (timed IntervalKind true callback delay) result page.new lines.new }
 {
     set_timer(page, RegKind::Interval, true, callback, delay, lines)
 }
@@ -52,8 +50,7 @@ pub fn clear_timer<P: HostPort, M: Ledger, L: Lines>(
     id: Value,
     lines: &mut L,
 ) -> Result<HostStep, NoLine>
-    ensures { Answers L.keeping (at page.old (L.seen lines.old))
-        (model.with_handle (seen id) time.clear_timer) result (at page.new (L.seen lines.new)) }
+    ensures { Serves L.Lines page.old lines.old (with_handle (seen id) clear_timer) result page.new lines.new }
 {
     let Some(id) = as_int(&id) else {
         return Ok(throw(page.alloc(), FaultName::TypeError));
@@ -73,8 +70,7 @@ fn set_timer<P: HostPort, M: Ledger, L: Lines>(
     delay: Value,
     lines: &mut L,
 ) -> Result<HostStep, NoLine>
-    ensures { Answers L.keeping (at page.old (L.seen lines.old))
-        (model.set_timer kind repeats (seen callback) (seen delay)) result (at page.new (L.seen lines.new)) }
+    ensures { Serves L.Lines page.old lines.old (timed kind repeats callback delay) result page.new lines.new }
 {
     let Some(callback) = function_of(callback) else {
         return Ok(throw(page.alloc(), FaultName::TypeError));
@@ -94,8 +90,7 @@ fn accept_timer<P: HostPort, M: Ledger, L: Lines>(
     delay: i64,
     lines: &mut L,
 ) -> Result<HostStep, NoLine>
-    ensures { Answers L.keeping (at page.old (L.seen lines.old))
-        (timer_accepted kind repeats (function_seen callback) delay) result (at page.new (L.seen lines.new)) }
+    ensures { Serves L.Lines page.old lines.old (timer_with kind repeats callback delay) result page.new lines.new }
 {
     if !has_timer_left(page) {
         return Ok(throw(page.alloc(), FaultName::RangeError));

@@ -4,3 +4,4 @@ pub mod Outcomes
 pub mod Replays
 pub mod TextKept
 pub mod Scanned
+pub mod Judged

@@ -1,16 +1,12 @@
 //! Judging a trace.
 
 ghost use Rattle.std.specs.Prelude.{◌≡◌, ◌≢◌, ◌≤◌, ◌^◌, ◌↔◌, length, Some, Err, IfOk};
-ghost use Rattle.lang_ast.specs.SeenProgram.{seen_program};
-ghost use Rattle.arrivals_text.specs.Seen.{settings_of};
 ghost use Rattle.host_jobs.specs.ToldTable.{closures_of};
-ghost use Rattle.loop_turn.specs.Lawful.{AreLawful};
 ghost use Rattle.loop_turn.specs.declared.run_stop.RunStop.TheVariants.{WriteFault};
-ghost use Rattle.trace_check.specs.Verdicts.{IsLegalHere, IsVerdict, events_of};
 ghost use Rattle.trace_text.specs.Trace.{IsBadLine};
 ghost use Rattle.trace_text.specs.declared.fault.BadLine.{BadLine as BadLineSeen};
 ghost use Rattle.trace_text.specs.declared.fault.TraceFault.TheVariants as fault;
-ghost use Rattle.trace_check.specs.Scanned.{HasVerdictOn};
+ghost use Rattle.trace_check.specs.Judged.{IsLegalFor, IsVerdictFor, HasVerdictFor, HasLawfulEvents};
 ghost use Rattle.trace_check.specs.Outcomes.{found_by};
 ghost use Rattle.trace_check.specs.declared.verdict.Verdict.TheVariants.{Yes};
 
@@ -46,11 +42,9 @@ pub fn check_trace<M: Ledger>(
     accesses: Steps<M>,
 ) -> Result<Verdict, AllocError>
     requires { length (closures_of hosts.now) ≤ 2 ^ 32 }
-    ensures legal { IfOk result (λ verdict. verdict ≡ Yes
-        ↔ IsLegalHere (seen_program program.now) (settings_of setup.now).setup (closures_of hosts.now) trace.now) }
-    ensures verdict { IfOk result
-        (IsVerdict (seen_program program.now) (settings_of setup.now).setup (closures_of hosts.now) trace.now) }
-    ensures laws { IfOk result (λ verdict. verdict ≡ Yes → AreLawful (settings_of setup.now).setup (events_of trace.now)) }
+    ensures legal { IfOk result (λ verdict. verdict ≡ Yes ↔ IsLegalFor program.now setup.now hosts.now trace.now) }
+    ensures verdict { IfOk result (IsVerdictFor program.now setup.now hosts.now trace.now) }
+    ensures laws { IfOk result (λ verdict. verdict ≡ Yes → HasLawfulEvents setup.now trace.now) }
 {
     let lines = LineCheck::new(alloc, trace);
     let replayed = run_again(alloc, program, setup, hosts, trace.items(), lines, accesses);
@@ -69,8 +63,7 @@ pub fn check_text<M: Ledger>(
     accesses: Steps<M>,
 ) -> Result<Verdict, TraceFault>
     requires { length (closures_of hosts.now) ≤ 2 ^ 32 }
-    ensures verdict { IfOk result
-        (HasVerdictOn (seen_program program.now) (settings_of setup.now).setup (closures_of hosts.now) bytes.now) }
+    ensures verdict { IfOk result (HasVerdictFor program.now setup.now hosts.now bytes.now) }
     ensures bad { (line : BadLineSeen) → result ≡ Err (fault.Is line) → IsBadLine bytes.now line.line }
 {
     let Some((form, text)) = read_head(bytes) else {

@@ -1,11 +1,8 @@
 //! The choices that stand in a trace.
 
-ghost use Rattle.std.specs.Prelude.{◌≡◌, [], ◌++◌, map, IfOk, OnOk};
-ghost use Rattle.page_parts.specs.TraceText.{source_in, reading_in, answer_in};
-ghost use Rattle.page_base.specs.Clocks.{numbers_of};
-ghost use Rattle.host_jobs.specs.RecordedPort.{answers_of};
-ghost use Rattle.trace_text.specs.EventSeen.{event_seen, stamped_seen};
-ghost use Rattle.trace_check.specs.Collected.{AreChoicesOf};
+ghost use Rattle.std.specs.Prelude.{[], map, IfOk, OnOk};
+ghost use Rattle.trace_text.specs.EventSeen.{stamped_seen};
+ghost use Rattle.trace_check.specs.Collected.{AreChoicesOf, AddsSource, AddsReading, AddsAnswer};
 
 use host_jobs::Recorded;
 use page_base::{Micros, Source};
@@ -33,11 +30,9 @@ impl TraceChoices {
 
     /// Adds the choice of an event, where it has one.
     pub(crate) fn add(&mut self, e: &Stamped) -> Result<(), AllocError>
-        ensures sources { OnOk result (self.new.sources.items ≡ self.old.sources.items ++ source_in (event_seen e.now.event) []) }
-        ensures readings { OnOk result (numbers_of self.new.readings.items
-            ≡ numbers_of self.old.readings.items ++ reading_in (stamped_seen e.now) (event_seen e.now.event) []) }
-        ensures answers { OnOk result (answers_of self.new.answers.items
-            ≡ answers_of self.old.answers.items ++ answer_in (event_seen e.now.event) []) }
+        ensures sources { OnOk result (AddsSource e.now self.old self.new) }
+        ensures readings { OnOk result (AddsReading e.now self.old self.new) }
+        ensures answers { OnOk result (AddsAnswer e.now self.old self.new) }
     {
         match &e.event {
             Event::Turn {
@@ -58,11 +53,9 @@ impl TraceChoices {
 
     /// The same, and lets the event go.
     pub(crate) fn take(&mut self, e: Stamped) -> Result<(), AllocError>
-        ensures sources { OnOk result (self.new.sources.items ≡ self.old.sources.items ++ source_in (event_seen e.event) []) }
-        ensures readings { OnOk result (numbers_of self.new.readings.items
-            ≡ numbers_of self.old.readings.items ++ reading_in (stamped_seen e) (event_seen e.event) []) }
-        ensures answers { OnOk result (answers_of self.new.answers.items
-            ≡ answers_of self.old.answers.items ++ answer_in (event_seen e.event) []) }
+        ensures sources { OnOk result (AddsSource e self.old self.new) }
+        ensures readings { OnOk result (AddsReading e self.old self.new) }
+        ensures answers { OnOk result (AddsAnswer e self.old self.new) }
     {
         self.add(&e)
     }

@@ -1,17 +1,11 @@
 //! The run under the choices of a trace.
 
-ghost use Rattle.std.specs.Prelude.{◌≡◌, ◌≤◌, ◌^◌, length, map, List, IfOk, Err};
-ghost use Rattle.page_types.specs.Events.{Stamped as StampedSeen};
-ghost use Rattle.lang_ast.specs.SeenProgram.{seen_program};
-ghost use Rattle.arrivals_text.specs.Seen.{settings_of};
+ghost use Rattle.std.specs.Prelude.{◌≡◌, ◌≤◌, ◌^◌, length, IfOk, Err};
 ghost use Rattle.page_base.specs.Clocks.{numbers_of};
 ghost use Rattle.host_jobs.specs.RecordedPort.{answers_of};
 ghost use Rattle.host_jobs.specs.ToldTable.{closures_of};
-ghost use Rattle.trace_text.specs.EventSeen.{stamped_seen};
 ghost use Rattle.loop_turn.specs.declared.run_stop.RunStop.TheVariants.{OutOfMemory};
-ghost use Rattle.trace_check.specs.Collected.{AreChoicesOf};
-ghost use Rattle.trace_check.specs.Verdicts.{events_of, own_run};
-ghost use Rattle.trace_check.specs.Replays.{Replays};
+ghost use Rattle.trace_check.specs.Judged.{GivesRun, GivesRunBy};
 
 use crate::collecting::{TraceChoices, choices_of};
 use arrivals_text::PageSetup;
@@ -74,8 +68,7 @@ pub fn replay<L: Lines, M: Ledger>(
     accesses: Steps<M>,
 ) -> Replayed<L>
     requires { length (closures_of hosts.now) ≤ 2 ^ 32 }
-    ensures { let run = own_run (seen_program program.now) (settings_of setup.now).setup (closures_of hosts.now) (events_of trace.now)
-        in Replays L.keeping (L.seen lines) setup.now.trace run result.outcome (L.seen result.lines) }
+    ensures { GivesRun L.Lines program.now setup.now hosts.now trace.now.events lines result.outcome result.lines }
 {
     run_again(alloc, program, setup, hosts, trace.items(), lines, accesses)
 }
@@ -91,9 +84,7 @@ pub(crate) fn run_again<L: Lines, M: Ledger>(
     accesses: Steps<M>,
 ) -> Replayed<L>
     requires { length (closures_of hosts.now) ≤ 2 ^ 32 }
-    ensures { let run = own_run (seen_program program.now) (settings_of setup.now).setup (closures_of hosts.now)
-        (map stamped_seen events.now)
-        in Replays L.keeping (L.seen lines) setup.now.trace run result.outcome (L.seen result.lines) }
+    ensures { GivesRun L.Lines program.now setup.now hosts.now events.now lines result.outcome result.lines }
 {
     match choices_of(alloc, events) {
         Ok(choices) => replay_choices(alloc, program, setup, hosts, choices, lines, accesses),
@@ -113,9 +104,7 @@ pub fn replay_choices<L: Lines, M: Ledger>(
     accesses: Steps<M>,
 ) -> Replayed<L>
     requires { length (closures_of hosts.now) ≤ 2 ^ 32 }
-    ensures { (es : List StampedSeen) → AreChoicesOf es choices →
-        (let run = own_run (seen_program program.now) (settings_of setup.now).setup (closures_of hosts.now) es
-        in Replays L.keeping (L.seen lines) setup.now.trace run result.outcome (L.seen result.lines)) }
+    ensures { GivesRunBy L.Lines program.now setup.now hosts.now choices lines result.outcome result.lines }
 {
     let Ok(recording) = Recording::new(alloc, hosts, choices) else {
         return wanting(lines);

@@ -3,7 +3,7 @@
 ghost use Rattle.std.specs.Prelude.{◌≡◌, ◌+◌, ◌<◌, ◌^◌, ◌++◌, ℕ, IfOk, Err};
 ghost use Rattle.page_parts.specs.TraceText.{head_text};
 ghost use Rattle.trace_text.specs.EventSeen.{event_seen};
-ghost use Rattle.trace_text.specs.Trace.{IsForm, IsBadLine, is_end as ends};
+ghost use Rattle.trace_text.specs.Trace.{IsForm, IsBadLine, IsBadBehindHead, is_end as ends};
 ghost use Rattle.trace_text.specs.declared.fault.BadLine.{BadLine as BadLineSeen};
 ghost use Rattle.trace_text.specs.declared.fault.TraceFault.TheVariants as fault;
 ghost use Rattle.trace_check.specs.Scanned.{AreChoicesIn};
@@ -34,7 +34,7 @@ pub(crate) fn choices_behind(
 ) -> Result<TraceChoices, TraceFault>
     requires { IsForm form }
     ensures found { IfOk result (AreChoicesIn form (head_text form ++ text.now)) }
-    ensures bad { (line : BadLineSeen) → result ≡ Err (fault.Is line) → IsBadLine (head_text form ++ text.now) line.line }
+    ensures bad { (line : BadLineSeen) → result ≡ Err (fault.Is line) → IsBadBehindHead form text.now line.line }
 {
     let mut choices = TraceChoices::new(alloc);
     let mut lines = 0;

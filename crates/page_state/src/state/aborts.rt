@@ -1,15 +1,11 @@
 //! Abort steps of registrations (DOM, "Interface AbortSignal"; Prioritized Task Scheduling, "Scheduling
 //! Tasks and Continuations").
 ghost use Rattle.std.specs.Prelude.{◌≡◌, Option, IfErr, IfOk, OnOk};
-ghost use Rattle.std.specs.Result.{result_err};
-ghost use Rattle.page_values.specs.Seen.{seen};
 ghost use Rattle.page_model.specs.State.{last_registration, the_registration};
-ghost use Rattle.page_model.specs.Operations.{promised};
-ghost use Rattle.page_model.specs.PagePromises.{reject};
 ghost use Rattle.page_model.specs.PageSignals as model;
-ghost use Rattle.page_script.specs.Seen.{function_seen};
-ghost use Rattle.std.specs.Option.{option_map};
-ghost use Rattle.page_state.specs.PageActs.{at, on_page, changed_by, read_by, Does, IsWanted};
+ghost use Rattle.page_state.specs.PageActs.{changed_by, read_by, IsWanted};
+ghost use Rattle.page_state.specs.Makes.{Makes};
+ghost use Rattle.page_state.specs.CodeValues.{promised, abort_registration, promise_rejected};
 
 use super::PageState;
 use page_hosts::HostPort;
@@ -51,9 +47,7 @@ impl<P: HostPort, M: Ledger> PageState<P, M> {
         signal: Option<u32>,
         lines: &mut L,
     ) -> Result<u32, NoLine>
-        ensures does { Does L.keeping (at self.old (L.seen lines.old))
-            (on_page (promised kind (option_map function_seen callback) signal))
-            (result_err result) (at self.new (L.seen lines.new)) }
+        ensures does { Makes L.Lines self.old lines.old (promised kind callback signal) result self.new lines.new }
         ensures number { IfOk result (λ r. r ≡ read_by last_registration self.new) }
     {
         let promise = self.new_promise()?;
@@ -80,8 +74,7 @@ impl<P: HostPort, M: Ledger> PageState<P, M> {
         r: u32,
         lines: &mut L,
     ) -> Result<(), NoLine>
-        ensures { Does L.keeping (at self.old (L.seen lines.old)) (on_page (model.abort_registration (seen reason) r))
-            (result_err result) (at self.new (L.seen lines.new)) }
+        ensures { Makes L.Lines self.old lines.old (abort_registration reason r) result self.new lines.new }
     {
         let has_not_begun = self.has_not_begun(r);
         self.reject_promise_of(r, reason, lines)?;
@@ -99,9 +92,7 @@ impl<P: HostPort, M: Ledger> PageState<P, M> {
         reason: Value,
         lines: &mut L,
     ) -> Result<(), NoLine>
-        ensures { Does L.keeping (at self.old (L.seen lines.old))
-            (on_page (λ p. reject (the_registration p r).promise (seen reason) p))
-            (result_err result) (at self.new (L.seen lines.new)) }
+        ensures { Makes L.Lines self.old lines.old (promise_rejected reason r) result self.new lines.new }
     {
         let Some(registration) = self.the_registration(r) else {
             return Err(NoLine::OutOfMemory);

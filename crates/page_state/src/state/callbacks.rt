@@ -1,15 +1,16 @@
 //! The callbacks of a page: their registrations, their calls and the reports of what they throw.
 
-ghost use Rattle.std.specs.Prelude.{◌≡◌, ◌↔◌, ◌<◌, ◌≤◌, length, IfOk, IfSome, IsSome, IsTrue, MatchOption, None, Some};
-ghost use Rattle.std.specs.Result.{result_err};
+ghost use Rattle.std.specs.Prelude.{◌≡◌, ◌↔◌, ◌<◌, ◌≤◌, length, IfOk, IfSome, IsSome, IsTrue, MatchOption};
 ghost use Rattle.page_types.specs.Events.{Ret};
 ghost use Rattle.page_values.specs.Seen.{seen};
 ghost use Rattle.page_values.specs.Written.{IsNumbered};
 ghost use Rattle.page_model.specs.State.{the_registration, last_registration};
 ghost use Rattle.page_model.specs.Invoke as model;
-ghost use Rattle.page_script.specs.Seen.{registration_seen, function_seen};
-ghost use Rattle.page_script.specs.Reports.{when_seen, logged};
-ghost use Rattle.page_state.specs.PageActs.{at, on_page, read_by, Does};
+ghost use Rattle.page_script.specs.Seen.{registration_seen};
+ghost use Rattle.page_script.specs.Reports.{logged};
+ghost use Rattle.page_state.specs.PageActs.{read_by};
+ghost use Rattle.page_state.specs.Makes.{Makes};
+ghost use Rattle.page_state.specs.CodeValues.{register_as, HasCallback, HasNoCallback, report_before, report_after};
 
 use super::PageState;
 use page_hosts::HostPort;
@@ -27,9 +28,7 @@ impl<P: HostPort, M: Ledger> PageState<P, M> {
         registration: Registration,
         lines: &mut L,
     ) -> Result<u32, NoLine>
-        ensures does { Does L.keeping (at self.old (L.seen lines.old))
-            (on_page (model.register_as kind (registration_seen registration)))
-            (result_err result) (at self.new (L.seen lines.new)) }
+        ensures does { Makes L.Lines self.old lines.old (register_as kind registration) result self.new lines.new }
         ensures number { IfOk result (λ r. r ≡ read_by last_registration self.new) }
     {
         if self.script.registered() >= u32::MAX as usize {
@@ -52,8 +51,7 @@ impl<P: HostPort, M: Ledger> PageState<P, M> {
     /// The function that a registration calls: its second callback, or the first. None exactly where there is none, as of a
     /// registration that was never made. Takes no memory.
     pub fn callback_of(&self, r: u32, second: bool) -> Option<&Func>
-        ensures { MatchOption result (read_by (λ p. model.callback_of second (the_registration p r)) self.now ≡ None)
-            (λ f. read_by (λ p. model.callback_of second (the_registration p r)) self.now ≡ Some (function_seen f.now)) }
+        ensures { MatchOption result (HasNoCallback self.now r second) (λ f. HasCallback self.now r second f.now) }
     {
         if !self.script.is_registered(r) {
             return None;
@@ -77,16 +75,14 @@ impl<P: HostPort, M: Ledger> PageState<P, M> {
 
     /// The innermost call returns, with its line.
     pub fn returned<L: Lines>(&mut self, lines: &mut L) -> Result<(), NoLine>
-        ensures { Does L.keeping (at self.old (L.seen lines.old)) (on_page (model.call_ended Ret))
-            (result_err result) (at self.new (L.seen lines.new)) }
+        ensures { Makes L.Lines self.old lines.old (model.call_ended Ret) result self.new lines.new }
     {
         self.script.returned(lines)
     }
 
     /// The innermost call ends with a throw, with its line.
     pub fn thrown<L: Lines>(&mut self, value: &Value, lines: &mut L) -> Result<(), NoLine>
-        ensures { Does L.keeping (at self.old (L.seen lines.old)) (on_page (model.thrown (seen value.now)))
-            (result_err result) (at self.new (L.seen lines.new)) }
+        ensures { Makes L.Lines self.old lines.old (model.thrown (seen value.now)) result self.new lines.new }
     {
         if !self.script.is_numbered(value) {
             return Err(NoLine::OutOfMemory);
@@ -96,8 +92,7 @@ impl<P: HostPort, M: Ledger> PageState<P, M> {
 
     /// A value that was thrown is reported, with its line (HTML, "Runtime script errors").
     pub fn report<L: Lines>(&self, value: &Value, lines: &mut L) -> Result<(), NoLine>
-        ensures { Does L.keeping (at self.now (L.seen lines.old)) (on_page (model.report (seen value.now)))
-            (result_err result) (at self.now (L.seen lines.new)) }
+        ensures { Makes L.Lines self.now lines.old (model.report (seen value.now)) result self.now lines.new }
     {
         if !self.script.is_numbered(value) {
             return Err(NoLine::OutOfMemory);
@@ -107,8 +102,7 @@ impl<P: HostPort, M: Ledger> PageState<P, M> {
 
     /// Logs a value, with its line. It costs what the spelling of the value costs.
     pub fn log<L: Lines>(&self, value: &Value, lines: &mut L) -> Result<(), NoLine>
-        ensures { Does L.keeping (at self.now (L.seen lines.old)) (on_page (logged (seen value.now)))
-            (result_err result) (at self.now (L.seen lines.new)) }
+        ensures { Makes L.Lines self.now lines.old (logged (seen value.now)) result self.now lines.new }
     {
         if !self.script.is_numbered(value) {
             return Err(NoLine::OutOfMemory);
@@ -123,8 +117,7 @@ impl<P: HostPort, M: Ledger> PageState<P, M> {
         value: &Value,
         lines: &mut L,
     ) -> Result<(), NoLine>
-        ensures { Does L.keeping (at self.now (L.seen lines.old)) (on_page (model.report_before (when_seen when) (seen value.now)))
-            (result_err result) (at self.now (L.seen lines.new)) }
+        ensures { Makes L.Lines self.now lines.old (report_before when value.now) result self.now lines.new }
     {
         if !self.script.is_numbered(value) {
             return Err(NoLine::OutOfMemory);
@@ -139,8 +132,7 @@ impl<P: HostPort, M: Ledger> PageState<P, M> {
         value: &Value,
         lines: &mut L,
     ) -> Result<(), NoLine>
-        ensures { Does L.keeping (at self.now (L.seen lines.old)) (on_page (model.report_after (when_seen when) (seen value.now)))
-            (result_err result) (at self.now (L.seen lines.new)) }
+        ensures { Makes L.Lines self.now lines.old (report_after when value.now) result self.now lines.new }
     {
         if !self.script.is_numbered(value) {
             return Err(NoLine::OutOfMemory);

@@ -1,19 +1,18 @@
 //! Combinators of promises (ECMA-262, "Promise.all" and its like).
 
-ghost use Rattle.std.specs.Prelude.{◌≡◌, ◌+◌, ◌^◌, ◌<◌, ◌↔◌, suc, length, map, IfOk, IsTrue};
-ghost use Rattle.std.specs.Result.{result_err};
-ghost use Rattle.page_types.specs.Values.{items_of};
+ghost use Rattle.std.specs.Prelude.{◌≡◌, ◌<◌, suc, IfOk, IsTrue};
 ghost use Rattle.page_parts.specs.Notices.{is_outstanding};
 ghost use Rattle.page_values.specs.Seen.{seen};
-ghost use Rattle.page_values.specs.Written.{IsNumbered};
-ghost use Rattle.promise_core.specs.Seen.{settled_seen};
 ghost use Rattle.promise_combine.specs.Seen.{kind_seen};
 ghost use Rattle.promise_combine.specs.Reports.{HasCount};
 ghost use Rattle.page_model.specs.PagePromises.{last_promise};
 ghost use Rattle.page_model.specs.PageCombinators as model;
+ghost use Rattle.page_model.specs.PageCombinators.{element_made};
 ghost use Rattle.page_script.specs.Leading.{IsItem};
-ghost use Rattle.page_state.specs.PageActs.{at, on_page, read_by, Does};
-ghost use Rattle.page_state.specs.Handling.{element_reacted, item_taken};
+ghost use Rattle.page_state.specs.PageActs.{read_by};
+ghost use Rattle.page_state.specs.Handling.{element_reacted as element_put};
+ghost use Rattle.page_state.specs.Makes.{Makes};
+ghost use Rattle.page_state.specs.CodeValues.{combinator_made};
 
 use super::PageState;
 use page_hosts::HostPort;
@@ -34,8 +33,7 @@ impl<P: HostPort, M: Ledger> PageState<P, M> {
         lines: &mut L,
     ) -> Result<Combined, NoLine>
         requires { HasCount (kind_seen kind) count }
-        ensures does { Does L.keeping (at self.old (L.seen lines.old)) (on_page (model.combinator_made (kind_seen kind) count))
-            (result_err result) (at self.new (L.seen lines.new)) }
+        ensures does { Makes L.Lines self.old lines.old (combinator_made kind count) result self.new lines.new }
         ensures combinator { IfOk result (λ made. made.combinator ≡ read_by model.last_combinator self.new) }
         ensures first { IfOk result (λ made. made.result ≡ suc (read_by last_promise self.old)) }
         ensures last { IfOk result (λ made. made.result ≡ read_by last_promise self.new) }
@@ -51,8 +49,7 @@ impl<P: HostPort, M: Ledger> PageState<P, M> {
     /// Makes a promise of the item of a combinator, and answers its number: a promise stays as it is, and any other value comes
     /// in a new promise.
     pub fn item_made<L: Lines>(&mut self, value: Value, lines: &mut L) -> Result<u32, NoLine>
-        ensures does { Does L.keeping (at self.old (L.seen lines.old)) (on_page (model.item_made (seen value)))
-            (result_err result) (at self.new (L.seen lines.new)) }
+        ensures does { Makes L.Lines self.old lines.old (model.item_made (seen value)) result self.new lines.new }
         ensures number { IfOk result (λ n. n ≡ read_by (model.item_number (seen value)) self.new) }
     {
         if !self.is_item(&value) || !self.script.is_numbered(&value) {
@@ -69,8 +66,7 @@ impl<P: HostPort, M: Ledger> PageState<P, M> {
         p: u32,
         lines: &mut L,
     ) -> Result<(), NoLine>
-        ensures { Does L.keeping (at self.old (L.seen lines.old)) (on_page (model.element_made combinator place p))
-            (result_err result) (at self.new (L.seen lines.new)) }
+        ensures { Makes L.Lines self.old lines.old (element_made combinator place p) result self.new lines.new }
     {
         let outstanding = self.element(combinator, place, p, lines)?;
         self.tell_handled(outstanding, p)
@@ -83,8 +79,7 @@ impl<P: HostPort, M: Ledger> PageState<P, M> {
         p: u32,
         lines: &mut L,
     ) -> Result<(), NoLine>
-        ensures { Does L.keeping (at self.old (L.seen lines.old)) (on_page (model.subscribe_into into 0 p))
-            (result_err result) (at self.new (L.seen lines.new)) }
+        ensures { Makes L.Lines self.old lines.old (model.subscribe_into into 0 p) result self.new lines.new }
     {
         let reaction = Reaction {
             registration: None,
@@ -102,8 +97,7 @@ impl<P: HostPort, M: Ledger> PageState<P, M> {
         p: u32,
         lines: &mut L,
     ) -> Result<bool, NoLine>
-        ensures does { Does L.keeping (at self.old (L.seen lines.old)) (on_page (element_reacted combinator place p))
-            (result_err result) (at self.new (L.seen lines.new)) }
+        ensures does { Makes L.Lines self.old lines.old (element_put combinator place p) result self.new lines.new }
         ensures was { IfOk result (λ was. was ≡ is_outstanding p self.old.script.notices) }
     {
         if self.script.promises_made() == u32::MAX || !self.script.is_promise(p) {

@@ -1,19 +1,18 @@
 //! What a page makes of the items of a combinator, and of the value that a handler of `finally` returned (ECMA-262, "Promise.all" and
 //! its like, "Promise.prototype.finally").
 
-ghost use Rattle.std.specs.Prelude.{◌≡◌, ◌+◌, ◌^◌, ◌<◌, ◌↔◌, suc, length, map, IfOk, IfErr, IsTrue};
-ghost use Rattle.std.specs.Result.{result_err};
+ghost use Rattle.std.specs.Prelude.{◌≡◌, ◌+◌, ◌^◌, ◌<◌, suc, length, IfOk, IfErr};
 ghost use Rattle.page_parts.specs.Kinds.{a_fault};
 ghost use Rattle.page_types.specs.declared.FaultName.TheVariants.{RangeError};
 ghost use Rattle.page_values.specs.Seen.{seen};
-ghost use Rattle.promise_core.specs.Seen.{settled_seen};
 ghost use Rattle.promise_combine.specs.Seen.{kind_seen};
 ghost use Rattle.promise_combine.specs.Reports.{HasCount};
 ghost use Rattle.page_model.specs.PagePromises.{last_promise};
 ghost use Rattle.page_model.specs.PageCombinators as model;
 ghost use Rattle.trace_text.specs.declared.lines.NoLine.TheVariants.{OutOfMemory};
-ghost use Rattle.page_state.specs.PageActs.{at, on_page, read_by, Does};
-ghost use Rattle.page_state.specs.Handling.{item_taken, passed_item, passed_through};
+ghost use Rattle.page_state.specs.PageActs.{read_by};
+ghost use Rattle.page_state.specs.Makes.{Makes};
+ghost use Rattle.page_state.specs.CodeValues.{all_made, race_made, elements_of, added, all_subscribed, item_subscribed, pass_on, passed_on, passed_item, passed_through};
 
 use super::PageState;
 use page_hosts::HostPort;
@@ -35,8 +34,7 @@ impl<P: HostPort, M: Ledger> PageState<P, M> {
     ) -> Result<u32, NoLine>
         requires count { HasCount (kind_seen kind) (length items.now) }
         requires few { length items.now < 2 ^ 32 }
-        ensures does { Does L.keeping (at self.old (L.seen lines.old)) (on_page (model.all_made (kind_seen kind) (map seen items.now)))
-            (result_err result) (at self.new (L.seen lines.new)) }
+        ensures does { Makes L.Lines self.old lines.old (all_made kind items.now) result self.new lines.new }
         ensures first { IfOk result (λ p. p ≡ suc (read_by last_promise self.old)) }
     {
         let made = self.combinator_made(kind, items.len() as u32, lines)?;
@@ -48,8 +46,7 @@ impl<P: HostPort, M: Ledger> PageState<P, M> {
     ///
     /// It costs what the items weigh.
     pub fn race_made<L: Lines>(&mut self, items: &[Value], lines: &mut L) -> Result<u32, NoLine>
-        ensures does { Does L.keeping (at self.old (L.seen lines.old)) (on_page (model.race_made (map seen items.now)))
-            (result_err result) (at self.new (L.seen lines.new)) }
+        ensures does { Makes L.Lines self.old lines.old (race_made items.now) result self.new lines.new }
         ensures first { IfOk result (λ p. p ≡ suc (read_by last_promise self.old)) }
     {
         let into = self.new_promise()?;
@@ -66,8 +63,7 @@ impl<P: HostPort, M: Ledger> PageState<P, M> {
         value: Value,
         lines: &mut L,
     ) -> Result<(), NoLine>
-        ensures { Does L.keeping (at self.old (L.seen lines.old)) (on_page (model.pass_on into (settled_seen how) (seen value)))
-            (result_err result) (at self.new (L.seen lines.new)) }
+        ensures { Makes L.Lines self.old lines.old (pass_on into how value) result self.new lines.new }
     {
         if !self.may_pass(&value) {
             let reason = self.range_error();
@@ -84,8 +80,7 @@ impl<P: HostPort, M: Ledger> PageState<P, M> {
         value: Value,
         lines: &mut L,
     ) -> Result<(), NoLine>
-        ensures { Does L.keeping (at self.old (L.seen lines.old)) (on_page (model.passed_on into (settled_seen how) (seen value)))
-            (result_err result) (at self.new (L.seen lines.new)) }
+        ensures { Makes L.Lines self.old lines.old (passed_on into how value) result self.new lines.new }
     {
         let n = self.item_made(value, lines)?;
         self.pass_item(into, how, n, lines)
@@ -99,8 +94,7 @@ impl<P: HostPort, M: Ledger> PageState<P, M> {
         n: u32,
         lines: &mut L,
     ) -> Result<(), NoLine>
-        ensures { Does L.keeping (at self.old (L.seen lines.old)) (on_page (passed_item into (settled_seen how) n))
-            (result_err result) (at self.new (L.seen lines.new)) }
+        ensures { Makes L.Lines self.old lines.old (passed_item into how n) result self.new lines.new }
     {
         let made = self.combinator_made(Kind::Pass(how), 1, lines)?;
         self.pass_through(into, made, n, lines)
@@ -114,8 +108,7 @@ impl<P: HostPort, M: Ledger> PageState<P, M> {
         n: u32,
         lines: &mut L,
     ) -> Result<(), NoLine>
-        ensures { Does L.keeping (at self.old (L.seen lines.old)) (on_page (passed_through into n made.combinator made.result))
-            (result_err result) (at self.new (L.seen lines.new)) }
+        ensures { Makes L.Lines self.old lines.old (passed_through into n made) result self.new lines.new }
     {
         self.element_made(made.combinator, 0, n, lines)?;
         self.settle(into, Ok(Value::Promise(made.result)), lines)
@@ -129,9 +122,7 @@ impl<P: HostPort, M: Ledger> PageState<P, M> {
         lines: &mut L,
     ) -> Result<(), NoLine>
         requires { length items.now < 2 ^ 32 }
-        ensures { Does L.keeping (at self.old (L.seen lines.old))
-            (on_page (model.each_item (model.element_made combinator) 0 (map seen items.now)))
-            (result_err result) (at self.new (L.seen lines.new)) }
+        ensures { Makes L.Lines self.old lines.old (elements_of combinator items.now) result self.new lines.new }
     {
         let mut place = 0;
         for value in items {
@@ -149,9 +140,7 @@ impl<P: HostPort, M: Ledger> PageState<P, M> {
         value: &Value,
         lines: &mut L,
     ) -> Result<(), NoLine>
-        ensures { Does L.keeping (at self.old (L.seen lines.old))
-            (on_page (item_taken (model.element_made combinator) place (seen value.now)))
-            (result_err result) (at self.new (L.seen lines.new)) }
+        ensures { Makes L.Lines self.old lines.old (added combinator place value.now) result self.new lines.new }
     {
         let item = self.copied(value)?;
         let n = self.item_made(item, lines)?;
@@ -165,9 +154,7 @@ impl<P: HostPort, M: Ledger> PageState<P, M> {
         items: &[Value],
         lines: &mut L,
     ) -> Result<(), NoLine>
-        ensures { Does L.keeping (at self.old (L.seen lines.old))
-            (on_page (model.each_item (model.subscribe_into into) 0 (map seen items.now)))
-            (result_err result) (at self.new (L.seen lines.new)) }
+        ensures { Makes L.Lines self.old lines.old (all_subscribed into items.now) result self.new lines.new }
     {
         for value in items {
             self.subscribed_of(into, value, lines)?;
@@ -182,9 +169,7 @@ impl<P: HostPort, M: Ledger> PageState<P, M> {
         value: &Value,
         lines: &mut L,
     ) -> Result<(), NoLine>
-        ensures { Does L.keeping (at self.old (L.seen lines.old))
-            (on_page (item_taken (model.subscribe_into into) 0 (seen value.now)))
-            (result_err result) (at self.new (L.seen lines.new)) }
+        ensures { Makes L.Lines self.old lines.old (item_subscribed into value.now) result self.new lines.new }
     {
         let item = self.copied(value)?;
         let n = self.item_made(item, lines)?;

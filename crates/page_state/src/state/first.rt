@@ -2,13 +2,13 @@
 
 ghost use Rattle.std.specs.Prelude.{◌≡◌, ◌+◌, ◌^◌, ◌/◌, ◌<◌, ◌≤◌, length, map, IfErr, IfOk, IsTrue};
 ghost use Rattle.std.specs.List.{list_all};
-ghost use Rattle.page_parts.specs.Setup.{are_in_order};
 ghost use Rattle.arrivals_text.specs.Seen.{settings_of};
 ghost use Rattle.arrivals_text.specs.SeenParts.{arrival_of};
 ghost use Rattle.page_hosts.specs.Hosts.{is_unqueued};
 ghost use Rattle.page_state.specs.First.{IsFirst, AreFirst, HasScriptTask};
 ghost use Rattle.page_state.specs.Pooled.{spare_of};
 ghost use Rattle.page_state.specs.Standing.{port_of};
+ghost use Rattle.page_state.specs.HostChanges.{telling};
 
 use super::PageState;
 use crate::latencies::latencies_given;
@@ -52,11 +52,7 @@ impl<P: HostPort, M: Ledger> PageState<P, M> {
         requires count { length (P.closures port) ≤ 2 ^ 32 }
         requires unqueued { IsTrue (list_all is_unqueued (P.closures port)) }
         ensures first { IfOk result (IsFirst names (settings_of setup.now).setup (P.closures port)) }
-        ensures port { IfOk result (λ page. port_of page ≡ record {
-          closures = P.closures port;
-          kept = P.kept port;
-          refusals = P.refusals port;
-        }) }
+        ensures port { IfOk result (λ page. port_of page ≡ telling (P.closures port) (P.kept port) (P.refusals port)) }
         ensures room { IfOk result (λ page. setup.now.room ≤ spare_of page) }
         ensures err { IfErr result (λ back. back ≡ port) }
     {

@@ -1,25 +1,22 @@
 //! Aborts and priority changes, in which callbacks nest, by steps (DOM, "Interface AbortSignal" and "Dispatching events"; Prioritized
 //! Task Scheduling, "The TaskSignal Interface").
-ghost use Rattle.std.specs.Prelude.{◌≡◌, ◌-◌, length, map, not, IfErr, IfOk, OnOk};
+ghost use Rattle.std.specs.Prelude.{◌≡◌, ◌-◌, length, not, IfErr, IfOk, OnOk};
 ghost use Rattle.std.specs.Option.{option_map};
-ghost use Rattle.std.specs.Result.{result_err};
 ghost use Rattle.page_parts.specs.AbortGraph.{marked};
-ghost use Rattle.lang_meaning.specs.HostSteps.{StepInvoke};
-ghost use Rattle.lang_ast.specs.Steps.{seen_step, seen_outcome};
+ghost use Rattle.lang_ast.specs.Steps.{seen_step};
 ghost use Rattle.page_values.specs.Seen.{seen};
-ghost use Rattle.page_model.specs.PageSignals as model;
-ghost use Rattle.page_model.specs.Folds.{callback_ended};
-ghost use Rattle.page_script.specs.Reports.{when_seen};
 ghost use Rattle.task_signal.specs.Changes.{HasPriority, IsStill};
 ghost use Rattle.page_signals.specs.Steps.{IsMade, abort_opened, change_opened, reported_in, stepped, Falls};
 ghost use Rattle.page_signals.specs.Seen as fold;
 ghost use Rattle.page_signals.specs.Seen.{visit_seen};
 ghost use Rattle.page_signals.specs.Kept.{AreFitting};
 ghost use Rattle.trace_text.specs.declared.lines.NoLine.TheVariants.{OutOfMemory};
-ghost use Rattle.page_state.specs.PageActs.{at, on_page, read_by, Does, IsWanted};
+ghost use Rattle.page_state.specs.PageActs.{read_by, IsWanted};
 ghost use Rattle.page_state.specs.CodeFolds.{called_seen};
-ghost use Rattle.page_state.specs.FoldActs.{signalling_in, having, hosting_of, Reaches, abort_step, change_step, resume_step, rest_step};
-ghost use Rattle.page_state.specs.FoldActs.{called_by, listener_called, thrown_and_reported};
+ghost use Rattle.page_state.specs.FoldActs.{signalling_in, having, rest_step};
+ghost use Rattle.page_state.specs.FoldActs.{called_by, listener_called};
+ghost use Rattle.page_state.specs.Makes.{Makes, TakesStep};
+ghost use Rattle.page_state.specs.CodeSteps.{abort_begun, change_begun, resumed, invoking, callback_ended, reported, is_priority};
 
 use super::PageState;
 use crate::copies::function_copied;
@@ -51,8 +48,7 @@ impl<P: HostPort, M: Ledger> PageState<P, M> {
         reason: Value,
         lines: &mut L,
     ) -> Result<HostStep, NoLine>
-        ensures { Reaches L.keeping (at self.old (L.seen lines.old)) (abort_step s (seen reason) (hosting_of self.old))
-            result (at self.new (L.seen lines.new)) }
+        ensures { TakesStep L.Lines self.old lines.old (abort_begun s reason) result self.new lines.new }
     {
         let signals = self.open_abort(s, reason)?;
         self.emit_aborts(&signals, lines)?;
@@ -68,8 +64,7 @@ impl<P: HostPort, M: Ledger> PageState<P, M> {
         priority: Priority,
         lines: &mut L,
     ) -> Result<HostStep, NoLine>
-        ensures { Reaches L.keeping (at self.old (L.seen lines.old)) (change_step s priority (hosting_of self.old))
-            result (at self.new (L.seen lines.new)) }
+        ensures { TakesStep L.Lines self.old lines.old (change_begun s priority) result self.new lines.new }
     {
         if !self.change_opened(s, priority)? {
             return Ok(HostStep::Value(Value::Unit));
@@ -86,8 +81,7 @@ impl<P: HostPort, M: Ledger> PageState<P, M> {
         end: Outcome,
         lines: &mut L,
     ) -> Result<HostStep, NoLine>
-        ensures { Reaches L.keeping (at self.old (L.seen lines.old)) (resume_step (seen_outcome end) (hosting_of self.old))
-            result (at self.new (L.seen lines.new)) }
+        ensures { TakesStep L.Lines self.old lines.old (resumed end) result self.new lines.new }
     {
         if self.signals.open_count() == 0 {
             return Ok(HostStep::Value(Value::Unit));
@@ -102,8 +96,7 @@ impl<P: HostPort, M: Ledger> PageState<P, M> {
 
     // The innermost fold goes on to its next callback, or to its end.
     fn reach<L: Lines>(&mut self, lines: &mut L) -> Result<HostStep, NoLine>
-        ensures { Reaches L.keeping (at self.old (L.seen lines.old)) (rest_step self.old)
-            result (at self.new (L.seen lines.new)) }
+        ensures { TakesStep L.Lines self.old lines.old rest_step result self.new lines.new }
     {
         'steps: loop {
             match self.fold_step()? {
@@ -153,8 +146,7 @@ impl<P: HostPort, M: Ledger> PageState<P, M> {
         r: u32,
         lines: &mut L,
     ) -> Result<Option<NextCallback>, NoLine>
-        ensures does { Does L.keeping (at self.old (L.seen lines.old)) (on_page (listener_called r))
-            (result_err result) (at self.new (L.seen lines.new)) }
+        ensures does { Makes L.Lines self.old lines.old (listener_called r) result self.new lines.new }
         ensures called { IfOk result (λ c. option_map called_seen c ≡ read_by (λ p. called_by p r) self.old) }
     {
         let Some(calling) = self.calling_of(r)? else {
@@ -186,7 +178,7 @@ impl<P: HostPort, M: Ledger> PageState<P, M> {
 
     // The callback runs under the innermost fold from now on, with these arguments. Takes no memory.
     fn invoked(&mut self, calling: NextCallback, arguments: Vec<Value>) -> HostStep
-        ensures step { seen_step result ≡ StepInvoke (seen calling.callback) (map seen arguments.items) (length self.old.folds - 1) }
+        ensures step { seen_step result ≡ invoking calling arguments (length self.old.folds - 1) }
         ensures folds { self.new ≡ record self.old { folds = reported_in (fold.when_seen calling.when) self.old.folds } }
     {
         self.signals.set_when(calling.when);
@@ -204,8 +196,7 @@ impl<P: HostPort, M: Ledger> PageState<P, M> {
         end: &Outcome,
         lines: &mut L,
     ) -> Result<(), NoLine>
-        ensures { Does L.keeping (at self.old (L.seen lines.old)) (on_page (callback_ended (when_seen when) (seen_outcome end.now)))
-            (result_err result) (at self.new (L.seen lines.new)) }
+        ensures { Makes L.Lines self.old lines.old (callback_ended when end.now) result self.new lines.new }
     {
         match end {
             Outcome::Value(_) => self.returned(lines),
@@ -220,8 +211,7 @@ impl<P: HostPort, M: Ledger> PageState<P, M> {
         value: &Value,
         lines: &mut L,
     ) -> Result<(), NoLine>
-        ensures { Does L.keeping (at self.old (L.seen lines.old)) (on_page (thrown_and_reported (when_seen when) (seen value.now)))
-            (result_err result) (at self.new (L.seen lines.new)) }
+        ensures { Makes L.Lines self.old lines.old (reported when value.now) result self.new lines.new }
     {
         self.thrown(value, lines)?;
         self.report_before(when, value, lines)?;
@@ -246,7 +236,7 @@ impl<P: HostPort, M: Ledger> PageState<P, M> {
 
     // The change of a priority is opened, and whether there is one is told.
     fn change_opened(&mut self, s: u32, priority: Priority) -> Result<bool, NoLine>
-        ensures answer { IfOk result (λ is_opened. is_opened ≡ not (read_by (λ p. model.has_priority p.prios s priority) self.old)) }
+        ensures answer { IfOk result (λ is_opened. is_opened ≡ not (read_by (is_priority s priority) self.old)) }
         ensures given { OnOk result (HasPriority s self.old.signals.prios) }
         ensures still { OnOk result (IsStill s self.old.signals.prios) }
         ensures opened { OnOk result (self.new ≡ having (change_opened s priority (signalling_in self.old)) self.old) }

@@ -1,11 +1,12 @@
 //! Animation frame callbacks and rendering opportunities (HTML, "Animation frames" and "Event loops: processing model").
-ghost use Rattle.std.specs.Prelude.{◌≡◌, ◌+◌, IfOk, IfErr, IfSome, OnOk};
+ghost use Rattle.std.specs.Prelude.{◌≡◌, IfOk, IfErr, OnOk};
 ghost use Rattle.std.specs.Option.{option_map};
-ghost use Rattle.std.specs.Result.{result_err};
-ghost use Rattle.page_parts.specs.Frames.{callback_in, keys};
+ghost use Rattle.page_parts.specs.Frames.{keys};
 ghost use Rattle.page_model.specs.PageTime as model;
 ghost use Rattle.trace_text.specs.declared.lines.NoLine.TheVariants.{OutOfMemory};
-ghost use Rattle.page_state.specs.PageActs.{at, on_page, changed_by, read_by, Does, IsWanted};
+ghost use Rattle.page_state.specs.PageActs.{changed_by, read_by, IsWanted};
+ghost use Rattle.page_state.specs.Makes.{Makes};
+ghost use Rattle.page_state.specs.CodeValues.{frame_registration};
 
 use super::PageState;
 use page_base::Micros;
@@ -41,8 +42,7 @@ impl<P: HostPort, M: Ledger> PageState<P, M> {
     /// `cancelAnimationFrame()`: the callback with this handle leaves the map with its line, where it is there. A number of 2^32 or more
     /// is no handle.
     pub fn cancel_frame<L: Lines>(&mut self, number: u64, lines: &mut L) -> Result<(), NoLine>
-        ensures { Does L.keeping (at self.old (L.seen lines.old)) (on_page (model.cancel_frame number))
-            (result_err result) (at self.new (L.seen lines.new)) }
+        ensures { Makes L.Lines self.old lines.old (model.cancel_frame number) result self.new lines.new }
     {
         match self.drop_frame(number) {
             Some(r) => self.emit(Event::Drop { r: r as u64 }, lines),
@@ -52,8 +52,7 @@ impl<P: HostPort, M: Ledger> PageState<P, M> {
 
     // Takes the frame callback whose handle is this number out of the map, and answers its registration. Takes no memory.
     fn drop_frame(&mut self, number: u64) -> Option<u32>
-        ensures registration { result
-            ≡ read_by (λ p. option_map (λ c. c.registration) (callback_in p.frames.callbacks number)) self.old }
+        ensures registration { result ≡ read_by (frame_registration number) self.old }
         ensures gone { self.new ≡ changed_by (model.without_frame number) self.old }
     {
         self.frames.cancel_frame(number)
@@ -63,8 +62,7 @@ impl<P: HostPort, M: Ledger> PageState<P, M> {
     ///
     /// None exactly where the handle is not in the map, and then nothing changes. Takes no memory.
     pub fn take_frame(&mut self, handle: u32) -> Option<u32>
-        ensures registration { result
-            ≡ read_by (λ p. option_map (λ c. c.registration) (callback_in p.frames.callbacks handle)) self.old }
+        ensures registration { result ≡ read_by (frame_registration handle) self.old }
         ensures gone { self.new ≡ changed_by (model.without_frame handle) self.old }
     {
         self.frames.take_frame(handle)

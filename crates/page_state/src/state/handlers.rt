@@ -2,18 +2,15 @@
 
 ghost use Rattle.std.specs.Prelude.{◌≡◌, Option, None, true, false, IfErr, IfOk};
 ghost use Rattle.std.specs.Option.{option_map};
-ghost use Rattle.std.specs.Result.{result_err};
-ghost use Rattle.page_types.specs.declared.RegKind.TheVariants.{Then};
 ghost use Rattle.page_parts.specs.Kinds.{func_in};
 ghost use Rattle.page_values.specs.Seen.{seen};
-ghost use Rattle.page_model.specs.State as model;
-ghost use Rattle.page_model.specs.PagePromises.{last_promise, subscribe};
-ghost use Rattle.page_model.specs.Invoke.{register_as};
-ghost use Rattle.page_model.specs.Operations.{then_made, finally_made};
+ghost use Rattle.page_model.specs.PagePromises.{last_promise};
+ghost use Rattle.page_model.specs.Operations.{finally_made};
 ghost use Rattle.page_script.specs.Seen.{function_seen, registration_seen};
 ghost use Rattle.trace_text.specs.declared.lines.NoLine.TheVariants.{OutOfMemory};
-ghost use Rattle.page_state.specs.PageActs.{at, on_page, read_by, Does};
-ghost use Rattle.page_state.specs.Handling.{handlers_made, last_reaction, then_with};
+ghost use Rattle.page_state.specs.PageActs.{read_by};
+ghost use Rattle.page_state.specs.Makes.{Makes};
+ghost use Rattle.page_state.specs.CodeValues.{then_made, handlers_made, handled, then_with};
 
 use super::PageState;
 use page_hosts::HostPort;
@@ -33,8 +30,7 @@ impl<P: HostPort, M: Ledger> PageState<P, M> {
         rejected: Value,
         lines: &mut L,
     ) -> Result<u32, NoLine>
-        ensures does { Does L.keeping (at self.old (L.seen lines.old)) (on_page (then_made p (seen fulfilled) (seen rejected)))
-            (result_err result) (at self.new (L.seen lines.new)) }
+        ensures does { Makes L.Lines self.old lines.old (then_made p fulfilled rejected) result self.new lines.new }
         ensures number { IfOk result (λ n. n ≡ read_by last_promise self.new) }
     {
         let first = function_of(fulfilled);
@@ -52,8 +48,7 @@ impl<P: HostPort, M: Ledger> PageState<P, M> {
         handler: Value,
         lines: &mut L,
     ) -> Result<u32, NoLine>
-        ensures does { Does L.keeping (at self.old (L.seen lines.old)) (on_page (finally_made p (seen handler)))
-            (result_err result) (at self.new (L.seen lines.new)) }
+        ensures does { Makes L.Lines self.old lines.old (finally_made p (seen handler)) result self.new lines.new }
         ensures number { IfOk result (λ n. n ≡ read_by last_promise self.new) }
     {
         let second_handler = self.copied(&handler)?;
@@ -71,8 +66,7 @@ impl<P: HostPort, M: Ledger> PageState<P, M> {
         registration: Registration,
         lines: &mut L,
     ) -> Result<u32, NoLine>
-        ensures does { Does L.keeping (at self.old (L.seen lines.old)) (on_page (handlers_made p (registration_seen registration)))
-            (result_err result) (at self.new (L.seen lines.new)) }
+        ensures does { Makes L.Lines self.old lines.old (handlers_made p registration) result self.new lines.new }
         ensures number { IfOk result (λ n. n ≡ read_by last_promise self.new) }
     {
         let into = self.new_promise()?;
@@ -89,9 +83,7 @@ impl<P: HostPort, M: Ledger> PageState<P, M> {
         lines: &mut L,
     ) -> Result<(), NoLine>
         requires { into ≡ read_by last_promise self.old }
-        ensures does { Does L.keeping (at self.old (L.seen lines.old))
-            (on_page (λ q. let made = register_as Then (registration_seen registration) q in subscribe p (last_reaction made) made))
-            (result_err result) (at self.new (L.seen lines.new)) }
+        ensures does { Makes L.Lines self.old lines.old (handled p registration) result self.new lines.new }
         ensures kept { IfOk result (λ _. into ≡ read_by last_promise self.new) }
     {
         let r = self.register_as(RegKind::Then, registration, lines)?;
@@ -111,8 +103,7 @@ fn handlers(
     second: Option<Func>,
     finally: bool,
 ) -> Result<Registration, NoLine>
-    ensures made { IfOk result (λ registration. registration_seen registration
-        ≡ then_with (option_map function_seen first) (option_map function_seen second) finally) }
+    ensures made { IfOk result (λ registration. registration_seen registration ≡ then_with first second finally) }
     ensures memory { IfErr result (λ why. why ≡ OutOfMemory) }
 {
     match Callbacks::of_two(alloc, first, second) {

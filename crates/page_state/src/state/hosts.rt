@@ -1,18 +1,18 @@
 //! Host closures, what was asked of them, and registrations that are dropped. Ours
 ghost use Rattle.std.specs.Prelude.{◌≡◌, ◌+◌, is_some, is_none, map, Some, IsTrue, IfErr, IfOk, OnOk, OnErr, IfSome, slice_get};
-ghost use Rattle.std.specs.Option.{option_map};
-ghost use Rattle.std.specs.Result.{result_err};
 ghost use Rattle.page_types.specs.Counts.{refusals_after};
-ghost use Rattle.host_jobs.specs.Closures.{fired_at, meets_at};
+ghost use Rattle.host_jobs.specs.Closures.{meets_at};
 ghost use Rattle.host_jobs.specs.KeptAnswers.{FollowsKept};
 ghost use Rattle.page_model.specs.Operations.{closure_at, fitting, latency_of as latency};
 ghost use Rattle.page_model.specs.PageSignals as model;
-ghost use Rattle.page_model.specs.Tasks.{fire_closure};
+ghost use Rattle.page_model.specs.PageSignals.{drop_registration};
 ghost use Rattle.page_model.specs.Turns.{not_dropped};
 ghost use Rattle.page_hosts.specs.Hosts.{ask_at, is_fresh_at, unasked, IsUnfired, IsQueued};
 ghost use Rattle.page_tasks.specs.Seen.{host_task};
-ghost use Rattle.page_state.specs.PageActs.{at, on_page, changed_by, read_by, Does, IsWanted};
+ghost use Rattle.page_state.specs.PageActs.{changed_by, read_by, IsWanted};
 ghost use Rattle.page_state.specs.HostActs.{answer_awaited, answer_set, net_task_dropped, answer_dropped, enqueued_for, host_task_for};
+ghost use Rattle.page_state.specs.Makes.{Makes};
+ghost use Rattle.page_state.specs.HostChanges.{hosts_by, IsFired};
 
 use super::PageState;
 use crate::latencies::latency_in;
@@ -109,11 +109,7 @@ impl<P: HostPort, M: Ledger> PageState<P, M> {
         requires undropped { IsTrue (is_some (not_dropped (slice_get self.old.hosts k))) }
         requires fits { IsTrue (is_some (fitting (slice_get self.old.hosts k) x)) }
         ensures met { IfOk result (λ answer. IsTrue (meets_at self.old.hosts k x answer)) }
-        ensures fired { OnOk result (self.new ≡ record (changed_by (λ p. fire_closure k (slice_get p.hosts k) p) self.old) {
-          at_port = fired_at self.old.at_port k;
-          kept = self.new.kept;
-          refusals = self.new.refusals;
-        }) }
+        ensures fired { OnOk result (IsFired k self.old self.new) }
         ensures same { OnErr result (self.new ≡ record self.old { kept = self.new.kept; refusals = self.new.refusals }) }
         ensures kept { FollowsKept (meets_at self.old.hosts k x) self.old.kept result self.new.kept }
         ensures refused { self.new.refusals ≡ refusals_after self.old.refusals result }
@@ -131,8 +127,7 @@ impl<P: HostPort, M: Ledger> PageState<P, M> {
         registration: u32,
         lines: &mut L,
     ) -> Result<(), NoLine>
-        ensures { Does L.keeping (at self.old (L.seen lines.old)) (on_page (answer_awaited k x registration))
-            (result_err result) (at self.new (L.seen lines.new)) }
+        ensures { Makes L.Lines self.old lines.old (answer_awaited k x registration) result self.new lines.new }
     {
         let due = self.set_answer(k, x, registration)?;
         self.emit(
@@ -176,8 +171,7 @@ impl<P: HostPort, M: Ledger> PageState<P, M> {
         registration: u32,
         lines: &mut L,
     ) -> Result<(), NoLine>
-        ensures { Does L.keeping (at self.old (L.seen lines.old)) (on_page (model.drop_registration registration))
-            (result_err result) (at self.new (L.seen lines.new)) }
+        ensures { Makes L.Lines self.old lines.old (drop_registration registration) result self.new lines.new }
     {
         self.drop_net_task(registration)?;
         self.drop_answer(registration)?;
@@ -215,8 +209,7 @@ impl<P: HostPort, M: Ledger> PageState<P, M> {
 
     // The closure of a task is dropped.
     fn drop_closure(&mut self, task: HostTask) -> Result<(), NoLine>
-        ensures dropped { OnOk result
-            (self.new ≡ record self.old { hosts = model.drop_closure (Some (host_task task)) self.old.hosts }) }
+        ensures dropped { OnOk result (self.new ≡ hosts_by (model.drop_closure (Some (host_task task))) self.old) }
         ensures memory { IfErr result (λ why. IsWanted why self.old self.new) }
     {
         if !self.hosts.is_asked(task.closure) {
@@ -258,8 +251,7 @@ impl<P: HostPort, M: Ledger> PageState<P, M> {
 
     // Closure `k` is asked, which was never asked before.
     fn ask(&mut self, k: u32) -> Result<(), NoLine>
-        ensures asked { OnOk result
-            (self.new ≡ record self.old { hosts = ask_at k (slice_get self.old.hosts k) self.old.hosts }) }
+        ensures asked { OnOk result (self.new ≡ hosts_by (λ hosts. ask_at k (slice_get hosts k) hosts) self.old) }
         ensures memory { IfErr result (λ why. IsWanted why self.old self.new) }
     {
         if !self.hosts.is_fresh(k) {

@@ -1,14 +1,14 @@
 //! Idle callbacks and idle periods (requestIdleCallback).
 ghost use Rattle.std.specs.Prelude.{◌≡◌, ◌+◌, ◌*◌, ◌^◌, ◌<◌, IfErr, IfOk, OnOk, IfSome};
 ghost use Rattle.std.specs.Option.{option_map};
-ghost use Rattle.std.specs.Result.{result_err};
-ghost use Rattle.page_parts.specs.Timers.{next_due};
-ghost use Rattle.page_frames.specs.Steps.{first_registration, first_gone, period_to_start as period_at};
+ghost use Rattle.page_frames.specs.Steps.{first_registration, first_gone};
 ghost use Rattle.page_frames.specs.Fields.{fields_of, with_fields};
 ghost use Rattle.page_model.specs.PageTime as model;
 ghost use Rattle.page_model.specs.Tasks.{invoke_idle_again as invoked_again};
 ghost use Rattle.trace_text.specs.declared.lines.NoLine.TheVariants.{OutOfMemory};
-ghost use Rattle.page_state.specs.PageActs.{at, on_page, changed_by, read_by, Does, IsWanted};
+ghost use Rattle.page_state.specs.PageActs.{changed_by, read_by, IsWanted};
+ghost use Rattle.page_state.specs.Makes.{Makes};
+ghost use Rattle.page_state.specs.DueActs.{period_now};
 ghost use Rattle.page_state.specs.TimeActs.{idle_asked, idle_timeout_set, period_set};
 
 use super::PageState;
@@ -36,8 +36,7 @@ impl<P: HostPort, M: Ledger> PageState<P, M> {
         lines: &mut L,
     ) -> Result<(), NoLine>
         requires { ms < 2 ^ 32 }
-        ensures { Does L.keeping (at self.old (L.seen lines.old)) (on_page (model.request_idle ms registration))
-            (result_err result) (at self.new (L.seen lines.new)) }
+        ensures { Makes L.Lines self.old lines.old (model.request_idle ms registration) result self.new lines.new }
     {
         self.ask_idle(registration)?;
         if ms == 0 {
@@ -49,8 +48,7 @@ impl<P: HostPort, M: Ledger> PageState<P, M> {
     /// `cancelIdleCallback()`: the callback with this handle leaves both lists with its line, where it is there. Its timeout stays. A
     /// number of 2^32 or more is no handle.
     pub fn cancel_idle<L: Lines>(&mut self, number: u64, lines: &mut L) -> Result<(), NoLine>
-        ensures { Does L.keeping (at self.old (L.seen lines.old)) (on_page (model.cancel_idle number))
-            (result_err result) (at self.new (L.seen lines.new)) }
+        ensures { Makes L.Lines self.old lines.old (model.cancel_idle number) result self.new lines.new }
     {
         match self.drop_idle(number) {
             Some(r) => self.emit(Event::Drop { r: r as u64 }, lines),
@@ -124,8 +122,7 @@ impl<P: HostPort, M: Ledger> PageState<P, M> {
     /// Starts an idle period with this end, with its line and its task.
     pub fn period_begun<L: Lines>(&mut self, end: Micros, lines: &mut L) -> Result<(), NoLine>
         requires { end.0 < 2 ^ 63 + 50000 }
-        ensures { Does L.keeping (at self.old (L.seen lines.old)) (on_page (model.period_begun end.0))
-            (result_err result) (at self.new (L.seen lines.new)) }
+        ensures { Makes L.Lines self.old lines.old (model.period_begun end.0) result self.new lines.new }
     {
         self.set_period(end);
         self.emit(Event::Period { d: end }, lines)?;
@@ -135,8 +132,7 @@ impl<P: HostPort, M: Ledger> PageState<P, M> {
     /// Starts an idle period, unless its start is delayed: no idle callback waits, the deadline is not after now, or the last period
     /// has not ended.
     pub fn start_period<L: Lines>(&mut self, lines: &mut L) -> Result<(), NoLine>
-        ensures { Does L.keeping (at self.old (L.seen lines.old)) (on_page model.start_period)
-            (result_err result) (at self.new (L.seen lines.new)) }
+        ensures { Makes L.Lines self.old lines.old model.start_period result self.new lines.new }
     {
         match self.period_to_start() {
             Some(end) => self.period_begun(end, lines),
@@ -148,8 +144,7 @@ impl<P: HostPort, M: Ledger> PageState<P, M> {
     ///
     /// Want of memory is told also where the time is 2^63 or more.
     pub fn idle_step<L: Lines>(&mut self, lines: &mut L) -> Result<(), NoLine>
-        ensures { Does L.keeping (at self.old (L.seen lines.old)) (on_page model.idle_step)
-            (result_err result) (at self.new (L.seen lines.new)) }
+        ensures { Makes L.Lines self.old lines.old model.idle_step result self.new lines.new }
     {
         if self.script.now().0 >= 1 << 63 {
             return Err(NoLine::OutOfMemory);
@@ -173,8 +168,7 @@ impl<P: HostPort, M: Ledger> PageState<P, M> {
 
     // The deadline of the idle period that starts now, none exactly where its start is delayed. Takes no memory.
     fn period_to_start(&self) -> Option<Micros>
-        ensures end { option_map (λ end. end.0) result
-            ≡ read_by (λ p. period_at p.now (next_due p.timers) (fields_of p)) self.now }
+        ensures end { option_map (λ end. end.0) result ≡ read_by period_now self.now }
         ensures in_range { IfSome result (λ end. end.0 < 2 ^ 63 + 50000) }
     {
         self.frames
@@ -203,8 +197,7 @@ impl<P: HostPort, M: Ledger> PageState<P, M> {
         lines: &mut L,
     ) -> Result<(), NoLine>
         requires { ms < 2 ^ 32 }
-        ensures { Does L.keeping (at self.old (L.seen lines.old)) (on_page (model.idle_timeout ms registration))
-            (result_err result) (at self.new (L.seen lines.new)) }
+        ensures { Makes L.Lines self.old lines.old (model.idle_timeout ms registration) result self.new lines.new }
     {
         let due = self.set_idle_timeout(ms, registration)?;
         self.emit(

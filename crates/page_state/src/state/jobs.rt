@@ -1,20 +1,16 @@
 //! The jobs of a page, the microtask checkpoint and the rejected promises.
 
-ghost use Rattle.std.specs.Prelude.{◌≡◌, None, Some, length, nat_lt, IfOk, IfErr, OnOk, slice_get};
+ghost use Rattle.std.specs.Prelude.{◌≡◌, length, nat_lt, IfOk, IfErr, OnOk, slice_get};
 ghost use Rattle.std.specs.Option.{option_map};
-ghost use Rattle.std.specs.Result.{result_err};
-ghost use Rattle.page_parts.specs.Notices as notices;
-ghost use Rattle.page_notices.specs.Seen.{current, waiting_seen};
+ghost use Rattle.page_notices.specs.Seen.{waiting_seen};
 ghost use Rattle.promise_core.specs.Seen.{settled_seen};
-ghost use Rattle.page_model.specs.State.{on_notices, context};
 ghost use Rattle.page_model.specs.Invoke as model;
 ghost use Rattle.page_model.specs.PageCombinators.{lead_into};
-ghost use Rattle.page_model.specs.Operations.{micro_registered};
 ghost use Rattle.page_model.specs.Tasks.{outstanding_if_unhandled};
 ghost use Rattle.page_script.specs.Jobs.{oldest_begun};
-ghost use Rattle.page_script.specs.Seen.{function_seen};
-ghost use Rattle.page_script.specs.ScriptActs as script_acts;
-ghost use Rattle.page_state.specs.PageActs.{at, on_page, changed_by, read_by, Does, IsWanted};
+ghost use Rattle.page_state.specs.PageActs.{changed_by, read_by, IsWanted};
+ghost use Rattle.page_state.specs.Makes.{Makes};
+ghost use Rattle.page_state.specs.JobActs.{checkpoint_left, script_changed, micro_made, micro_queued};
 
 use super::PageState;
 use page_base::Source;
@@ -32,8 +28,7 @@ impl<P: HostPort, M: Ledger> PageState<P, M> {
         callback: Func,
         lines: &mut L,
     ) -> Result<(), NoLine>
-        ensures { Does L.keeping (at self.old (L.seen lines.old)) (on_page (micro_registered (function_seen callback)))
-            (result_err result) (at self.new (L.seen lines.new)) }
+        ensures { Makes L.Lines self.old lines.old (micro_made callback) result self.new lines.new }
     {
         let registration = Registration {
             role: Role::Of(RegKind::Micro),
@@ -57,8 +52,7 @@ impl<P: HostPort, M: Ledger> PageState<P, M> {
     /// The oldest job leaves the queue, with its `run` line, and its nesting level and scheduling state are the current ones:
     /// in form 2 those that were current when it was queued, and else level 0 and no state. None exactly where no job waits.
     pub fn next_job<L: Lines>(&mut self, lines: &mut L) -> Result<Option<NextJob>, NoLine>
-        ensures does { Does L.keeping (at self.old (L.seen lines.old)) (on_page oldest_begun)
-            (result_err result) (at self.new (L.seen lines.new)) }
+        ensures does { Makes L.Lines self.old lines.old oldest_begun result self.new lines.new }
         ensures oldest { IfOk result (λ job. option_map waiting_seen job ≡ slice_get self.old.script.notices.jobs 0) }
     {
         self.script.next_job(lines)
@@ -72,8 +66,7 @@ impl<P: HostPort, M: Ledger> PageState<P, M> {
         how: Settled,
         lines: &mut L,
     ) -> Result<(), NoLine>
-        ensures { Does L.keeping (at self.old (L.seen lines.old)) (on_page (lead_into into (settled_seen how)))
-            (result_err result) (at self.new (L.seen lines.new)) }
+        ensures { Makes L.Lines self.old lines.old (lead_into into (settled_seen how)) result self.new lines.new }
     {
         self.script.lead_into(into, how, lines)
     }
@@ -95,8 +88,7 @@ impl<P: HostPort, M: Ledger> PageState<P, M> {
     /// A microtask checkpoint ends, and the nesting level and the scheduling state are these again. Where promises were
     /// rejected, a task is queued that notifies about them. The one error is want of memory.
     pub fn checkpoint_ended(&mut self, level: u32, state: Option<u32>) -> Result<(), NoLine>
-        ensures ended { OnOk result
-            (self.new ≡ changed_by (λ p. model.checkpoint_ended (model.under (current level state) p) p) self.old) }
+        ensures ended { OnOk result (self.new ≡ changed_by (checkpoint_left level state) self.old) }
         ensures memory { IfErr result (λ why. IsWanted why self.old self.new) }
     {
         let rejected = self.end_checkpoint(level, state);
@@ -123,19 +115,14 @@ impl<P: HostPort, M: Ledger> PageState<P, M> {
 
     // Queues the job of a microtask registration behind all others, with its line.
     fn queue_micro<L: Lines>(&mut self, r: u32, lines: &mut L) -> Result<(), NoLine>
-        ensures { Does L.keeping (at self.old (L.seen lines.old))
-            (on_page (λ p. on_notices (notices.queue_micro (context p) r) p))
-            (result_err result) (at self.new (L.seen lines.new)) }
+        ensures { Makes L.Lines self.old lines.old (micro_queued r) result self.new lines.new }
     {
         self.script.queue_micro(r, lines)
     }
 
     // A checkpoint ends in the script's part alone, which hands over the rejected promises to notify about.
     fn end_checkpoint(&mut self, level: u32, state: Option<u32>) -> Vec<u32>
-        ensures ended { self.new ≡ record self.old {
-          script = script_acts.changed_by
-              (λ p. model.checkpoint_ended (model.under (current level state) p) p) self.old.script;
-        } }
+        ensures ended { self.new ≡ script_changed (checkpoint_left level state) self.old }
         ensures rejected { result.items ≡ self.old.script.notices.rejected }
     {
         self.script.checkpoint_ended(level, state)

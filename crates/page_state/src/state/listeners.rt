@@ -1,14 +1,13 @@
 //! Listeners (DOM, "Interface EventTarget").
 ghost use Rattle.std.specs.Prelude.{◌≡◌, IfErr, IfOk, OnOk};
-ghost use Rattle.std.specs.Result.{result_err};
-ghost use Rattle.page_parts.specs.Listeners as heard;
 ghost use Rattle.page_model.specs.State.{last_registration};
 ghost use Rattle.page_model.specs.Operations as model;
 ghost use Rattle.page_events.specs.Dispatching.{next_listening, behind_next};
 ghost use Rattle.page_events.specs.Seen.{seen_target};
-ghost use Rattle.page_script.specs.Seen.{function_seen};
 ghost use Rattle.trace_text.specs.declared.lines.NoLine.TheVariants.{OutOfMemory};
-ghost use Rattle.page_state.specs.PageActs.{at, on_page, changed_by, read_by, Does, IsWanted};
+ghost use Rattle.page_state.specs.PageActs.{changed_by, read_by, IsWanted};
+ghost use Rattle.page_state.specs.Makes.{Makes};
+ghost use Rattle.page_state.specs.JobActs.{hears_at, listeners_at};
 ghost use Rattle.page_state.specs.SignalActs.{listening, unlistened, listener_dropped};
 
 use super::PageState;
@@ -28,9 +27,7 @@ impl<P: HostPort, M: Ledger> PageState<P, M> {
         callback: Func,
         lines: &mut L,
     ) -> Result<u32, NoLine>
-        ensures does { Does L.keeping (at self.old (L.seen lines.old))
-            (on_page (model.listener_added (seen_target target) name.now (function_seen callback)))
-            (result_err result) (at self.new (L.seen lines.new)) }
+        ensures does { Makes L.Lines self.old lines.old (hears_at target name.now callback) result self.new lines.new }
         ensures number { IfOk result (λ r. r ≡ read_by last_registration self.new) }
     {
         let registration = Registration {
@@ -48,8 +45,7 @@ impl<P: HostPort, M: Ledger> PageState<P, M> {
 
     /// A listener is removed, with its line. A number that is no listener's does nothing, as none of 2^32 or more is.
     pub fn listener_removed<L: Lines>(&mut self, number: u64, lines: &mut L) -> Result<(), NoLine>
-        ensures { Does L.keeping (at self.old (L.seen lines.old)) (on_page (model.listener_removed number))
-            (result_err result) (at self.new (L.seen lines.new)) }
+        ensures { Makes L.Lines self.old lines.old (model.listener_removed number) result self.new lines.new }
     {
         if !self.signals.is_listening_number(number) {
             return Ok(());
@@ -62,8 +58,7 @@ impl<P: HostPort, M: Ledger> PageState<P, M> {
 
     // A registration listens no more, with its line.
     fn drop_listener<L: Lines>(&mut self, r: u32, lines: &mut L) -> Result<(), NoLine>
-        ensures { Does L.keeping (at self.old (L.seen lines.old)) (on_page (listener_dropped r))
-            (result_err result) (at self.new (L.seen lines.new)) }
+        ensures { Makes L.Lines self.old lines.old (listener_dropped r) result self.new lines.new }
     {
         self.unlisten(r);
         self.emit(Event::Drop { r: r as u64 }, lines)
@@ -73,8 +68,7 @@ impl<P: HostPort, M: Ledger> PageState<P, M> {
     ///
     /// The one error is want of memory.
     pub fn begin_dispatch(&self, target: Target, name: &Str) -> Result<Dispatch, NoLine>
-        ensures listeners { IfOk result (λ dispatch.
-            dispatch ≡ read_by (λ p. heard.snapshot (seen_target target) name.now p.listeners) self.now) }
+        ensures listeners { IfOk result (λ dispatch. dispatch ≡ read_by (listeners_at target name.now) self.now) }
         ensures memory { IfErr result (λ why. why ≡ OutOfMemory) }
     {
         match self.signals.begin(target, name) {

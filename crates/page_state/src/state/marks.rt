@@ -1,12 +1,13 @@
 //! Reasons of aborts that are set, and the abort steps of registrations (DOM, "Interface AbortSignal").
 ghost use Rattle.std.specs.Prelude.{◌≡◌, map, IfErr, IfOk, OnOk};
-ghost use Rattle.std.specs.Result.{result_err};
 ghost use Rattle.page_types.specs.Events as events;
 ghost use Rattle.page_parts.specs.AbortGraph.{marked, the_signal};
 ghost use Rattle.page_values.specs.Seen.{seen};
 ghost use Rattle.page_model.specs.State.{emit_each};
 ghost use Rattle.page_model.specs.PageSignals as model;
-ghost use Rattle.page_state.specs.PageActs.{at, on_page, changed_by, read_by, Does, IsWanted};
+ghost use Rattle.page_model.specs.PageSignals.{abort_registrations as abort_in_order};
+ghost use Rattle.page_state.specs.PageActs.{changed_by, read_by, IsWanted};
+ghost use Rattle.page_state.specs.Makes.{Makes, Writes};
 ghost use Rattle.page_state.specs.AbortActs.{reason_marked, reason_silent, algorithms_taken};
 
 use super::PageState;
@@ -20,8 +21,7 @@ use trace_text::{Event, Lines, NoLine};
 impl<P: HostPort, M: Ledger> PageState<P, M> {
     /// The abort steps of the registrations of a signal, in the order in which they were added, which leaves it none.
     pub fn run_algorithms<L: Lines>(&mut self, s: u32, lines: &mut L) -> Result<(), NoLine>
-        ensures { Does L.keeping (at self.old (L.seen lines.old)) (on_page (model.run_algorithms s))
-            (result_err result) (at self.new (L.seen lines.new)) }
+        ensures { Makes L.Lines self.old lines.old (model.run_algorithms s) result self.new lines.new }
     {
         let reason = self.reason_value(s)?;
         let algorithms = self.take_algorithms(s);
@@ -38,8 +38,7 @@ impl<P: HostPort, M: Ledger> PageState<P, M> {
         reason: Value,
         lines: &mut L,
     ) -> Result<Vec<u32>, NoLine>
-        ensures does { Does L.keeping (at self.old (L.seen lines.old)) (on_page (reason_marked s (seen reason)))
-            (result_err result) (at self.new (L.seen lines.new)) }
+        ensures does { Makes L.Lines self.old lines.old (reason_marked s (seen reason)) result self.new lines.new }
         ensures signals { IfOk result (λ ss. ss.items ≡ read_by (λ p. marked s p.signals) self.old) }
     {
         let signals = self.set_reason(s, reason)?;
@@ -61,8 +60,7 @@ impl<P: HostPort, M: Ledger> PageState<P, M> {
 
     // An `abort` line for each of these signals.
     pub(crate) fn emit_aborts<L: Lines>(&self, signals: &[u32], lines: &mut L) -> Result<(), NoLine>
-        ensures { Does L.keeping (at self.now (L.seen lines.old)) (on_page (emit_each (map events.Abort signals.now)))
-            (result_err result) (at self.now (L.seen lines.new)) }
+        ensures { Writes L.Lines self.now lines.old (emit_each (map events.Abort signals.now)) result lines.new }
     {
         for s in signals {
             self.emit(Event::Abort { s: *s as u64 }, lines)?;
@@ -77,8 +75,7 @@ impl<P: HostPort, M: Ledger> PageState<P, M> {
         mut left: Algorithms,
         lines: &mut L,
     ) -> Result<(), NoLine>
-        ensures { Does L.keeping (at self.old (L.seen lines.old)) (on_page (model.abort_registrations (seen reason.now) left))
-            (result_err result) (at self.new (L.seen lines.new)) }
+        ensures { Makes L.Lines self.old lines.old (abort_in_order (seen reason.now) left) result self.new lines.new }
     {
         'registrations: while let Some(r) = left.next() {
             let reason = copied(self.alloc, reason)?;

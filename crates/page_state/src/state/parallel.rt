@@ -1,23 +1,22 @@
 //! What goes on in parallel (HTML, "Event loops: processing model").
 ghost use Rattle.std.specs.Prelude.{◌≡◌, ◌≢◌, ◌^◌, ◌<◌, IfErr, IfNone, IfOk, IfSome, OnOk, Some, is_some};
 ghost use Rattle.std.specs.Option.{option_map};
-ghost use Rattle.std.specs.Result.{result_err};
-ghost use Rattle.page_types.specs.Events.{Due};
 ghost use Rattle.page_types.specs.declared.Source.TheVariants.{Sched};
 ghost use Rattle.page_parts.specs.Words.{is_there};
-ghost use Rattle.page_model.specs.State.{emit, queue_task, the_registration};
+ghost use Rattle.page_model.specs.State.{the_registration};
 ghost use Rattle.page_model.specs.Parallel as model;
-ghost use Rattle.page_model.specs.Parallel.{FrameItem};
+ghost use Rattle.page_model.specs.Parallel.{FrameItem, complete};
 ghost use Rattle.page_model.specs.PageSignals.{is_aborted_source};
 ghost use Rattle.page_model.specs.Turns as turns;
 ghost use Rattle.arrivals_text.specs.SeenParts.{arrival_of};
-ghost use Rattle.page_tasks.specs.Seen.{prio_source, steps_of};
 ghost use Rattle.parallel_items.specs.Items.{TakenArrival, first_waiting, left_of, taken_of};
 ghost use Rattle.parallel_items.specs.Laws.{done_with};
 ghost use Rattle.parallel_items.specs.Seen.{completion_seen, taken_seen};
 ghost use Rattle.trace_text.specs.declared.lines.NoLine.TheVariants.{OutOfMemory};
-ghost use Rattle.page_state.specs.PageActs.{at, on_page, changed_by, read_by, Does, IsWanted};
-ghost use Rattle.page_state.specs.ItemActs.{item_taken, post_completed};
+ghost use Rattle.page_state.specs.PageActs.{changed_by, read_by, IsWanted};
+ghost use Rattle.page_state.specs.Makes.{Makes};
+ghost use Rattle.page_state.specs.DueActs.{due_queued, due_waiting, frame_item, is_item_due, post_enqueued};
+ghost use Rattle.page_state.specs.ItemActs.{item_taken};
 
 use super::PageState;
 use crate::moments::{is_before, sooner};
@@ -70,8 +69,7 @@ impl<P: HostPort, M: Ledger> PageState<P, M> {
         completion: Completion,
         lines: &mut L,
     ) -> Result<(), NoLine>
-        ensures { Does L.keeping (at self.old (L.seen lines.old)) (on_page (model.complete (completion_seen completion)))
-            (result_err result) (at self.new (L.seen lines.new)) }
+        ensures { Makes L.Lines self.old lines.old (complete (completion_seen completion)) result self.new lines.new }
     {
         match completion {
             Completion::QueueTimer(task) => self.queue_due(
@@ -98,8 +96,7 @@ impl<P: HostPort, M: Ledger> PageState<P, M> {
 
     /// Takes the parallel items that are due, the first one first.
     pub fn parallel<L: Lines>(&mut self, lines: &mut L) -> Result<(), NoLine>
-        ensures { Does L.keeping (at self.old (L.seen lines.old)) (on_page model.parallel)
-            (result_err result) (at self.new (L.seen lines.new)) }
+        ensures { Makes L.Lines self.old lines.old model.parallel result self.new lines.new }
     {
         'items: while self.take_item(lines)? {}
         Ok(())
@@ -107,9 +104,8 @@ impl<P: HostPort, M: Ledger> PageState<P, M> {
 
     /// Takes the first item, where it is due, and tells whether it was.
     pub fn take_item<L: Lines>(&mut self, lines: &mut L) -> Result<bool, NoLine>
-        ensures does { Does L.keeping (at self.old (L.seen lines.old)) (on_page item_taken)
-            (result_err result) (at self.new (L.seen lines.new)) }
-        ensures due { IfOk result (λ was_due. was_due ≡ read_by (λ p. is_there (model.due_item p.now (model.first_item p))) self.old) }
+        ensures does { Makes L.Lines self.old lines.old item_taken result self.new lines.new }
+        ensures due { IfOk result (λ was_due. was_due ≡ read_by is_item_due self.old) }
     {
         if let Some(frame) = self.first_frame() {
             return self.take_frame_item(frame);
@@ -119,7 +115,7 @@ impl<P: HostPort, M: Ledger> PageState<P, M> {
 
     // The next rendering opportunity, where it is the first of all items. Takes no memory.
     fn first_frame(&self) -> Option<Micros>
-        ensures some { IfSome result (λ t. read_by model.first_item self.now ≡ Some (record { due = t.0; what = FrameItem })) }
+        ensures some { IfSome result (λ t. read_by model.first_item self.now ≡ Some (frame_item t.0)) }
         ensures none { IfNone result (read_by model.first_item self.now ≡ first_waiting self.now.waiting) }
     {
         let frame = self.next_frame()?;
@@ -134,7 +130,7 @@ impl<P: HostPort, M: Ledger> PageState<P, M> {
     fn take_frame_item(&mut self, frame: Micros) -> Result<bool, NoLine>
         requires { read_by model.first_item self.old ≡ Some (record { due = frame.0; what = FrameItem }) }
         ensures taken { OnOk result (self.new ≡ changed_by item_taken self.old) }
-        ensures due { IfOk result (λ was_due. was_due ≡ read_by (λ p. is_there (model.due_item p.now (model.first_item p))) self.old) }
+        ensures due { IfOk result (λ was_due. was_due ≡ read_by is_item_due self.old) }
         ensures memory { IfErr result (λ why. IsWanted why self.old self.new) }
     {
         if self.script.now() < frame {
@@ -147,9 +143,8 @@ impl<P: HostPort, M: Ledger> PageState<P, M> {
     // Takes the first item that is no rendering opportunity, where it is due, and tells whether it was. It is the first of all.
     fn take_waiting<L: Lines>(&mut self, lines: &mut L) -> Result<bool, NoLine>
         requires { read_by model.first_item self.old ≡ first_waiting self.old.waiting }
-        ensures does { Does L.keeping (at self.old (L.seen lines.old)) (on_page item_taken)
-            (result_err result) (at self.new (L.seen lines.new)) }
-        ensures due { IfOk result (λ was_due. was_due ≡ read_by (λ p. is_there (model.due_item p.now (model.first_item p))) self.old) }
+        ensures does { Makes L.Lines self.old lines.old item_taken result self.new lines.new }
+        ensures due { IfOk result (λ was_due. was_due ≡ read_by is_item_due self.old) }
     {
         match self.take_due() {
             Some(taken) => {
@@ -162,20 +157,16 @@ impl<P: HostPort, M: Ledger> PageState<P, M> {
 
     // Takes the first item that is no rendering opportunity out, where it is due. Takes no memory.
     fn take_due(&mut self) -> Option<Taken>
-        ensures taken { option_map taken_seen result
-            ≡ taken_of (model.due_item self.old.script.now (first_waiting self.old.waiting)) self.old.waiting.completions }
-        ensures some { is_some result ≡ is_there (model.due_item self.old.script.now (first_waiting self.old.waiting)) }
-        ensures left { self.new ≡ record self.old {
-          waiting = left_of (model.due_item self.old.script.now (first_waiting self.old.waiting)) self.old.waiting;
-        } }
+        ensures taken { option_map taken_seen result ≡ taken_of (due_waiting self.old) self.old.waiting.completions }
+        ensures some { is_some result ≡ is_there (due_waiting self.old) }
+        ensures left { self.new ≡ record self.old { waiting = left_of (due_waiting self.old) self.old.waiting } }
     {
         self.items.take_due(self.script.now())
     }
 
     // Does what an item that was taken gives.
     fn do_taken<L: Lines>(&mut self, taken: Taken, lines: &mut L) -> Result<(), NoLine>
-        ensures { Does L.keeping (at self.old (L.seen lines.old)) (on_page (done_with (Some (taken_seen taken))))
-            (result_err result) (at self.new (L.seen lines.new)) }
+        ensures { Makes L.Lines self.old lines.old (done_with (Some (taken_seen taken))) result self.new lines.new }
     {
         match taken {
             Taken::Arrival(arrival) => self.queue_arrival(arrival),
@@ -207,9 +198,7 @@ impl<P: HostPort, M: Ledger> PageState<P, M> {
         lines: &mut L,
     ) -> Result<(), NoLine>
         requires { source ≢ Sched }
-        ensures { Does L.keeping (at self.old (L.seen lines.old))
-            (on_page (λ p. queue_task source (steps_of steps) (emit (Due registration) p)))
-            (result_err result) (at self.new (L.seen lines.new)) }
+        ensures { Makes L.Lines self.old lines.old (due_queued source steps registration) result self.new lines.new }
     {
         self.emit(
             Event::Due {
@@ -245,8 +234,7 @@ impl<P: HostPort, M: Ledger> PageState<P, M> {
         source: PrioSource,
         lines: &mut L,
     ) -> Result<(), NoLine>
-        ensures { Does L.keeping (at self.old (L.seen lines.old)) (on_page (post_completed registration (prio_source source)))
-            (result_err result) (at self.new (L.seen lines.new)) }
+        ensures { Makes L.Lines self.old lines.old (post_enqueued registration source) result self.new lines.new }
     {
         let is_aborted = self.is_registration_aborted(registration);
         self.emit(

@@ -1,20 +1,20 @@
 //! The promises of a page: making and settling them, and giving them handlers.
 
-ghost use Rattle.std.specs.Prelude.{◌≡◌, ◌↔◌, ◌<◌, ◌≤◌, length, IfOk, IfErr, OnOk, IsTrue, MatchOption, None, Some};
-ghost use Rattle.std.specs.Result.{result_err};
+ghost use Rattle.std.specs.Prelude.{◌≡◌, ◌↔◌, ◌<◌, length, IfOk, IfErr, OnOk, IsTrue};
 ghost use Rattle.page_parts.specs.Words.{has_number};
-ghost use Rattle.page_parts.specs.Kinds.{func_in};
 ghost use Rattle.page_parts.specs.Promises.{settled_value};
 ghost use Rattle.page_parts.specs.Notices.{is_outstanding};
-ghost use Rattle.page_values.specs.Seen.{seen};
 ghost use Rattle.page_values.specs.Written.{IsNumbered};
 ghost use Rattle.promise_core.specs.Held.{IsMade};
 ghost use Rattle.promise_core.specs.Seen.{settled_seen, reaction_seen};
 ghost use Rattle.page_notices.specs.Steps.{held};
 ghost use Rattle.page_model.specs.PagePromises as model;
-ghost use Rattle.page_model.specs.Operations.{script_promise, then_made, finally_made};
+ghost use Rattle.page_model.specs.PagePromises.{subscribe};
+ghost use Rattle.page_model.specs.Operations.{script_promise};
 ghost use Rattle.page_script.specs.Marks.{settled_at_once};
-ghost use Rattle.page_state.specs.PageActs.{at, on_page, changed_by, read_by, Does, IsWanted};
+ghost use Rattle.page_state.specs.PageActs.{changed_by, read_by, IsWanted};
+ghost use Rattle.page_state.specs.Makes.{Makes};
+ghost use Rattle.page_state.specs.JobActs.{outcome_now, IsOutcome};
 ghost use Rattle.page_state.specs.Handling.{told_if, reacted};
 
 use super::PageState;
@@ -81,8 +81,7 @@ impl<P: HostPort, M: Ledger> PageState<P, M> {
 
     /// How a promise was settled, and None exactly while it is pending or where it was never made. Takes no memory.
     pub fn outcome(&self, p: u32) -> Option<&Settled>
-        ensures { MatchOption result (read_by (λ q. (model.promise_at q p).outcome) self.now ≡ None)
-            (λ how. read_by (λ q. (model.promise_at q p).outcome) self.now ≡ Some (settled_seen how.now)) }
+        ensures { IsOutcome result (read_by (outcome_now p) self.now) }
     {
         self.script.outcome(p)
     }
@@ -100,8 +99,7 @@ impl<P: HostPort, M: Ledger> PageState<P, M> {
     ///
     /// It costs what the spelling of the value and the promise's own reactions cost.
     pub fn settle<L: Lines>(&mut self, p: u32, how: Settled, lines: &mut L) -> Result<(), NoLine>
-        ensures { Does L.keeping (at self.old (L.seen lines.old)) (on_page (model.settle p (settled_seen how)))
-            (result_err result) (at self.new (L.seen lines.new)) }
+        ensures { Makes L.Lines self.old lines.old (model.settle p (settled_seen how)) result self.new lines.new }
     {
         if !self.script.may_settle(p, &how) {
             return Err(NoLine::OutOfMemory);
@@ -112,8 +110,7 @@ impl<P: HostPort, M: Ledger> PageState<P, M> {
     /// Settles a pending promise as the promise was that it was resolved with, also where it is locked, and leaves a settled
     /// one. The lines, the jobs and the cost are those of [`PageState::settle`].
     pub fn follow<L: Lines>(&mut self, p: u32, how: Settled, lines: &mut L) -> Result<(), NoLine>
-        ensures { Does L.keeping (at self.old (L.seen lines.old)) (on_page (model.follow p (settled_seen how)))
-            (result_err result) (at self.new (L.seen lines.new)) }
+        ensures { Makes L.Lines self.old lines.old (model.follow p (settled_seen how)) result self.new lines.new }
     {
         if !self.script.may_settle(p, &how) {
             return Err(NoLine::OutOfMemory);
@@ -124,8 +121,7 @@ impl<P: HostPort, M: Ledger> PageState<P, M> {
     /// Makes a promise which is settled at once, and answers its number, as [`PageState::new_promise`] and
     /// [`PageState::settle`] do.
     pub fn new_settled<L: Lines>(&mut self, how: Settled, lines: &mut L) -> Result<u32, NoLine>
-        ensures does { Does L.keeping (at self.old (L.seen lines.old)) (on_page (settled_at_once (settled_seen how)))
-            (result_err result) (at self.new (L.seen lines.new)) }
+        ensures does { Makes L.Lines self.old lines.old (settled_at_once (settled_seen how)) result self.new lines.new }
         ensures number { IfOk result (λ p. p ≡ read_by model.last_promise self.new) }
     {
         if self.script.promises_made() == u32::MAX || !self.is_named(&how) {
@@ -143,8 +139,7 @@ impl<P: HostPort, M: Ledger> PageState<P, M> {
         reaction: Reaction,
         lines: &mut L,
     ) -> Result<(), NoLine>
-        ensures { Does L.keeping (at self.old (L.seen lines.old)) (on_page (model.subscribe p (reaction_seen reaction)))
-            (result_err result) (at self.new (L.seen lines.new)) }
+        ensures { Makes L.Lines self.old lines.old (subscribe p (reaction_seen reaction)) result self.new lines.new }
     {
         let outstanding = self.react(p, reaction, lines)?;
         self.tell_handled(outstanding, p)
@@ -163,8 +158,7 @@ impl<P: HostPort, M: Ledger> PageState<P, M> {
 
     // Gives a promise a reaction, and answers whether it was outstanding.
     fn react<L: Lines>(&mut self, p: u32, reaction: Reaction, lines: &mut L) -> Result<bool, NoLine>
-        ensures does { Does L.keeping (at self.old (L.seen lines.old)) (on_page (reacted p (reaction_seen reaction)))
-            (result_err result) (at self.new (L.seen lines.new)) }
+        ensures does { Makes L.Lines self.old lines.old (reacted p (reaction_seen reaction)) result self.new lines.new }
         ensures was { IfOk result (λ was. was ≡ is_outstanding p self.old.script.notices) }
     {
         if !self.script.is_promise(p) {

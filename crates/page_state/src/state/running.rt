@@ -1,8 +1,7 @@
 //! The time of a page, its turns, what is current, and the messages that it posted.
 
-ghost use Rattle.std.specs.Prelude.{◌≡◌, suc, length, map, IfErr, OnOk};
-ghost use Rattle.std.specs.Result.{result_err};
-ghost use Rattle.page_types.specs.Events.{Turn, Wait, EndLine};
+ghost use Rattle.std.specs.Prelude.{◌≡◌, length, map, IfErr, OnOk};
+ghost use Rattle.page_types.specs.Events.{EndLine};
 ghost use Rattle.page_values.specs.Seen.{seen};
 ghost use Rattle.page_notices.specs.Seen.{current};
 ghost use Rattle.page_model.specs.State as model;
@@ -11,7 +10,9 @@ ghost use Rattle.page_model.specs.Operations.{posted, posts_taken};
 ghost use Rattle.page_model.specs.Turns.{at_time};
 ghost use Rattle.page_model.specs.Invoke.{under};
 ghost use Rattle.page_script.specs.Seen.{state_seen, post_seen};
-ghost use Rattle.page_state.specs.PageActs.{at, on_page, changed_by, read_by, Does, IsWanted};
+ghost use Rattle.page_state.specs.PageActs.{changed_by, read_by, IsWanted};
+ghost use Rattle.page_state.specs.Makes.{Makes, Writes};
+ghost use Rattle.page_state.specs.JobActs.{turn_counted, wait_over};
 
 use super::PageState;
 use page_base::{End, Micros, Source};
@@ -50,9 +51,7 @@ impl<P: HostPort, M: Ledger> PageState<P, M> {
         source: Option<Source>,
         lines: &mut L,
     ) -> Result<(), NoLine>
-        ensures { Does L.keeping (at self.old (L.seen lines.old))
-            (on_page (λ p. model.emit (Turn (suc p.turns) source) (record p { turns = suc p.turns })))
-            (result_err result) (at self.new (L.seen lines.new)) }
+        ensures { Makes L.Lines self.old lines.old (turn_counted source) result self.new lines.new }
     {
         if self.script.turns() == u64::MAX {
             return Err(NoLine::OutOfMemory);
@@ -67,16 +66,14 @@ impl<P: HostPort, M: Ledger> PageState<P, M> {
         time: Micros,
         lines: &mut L,
     ) -> Result<(), NoLine>
-        ensures { Does L.keeping (at self.old (L.seen lines.old)) (on_page (λ p. model.emit (Wait target.0) (at_time time.0 p)))
-            (result_err result) (at self.new (L.seen lines.new)) }
+        ensures { Makes L.Lines self.old lines.old (wait_over target.0 time.0) result self.new lines.new }
     {
         self.script.mark_wait(target, time, lines)
     }
 
     /// The run ends, with its line.
     pub fn finish<L: Lines>(&self, end: End, lines: &mut L) -> Result<(), NoLine>
-        ensures { Does L.keeping (at self.now (L.seen lines.old)) (on_page (model.emit (EndLine end)))
-            (result_err result) (at self.now (L.seen lines.new)) }
+        ensures { Writes L.Lines self.now lines.old (model.emit (EndLine end)) result lines.new }
     {
         self.script.finish(end, lines)
     }
@@ -153,8 +150,7 @@ impl<P: HostPort, M: Ledger> PageState<P, M> {
 
     /// Posts a message on a port, with its line (HTML, "Posting messages").
     pub fn posted<L: Lines>(&mut self, port: u32, value: Value, lines: &mut L) -> Result<(), NoLine>
-        ensures { Does L.keeping (at self.old (L.seen lines.old)) (on_page (posted port (seen value)))
-            (result_err result) (at self.new (L.seen lines.new)) }
+        ensures { Makes L.Lines self.old lines.old (posted port (seen value)) result self.new lines.new }
     {
         if !self.script.is_numbered(&value) {
             return Err(NoLine::OutOfMemory);

@@ -1,13 +1,13 @@
 //! Signals and their priorities (DOM, "Interface AbortSignal"; Prioritized Task Scheduling, "The TaskSignal Interface").
 ghost use Rattle.std.specs.Prelude.{◌≡◌, IfErr, IfOk, OnOk};
-ghost use Rattle.std.specs.Result.{result_err};
 ghost use Rattle.page_parts.specs.AbortGraph as graph;
 ghost use Rattle.page_parts.specs.TaskSignals as prios;
 ghost use Rattle.page_model.specs.Operations as model;
 ghost use Rattle.page_model.specs.PageSignals.{is_aborted, is_aborted_source, give_priority, reason_value};
 ghost use Rattle.page_values.specs.Seen.{seen};
 ghost use Rattle.trace_text.specs.declared.lines.NoLine.TheVariants.{OutOfMemory};
-ghost use Rattle.page_state.specs.PageActs.{at, on_page, changed_by, read_by, Does, IsWanted};
+ghost use Rattle.page_state.specs.PageActs.{changed_by, read_by, IsWanted};
+ghost use Rattle.page_state.specs.Makes.{Makes};
 ghost use Rattle.page_state.specs.SignalActs.{priority_given, depending};
 
 use super::PageState;
@@ -83,8 +83,7 @@ impl<P: HostPort, M: Ledger> PageState<P, M> {
         priority: Priority,
         lines: &mut L,
     ) -> Result<(), NoLine>
-        ensures { Does L.keeping (at self.old (L.seen lines.old)) (on_page (give_priority s priority))
-            (result_err result) (at self.new (L.seen lines.new)) }
+        ensures { Makes L.Lines self.old lines.old (give_priority s priority) result self.new lines.new }
     {
         self.give(s, priority)?;
         self.emit(
@@ -103,8 +102,7 @@ impl<P: HostPort, M: Ledger> PageState<P, M> {
         priority: Priority,
         lines: &mut L,
     ) -> Result<u32, NoLine>
-        ensures does { Does L.keeping (at self.old (L.seen lines.old)) (on_page (model.task_signal_made priority))
-            (result_err result) (at self.new (L.seen lines.new)) }
+        ensures does { Makes L.Lines self.old lines.old (model.task_signal_made priority) result self.new lines.new }
         ensures number { IfOk result (λ s. s ≡ read_by model.last_signal self.new) }
     {
         let s = self.make_signal()?;
@@ -123,8 +121,7 @@ impl<P: HostPort, M: Ledger> PageState<P, M> {
         follows: Option<u32>,
         lines: &mut L,
     ) -> Result<u32, NoLine>
-        ensures does { Does L.keeping (at self.old (L.seen lines.old)) (on_page (model.any_made of.now priority follows))
-            (result_err result) (at self.new (L.seen lines.new)) }
+        ensures does { Makes L.Lines self.old lines.old (model.any_made of.now priority follows) result self.new lines.new }
         ensures number { IfOk result (λ s. s ≡ read_by model.last_signal self.new) }
     {
         let s = self.any(of)?;

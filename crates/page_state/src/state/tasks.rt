@@ -1,7 +1,6 @@
 //! Queued tasks of the task sources and of the scheduler (HTML, "Event loops: definitions"; Prioritized Task Scheduling, "Scheduling
 //! Tasks and Continuations").
-ghost use Rattle.std.specs.Prelude.{◌≡◌, ◌≢◌, ◌≤◌, ◌+◌, ℕ, suc, map, IfErr, IfNone, IfOk, IfSome, OnOk, option_map};
-ghost use Rattle.std.specs.Result.{result_err};
+ghost use Rattle.std.specs.Prelude.{◌≡◌, ◌≢◌, ◌≤◌, ℕ, suc, map, IfErr, IfNone, IfOk, IfSome, OnOk, option_map};
 ghost use Rattle.page_types.specs.declared.Source.TheVariants.{Sched};
 ghost use Rattle.page_parts.specs.Sources.{default_list};
 ghost use Rattle.page_parts.specs.TaskSignals.{priority_of};
@@ -14,9 +13,10 @@ ghost use Rattle.post_task.specs.declared.level.PrioSource.TheVariants.{Signal};
 ghost use Rattle.page_tasks.specs.Queued.{runnables, taken};
 ghost use Rattle.page_tasks.specs.Seen.{prio_source, sched_task};
 ghost use Rattle.trace_text.specs.EventSeen.{queue_seen};
-ghost use Rattle.page_state.specs.PageActs.{at, on_page, changed_by, read_by, Does, IsWanted};
+ghost use Rattle.page_state.specs.PageActs.{changed_by, read_by, IsWanted};
+ghost use Rattle.page_state.specs.Makes.{EnqueuesTask};
 ghost use Rattle.page_state.specs.Pooled.{HoldsTasks, spare_of};
-ghost use Rattle.page_state.specs.Selecting.{sched_put};
+ghost use Rattle.page_state.specs.Selecting.{sched_put as added};
 
 use super::PageState;
 use crate::scheduling::make_room;
@@ -64,8 +64,7 @@ impl<P: HostPort, M: Ledger> PageState<P, M> {
         continuation: bool,
         lines: &mut L,
     ) -> Result<(), NoLine>
-        ensures { Does L.keeping (at self.old (L.seen lines.old)) (on_page (model.enqueue registration (prio_source source) continuation))
-            (result_err result) (at self.new (L.seen lines.new)) }
+        ensures { EnqueuesTask L.Lines self.old lines.old registration source continuation result self.new lines.new }
     {
         let n = self.put_sched(registration, source, continuation)?;
         self.emit(
@@ -111,7 +110,7 @@ impl<P: HostPort, M: Ledger> PageState<P, M> {
         continuation: bool,
     ) -> Result<u64, NoLine>
         ensures order { IfOk result (λ n. n ≡ suc self.old.tasks.tasks_made) }
-        ensures put { OnOk result (self.new ≡ changed_by (sched_put registration (prio_source source) continuation) self.old) }
+        ensures put { OnOk result (self.new ≡ changed_by (added registration (prio_source source) continuation) self.old) }
         ensures memory { IfErr result (λ why. IsWanted why self.old self.new) }
     {
         if self.tasks.made() == u64::MAX || self.tasks.has_sched(registration) {

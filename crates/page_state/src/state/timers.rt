@@ -1,12 +1,13 @@
 //! Timers (HTML, "Timers").
-ghost use Rattle.std.specs.Prelude.{◌≡◌, ◌+◌, ◌*◌, ◌^◌, ◌<◌, IfOk, IfErr, OnOk, IsTrue, true};
+ghost use Rattle.std.specs.Prelude.{◌≡◌, ◌^◌, ◌<◌, IfOk, IfErr, OnOk, IsTrue};
 ghost use Rattle.std.specs.Option.{option_map};
-ghost use Rattle.std.specs.Result.{result_err};
 ghost use Rattle.page_parts.specs.Timers as parts;
 ghost use Rattle.page_model.specs.PageTime as model;
 ghost use Rattle.timer_map.specs.Seen.{seen_armed};
 ghost use Rattle.parallel_items.specs.Seen.{completion_seen};
-ghost use Rattle.page_state.specs.PageActs.{at, on_page, changed_by, read_by, Does, IsWanted};
+ghost use Rattle.page_state.specs.PageActs.{changed_by, read_by, IsWanted};
+ghost use Rattle.page_state.specs.Makes.{Makes, InitsTimer};
+ghost use Rattle.page_state.specs.DueActs.{armed_now};
 ghost use Rattle.page_state.specs.TimeActs.{timer_set, timer_dropped, MayArm, MayStart};
 
 use super::PageState;
@@ -75,8 +76,7 @@ impl<P: HostPort, M: Ledger> PageState<P, M> {
         timeout: i64,
         lines: &mut L,
     ) -> Result<(), NoLine>
-        ensures { Does L.keeping (at self.old (L.seen lines.old)) (on_page (model.init_timer again registration repeats timeout))
-            (result_err result) (at self.new (L.seen lines.new)) }
+        ensures { InitsTimer L.Lines self.old lines.old again registration repeats timeout result self.new lines.new }
     {
         let armed = self.arm(again, registration, repeats, timeout)?;
         self.emit(
@@ -92,8 +92,7 @@ impl<P: HostPort, M: Ledger> PageState<P, M> {
     /// `clearTimeout()` and `clearInterval()`: the id leaves the map with the line of its registration, where it is there. A number of
     /// 2^32 or more is no id.
     pub fn clear_timer<L: Lines>(&mut self, number: u64, lines: &mut L) -> Result<(), NoLine>
-        ensures { Does L.keeping (at self.old (L.seen lines.old)) (on_page (model.clear_timer number))
-            (result_err result) (at self.new (L.seen lines.new)) }
+        ensures { Makes L.Lines self.old lines.old (model.clear_timer number) result self.new lines.new }
     {
         if !self.has_timer_number(number) {
             return Ok(());
@@ -113,8 +112,7 @@ impl<P: HostPort, M: Ledger> PageState<P, M> {
 
     // An id leaves the map, with the line of its registration.
     fn drop_timer<L: Lines>(&mut self, id: u32, lines: &mut L) -> Result<(), NoLine>
-        ensures { Does L.keeping (at self.old (L.seen lines.old)) (on_page (timer_dropped id))
-            (result_err result) (at self.new (L.seen lines.new)) }
+        ensures { Makes L.Lines self.old lines.old (timer_dropped id) result self.new lines.new }
     {
         let r = self.registration_with_id(id);
         self.clear_id(id);
@@ -139,8 +137,7 @@ impl<P: HostPort, M: Ledger> PageState<P, M> {
         repeats: bool,
         timeout: i64,
     ) -> Result<Armed, NoLine>
-        ensures armed { IfOk result
-            (λ armed. seen_armed armed ≡ read_by (λ p. parts.armed again timeout p.level p.now p.timers) self.old) }
+        ensures armed { IfOk result (λ armed. seen_armed armed ≡ read_by (armed_now again timeout) self.old) }
         ensures set { OnOk result (self.new ≡ changed_by (timer_set again registration repeats timeout) self.old) }
         ensures memory { IfErr result (λ why. IsWanted why self.old self.new) }
     {
