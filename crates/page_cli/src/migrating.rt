@@ -3,7 +3,6 @@
 ghost use Rattle.std.specs.Prelude.{◌≡◌, ◌≤◌, ◌<◌, ◌^◌, length};
 ghost use Rattle.page_types.specs.declared.End.{End};
 ghost use Rattle.page_types.specs.Counts.{Rose};
-ghost use Rattle.page_model.specs.PageTrace.{told_more};
 ghost use Rattle.host_jobs.specs.ToldTable.{closures_of};
 ghost use Rattle.trace_check.specs.declared.verdict.Verdict.TheVariants.{Yes};
 ghost use Rattle.page_cli.specs.declared.answer.WhichFile.{WhichFile};

@@ -2,7 +2,6 @@
 
 ghost use Rattle.std.specs.Prelude.{◌≡◌, ◌≤◌, ◌<◌, ◌^◌, length};
 ghost use Rattle.page_types.specs.Counts.{Rose};
-ghost use Rattle.page_base.specs.Readings.{AreShort};
 ghost use Rattle.host_jobs.specs.ToldTable.{closures_of};
 ghost use Rattle.page_cli.specs.declared.answer.WhichFile.{WhichFile};
 ghost use Rattle.page_cli.specs.Refusals.{answer_to_file};

@@ -1,13 +1,11 @@
 //! Running a storm, and counting the lines of its trace.
 
 ghost use Rattle.std.specs.Prelude.{◌≡◌, ◌≤◌, ◌<◌, ◌^◌, length, IfOk, IfErr, IfSome};
-ghost use Rattle.page_types.specs.declared.End.{End};
 ghost use Rattle.page_types.specs.Counts.{Rose};
 ghost use Rattle.host_jobs.specs.ToldTable.{closures_of};
 ghost use Rattle.trace_text.specs.Summaries.{summarised};
-ghost use Rattle.page_gen.specs.Storm.{storm_script, storm_arrivals};
 ghost use Rattle.page_cli.specs.declared.answer.WhichFile.{WhichFile};
-ghost use Rattle.page_cli.specs.Answering.{IsRefusal, IsRun};
+ghost use Rattle.page_cli.specs.Answering.{IsRefusal};
 ghost use Rattle.page_cli.specs.Stormed.{AnswersStorm, AnswersCounts};
 ghost use Rattle.page_cli.specs.Pages.{IsStormSummary, IsSummaryOf};
 
