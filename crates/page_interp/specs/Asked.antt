@@ -1,5 +1,5 @@
 -- What a run comes to where the host is asked with no frame for what asks.
-use Rattle.std.specs.Prelude.{◌≡◌, ℕ, ◌≤◌, false, List, [], ◌∷◌, ◌++◌, Some, Result, Vec, Ok}
+use Rattle.std.specs.Prelude.{◌≡◌, ℕ, ◌≤◌, Bool, true, false, List, [], ◌∷◌, ◌++◌, Option, Some, Result, Vec, Ok, IfOk, IfErr, IfSome, IsTrue}
 use Rattle.std.specs.declared.alloc.Global.{Global}
 use Rattle.std.specs.Borrow.{Bor}
 use Rattle.page_types.specs.Counts.{Rose}
@@ -9,7 +9,7 @@ use Rattle.page_types.specs.declared.Op.{Op}
 use Rattle.page_values.specs.declared.Value.{Value}
 use Rattle.page_values.specs.Seen.{seen}
 use Rattle.page_values.specs.Written.{IsNumbered}
-use Rattle.lang_ast.specs.Hosts.{HostNow}
+use Rattle.lang_ast.specs.Hosts.{HostNow, GivesValue}
 use Rattle.lang_ast.specs.declared.program.Program as Code
 use Rattle.lang_ast.specs.declared.tree.Named.{Named}
 use Rattle.lang_ast.specs.declared.tree.Expr.{Expr}
@@ -27,7 +27,7 @@ use Rattle.page_interp.specs.declared.stack.Frame.TheVariants as frame
 use Rattle.page_interp.specs.AtOnce.{Assigns, Leads, turned}
 use Rattle.page_interp.specs.Clauses.{script}
 use Rattle.page_interp.specs.Frames.{Place, HaveTurns, Gets, Stood, Finishes, Steps, does, place, stacked, steps_left}
-use Rattle.page_interp.specs.Direct.{direct_there}
+use Rattle.page_interp.specs.Direct.{NameHolds, direct_there}
 use Rattle.page_interp.specs.Runs.{IsUnsettled}
 use Rattle.page_interp.specs.StackClauses.{AreFound, IsStanding, stand}
 
@@ -62,6 +62,12 @@ pub record CallsPlainly {T : Type 0} (rules : HostRules T) (code : Code.Program)
   pub plain : is_busy op ≡ false
   pub found : AreFound rules code store current args vs
 
+-- the same of an operation and its values together
+abbrev pub IsPlainCall : {T : Type 0} → HostRules T → Code.Program → Store → Current → Named
+    → (args : List Expr) → Op × Vec Value Global → Type 0
+IsPlainCall rules code store current name args = λ found.
+    CallsPlainly rules code store current name args found.0 found.1
+
 -- the same of two arguments: the first is a variable of the name of the target, the second has this value
 pub record HasOwnFirst (code : Code.Program) (store : Store) (current : Current)
     (target name : Named) (args : List Expr) (op : Op) (v : Value) : Type 0 where
@@ -73,6 +79,12 @@ pub record HasOwnFirst (code : Code.Program) (store : Store) (current : Current)
   pub both : args ≡ tree.Name own ∷ second.now ∷ []
   pub value : direct_there code store current second.now ≡ Some (seen v)
 
+-- the same of an operation and the second value together
+abbrev pub IsBesideOwn : Code.Program → Store → Current → (target name : Named)
+    → (args : List Expr) → Op × Value → Type 0
+IsBesideOwn code store current target name args = λ found.
+    HasOwnFirst code store current target name args found.0 found.1
+
 -- the same of one argument, which is lent
 pub record LooksAt (code : Code.Program) (store : Store) (current : Current)
     (name : Named) (args : List Expr) (op : Op) (v : Value) : Type 0 where
@@ -82,6 +94,12 @@ pub record LooksAt (code : Code.Program) (store : Store) (current : Current)
   pub one : args ≡ only.now ∷ []
   pub value : direct_there code store current only.now ≡ Some (seen v)
 
+-- the same of an operation and the value together
+abbrev pub IsPlainLook : Code.Program → Store → Current → Named → (args : List Expr)
+    → Op × Bor Value → Type 0
+IsPlainLook code store current name args = λ found.
+    LooksAt code store current name args found.0 found.1.now
+
 -- two values in a row
 pub record ArePair (a b : Value) (vs : Vec Value Global) : Type 0 where
   pub none : Vec Value Global
@@ -89,6 +107,14 @@ pub record ArePair (a b : Value) (vs : Vec Value Global) : Type 0 where
   pub first : Vec Value Global
   pub one : first.items ≡ none.items ++ a ∷ []
   pub both : vs.items ≡ first.items ++ b ∷ []
+
+-- where this is true, the host is sure to answer the operation on what the variable holds and this
+-- value
+abbrev pub IsSureOfOwn : {T S : Type 0} → Bool → HostRules T → Code.Program → Store → Current
+    → Named → Op → (second : Value) → HostNow T S → Type 0
+IsSureOfOwn result rules code store current own op second h =
+    IsTrue result → (v : Value) → NameHolds code store current own.name (seen v) →
+    GivesValue rules op (seen v ∷ seen second ∷ []) h
 
 -- ---- Places
 
@@ -145,6 +171,29 @@ abbrev pub ExprStops : {T S : Type 0} → HostRules T → (Ask → T → T → T
 ExprStops rules leaves code e store current h h' store' = λ x.
     (fs : List Frame) (expr : Bor Expr) → expr.now ≡ e →
     StopsFrom rules leaves (script code) h (place store current fs (focus.Expr expr)) x h' store'
+
+-- where a value is found, the expression comes to it
+abbrev pub FindsByAsk : {Self T S : Type 0} → HostRules T → (Ask → T → T → Type 0)
+    → (now : Self → HostNow T S) → Code.Program → Expr → Store → Current
+    → Self → Result (Option Value) (Exit S) → Self → Type 0
+FindsByAsk rules leaves now code e store current host result host' =
+    IfOk result (λ o. IfSome o (λ v.
+    ExprAsks rules leaves code e store current (now host) v (now host')))
+
+-- where it is done, the expression comes to some value
+abbrev pub DoneByAsk : {Self T S : Type 0} → HostRules T → (Ask → T → T → Type 0)
+    → (now : Self → HostNow T S) → Code.Program → Expr → Store → Current
+    → Self → Result Bool (Exit S) → Self → Type 0
+DoneByAsk rules leaves now code e store current host result host' =
+    IfOk result (λ done. done ≡ true →
+    (v : Value) × ExprAsks rules leaves code e store current (now host) v (now host'))
+
+-- where there is no result, the run ends at the expression, and the store is as before
+abbrev pub StopsInExpr : {X Self T S : Type 0} → Result X (Exit S) → HostRules T
+    → (Ask → T → T → Type 0) → (now : Self → HostNow T S) → Code.Program → Expr
+    → Store → Current → (old new : Self) → Type 0
+StopsInExpr result rules leaves now code e store current old new =
+    IfErr result (ExprStops rules leaves code e store current (now old) (now new) store)
 
 -- ---- The statements of a block
 

@@ -1,11 +1,14 @@
 -- What an expression gives where it calls nothing and nothing is thrown.
-use Rattle.std.specs.Prelude.{◌≡◌, ℕ, ℤ, Bool, true, false, List, Option, Some, None, Ok, Err}
+use Rattle.std.specs.Prelude.{◌≡◌, ℕ, ℤ, Bool, true, false, List, Option, Some, None, Result, Ok, Err, IfOk, IfSome}
 use Rattle.std.specs.Option.{option_and_then}
+use Rattle.std.specs.Borrow.{Bor}
 use Rattle.page_types.specs.Values.{Value, IntValue, BoolValue, TextValue}
 use Rattle.page_types.specs.Tree.{Expr, Compare, Sum, Product, Post, Number, TextLiteral, TrueLiteral, FalseLiteral, Name, Paren, Exprs, no_exprs, with_expr, SumParts, no_terms, with_term, ProductParts, no_factors, with_factor}
 use Rattle.page_types.specs.declared.CompareSign.{CompareSign}
 use Rattle.page_types.specs.declared.SumSign.{SumSign}
 use Rattle.page_types.specs.declared.ProductSign.{ProductSign}
+use Rattle.page_values.specs.declared.Value.{Value as HeldValue}
+use Rattle.page_values.specs.Seen.{seen}
 use Rattle.lang_meaning.specs.Evaluation.{Answer, sum_answer, product_answer, compare_answer, item_answer}
 use Rattle.lang_ast.specs.declared.program.Program as Code
 use Rattle.lang_ast.specs.declared.tree.Expr as Syntax
@@ -82,6 +85,12 @@ abbrev pub PlacesGive : Code.Program → Store → Current → List Syntax.Expr
 PlacesGive script store current es list v =
     direct_item (names_there script store current) (seen_exprs es) list ≡ Some v
 
+-- the same of values of the code
+abbrev pub LeadToItem : Code.Program → Store → Current → List Syntax.Expr
+    → (list : HeldValue) → Bor HeldValue → Type 0
+LeadToItem script store current es list = λ v.
+    PlacesGive script store current es (seen list) (seen v.now)
+
 -- the further terms lead from the first sum to the second one
 abbrev pub TermsGive : Code.Program → Store → Current → List (SumSign × Syntax.Expr)
     → (first total : ℤ) → Type 0
@@ -103,6 +112,12 @@ SumGives script store current first terms v =
     and_so (direct_there script store current first)
     (direct_sum (names_there script store current) (seen_terms terms))
     ≡ Some v
+
+-- where a value is found, they give it
+abbrev pub FindsSum : {X : Type 0} → Result (Option HeldValue) X → Code.Program → Store → Current
+    → (first : Syntax.Expr) → List (SumSign × Syntax.Expr) → Type 0
+FindsSum result script store current first terms =
+    IfOk result (λ o. IfSome o (λ v. SumGives script store current first terms (seen v)))
 
 -- the two expressions compare so
 abbrev pub ComparesTo : Code.Program → Store → Current → (left : Syntax.Expr) → CompareSign

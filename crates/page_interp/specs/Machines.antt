@@ -67,6 +67,14 @@ Means rules before fuel host fun args result after left host_after =
     Is (call_does rules (program_in before) fun args (state_of before fuel host)) (ran_left result)
     (state_of after left host_after)
 
+-- the same of hosts, of which this is told
+abbrev pub CallMeans : {Self T S : Type 0} → HostRules T → (now : Self → HostNow T S)
+    → (before : MachineNow) (fuel : ℕ) (host : Self)
+    → Func → Vec Value Global → Result Ran (Stopped S)
+    → (after : MachineNow) (left : ℕ) (host_after : Self) → Type 0
+CallMeans rules now before fuel host fun args result after left host_after =
+    Means rules before fuel (now host) fun args result after left (now host_after)
+
 -- where the call stood when it was left with this result
 abbrev pub Stands : {T S : Type 0} → HostRules T → (Ask → T → T → Type 0)
     → (before : MachineNow) (fuel : ℕ) (host : HostNow T S)

@@ -1,22 +1,28 @@
 -- What the functions of the machine promise of a step, with the stack that they work on.
-use Rattle.std.specs.Prelude.{◌≡◌, ◌≤◌, ◌+◌, ◌*◌, ◌^◌, ℕ, List, [], ◌∷◌, map, Option, Some, None, Result, Vec}
+use Rattle.std.specs.Prelude.{◌≡◌, ◌≤◌, ◌+◌, ◌*◌, ◌^◌, ℕ, List, [], ◌∷◌, map, Option, Some, None, Result, Vec, IfOk, IfErr, IfSome, IfNone}
 use Rattle.std.specs.Option.{option_map}
 use Rattle.std.specs.declared.alloc.Global.{Global}
 use Rattle.std.specs.Borrow.{Bor}
-use Rattle.page_types.specs.Tree.{Block}
+use Rattle.page_types.specs.Tree.{Block, with_stmt}
 use Rattle.page_types.specs.Values.{FunValue, no_values}
 use Rattle.page_types.specs.declared.Op.{Op}
 use Rattle.page_types.specs.declared.ProductSign.{ProductSign}
 use Rattle.page_types.specs.declared.SumSign.{SumSign}
+use Rattle.page_parts.specs.Kinds.{bool_in}
 use Rattle.page_values.specs.declared.Value.{Value}
 use Rattle.page_values.specs.Seen.{seen}
+use Rattle.lang_ast.specs.declared.host.HostStep.{HostStep as HeldStep}
 use Rattle.lang_ast.specs.declared.program.Program as Code
 use Rattle.lang_ast.specs.declared.tree.Named.{Named}
 use Rattle.lang_ast.specs.declared.tree.Expr.{Expr}
 use Rattle.lang_ast.specs.declared.tree.Expr as E
 use Rattle.lang_ast.specs.declared.tree.Stmt.{Stmt}
+use Rattle.lang_ast.specs.declared.tree.Stmt.TheVariants as statement
+use Rattle.lang_ast.specs.declared.tree.Item.{Item}
+use Rattle.lang_ast.specs.Seen.{seen_stmt, seen_items}
+use Rattle.lang_ast.specs.Steps.{seen_step}
 use Rattle.lang_ast.specs.Hosts.{HostNow}
-use Rattle.lang_meaning.specs.Evaluation.{Function}
+use Rattle.lang_meaning.specs.Evaluation.{Function, own_body}
 use Rattle.lang_meaning.specs.HostSteps.{HostRules, HostStep, Ask, CallbackEnd, asked_by}
 use Rattle.lang_meaning.specs.OpNames.{op_named}
 use Rattle.lang_meaning.specs.Asks.{ask_limited}
@@ -31,11 +37,11 @@ use Rattle.page_interp.specs.declared.stack.Purpose.{Purpose}
 use Rattle.page_interp.specs.declared.stack.Waiting.{Waiting}
 use Rattle.page_interp.specs.declared.stack.Waiting.TheVariants as waiting
 use Rattle.page_interp.specs.Direct.{NameHolds}
-use Rattle.page_interp.specs.AtOnce.{Assigns, Leads, Brings, before_stmt, branches, turned, tested_at, waited_at}
-use Rattle.page_interp.specs.Clauses.{script, count_in}
+use Rattle.page_interp.specs.AtOnce.{Assigns, EndsWanting, Leads, Brings, before_stmt, branches, turned, tested_at, waited_at}
+use Rattle.page_interp.specs.Clauses.{CallRuns, script, count_in}
 use Rattle.page_interp.specs.CodeNames.{function_at}
-use Rattle.page_interp.specs.Frames.{Place, Holds, Moves, Opens, Stood, Steps, Answering, MayCome, Leaves, Finishes, stacked, place, waiting_at, moment_at, tickets_in, does, steps_on, resumes, call_names, call_variables, call_body, AreSeenNumbered}
-use Rattle.page_interp.specs.Runs.{IsReady, outside, variables_of}
+use Rattle.page_interp.specs.Frames.{Place, Holds, IsCalled, IsPicked, Moves, Opens, Stood, Steps, Answering, MayCome, Leaves, Finishes, stacked, place, waiting_at, moment_at, tickets_in, does, steps_on, resumes, call_names, call_variables, call_body, named_there, AreSeenNumbered}
+use Rattle.page_interp.specs.Runs.{IsReady, outside, value_left, variables_of}
 
 -- ---- The stack
 
@@ -66,6 +72,13 @@ abbrev pub MovesBefore : {T : Type 0} → HostRules T → Bor (List Stmt) → Fo
 MovesBefore rules rest f old new =
     Moves rules (before_stmt rest (stacked old.items)) f (stacked new.items)
 
+-- the same from the `else` side of a condition
+abbrev pub ElseMoves : {T : Type 0} → HostRules T → Bor (List Stmt)
+    → Bor (List (Expr × Vec Stmt Global)) → Bor (Option (Vec Stmt Global))
+    → (old new : Vec Frame Global) → Focus → Type 0
+ElseMoves rules rest others last old new =
+    MovesBefore rules rest (focus.Others others last) old new
+
 -- the same of a condition's value, where its sides wait for it, and these statements for their end
 abbrev pub Branches : {T : Type 0} → HostRules T → Bor (List Stmt)
     → Bor (List (Expr × Vec Stmt Global)) → Bor (Option (Vec Stmt Global)) → Bor (List Stmt)
@@ -74,11 +87,59 @@ Branches rules block others last rest v old new =
     Moves rules (branches block others last rest (stacked old.items)) (focus.Value v)
     (stacked new.items)
 
+-- where there is a result, it leads there
+abbrev pub TakesBranch : {T X : Type 0} → Result Focus X → HostRules T → Bor (List Stmt)
+    → Bor (List (Expr × Vec Stmt Global)) → Bor (Option (Vec Stmt Global)) → Bor (List Stmt)
+    → Value → (old new : Vec Frame Global) → Type 0
+TakesBranch result rules block others last rest v old new =
+    IfOk result (Branches rules block others last rest v old new)
+
+-- of a condition's value, one side or the other is next
+abbrev pub IsSide : Value → Bor (List Stmt) → Bor (List (Expr × Vec Stmt Global))
+    → Bor (Option (Vec Stmt Global)) → Focus → Type 0
+IsSide v block others last f =
+    IsPicked (bool_in (seen v)) (focus.Block block) (focus.Others others last) f
+
+-- a value comes back to the row that waits for it, before these expressions
+abbrev pub RowTakes : {T : Type 0} → HostRules T → Purpose → Vec Value Global → Bor (List Expr)
+    → Value → Focus → Type 0
+RowTakes rules purpose vs rest v = λ f. (fs : List Frame) →
+    Moves rules (frame.Wait (waiting.Row purpose vs rest) ∷ fs)
+    (focus.Value v) fs f
+
 -- it leads from the store, the variables and the stack before to those after
 abbrev pub LeadsOn : {T : Type 0} → HostRules T → Code.Program → Focus
     → Store → Current → Vec Frame Global → Store → Current → Vec Frame Global → Focus → Type 0
 LeadsOn rules code f store current stack store' current' stack' = λ f'.
     Leads rules (script code) (stand store current stack f) (stand store' current' stack' f')
+
+-- where there is a result, it leads to it from expressions in a row, and the stack alone changes
+abbrev pub RowGoes : {T X : Type 0} → Result Focus X → HostRules T → Code.Program → Purpose
+    → Vec Value Global → Bor (List Expr) → Store → Current → (old new : Vec Frame Global) → Type 0
+RowGoes result rules code purpose vs rest store current old new =
+    IfOk result (LeadsOn rules code (focus.Row purpose vs rest) store current old store current new)
+
+-- where there is a result, it leads to it from an expression, and no variable of a call changes
+abbrev pub ExprLeads : {T X : Type 0} → Result Focus X → HostRules T → Code.Program → Bor Expr
+    → Store → Current → Vec Frame Global → Store → Vec Frame Global → Type 0
+ExprLeads result rules code expr store current stack store' stack' =
+    IfOk result (LeadsOn rules code (focus.Expr expr) store current stack store' current stack')
+
+-- the same from the statements of a block
+abbrev pub BlockLeads : {T X : Type 0} → Result Focus X → HostRules T → Code.Program
+    → Bor (List Stmt) → Store → Current → Vec Frame Global → Store → Vec Frame Global → Type 0
+BlockLeads result rules code block store current stack store' stack' =
+    IfOk result (LeadsOn rules code (focus.Block block) store current stack store' current stack')
+
+-- the first statement among some items, and the items after it
+abbrev pub IsFirstAmong : List Item → Bor Stmt × Bor (List Item) → Type 0
+IsFirstAmong items = λ p.
+    own_body (seen_items items) ≡ with_stmt (seen_stmt p.0.now) (own_body (seen_items p.1.now))
+
+-- the arguments of a call by this name are for this
+abbrev pub IsCallBy : Code.Program → Store → Current → Named → Purpose → Type 0
+IsCallBy code store current name =
+    IsCalled (op_named name.name) (named_there code store current name.name)
 
 -- it leads on from a call of this name with these arguments
 abbrev pub CallLeads : {T : Type 0} → HostRules T → Code.Program → Named → (args : List Expr)
@@ -96,6 +157,12 @@ RowBrings rules code store current vs es vs' es' =
     row.now ≡ es → rest.now ≡ es' →
     Brings rules (script code) (place store current fs (focus.Row purpose vs row))
     (place store current fs (focus.Row purpose vs' rest))
+
+-- the same, where these expressions are left
+abbrev pub RowLeaves : {T : Type 0} → HostRules T → Code.Program → Store → Current
+    → Vec Value Global → List Expr → Vec Value Global → Bor (List Expr) → Type 0
+RowLeaves rules code store current vs es vs' = λ rest.
+    RowBrings rules code store current vs es vs' rest.now
 
 -- the first statements of a block are done, and the others are left
 abbrev pub BlockBrings : {T : Type 0} → HostRules T → Code.Program
@@ -157,6 +224,17 @@ FactorsCome rules code ts store current first v store' =
     Leads rules (script code) (waited_at store current (waiting.Factors factors) fs first)
     (place store' current fs (focus.Value v))
 
+-- the same, where this value comes of them
+abbrev pub FactorsBring : {T : Type 0} → HostRules T → Code.Program → List (ProductSign × Expr)
+    → Store → Current → (first : Value) → Store → (v : Value) → Type 0
+FactorsBring rules code ts store current first store' = λ v.
+    FactorsCome rules code ts store current first v store'
+
+-- the name stands for this function, whatever the global variables hold
+abbrev pub NamesFunction : Code.Program → Current → Named → (function : ℕ) → Type 0
+NamesFunction code current name = λ n. (store : Store) →
+    NameHolds code store current name.name (FunValue n no_values)
+
 -- a call of this function with these arguments, which takes a unit, comes to this value
 abbrev pub CallReturns : {T : Type 0} → HostRules T → Code.Program
     → (function : ℕ) → (args : Vec Value Global) → (less : Store) → Current → Value → Store → Type 0
@@ -182,6 +260,13 @@ LeadsBefore rules code rest f store current old store' new = λ f'.
     Leads rules (script code) (place store current (before_stmt rest (stacked old.items)) f)
     (stand store' current new f')
 
+-- the same of a statement that returns the value of this expression, and the stack alone changes
+abbrev pub ReturnLeads : {T : Type 0} → HostRules T → Code.Program → Expr
+    → Store → Current → (old new : Vec Frame Global) → Focus → Type 0
+ReturnLeads rules code e store current old new = λ f.
+    (stmt : Bor Stmt) (rest : Bor (List Stmt)) → stmt.now ≡ statement.Return (Some e) →
+    LeadsBefore rules code rest (focus.Stmt stmt) store current old store new f
+
 -- it leads on from the value of a loop's condition
 abbrev pub TestLeads : {T : Type 0} → HostRules T → Code.Program
     → Bor Expr → Bor (List Stmt) → Value
@@ -189,6 +274,13 @@ abbrev pub TestLeads : {T : Type 0} → HostRules T → Code.Program
 TestLeads rules code test block v store current stack store' current' stack' = λ f'.
     Leads rules (script code) (tested_at store current test block (stacked stack.items) v)
     (stand store' current' stack' f')
+
+-- where there is no result, a unit is wanting there, or memory
+abbrev pub TestWants : {X S : Type 0} → Result X (Exit S) → Code.Program
+    → Bor Expr → Bor (List Stmt) → Value → Store → Current → Vec Frame Global → Store → Type 0
+TestWants result code test block v store current stack store' =
+    IfErr result (EndsWanting (script code)
+    (tested_at store current test block (stacked stack.items) v) store')
 
 -- it leads on from the end of a loop's turn to where the condition is next
 abbrev pub TurnComes : {T : Type 0} → HostRules T → Code.Program → Expr → List Stmt
@@ -207,6 +299,18 @@ TurnBegins rules code e ss store current store' current' left =
     test.now ≡ e → block.now ≡ ss → rest.now ≡ left →
     Leads rules (script code) (turned store current test block fs v)
     (place store' current' (frame.Turn test block ∷ fs) (focus.Block rest))
+
+-- where nothing is left of a block, the condition is next
+abbrev pub ComesToTest : {T X : Type 0} → Option X → HostRules T → Code.Program → Expr → List Stmt
+    → Store → Current → Store → Current → Type 0
+ComesToTest result rules code e ss store current store' current' =
+    IfNone result (TurnComes rules code e ss store current store' current')
+
+-- where these statements are left of a block, its turn has begun
+abbrev pub BeginsTurn : {T : Type 0} → Option (Bor (List Stmt)) → HostRules T → Code.Program
+    → Expr → List Stmt → Store → Current → Store → Current → Type 0
+BeginsTurn result rules code e ss store current store' current' =
+    IfSome result (λ rest. TurnBegins rules code e ss store current store' current' rest.now)
 
 -- ---- A call
 
@@ -235,6 +339,13 @@ abbrev pub IsStanding : {T S : Type 0} → HostRules T → (Ask → T → T → 
     → HostNow T S → Place → Type 0
 IsStanding rules leaves code h a = (ts : List ℕ) × Stood rules leaves (script code) ts h a
 
+-- the same of a host, a store, the variables, a stack and what is next
+abbrev pub RunsAt : {Self T S : Type 0} → HostRules T → (Ask → T → T → Type 0)
+    → (now : Self → HostNow T S) → Code.Program
+    → Self → Store → Current → Vec Frame Global → Focus → Type 0
+RunsAt rules leaves now code host store current stack f =
+    IsStanding rules leaves code (now host) (stand store current stack f)
+
 -- a step leads from the host, the store, the variables and the stack before to those after
 abbrev pub StepsOn : {Self T S : Type 0} → HostRules T → (Ask → T → T → Type 0)
     → (now : Self → HostNow T S) → Code.Program → Focus → Result Focus (Exit S)
@@ -252,6 +363,14 @@ RunEnds rules leaves code a h x h' store' =
     (ts : List ℕ) → Stood rules leaves (script code) ts h a →
     Finishes rules leaves (script code) ts (λ d. does d a.focus) h a x h' store'
 
+-- a call of this function with these arguments has this result, where no call is open
+abbrev pub RunsCall : {Self T S : Type 0} → HostRules T → (Ask → T → T → Type 0)
+    → (now : Self → HostNow T S) → Code.Program → (function : ℕ) → (args : Vec Value Global)
+    → Self → Store → Result Value (Exit S) → Self → Store → Type 0
+RunsCall rules leaves now code function args host store result host' store' =
+    CallRuns rules leaves code function (map seen args.items)
+    (now host) store (value_left result) (now host') store'
+
 -- ---- Asks of the host
 
 -- what is known where the host has answered with this step
@@ -259,6 +378,14 @@ abbrev pub HasAnswered : {T S : Type 0} → HostRules T → (Ask → T → T →
     → (left : T → ℕ → ℕ) → Code.Program → List ℕ → HostNow T S → Place → HostStep → Type 0
 HasAnswered rules leaves left code ts h a step =
     Answering rules leaves (script code) ts (left h.told) h a step
+
+-- the same, with some tickets that were open before, where nothing more is needed of what is next
+abbrev pub StandsAnswered : {Self T S : Type 0} → HostRules T → (Ask → T → T → Type 0)
+    → (left : T → ℕ → ℕ) → (now : Self → HostNow T S) → Code.Program
+    → Self → Store → Current → Vec Frame Global → HeldStep → Type 0
+StandsAnswered rules leaves left now code host store current stack step =
+    (ts : List ℕ) × HasAnswered rules leaves left code ts
+    (now host) (resting store current stack) (seen_step step)
 
 -- what comes of an answer of the host
 abbrev pub AnswerLeaves : {Self T S : Type 0} → HostRules T → (Ask → T → T → Type 0)

@@ -6,6 +6,7 @@ use Rattle.page_types.specs.Values as Model
 use Rattle.page_types.specs.declared.FaultName.TheVariants.{TypeError}
 use Rattle.page_parts.specs.Words.{is_there}
 use Rattle.page_values.specs.declared.Value.{Value}
+use Rattle.page_values.specs.declared.Value.TheVariants as held
 use Rattle.page_values.specs.Seen.{seen}
 use Rattle.lang_ast.specs.declared.program.Program.{Program}
 use Rattle.lang_ast.specs.SeenProgram.{seen_program}
@@ -59,6 +60,12 @@ SetsGlobal script names locals old name value new =
     globals_of script new ≡
     (if has_variable names locals name then globals_of script old
     else with_value_in (globals_of script old) name (seen value))
+
+-- the same where the value is unit
+abbrev pub EmptiesGlobal : (script : Program) (names : List (List ℕ)) (locals : Vec Value Global)
+    → (old : Store) (name : List ℕ) (new : Store) → Type 0
+EmptiesGlobal script names locals old name new =
+    SetsGlobal script names locals old name held.Unit new
 
 -- what a name stands for: a local variable, a global one or a function
 abbrev pub named_in : (script : Program) (store : Store)

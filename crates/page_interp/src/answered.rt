@@ -1,15 +1,13 @@
 //! Statements that are an operation which the host is sure to answer with a value: they are done with
 //! no frame, and a variable that takes the answer hands its value over.
 
-ghost use Rattle.std.specs.Prelude.{◌≡◌, ◌<◌, ◌≤◌, ◌∷◌, [], false, true, map, length, IfOk, IfErr, IfSome, IfNone, IsTrue};
-ghost use Rattle.page_values.specs.declared.Value.{Value};
+ghost use Rattle.std.specs.Prelude.{◌≡◌, ◌<◌, ◌≤◌, false, true, map, length, IfOk, IfErr, IfSome, IfNone, IsTrue};
 ghost use Rattle.page_values.specs.Seen.{seen};
 ghost use Rattle.lang_ast.specs.Hosts.{GivesValue};
 ghost use Rattle.lang_ast.specs.Operations.{count_of};
 ghost use Rattle.lang_ast.specs.Steps.{AllNumbered};
 ghost use Rattle.lang_meaning.specs.HostSteps.{is_busy};
-ghost use Rattle.page_interp.specs.Asked.{IsAnswered, ArePair, BlockAsks, BlockStands, BlockStops, CallsPlainly, ExprAsks, ExprStands, ExprStops, HasOwnFirst, IsKnown, LooksAt, RefusesAsk, SetsAsked};
-ghost use Rattle.page_interp.specs.Direct.{NameHolds};
+ghost use Rattle.page_interp.specs.Asked.{IsAnswered, ArePair, BlockAsks, BlockStands, BlockStops, ExprStands, ExprStops, IsKnown, RefusesAsk, SetsAsked, IsPlainCall, IsPlainLook, IsBesideOwn, FindsByAsk, DoneByAsk, StopsInExpr, IsSureOfOwn};
 
 use crate::at_once::{first_values, set};
 use crate::blocks::assigned;
@@ -63,8 +61,8 @@ fn plain_call<'c, H: Host>(
     name: &Named,
     args: &'c [Expr],
 ) -> Option<(Op, Vec<Value>)>
-    ensures { IfSome result (λ found. CallsPlainly H.rules code.now store.now current.now
-        name.now args.now found.0 found.1) }
+    ensures { IfSome result (IsPlainCall H.rules code.now store.now current.now
+        name.now args.now) }
 {
     let op = code.operation(&name.name)?;
     if !may_be_known(op) {
@@ -89,8 +87,8 @@ fn looked_at<'a>(
     name: &Named,
     args: &[Expr],
 ) -> Option<(Op, &'a Value)>
-    ensures { IfSome result (λ found. LooksAt code.now store.now current.now
-        name.now args.now found.0 found.1.now) }
+    ensures { IfSome result (IsPlainLook code.now store.now current.now
+        name.now args.now) }
 {
     let (only, more) = args.split_first()?;
     if !more.is_empty() {
@@ -113,8 +111,8 @@ pub fn known<'x, H: Host>(
     expr: &'x Expr,
 ) -> Option<Value>
     requires { ExprStands H.rules H.leaves code.now (H.now host.now) store.now current.now expr.now }
-    ensures { IfSome result (λ v. IsKnown H.rules H.leaves code.now expr.now
-        store.now current.now (H.now host.now) v) }
+    ensures { IfSome result (IsKnown H.rules H.leaves code.now expr.now
+        store.now current.now (H.now host.now)) }
 {
     let Expr::Call(name, args) = expr else {
         return None;
@@ -133,11 +131,11 @@ fn value<'c, H: Host>(
     expr: &'c Expr,
 ) -> Result<Option<Value>, Exit<H::Stop>>
     requires { ExprStands H.rules H.leaves code.now (H.now host.old) store.now current.now expr.now }
-    ensures some { IfOk result (λ o. IfSome o (λ v. ExprAsks H.rules H.leaves code.now expr.now
-        store.now current.now (H.now host.old) v (H.now host.new))) }
+    ensures some { FindsByAsk H.rules H.leaves H.now code.now expr.now
+        store.now current.now host.old result host.new }
     ensures none { IfOk result (λ o. IfNone o (host.new ≡ host.old)) }
-    ensures stops { IfErr result (ExprStops H.rules H.leaves code.now expr.now
-        store.now current.now (H.now host.old) (H.now host.new) store.now) }
+    ensures stops { StopsInExpr result H.rules H.leaves H.now code.now expr.now
+        store.now current.now host.old host.new }
 {
     if let Some(value) = known(&*code, &*host, store, current, expr) {
         return Ok(Some(value));
@@ -167,11 +165,11 @@ fn asks<'c, H: Host>(
     expr: &'c Expr,
 ) -> Result<bool, Exit<H::Stop>>
     requires { ExprStands H.rules H.leaves code.now (H.now host.old) store.now current.now expr.now }
-    ensures done { IfOk result (λ done. done ≡ true → (v : Value) × ExprAsks H.rules H.leaves
-        code.now expr.now store.now current.now (H.now host.old) v (H.now host.new)) }
+    ensures done { DoneByAsk H.rules H.leaves H.now code.now expr.now
+        store.now current.now host.old result host.new }
     ensures not { IfOk result (λ done. done ≡ false → host.new ≡ host.old) }
-    ensures stops { IfErr result (ExprStops H.rules H.leaves code.now expr.now
-        store.now current.now (H.now host.old) (H.now host.new) store.now) }
+    ensures stops { StopsInExpr result H.rules H.leaves H.now code.now expr.now
+        store.now current.now host.old host.new }
 {
     match value(code, host, store, current, expr) {
         Ok(Some(value)) => {
@@ -193,8 +191,8 @@ fn beside_own<'c>(
     name: &Named,
     args: &'c [Expr],
 ) -> Option<(Op, Value)>
-    ensures { IfSome result (λ found. HasOwnFirst code.now store.now current.now
-        target.now name.now args.now found.0 found.1) }
+    ensures { IfSome result (IsBesideOwn code.now store.now current.now
+        target.now name.now args.now) }
 {
     let (first, others) = args.split_first()?;
     let Expr::Name(own) = first else {
@@ -235,8 +233,8 @@ fn gives_for_own<'x, H: Host>(
     second: &'x Value,
 ) -> bool
     requires { count_of op ≡ 2 }
-    ensures { IsTrue result → (v : Value) → NameHolds code.now store.now current.now own.now.name
-        (seen v) → GivesValue H.rules op (seen v ∷ seen second.now ∷ []) (H.now host.now) }
+    ensures { IsSureOfOwn result H.rules code.now store.now current.now own.now op second.now
+        (H.now host.now) }
 {
     match variable(code, store, current, own) {
         Some(first) => host.gives_value(op, &[first, second]),

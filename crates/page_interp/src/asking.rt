@@ -7,7 +7,7 @@ ghost use Rattle.lang_meaning.specs.HostSteps.{is_busy};
 ghost use Rattle.page_interp.specs.Clauses.{script, count_in};
 ghost use Rattle.page_interp.specs.Frames.{Holds, AreSeenNumbered};
 ghost use Rattle.page_interp.specs.Runs.{IsUnsettled};
-ghost use Rattle.page_interp.specs.StackClauses.{stand, resting, HasAnswered, AnswerLeaves, IsReadyAt, WaitsUnder, Resumes, IsStanding, AskLeaves, StepsOn};
+ghost use Rattle.page_interp.specs.StackClauses.{resting, AnswerLeaves, IsReadyAt, WaitsUnder, Resumes, IsStanding, AskLeaves, StepsOn, RunsAt, StandsAnswered};
 ghost use Rattle.page_interp.specs.declared.stack.Focus.TheVariants as focus;
 
 use crate::code::Code;
@@ -28,8 +28,8 @@ fn answer<'c, H: Host>(
     stack: &mut Vec<Frame<'c>>,
     first: HostStep,
 ) -> Result<Focus<'c>, Exit<H::Stop>>
-    requires answering { (ts : List ℕ) × HasAnswered H.rules H.leaves H.left code.now ts
-        (H.now host.old) (resting store.old current.old stack.old) (seen_step first) }
+    requires answering { StandsAnswered H.rules H.leaves H.left H.now code.now
+        host.old store.old current.old stack.old first }
     ensures unsettled { IfErr result IsUnsettled }
     ensures leaves { AnswerLeaves H.rules H.leaves H.left H.now code.now (seen_step first) result
         host.old store.old current.old stack.old host.new store.new current.new stack.new }
@@ -121,8 +121,8 @@ pub fn ask<'c, H: Host>(
     op: Op,
     args: Vec<Value>,
 ) -> Result<Focus<'c>, Exit<H::Stop>>
-    requires stood { IsStanding H.rules H.leaves code.now (H.now host.old)
-        (stand store.old current.old stack.old (focus.Ask op args)) }
+    requires stood { RunsAt H.rules H.leaves H.now code.now
+        host.old store.old current.old stack.old (focus.Ask op args) }
     ensures { StepsOn H.rules H.leaves H.now code.now (focus.Ask op args) result
         host.old store.old current.old stack.old host.new store.new current.new stack.new }
 {

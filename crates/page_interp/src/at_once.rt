@@ -1,16 +1,14 @@
 //! Steps that are done at once: the arguments of a row and the turns of a loop, where they call
 //! nothing.
 
-ghost use Rattle.std.specs.Prelude.{◌≡◌, ◌<◌, ◌≤◌, [], true, false, Some, None, IfOk, IfErr, IfSome, IfNone};
+ghost use Rattle.std.specs.Prelude.{◌≡◌, ◌<◌, ◌≤◌, [], true, false, Some, None, IfOk, IfErr, IfSome};
 ghost use Rattle.page_parts.specs.Kinds.{bool_in};
 ghost use Rattle.page_values.specs.declared.Value.{Value};
 ghost use Rattle.page_values.specs.Seen.{seen};
-ghost use Rattle.page_interp.specs.AtOnce.{HasFirst, IsBoolThere, EndsWanting, tested_at};
-ghost use Rattle.page_interp.specs.Clauses.{script};
-ghost use Rattle.page_interp.specs.Frames.{IsSet, stacked};
-ghost use Rattle.page_interp.specs.StackClauses.{LeadsOn, RowBrings, TestLeads, TurnBegins, TurnComes};
+ghost use Rattle.page_interp.specs.AtOnce.{HasFirst, IsBoolThere};
+ghost use Rattle.page_interp.specs.Frames.{IsSet};
+ghost use Rattle.page_interp.specs.StackClauses.{TestLeads, TestWants, RowLeaves, RowGoes, BeginsTurn, ComesToTest};
 ghost use Rattle.page_interp.specs.declared.exit.Exit.TheVariants as exit;
-ghost use Rattle.page_interp.specs.declared.stack.Focus.TheVariants as focus;
 
 use crate::blocks::assigned;
 use crate::code::Code;
@@ -47,9 +45,8 @@ pub fn into_test<'c, H: Host>(
 ) -> Result<Focus<'c>, Exit<H::Stop>>
     ensures ok { IfOk result (TestLeads H.rules code.now test.entry block.entry value.now
         store.old current.now stack.old store.new current.now stack.new) }
-    ensures err { IfErr result (EndsWanting (script code.now)
-        (tested_at store.old current.now test.entry block.entry (stacked stack.old.items) value.now)
-        store.new) }
+    ensures err { TestWants result code.now test.entry block.entry value.now
+        store.old current.now stack.old store.new }
     ensures enters { IfErr result (λ _. bool_in (seen value.now) ≡ Some true) }
 {
     match as_bool(value) {
@@ -95,8 +92,8 @@ pub fn first_values<'c, H: Host>(
     values: &mut Vec<Value>,
     exprs: &'c [Expr],
 ) -> Result<&'c [Expr], MemoryFault>
-    ensures { IfOk result (λ rest. RowBrings H.rules code.now store.now current.now
-        values.old exprs.now values.new rest.now) }
+    ensures { IfOk result (RowLeaves H.rules code.now store.now current.now
+        values.old exprs.now values.new) }
 {
     let mut rest = exprs;
     'taken: while let Some((value, more)) = first_value(code, store, current, rest)? {
@@ -116,8 +113,8 @@ pub fn next_in_row<'c, H: Host>(
     mut values: Vec<Value>,
     exprs: &'c [Expr],
 ) -> Result<Focus<'c>, Exit<H::Stop>>
-    ensures ok { IfOk result (LeadsOn H.rules code.now (focus.Row purpose values exprs.entry)
-        store.now current.now stack.old store.now current.now stack.new) }
+    ensures ok { RowGoes result H.rules code.now purpose values exprs.entry
+        store.now current.now stack.old stack.new }
     ensures err { IfErr result (λ x. x ≡ exit.OutOfMemory) }
 {
     match first_values::<H>(code, store, current, &mut values, exprs) {
@@ -140,10 +137,10 @@ pub fn turns_at_once<'c, H: Host>(
     test: &'c Expr,
     block: &'c [Stmt],
 ) -> Option<&'c [Stmt]>
-    ensures some { IfSome result (λ rest. TurnBegins H.rules code.now test.now block.now
-        store.old current.old store.new current.new rest.now) }
-    ensures none { IfNone result (TurnComes H.rules code.now test.now block.now
-        store.old current.old store.new current.new) }
+    ensures some { BeginsTurn result H.rules code.now test.now block.now
+        store.old current.old store.new current.new }
+    ensures none { ComesToTest result H.rules code.now test.now block.now
+        store.old current.old store.new current.new }
     ensures unit { IfSome result (λ _. store.new.fuel < store.old.fuel) }
     ensures fuel { store.new.fuel ≤ store.old.fuel }
 {

@@ -1,11 +1,8 @@
 //! From the statements of a block. What calls nothing is done at once, with no frame of its own.
 
-ghost use Rattle.std.specs.Prelude.{◌≡◌, ◌<◌, ◌≤◌, List, true, false, Some, IfOk, IfErr, IfSome, IfNone, length};
-ghost use Rattle.std.specs.Borrow.{Bor};
+ghost use Rattle.std.specs.Prelude.{◌≡◌, ◌<◌, ◌≤◌, true, false, IfOk, IfErr, IfSome, IfNone, length};
 ghost use Rattle.page_values.specs.declared.Value.{Value};
-ghost use Rattle.lang_ast.specs.declared.tree.Stmt.{Stmt};
-ghost use Rattle.lang_ast.specs.declared.tree.Stmt.TheVariants.{Return};
-ghost use Rattle.page_interp.specs.StackClauses.{MovesBefore, Branches, LeadsBefore, LeadsOn, BlockBrings, BlockLeaves, Sets, ValueComes};
+ghost use Rattle.page_interp.specs.StackClauses.{MovesBefore, LeadsBefore, BlockBrings, BlockLeaves, Sets, ValueComes, ElseMoves, TakesBranch, ReturnLeads, BlockLeads};
 ghost use Rattle.page_interp.specs.declared.exit.Exit.TheVariants as exit;
 ghost use Rattle.page_interp.specs.declared.stack.Focus.TheVariants as focus;
 
@@ -140,7 +137,7 @@ fn into_else<'c, H: Host>(
     last: &'c Option<Vec<Stmt>>,
     rest: &'c [Stmt],
 ) -> Result<Focus<'c>, Exit<H::Stop>>
-    ensures ok { IfOk result (MovesBefore H.rules rest.entry (focus.Others others.entry last.entry)
+    ensures ok { IfOk result (ElseMoves H.rules rest.entry others.entry last.entry
         stack.old stack.new) }
     ensures err { IfErr result (λ x. x ≡ exit.OutOfMemory) }
 {
@@ -170,8 +167,8 @@ fn into_branch<'c, H: Host>(
     last: &'c Option<Vec<Stmt>>,
     rest: &'c [Stmt],
 ) -> Result<Focus<'c>, Exit<H::Stop>>
-    ensures ok { IfOk result (Branches H.rules block.entry others.entry last.entry rest.entry
-        value stack.old stack.new) }
+    ensures ok { TakesBranch result H.rules block.entry others.entry last.entry rest.entry
+        value stack.old stack.new }
     ensures err { IfErr result (λ x. x ≡ exit.OutOfMemory) }
 {
     match as_bool(&value) {
@@ -196,10 +193,8 @@ fn into_return<'c, H: Host>(
     stack: &mut Vec<Frame<'c>>,
     expr: &'c Expr,
 ) -> Result<Focus<'c>, Exit<H::Stop>>
-    ensures ok { IfOk result (λ f. (stmt : Bor Stmt) (rest : Bor (List Stmt)) →
-        stmt.now ≡ Return (Some expr.now) →
-        LeadsBefore H.rules code.now rest (focus.Stmt stmt)
-        store.now current.now stack.old store.now stack.new f) }
+    ensures ok { IfOk result (ReturnLeads H.rules code.now expr.now
+        store.now current.now stack.old stack.new) }
     ensures err { IfErr result (λ x. x ≡ exit.OutOfMemory) }
 {
     match direct_value(code, store, current, expr) {
@@ -251,8 +246,8 @@ pub fn from_block<'c, H: Host>(
     stack: &mut Vec<Frame<'c>>,
     stmts: &'c [Stmt],
 ) -> Result<Focus<'c>, Exit<H::Stop>>
-    ensures ok { IfOk result (LeadsOn H.rules code.now (focus.Block stmts.entry)
-        store.old current.now stack.old store.new current.now stack.new) }
+    ensures ok { BlockLeads result H.rules code.now stmts.entry
+        store.old current.now stack.old store.new stack.new }
     ensures err { IfErr result (λ x. x ≡ exit.OutOfMemory) }
     ensures same { IfErr result (λ _. store.new ≡ store.old) }
 {
@@ -291,8 +286,8 @@ pub fn from_rest<'c, H: Host>(
     stack: &mut Vec<Frame<'c>>,
     rest: &'c [Stmt],
 ) -> Result<Focus<'c>, Exit<H::Stop>>
-    ensures ok { IfOk result (LeadsOn H.rules code.now (focus.Block rest.entry)
-        store.old current.now stack.old store.new current.now stack.new) }
+    ensures ok { BlockLeads result H.rules code.now rest.entry
+        store.old current.now stack.old store.new stack.new }
     ensures err { IfErr result (λ x. x ≡ exit.OutOfMemory) }
     ensures same { IfErr result (λ _. store.new ≡ store.old) }
 {

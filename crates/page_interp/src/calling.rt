@@ -21,7 +21,7 @@ impl<'p> Machine<'p> {
     ghost use Rattle.lang_ast.specs.Steps.{AllNumbered};
     ghost use Rattle.lang_meaning.specs.Evaluation.{first_globals};
     ghost use Rattle.page_interp.specs.Runs.{IsDry, LeftIsNumbered};
-    ghost use Rattle.page_interp.specs.Machines.{functions_in, Means, Stands, Refuses, UsesTickets};
+    ghost use Rattle.page_interp.specs.Machines.{functions_in, Stands, Refuses, UsesTickets, CallMeans};
 
     /// The machine of a script. Its global variables are unit.
     pub fn new(alloc: Global, program: &'p Program) -> Result<Machine<'p>, MemoryFault>
@@ -55,8 +55,8 @@ impl<'p> Machine<'p> {
         requires room { fuel.old ≤ (H.now host.old).room }
         requires bound { AreNumbered (functions_in self.old) fun.now.bound }
         requires args { AllNumbered (functions_in self.old) (map seen args.items) }
-        ensures meaning { Means H.rules self.old fuel.old (H.now host.old) fun.now args result
-            self.new fuel.new (H.now host.new) }
+        ensures meaning { CallMeans H.rules H.now self.old fuel.old host.old fun.now args result
+            self.new fuel.new host.new }
         ensures stands { Stands H.rules H.leaves self.old fuel.old (H.now host.old) fun.now args
             result (H.now host.new) }
         ensures refusals { Refuses result (H.now host.old) (H.now host.new) }

@@ -6,7 +6,7 @@ ghost use Rattle.std.specs.Prelude.{◌≡◌, Ok, IfOk, IfSome};
 ghost use Rattle.page_types.specs.Values.{BoolValue, IntValue, TextValue};
 ghost use Rattle.lang_meaning.specs.Evaluation.{compare_answer, sum_answer};
 ghost use Rattle.page_values.specs.Seen.{seen};
-ghost use Rattle.page_interp.specs.Direct.{NameHolds, HasValue, ComparesTo, PlacesGive, TermsGive, FactorsGive, SumGives};
+ghost use Rattle.page_interp.specs.Direct.{NameHolds, HasValue, ComparesTo, TermsGive, FactorsGive, LeadToItem, FindsSum};
 
 use crate::code::Code;
 use crate::exit::Store;
@@ -71,8 +71,7 @@ fn item_in<'a>(
     places: &[Expr],
     levels: u32,
 ) -> Option<&'a Value>
-    ensures { IfSome result (λ v.
-        PlacesGive code.now store.now current.now places.now (seen list.now) (seen v.now)) }
+    ensures { IfSome result (LeadToItem code.now store.now current.now places.now list.now) }
 {
     let mut value = list;
     let mut rest = places;
@@ -203,8 +202,7 @@ fn text_sum(
     first: &Expr,
     terms: &[(SumSign, Expr)],
 ) -> Result<Option<Value>, MemoryFault>
-    ensures { IfOk result (λ o. IfSome o (λ v.
-        SumGives code.now store.now current.now first.now terms.now (seen v))) }
+    ensures { FindsSum result code.now store.now current.now first.now terms.now }
 {
     let Some((term, more)) = terms.split_first() else {
         return Ok(None);

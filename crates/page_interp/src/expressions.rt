@@ -2,11 +2,10 @@
 
 ghost use Rattle.std.specs.Prelude.{◌≡◌, ◌≤◌, IfOk, IfErr};
 ghost use Rattle.page_interp.specs.Answers.{Answers};
-ghost use Rattle.page_interp.specs.Frames.{IsAnswer, IsCalled, named_there};
-ghost use Rattle.page_interp.specs.StackClauses.{MovesOn, LeadsOn, CallLeads};
+ghost use Rattle.page_interp.specs.Frames.{IsAnswer};
+ghost use Rattle.page_interp.specs.StackClauses.{MovesOn, CallLeads, ExprLeads, IsCallBy};
 ghost use Rattle.page_interp.specs.Runs.{value_left};
 ghost use Rattle.lang_meaning.specs.Evaluation.{Answer};
-ghost use Rattle.lang_meaning.specs.OpNames.{op_named};
 ghost use Rattle.page_interp.specs.declared.exit.Exit.TheVariants as exit;
 ghost use Rattle.page_interp.specs.declared.stack.Focus.TheVariants as focus;
 
@@ -47,8 +46,8 @@ pub fn from_expr<'c, H: Host>(
     stack: &mut Vec<Frame<'c>>,
     expr: &'c Expr,
 ) -> Result<Focus<'c>, Exit<H::Stop>>
-    ensures ok { IfOk result (LeadsOn H.rules code.now (focus.Expr expr.entry)
-        store.old current.now stack.old store.new current.now stack.new) }
+    ensures ok { ExprLeads result H.rules code.now expr.entry
+        store.old current.now stack.old store.new stack.new }
     ensures err { IfErr result (λ x. x ≡ exit.OutOfMemory) }
     ensures same { IfErr result (λ _. store.new ≡ store.old) }
     ensures globals { store.new.globals ≡ store.old.globals }
@@ -72,8 +71,8 @@ fn by_parts<'c, H: Host>(
     stack: &mut Vec<Frame<'c>>,
     expr: &'c Expr,
 ) -> Result<Focus<'c>, Exit<H::Stop>>
-    ensures ok { IfOk result (LeadsOn H.rules code.now (focus.Expr expr.entry)
-        store.now current.now stack.old store.now current.now stack.new) }
+    ensures ok { ExprLeads result H.rules code.now expr.entry
+        store.now current.now stack.old store.now stack.new }
     ensures err { IfErr result (λ x. x ≡ exit.OutOfMemory) }
 {
     match expr {
@@ -107,8 +106,7 @@ fn purpose_of(
     current: &Current,
     name: &Named,
 ) -> Result<Purpose, MemoryFault>
-    ensures { IfOk result (IsCalled (op_named name.now.name)
-        (named_there code.now store.now current.now name.now.name)) }
+    ensures { IfOk result (IsCallBy code.now store.now current.now name.now) }
 {
     match code.operation(&name.name) {
         Some(op) => Ok(Purpose::Ask(op)),

@@ -1,15 +1,11 @@
 //! A value that comes back to what waits for it.
 
-ghost use Rattle.std.specs.Prelude.{◌≡◌, ◌∷◌, List, IfOk, IfErr};
-ghost use Rattle.page_parts.specs.Kinds.{bool_in};
+ghost use Rattle.std.specs.Prelude.{◌≡◌, IfOk, IfErr};
 ghost use Rattle.page_values.specs.Seen.{seen};
-ghost use Rattle.page_interp.specs.declared.stack.Frame.{Frame};
 ghost use Rattle.lang_meaning.specs.Evaluation.{compare_answer, unary_answer};
-ghost use Rattle.page_interp.specs.Frames.{Moves, IsAnswer, IsPicked};
-ghost use Rattle.page_interp.specs.StackClauses.{Takes};
+ghost use Rattle.page_interp.specs.Frames.{IsAnswer};
+ghost use Rattle.page_interp.specs.StackClauses.{Takes, IsSide, RowTakes};
 ghost use Rattle.page_interp.specs.declared.exit.Exit.TheVariants as exit;
-ghost use Rattle.page_interp.specs.declared.stack.Focus.TheVariants as focus;
-ghost use Rattle.page_interp.specs.declared.stack.Frame.TheVariants as frame;
 ghost use Rattle.page_interp.specs.declared.stack.Waiting.TheVariants as waiting;
 
 use crate::exit::Exit;
@@ -171,8 +167,7 @@ fn into_if<'c>(
     others: &'c [(Expr, Vec<Stmt>)],
     last: &'c Option<Vec<Stmt>>,
 ) -> Focus<'c>
-    ensures { IsPicked (bool_in (seen value))
-        (focus.Block block.entry) (focus.Others others.entry last.entry) result }
+    ensures { IsSide value block.entry others.entry last.entry result }
 {
     let told = as_bool(&value);
     drop(value);
@@ -190,9 +185,7 @@ fn into_row<'c, H: Host>(
     mut values: Vec<Value>,
     rest: &'c [Expr],
 ) -> Result<Focus<'c>, Exit<H::Stop>>
-    ensures ok { IfOk result (λ f. (fs : List Frame) →
-        Moves H.rules (frame.Wait (waiting.Row purpose values rest.entry) ∷ fs)
-        (focus.Value value) fs f) }
+    ensures ok { IfOk result (RowTakes H.rules purpose values rest.entry value) }
     ensures err { IfErr result (λ x. x ≡ exit.OutOfMemory) }
 {
     append(&mut values, value)?;

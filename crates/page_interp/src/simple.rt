@@ -2,14 +2,12 @@
 //! nothing, have no loop and return.
 
 ghost use Rattle.std.specs.Prelude.{◌≡◌, ◌<◌, ◌≤◌, true, false, None, IfSome, IfNone, length};
-ghost use Rattle.page_types.specs.Values.{FunValue, no_values};
 ghost use Rattle.page_values.specs.Seen.{seen};
 ghost use Rattle.lang_meaning.specs.Evaluation.{sum_answer, product_answer};
 ghost use Rattle.lang_meaning.specs.OpNames.{op_named};
-ghost use Rattle.page_interp.specs.Direct.{HasValue, NameHolds};
+ghost use Rattle.page_interp.specs.Direct.{HasValue};
 ghost use Rattle.page_interp.specs.Frames.{IsAnswer};
-ghost use Rattle.page_interp.specs.StackClauses.{AreFound, BlockBrings, BlockLeaves, CallComes, CallReturns, FactorsCome, ReturnsValue, Sets, TermsCome, ValueComes};
-ghost use Rattle.page_interp.specs.declared.exit.Store.{Store};
+ghost use Rattle.page_interp.specs.StackClauses.{AreFound, BlockBrings, BlockLeaves, CallComes, CallReturns, ReturnsValue, Sets, TermsCome, ValueComes, FactorsBring, NamesFunction};
 ghost use Rattle.page_interp.specs.declared.stack.Focus.TheVariants as focus;
 
 use crate::at_once::{first_values, passes, truth};
@@ -148,8 +146,8 @@ fn product_on<'c, H: Host>(
     factors: &'c [(ProductSign, Expr)],
     levels: u32,
 ) -> Option<Value>
-    ensures comes { IfSome result (λ v. FactorsCome H.rules code.now factors.now
-        store.old current.now first v store.new) }
+    ensures comes { IfSome result (FactorsBring H.rules code.now factors.now
+        store.old current.now first store.new) }
     ensures globals { store.new.globals ≡ store.old.globals }
     ensures fuel { store.new.fuel ≤ store.old.fuel }
 {
@@ -293,8 +291,7 @@ fn found_args<'c, H: Host>(
 /// variables hold, and which is likely simple.
 fn simple_callee(code: &Code, current: &Current, name: &Named) -> Option<u32>
     ensures operation { IfSome result (λ _. op_named name.now.name ≡ None) }
-    ensures function { IfSome result (λ n. (store : Store) → NameHolds code.now store current.now
-        name.now.name (FunValue n no_values)) }
+    ensures function { IfSome result (NamesFunction code.now current.now name.now) }
 {
     let near = code.likely_place(name);
     let number = code.simple(&name.name, near)?;

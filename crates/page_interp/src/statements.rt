@@ -1,10 +1,10 @@
 //! Steps from a statement, and from statements in a row.
 
 ghost use Rattle.std.specs.Prelude.{◌≡◌, IfOk, IfErr, IfSome, IfNone};
-ghost use Rattle.page_types.specs.Tree.{no_stmts, with_stmt};
+ghost use Rattle.page_types.specs.Tree.{no_stmts};
 ghost use Rattle.lang_meaning.specs.Evaluation.{own_body};
-ghost use Rattle.lang_ast.specs.Seen.{seen_stmt, seen_items};
-ghost use Rattle.page_interp.specs.StackClauses.{MovesOn};
+ghost use Rattle.lang_ast.specs.Seen.{seen_items};
+ghost use Rattle.page_interp.specs.StackClauses.{MovesOn, IsFirstAmong};
 ghost use Rattle.page_interp.specs.declared.exit.Exit.TheVariants as exit;
 ghost use Rattle.page_interp.specs.declared.stack.Focus.TheVariants as focus;
 
@@ -57,8 +57,7 @@ pub fn from_others<'c, H: Host>(
 
 /// The first statement among some items, and the items after it.
 fn first_stmt(items: &[Item]) -> Option<(&Stmt, &[Item])>
-    ensures some { IfSome result (λ p. own_body (seen_items items.now) ≡
-        with_stmt (seen_stmt p.0.now) (own_body (seen_items p.1.now))) }
+    ensures some { IfSome result (IsFirstAmong items.now) }
     ensures none { IfNone result (own_body (seen_items items.now) ≡ no_stmts) }
 {
     let mut rest = items;

@@ -1,12 +1,11 @@
 //! The steps of a run, until the outermost call ends.
 
-ghost use Rattle.std.specs.Prelude.{◌≡◌, [], ◌+◌, ◌<◌, ◌≤◌, IfOk, IfErr, map};
+ghost use Rattle.std.specs.Prelude.{◌≡◌, [], ◌+◌, ◌<◌, ◌≤◌, IfOk, IfErr};
 ghost use Rattle.std.specs.Option.{option_map};
 ghost use Rattle.page_values.specs.Seen.{seen};
-ghost use Rattle.page_interp.specs.Clauses.{count_in, CanCall, CallRuns};
+ghost use Rattle.page_interp.specs.Clauses.{count_in, CanCall};
 ghost use Rattle.page_interp.specs.Frames.{place, IsWant, IsCallable, AreSeenNumbered};
-ghost use Rattle.page_interp.specs.Runs.{value_left};
-ghost use Rattle.page_interp.specs.StackClauses.{stand, LeadsOn, IsStanding, StepsOn, RunEnds};
+ghost use Rattle.page_interp.specs.StackClauses.{stand, LeadsOn, IsStanding, StepsOn, RunEnds, RunsAt, RunsCall};
 ghost use Rattle.page_interp.specs.declared.exit.Exit.TheVariants as exit;
 ghost use Rattle.page_interp.specs.declared.stack.Focus.TheVariants as focus;
 
@@ -75,8 +74,8 @@ fn from_value<'c, H: Host>(
     stack: &mut Vec<Frame<'c>>,
     value: Value,
 ) -> Result<Focus<'c>, Exit<H::Stop>>
-    requires stood { IsStanding H.rules H.leaves code.now (H.now host.old)
-        (stand store.old current.old stack.old (focus.Value value)) }
+    requires stood { RunsAt H.rules H.leaves H.now code.now
+        host.old store.old current.old stack.old (focus.Value value) }
     ensures { StepsOn H.rules H.leaves H.now code.now (focus.Value value) result
         host.old store.old current.old stack.old host.new store.new current.new stack.new }
 {
@@ -132,8 +131,8 @@ fn from_throw<'c, H: Host>(
     stack: &mut Vec<Frame<'c>>,
     value: Value,
 ) -> Result<Focus<'c>, Exit<H::Stop>>
-    requires stood { IsStanding H.rules H.leaves code.now (H.now host.old)
-        (stand store.old current.old stack.old (focus.Throw value)) }
+    requires stood { RunsAt H.rules H.leaves H.now code.now
+        host.old store.old current.old stack.old (focus.Throw value) }
     ensures { StepsOn H.rules H.leaves H.now code.now (focus.Throw value) result
         host.old store.old current.old stack.old host.new store.new current.new stack.new }
 {
@@ -177,8 +176,8 @@ fn from_return<'c, H: Host>(
     stack: &mut Vec<Frame<'c>>,
     value: Value,
 ) -> Result<Focus<'c>, Exit<H::Stop>>
-    requires stood { IsStanding H.rules H.leaves code.now (H.now host.old)
-        (stand store.old current.old stack.old (focus.Return value)) }
+    requires stood { RunsAt H.rules H.leaves H.now code.now
+        host.old store.old current.old stack.old (focus.Return value) }
     ensures { StepsOn H.rules H.leaves H.now code.now (focus.Return value) result
         host.old store.old current.old stack.old host.new store.new current.new stack.new }
 {
@@ -277,8 +276,8 @@ pub fn run_function<H: Host>(
 ) -> Result<Value, Exit<H::Stop>>
     requires ready { CanCall H.rules H.leaves code.now (H.now host.old) store.old }
     requires args { AreSeenNumbered (count_in code.now) args }
-    ensures { CallRuns H.rules H.leaves code.now function (map seen args.items)
-        (H.now host.old) store.old (value_left result) (H.now host.new) store.new }
+    ensures { RunsCall H.rules H.leaves H.now code.now function args
+        host.old store.old result host.new store.new }
 {
     if store.fuel == 0 {
         return Err(Exit::Fuel);

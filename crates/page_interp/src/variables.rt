@@ -6,7 +6,7 @@ ghost use Rattle.page_values.specs.Seen.{seen};
 ghost use Rattle.page_values.specs.declared.Value.TheVariants as value;
 ghost use Rattle.page_interp.specs.Places.{place_of};
 ghost use Rattle.page_interp.specs.Runs.{value_left};
-ghost use Rattle.page_interp.specs.Variables.{value_at, has_variable, IsWritten, SetsLocal, SetsGlobal, StandsFor, NameGives, AreFilled};
+ghost use Rattle.page_interp.specs.Variables.{value_at, has_variable, IsWritten, SetsLocal, SetsGlobal, StandsFor, NameGives, AreFilled, EmptiesGlobal};
 
 use crate::code::Code;
 use crate::exit::{Exit, Store};
@@ -185,7 +185,7 @@ pub fn take(
     ensures locals { IfSome result (λ _.
         SetsLocal names.now locals.old name.now.name value.Unit locals.new) }
     ensures globals { IfSome result (λ _.
-        SetsGlobal code.now names.now locals.old store.old name.now.name value.Unit store.new) }
+        EmptiesGlobal code.now names.now locals.old store.old name.now.name store.new) }
     ensures fuel { store.new.fuel ≡ store.old.fuel }
     ensures same_store { IfNone result (store.new ≡ store.old) }
     ensures same_locals { IfNone result (locals.new ≡ locals.old) }
