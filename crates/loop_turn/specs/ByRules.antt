@@ -4,6 +4,7 @@ use Rattle.page_types.specs.declared.End.{End}
 use Rattle.page_types.specs.declared.Source.{Source}
 use Rattle.page_base.specs.declared.clock.Clock.{Ghosts as ClockRules}
 use Rattle.loop_policy.specs.declared.chooser.Chooser.{Ghosts as ChooserRules}
+use Rattle.host_jobs.specs.declared.port.HostPort.{Ghosts as PortRules}
 use Rattle.page_parts.specs.HostClosures.{HostClosure}
 use Rattle.lang_ast.specs.declared.program.Program.{Program}
 use Rattle.lang_ast.specs.SeenProgram.{seen_program}
@@ -18,9 +19,11 @@ use Rattle.page_host.specs.Moments.{state_of, calling}
 use Rattle.loop_turn.specs.Outcomes.{Turns}
 use Rattle.loop_turn.specs.RunRules.{answer_rules, no_reading, run_rules}
 use Rattle.loop_turn.specs.RunStops.{line_fault, run_outcome, turn_outcome}
-use Rattle.loop_turn.specs.Answers.{ByAnswers}
+use Rattle.loop_turn.specs.Answers.{AreKept, ByAnswers}
 use Rattle.loop_turn.specs.Lawful.{KeepsLaws}
+use Rattle.loop_turn.specs.Runs.{DoesRun, event_lines, port_then, run_lines}
 use Rattle.loop_turn.specs.TurnActs.{holding, reached, serving, shown}
+use Rattle.loop_turn.specs.declared.page_run.Ended.{Ended}
 use Rattle.loop_turn.specs.declared.run_stop.RunStop.{RunStop}
 
 -- ---- Ours: by the answers of the host port, the calls do what the model's turns do. Each is told by what stands before it, the clock,
@@ -91,3 +94,23 @@ module _ {C K : Type 0} (clock : ClockRules C) (chooser : ChooserRules K) where
       (answers : List (Result ℤ ℤ)) → KeepsLaws (settings_of setup).setup
       (run_by (run_rules clock.rule chooser.rule) (seen_program program) (settings_of setup).setup hosts
       (holding clock.held chooser.held c k answers))
+
+module _ {C K P L : Type 0} (clock : ClockRules C) (chooser : ChooserRules K) (port : PortRules P) (lines : LineRules L) where
+  -- Some answers that the port may keep make a run of a program under a setup. The call does this run, with all its lines from the head on:
+  -- it is told by the clock, the chooser, the port and the lines that are handed in, by how it ended, and by clock and chooser behind it.
+  abbrev pub RunsPage : Program → PageSetup → C → K → P → L → Ended P L → C → K → Type 0
+  RunsPage program setup c k p l ended c' k' =
+      (answers : List (Result ℤ ℤ)) × AreKept (port.kept p) answers ×
+      (let run = run_by (run_rules clock.rule chooser.rule) (seen_program program) (settings_of setup).setup (port.closures p)
+      (holding clock.held chooser.held c k answers)
+      in DoesRun lines.keeping (lines.seen l) (run_lines setup.trace run) run ended.outcome (clock.held c') (chooser.held k')
+      (port_then port.closures port.kept (port.closures p) ended.port) (lines.seen ended.lines))
+
+  -- the same of a page that is made, with the lines behind the head
+  abbrev pub RunsMade : Program → PageSetup → C → K → PageNow L → Ended P L → C → K → Type 0
+  RunsMade program setup c k page ended c' k' =
+      (answers : List (Result ℤ ℤ)) × AreKept page.state.kept answers ×
+      (let run = run_by (run_rules clock.rule chooser.rule) (seen_program program) (settings_of setup).setup page.state.hosts
+      (holding clock.held chooser.held c k answers)
+      in DoesRun lines.keeping (lines.seen page.lines) (event_lines run) run ended.outcome (clock.held c') (chooser.held k')
+      (port_then port.closures port.kept page.state.at_port ended.port) (lines.seen ended.lines))

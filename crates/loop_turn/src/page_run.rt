@@ -1,18 +1,14 @@
 //! Whole runs of a page.
 
-ghost use Rattle.std.specs.Prelude.{◌≡◌, ◌≤◌, ◌^◌, ℤ, List, None, Result, true, is_some, length, map, IsTrue};
+ghost use Rattle.std.specs.Prelude.{◌≡◌, ◌≤◌, ◌^◌, None, Result, true, is_some, length, map, IsTrue};
 ghost use Rattle.std.specs.List.{list_all};
 ghost use Rattle.lang_ast.specs.SeenProgram.{seen_program};
 ghost use Rattle.arrivals_text.specs.Seen.{settings_of};
 ghost use Rattle.page_hosts.specs.Hosts.{is_unqueued, unasked};
-ghost use Rattle.page_model.specs.Turns.{run_by};
 ghost use Rattle.page_host.specs.Starts.{Starts};
-ghost use Rattle.loop_turn.specs.RunRules.{run_rules};
-ghost use Rattle.loop_turn.specs.Answers.{AreKept};
 ghost use Rattle.loop_turn.specs.RunStops.{line_fault, readings_refused, choices_refused};
-ghost use Rattle.loop_turn.specs.Runs.{DoesRun, event_lines, run_lines, port_then};
-ghost use Rattle.loop_turn.specs.TurnActs.{CanTurn, PortRefuses, holding};
-ghost use Rattle.loop_turn.specs.ByRules.{AreLawfulRuns, DoesTurns, RunsTurns};
+ghost use Rattle.loop_turn.specs.TurnActs.{CanTurn, PortRefuses};
+ghost use Rattle.loop_turn.specs.ByRules.{AreLawfulRuns, DoesTurns, RunsMade, RunsPage, RunsTurns};
 
 use crate::run_stop::RunStop;
 use crate::turn::turn;
@@ -57,11 +53,8 @@ pub fn run_page<C: Clock, K: Chooser, P: HostPort, L: Lines, M: Ledger>(
 ) -> Ended<P, L>
     requires count { length (P.closures port) ≤ 2 ^ 32 }
     requires unqueued { IsTrue (list_all is_unqueued (P.closures port)) }
-    ensures run { (answers : List (Result ℤ ℤ)) × AreKept (P.kept port) answers ×
-        (let run = run_by (run_rules C.rule K.rule) (seen_program program.now) (settings_of setup.now).setup (P.closures port)
-        (holding C.held K.held clock.old chooser.old answers)
-        in DoesRun L.keeping (L.seen lines) (run_lines setup.now.trace run) run result.outcome (C.held clock.new) (K.held chooser.new)
-        (port_then P.closures P.kept (P.closures port) result.port) (L.seen result.lines)) }
+    ensures run { RunsPage C.Clock K.Chooser P.HostPort L.Lines program.now setup.now
+        clock.old chooser.old port lines result clock.new chooser.new }
     ensures laws { AreLawfulRuns C.Clock K.Chooser program.now setup.now (P.closures port) clock.old chooser.old }
     ensures readings { C.refusals clock.new ≡ readings_refused (C.refusals clock.old) result.outcome }
     ensures choices { K.refusals chooser.new ≡ choices_refused (K.refusals chooser.old) result.outcome }
@@ -95,11 +88,8 @@ fn run_made<C: Clock, K: Chooser, P: HostPort, L: Lines, M: Ledger>(
     chooser: &mut K,
 ) -> Ended<P, L>
     requires { Starts (seen_program program.now) (settings_of setup.now).setup page.state.hosts page }
-    ensures run { (answers : List (Result ℤ ℤ)) × AreKept page.state.kept answers ×
-        (let run = run_by (run_rules C.rule K.rule) (seen_program program.now) (settings_of setup.now).setup page.state.hosts
-        (holding C.held K.held clock.old chooser.old answers)
-        in DoesRun L.keeping (L.seen page.lines) (event_lines run) run result.outcome (C.held clock.new) (K.held chooser.new)
-        (port_then P.closures P.kept page.state.at_port result.port) (L.seen result.lines)) }
+    ensures run { RunsMade C.Clock K.Chooser P.HostPort L.Lines program.now setup.now
+        clock.old chooser.old page result clock.new chooser.new }
     ensures readings { C.refusals clock.new ≡ readings_refused (C.refusals clock.old) result.outcome }
     ensures choices { K.refusals chooser.new ≡ choices_refused (K.refusals chooser.old) result.outcome }
     ensures answers { PortRefuses result.outcome page.state.refusals (P.refusals result.port) }
