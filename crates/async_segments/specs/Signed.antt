@@ -3,7 +3,7 @@ use Rattle.std.specs.Prelude.{◌≡◌, ℕ, List, map, Ok}
 use Rattle.page_types.specs.Tree.{Item}
 use Rattle.lang_tokens.specs.Seen.{TokenSeen}
 use Rattle.lang_tokens.specs.Tokens.{tokens_of}
-use Rattle.lang_parse.specs.Symbols.{Symbol, symbols_of}
+use Rattle.lang_parse.specs.Symbols.{symbols_of}
 use Rattle.lang_parse.specs.Grammar.{HasTree, script_spelling}
 use Rattle.async_segments.specs.Marked.{MarkedItem}
 use Rattle.async_segments.specs.Expanded.{expanded}
@@ -11,10 +11,6 @@ use Rattle.async_segments.specs.Layout.{placeless, laid_out}
 use Rattle.async_segments.specs.Encoded.{IsExpandable}
 use Rattle.async_segments.specs.Written.{shown_all}
 use Rattle.async_segments.specs.declared.written.Written.{Written}
-
--- symbols with no tree
-abbrev pub HasNoTree : List Symbol → Type 0
-HasNoTree ks = (tree : List Item) → HasTree ks tree → ⊥
 
 pub record HasSignedTree (bytes : List ℕ) (tree : List Item) : Type 0 where
   pub tokens : List TokenSeen

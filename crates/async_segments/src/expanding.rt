@@ -8,10 +8,10 @@ ghost use Rattle.lang_parse.specs.Faults.{IsNoParse};
 ghost use Rattle.lang_tokens.specs.Tokens.{tokens_of};
 ghost use Rattle.lang_ast.specs.Seen.{seen_tree};
 ghost use Rattle.lang_parse.specs.Symbols.{symbols_of};
-ghost use Rattle.lang_parse.specs.Grammar.{HasTree, IsShallow};
+ghost use Rattle.lang_parse.specs.Grammar.{HasTree, IsShallow, HasNoTree};
 ghost use Rattle.async_segments.specs.Script.{Each, IsOwnName, IsNotAsync, IsExpansion, IsNoAsync};
 ghost use Rattle.async_segments.specs.Encoded.{has_mark, IsExpandedTo, IsNotExpandable, HasMarkOrIsDeep};
-ghost use Rattle.async_segments.specs.Signed.{HasSignedTree, HasNoSignedTree, WritesTree, RefusesTree, LaysOutTree, HasNoTree};
+ghost use Rattle.async_segments.specs.Signed.{HasSignedTree, HasNoSignedTree, WritesTree, RefusesTree, LaysOutTree};
 ghost use Rattle.async_segments.specs.Written.{shown_all};
 
 use crate::fault::{ExpandFault, NotAsync};

@@ -20,7 +20,8 @@ use Rattle.trace_text.specs.declared.lines.NoLine.{NoLine}
 use Rattle.trace_text.specs.Given.{Keeping, Seen}
 use Rattle.page_state.specs.Standing.{Standing, page_of}
 use Rattle.page_state.specs.PageActs.{at, on_page, changed_by, Does}
-use Rattle.page_host.specs.Turning.{run_ended, turn_begun}
+use Rattle.page_host.specs.Turning.{run_ended}
+use Rattle.page_state.specs.JobActs.{turn_counted}
 use Rattle.loop_turn.specs.Outcomes.{Shown, Outcome, WentOn, Finished, AtReading, AtSource, Reached, Turns}
 use Rattle.loop_turn.specs.Waiting.{items_taken, idled, WaitFor, next_in}
 use Rattle.loop_turn.specs.RunStops.{stop_fault, stop_outcome}
@@ -172,17 +173,17 @@ module _ {C : Type 0} (rules : Rules C) (call : Caller Page) (calls_add : (es : 
 
   -- nothing is runnable
   module _ (e : is_empty (view (page_of s)) ≡ true) {T : Type 0} {k : Keeping T} {s' : Standing} {old new : Seen T} where
-    pub none-begins : Does k (at s old) (on_page (turn_begun None)) None (at s' new)
+    pub none-begins : Does k (at s old) (on_page (turn_counted None)) None (at s' new)
         → Turns k (port_at s old) (with_turn_fuel rules call (suc left) fueled c) None WentOn (record { state = around globals left s'; held = c; shown = port_at s' new })
     none-begins h =
         Turns-same (four-is [] (no-view (view (page_of s)) e))
-        (Turns-page globals left (turn_begun None) (λ m. GoesOn m c) (λ es m. refl) h (Turns-goes (around globals left s') c (port_at s' new)))
+        (Turns-page globals left (turn_counted None) (λ m. GoesOn m c) (λ es m. refl) h (Turns-goes (around globals left s') c (port_at s' new)))
 
-    pub none-stop : {why : NoLine} (how : Outcome) (state : State) (held : C) → Does k (at s old) (on_page (turn_begun None)) (Some why) (at s' new)
+    pub none-stop : {why : NoLine} (how : Outcome) (state : State) (held : C) → Does k (at s old) (on_page (turn_counted None)) (Some why) (at s' new)
         → Turns k (port_at s old) (with_turn_fuel rules call (suc left) fueled c) (Some why) how (record { state = state; held = held; shown = port_at s' new })
     none-stop how state held h =
         Turns-same (four-is [] (no-view (view (page_of s)) e))
-        (Turns-page_stop globals left (turn_begun None) (λ m. GoesOn m c) (λ es m. refl) how state held h)
+        (Turns-page_stop globals left (turn_counted None) (λ m. GoesOn m c) (λ es m. refl) how state held h)
 
   -- something is, and the chooser refuses
   pub pick-refused : {T : Type 0} {k : Keeping T} (e : is_empty (view (page_of s)) ≡ false) (shown : Shown T) → chosen_source rules (view (page_of s)) c ≡ None
@@ -195,18 +196,18 @@ module _ {C : Type 0} (rules : Rules C) (call : Caller Page) (calls_add : (es : 
   -- or it chooses a source
   module _ (e : is_empty (view (page_of s)) ≡ false) (source : Source) (d : C) (is : chosen_source rules (view (page_of s)) c ≡ Some (record { choice = source; left = d }))
       {T : Type 0} {k : Keeping T} {s' : Standing} {old new : Seen T} where
-    pub pick-stop : {why : NoLine} (how : Outcome) (state : State) (held : C) → Does k (at s old) (on_page (turn_begun (Some source))) (Some why) (at s' new)
+    pub pick-stop : {why : NoLine} (how : Outcome) (state : State) (held : C) → Does k (at s old) (on_page (turn_counted (Some source))) (Some why) (at s' new)
         → Turns k (port_at s old) (with_turn_fuel rules call (suc left) fueled c) (Some why) how (record { state = state; held = held; shown = port_at s' new })
     pick-stop how state held h =
         Turns-same (picked (Some (record { choice = source; left = d })) e is)
-        (Turns-page_stop globals left (turn_begun (Some source)) (λ m. perform rules call source m d) (performing-adds source d) how state held h)
+        (Turns-page_stop globals left (turn_counted (Some source)) (λ m. perform rules call source m d) (performing-adds source d) how state held h)
 
-    pub pick-then : {why : Option NoLine} {how : Outcome} {reached : Reached C T} → Does k (at s old) (on_page (turn_begun (Some source))) None (at s' new)
+    pub pick-then : {why : Option NoLine} {how : Outcome} {reached : Reached C T} → Does k (at s old) (on_page (turn_counted (Some source))) None (at s' new)
         → Turns k (port_at s' new) (perform rules call source (around globals left s') d) why how reached
         → Turns k (port_at s old) (with_turn_fuel rules call (suc left) fueled c) why how reached
     pick-then h rest =
         Turns-same (picked (Some (record { choice = source; left = d })) e is)
-        (Turns-page globals left (turn_begun (Some source)) (λ m. perform rules call source m d) (performing-adds source d) h rest)
+        (Turns-page globals left (turn_counted (Some source)) (λ m. perform rules call source m d) (performing-adds source d) h rest)
 
 -- so much fuel, in other words
 pub with-fuel : {C T : Type 0} {k : Keeping T} (rules : Rules C) (call : Caller Page) (globals : List Variable) (s : Standing) (c : C) {old : Shown T} {why : Option NoLine} {how : Outcome} {reached : Reached C T}

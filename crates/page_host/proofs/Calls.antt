@@ -5,7 +5,7 @@ use Rattle.std.specs.Option.{option_map}
 use Rattle.page_types.specs.Values.{Value, UnitValue, values_of}
 use Rattle.page_values.specs.declared.Value as held
 use Rattle.page_values.specs.declared.Func.{Func}
-use Rattle.page_values.specs.Seen.{seen as value_seen}
+use Rattle.page_values.specs.Seen.{seen as value_seen, seen_func}
 use Rattle.page_values.specs.Written.{AreNumbered}
 use Rattle.lang_ast.specs.Steps.{AllNumbered}
 use Rattle.page_interp.specs.MachineNow.{MachineNow}
@@ -13,7 +13,6 @@ use Rattle.page_interp.specs.Machines.{functions_in, bound_args}
 use Rattle.lang_meaning.specs.Machine.{Caller, Done}
 use Rattle.page_model.specs.State.{Page, State}
 use Rattle.page_model.specs.Invoke.{call_back}
-use Rattle.page_script.specs.Seen.{function_seen}
 use Rattle.trace_text.specs.declared.lines.NoLine.{NoLine}
 use Rattle.trace_text.specs.Given.{Keeping, Seen}
 use Rattle.page_operations.specs.Asked.{functions_of}
@@ -35,9 +34,9 @@ functions-of {L = L} view whole ready = whole.functions (ap (λ (x : PageNow L).
 module _ {L T : Type 0} {k : Keeping T} {seen : L → Seen T} where
   -- an absent function does nothing
   pub back-absent : (o : Option Func) (args : List Value) (m : MachineNow) (p : PageNow L) → o ≡ None → CanCall m p
-      → Runs k seen (λ call. call_back call (option_map function_seen o) args) None (Gave UnitValue) m p m p
+      → Runs k seen (λ call. call_back call (option_map seen_func o) args) None (Gave UnitValue) m p m p
   back-absent o args m p none ready =
-      subst (λ (x : Option Func). Runs k seen (λ call. call_back call (option_map function_seen x) args) None (Gave UnitValue) m p m p) (sym none)
+      subst (λ (x : Option Func). Runs k seen (λ call. call_back call (option_map seen_func x) args) None (Gave UnitValue) m p m p) (sym none)
       (runs-none (Gave UnitValue) m p ready.running (λ on. ready) (λ e. absurd (cc)))
 
   -- the mark of the lines is none of the model's
@@ -56,7 +55,7 @@ module _ {L T : Type 0} {k : Keeping T} {seen : L → Seen T} where
   -- a function that is there is called
   pub back-there : (o : Option Func) (f : Func) (args : Vec held.Value Global) (since : L) {why : Option NoLine} {how : How} {m m' : MachineNow} {p0 p p' : PageNow L} → o ≡ Some f → p0 ≡ p
       → Runs k seen (λ call. call f.function (bound_args f args)) why how m (record p0 { since = since }) m' p'
-      → Runs k seen (λ call. call_back call (option_map function_seen o) (map value_seen args.items)) why how m p m' p'
+      → Runs k seen (λ call. call_back call (option_map seen_func o) (map value_seen args.items)) why how m p m' p'
   back-there o f args since {why = why} {how = how} {m = m} {m' = m'} {p = p} {p' = p'} some view r =
-      subst (λ (x : Option Func). Runs k seen (λ call. call_back call (option_map function_seen x) (map value_seen args.items)) why how m p m' p') (sym some)
+      subst (λ (x : Option Func). Runs k seen (λ call. call_back call (option_map seen_func x) (map value_seen args.items)) why how m p m' p') (sym some)
       (subst (λ (x : PageNow L). Runs k seen (λ call. call f.function (bound_args f args)) why how m x m' p') view (runs-marked since r))

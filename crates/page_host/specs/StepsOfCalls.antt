@@ -6,7 +6,7 @@ use Rattle.page_parts.specs.Kinds as kinds
 use Rattle.page_parts.specs.Promises.{has_failed}
 use Rattle.page_values.specs.declared.Value.{Value}
 use Rattle.page_values.specs.declared.Func.{Func}
-use Rattle.page_values.specs.Seen.{seen}
+use Rattle.page_values.specs.Seen.{seen, seen_func}
 use Rattle.promise_core.specs.declared.record.Reaction.{Reaction}
 use Rattle.promise_core.specs.Seen.{settled_seen, reaction_seen}
 use Rattle.page_notices.specs.declared.jobs.Todo.{Todo}
@@ -18,7 +18,6 @@ use Rattle.page_model.specs.PagePromises.{promise_at}
 use Rattle.page_model.specs.Invoke.{call_back, callback_of, checkpoint_ended, in_checkpoint, in_task, invoke, under}
 use Rattle.page_model.specs.Invoke.{react, react_then, run_job, run_jobs}
 use Rattle.page_script.specs.declared.parts.WhenReported.{WhenReported}
-use Rattle.page_script.specs.Seen.{function_seen}
 use Rattle.page_script.specs.Reports.{when_seen}
 use Rattle.page_state.specs.Standing.{Standing}
 use Rattle.page_state.specs.PageActs.{read_by}
@@ -54,7 +53,7 @@ thrown_in_task when value = threw_in_task (when_seen when) (seen value)
 
 -- a function is called, where there is one
 abbrev pub function_called : Option Func → List Value → Caller Page → State → Done Page
-function_called fun args = λ call. call_back call (option_map function_seen fun) (map seen args)
+function_called fun args = λ call. call_back call (option_map seen_func fun) (map seen args)
 
 -- a function is called with arguments behind its bound ones
 abbrev pub bound_called : Func → Vec Value Global → Caller Page → State → Done Page

@@ -1,9 +1,9 @@
 -- How a turn begins and waits and a run ends, done to the page alone. HTML, "Event loops: processing model"
-use Rattle.std.specs.Prelude.{◌≡◌, ℕ, suc, max, Bool, Option, is_some}
+use Rattle.std.specs.Prelude.{◌≡◌, ℕ, max, Bool, Option, is_some}
 use Rattle.page_types.specs.declared.Source.{Source}
 use Rattle.page_types.specs.declared.End.{End}
 use Rattle.page_types.specs.declared.End.TheVariants.{Done, Fuel, Clock}
-use Rattle.page_types.specs.Events.{Turn, EndLine, Wait}
+use Rattle.page_types.specs.Events.{EndLine, Wait}
 use Rattle.page_parts.specs.Words.{is_empty}
 use Rattle.page_model.specs.State.{Page, State, emit}
 use Rattle.page_model.specs.Turns.{at_time, counted_turn, is_pending, turn_line}
@@ -11,14 +11,11 @@ use Rattle.page_model.specs.View.{view}
 use Rattle.trace_text.specs.Acts.{Piece}
 use Rattle.page_state.specs.Standing.{Standing}
 use Rattle.page_state.specs.PageActs.{changed_by, on_page, read_by}
-
--- one more turn, with its line: it begins with a task of this source, or with none
-abbrev pub turn_begun : Option Source → Page → Page
-turn_begun source p = emit (Turn (suc p.turns) source) (record p { turns = suc p.turns })
+use Rattle.page_state.specs.JobActs.{turn_counted}
 
 -- the same in a state of the model, with so much fuel left
 abbrev pub page_turn : Option Source → (left : ℕ) → State → State
-page_turn source left m = record m { fuel = left; host = turn_begun source m.host }
+page_turn source left m = record m { fuel = left; host = turn_counted source m.host }
 
 -- how the model's turn begins
 abbrev pub model_turn : Option Source → (left : ℕ) → State → State

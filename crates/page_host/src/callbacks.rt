@@ -2,13 +2,12 @@
 
 ghost use Rattle.std.specs.Prelude.{◌≡◌, ◌≢◌, ◌≤◌, map, IfErr, IfOk};
 ghost use Rattle.std.specs.Option.{option_map};
-ghost use Rattle.page_values.specs.Seen.{seen};
+ghost use Rattle.page_values.specs.Seen.{seen, seen_func};
 ghost use Rattle.page_values.specs.Written.{AreNumbered};
 ghost use Rattle.lang_ast.specs.Steps.{AllNumbered};
 ghost use Rattle.page_interp.specs.Machines.{functions_in};
 ghost use Rattle.page_model.specs.State.{the_registration};
 ghost use Rattle.page_model.specs.Invoke as model;
-ghost use Rattle.page_script.specs.Seen.{function_seen};
 ghost use Rattle.page_script.specs.Reports.{when_seen};
 ghost use Rattle.page_state.specs.PageActs.{read_by};
 ghost use Rattle.page_state.specs.Standing.{port_of};
@@ -246,7 +245,7 @@ fn callback_copied<P: HostPort, M: Ledger>(
     r: u32,
     second: bool,
 ) -> Result<Option<Func>, MemoryFault>
-    ensures { IfOk result (λ fun. option_map function_seen fun ≡ callback_read r second state.now) }
+    ensures { IfOk result (λ fun. option_map seen_func fun ≡ callback_read r second state.now) }
 {
     let Some(fun) = state.callback_of(r, second) else {
         return Ok(None);

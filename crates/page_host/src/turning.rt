@@ -6,7 +6,8 @@ ghost use Rattle.page_model.specs.State.{emit};
 ghost use Rattle.page_model.specs.Turns.{at_time};
 ghost use Rattle.page_state.specs.PageActs.{changed_by, on_page, read_by};
 ghost use Rattle.page_host.specs.Stops.{KeepsSetting, PageDoes, Stops};
-ghost use Rattle.page_host.specs.Turning.{run_ended, time_up, turn_begun};
+ghost use Rattle.page_host.specs.Turning.{run_ended, time_up};
+ghost use Rattle.page_state.specs.JobActs.{turn_counted};
 
 use crate::stopping::or_stop;
 use crate::{Page, PageStop};
@@ -51,7 +52,7 @@ impl<P: HostPort, L: Lines, M: Ledger> Page<P, L, M> {
     pub fn begin_turn(&mut self, source: Option<Source>) -> Result<(), PageStop>
         requires running { self.old.stopped ≡ None }
         requires fuel { 1 ≤ self.old.fuel }
-        ensures does { PageDoes L.keeping L.seen self.old (on_page (turn_begun source)) result self.new }
+        ensures does { PageDoes L.keeping L.seen self.old (on_page (turn_counted source)) result self.new }
         ensures stops { Stops L.seen self.old result self.new }
         ensures fuel { self.new.fuel + 1 ≡ self.old.fuel }
         ensures same { KeepsSetting self.old self.new }

@@ -27,8 +27,8 @@ use Rattle.page_interp.specs.declared.stack.Frame.TheVariants as frame
 use Rattle.page_interp.specs.declared.stack.Waiting.TheVariants as waiting
 use Rattle.page_interp.specs.declared.stack.Purpose.{Purpose}
 use Rattle.page_interp.specs.AtOnce.{Assigns, HasFirst, Leads, Brings, IsKept, EndsWanting, turned, tested_at}
-use Rattle.page_interp.specs.Direct.{direct_there}
-use Rattle.page_interp.specs.Frames.{does, place, meaning_at, steps_left, named_there, Place, Goes, Arrives, Moves, Steps, IsCalled, IsSet}
+use Rattle.page_interp.specs.Direct.{direct_there, names_there}
+use Rattle.page_interp.specs.Frames.{does, place, meaning_at, steps_left, Place, Goes, Arrives, Moves, Steps, IsCalled, IsSet}
 use Rattle.page_interp.specs.StackClauses.{RowBrings, BlockBrings, Sets, ValueComes}
 use Rattle.page_interp.proofs.Steps.{still}
 use Rattle.page_interp.proofs.SmallSteps.{pushes_moves, pops_moves, within}
@@ -178,7 +178,7 @@ module _ {T : Type 0} (rules : HostRules T) (p : Code.Program) (store : Store) (
       arrives_on rules (seen_program p) _ _ _ one two
 
   -- a call by name, and then its arguments
-  pub call_leads : {S : Type 0} (result : Result Focus (Exit S)) (fs fs1 : List Frame) (n : Named) (args : Bor (List Expr)) (purpose : Purpose) (vs : Vec Value Global) → IsCalled (op_named n.name) (named_there p store current n.name) purpose → vs.items ≡ []
+  pub call_leads : {S : Type 0} (result : Result Focus (Exit S)) (fs fs1 : List Frame) (n : Named) (args : Bor (List Expr)) (purpose : Purpose) (vs : Vec Value Global) → IsCalled (op_named n.name) (names_there p store current n.name) purpose → vs.items ≡ []
       → IfOk result (λ f. Leads rules (seen_program p) (place store current fs (focus.Row purpose vs args)) (place store current fs1 f))
       → IfOk result (λ f. (call : Bor Expr) (es : Vec Expr Global) → call.now ≡ E.Call n es → args.now ≡ es.items → Leads rules (seen_program p) (place store current fs (focus.Expr call)) (place store current fs1 f))
   call_leads (Ok f) fs fs1 n args purpose vs k e next = λ call es q a h.

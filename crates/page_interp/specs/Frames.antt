@@ -39,7 +39,7 @@ use Rattle.page_interp.specs.declared.stack.Purpose.TheVariants as purpose
 use Rattle.page_interp.specs.declared.stack.Current.{Current}
 use Rattle.page_interp.specs.Runs.{Part, variables_of, globals_in, machine_of, count_of_functions, SomeIsNumbered, AreNumberedIn, Left, ends, refused, no_memory, exit_left, call_left, Is, IsDry, WhereSettled, LeftIsNumbered, caller_of, around_of, call_given, func_of, frame_names, Moment, moment_of, outside, IsReady, Asks, Runs}
 use Rattle.page_interp.specs.Sizes.{program_size}
-use Rattle.page_interp.specs.Variables.{named_in, SetsLocal, SetsGlobal}
+use Rattle.page_interp.specs.Variables.{SetsLocal, SetsGlobal}
 use Rattle.std.specs.Borrow.{Bor}
 use Rattle.lang_ast.specs.declared.program.Program as Code
 use Rattle.lang_ast.specs.declared.tree.Named.{Named}
@@ -455,10 +455,6 @@ abbrev pub IsCalled : Option Op → Option Model.Value → Purpose → Type 0
 IsCalled (Some op) o (purpose.Ask op') = op' ≡ op
 IsCalled None o (purpose.Call o') = option_map seen o' ≡ o
 IsCalled op o purpose = ⊥
-
--- what a name stands for there
-abbrev pub named_there : Code.Program → Store → Current → List ℕ → Option Model.Value
-named_there p store current x = named_in p store current.names.now current.locals x
 
 -- the same with no eye on the variables
 pub record Moves {T : Type 0} (rules : HostRules T)

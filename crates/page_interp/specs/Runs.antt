@@ -255,10 +255,6 @@ abbrev pub func_of : Option Model.Value → Option Func
 func_of None = None
 func_of (Some v) = func_in v
 
--- a function of the code, as a value names it
-abbrev pub func_seen : HeldFunc → Func
-func_seen f = record { function = f.function; bound = f.bound }
-
 -- a call of what a name stands for
 abbrev pub call_given : {T : Type 0} → Caller T → Option Model.Value → List Model.Value
     → Machine T → Done T

@@ -36,11 +36,11 @@ use Rattle.page_interp.specs.declared.stack.Frame.TheVariants as frame
 use Rattle.page_interp.specs.declared.stack.Purpose.{Purpose}
 use Rattle.page_interp.specs.declared.stack.Waiting.{Waiting}
 use Rattle.page_interp.specs.declared.stack.Waiting.TheVariants as waiting
-use Rattle.page_interp.specs.Direct.{NameHolds}
+use Rattle.page_interp.specs.Direct.{NameHolds, names_there}
 use Rattle.page_interp.specs.AtOnce.{Assigns, EndsWanting, Leads, Brings, before_stmt, branches, turned, tested_at, waited_at}
 use Rattle.page_interp.specs.Clauses.{CallRuns, script, count_in}
 use Rattle.page_interp.specs.CodeNames.{function_at}
-use Rattle.page_interp.specs.Frames.{Place, Holds, IsCalled, IsPicked, Moves, Opens, Stood, Steps, Answering, MayCome, Leaves, Finishes, stacked, place, waiting_at, moment_at, tickets_in, does, steps_on, resumes, call_names, call_variables, call_body, named_there, AreSeenNumbered}
+use Rattle.page_interp.specs.Frames.{Place, Holds, IsCalled, IsPicked, Moves, Opens, Stood, Steps, Answering, MayCome, Leaves, Finishes, stacked, place, waiting_at, moment_at, tickets_in, does, steps_on, resumes, call_names, call_variables, call_body, AreSeenNumbered}
 use Rattle.page_interp.specs.Runs.{IsReady, outside, value_left, variables_of}
 
 -- ---- The stack
@@ -139,7 +139,7 @@ IsFirstAmong items = λ p.
 -- the arguments of a call by this name are for this
 abbrev pub IsCallBy : Code.Program → Store → Current → Named → Purpose → Type 0
 IsCallBy code store current name =
-    IsCalled (op_named name.name) (named_there code store current name.name)
+    IsCalled (op_named name.name) (names_there code store current name.name)
 
 -- it leads on from a call of this name with these arguments
 abbrev pub CallLeads : {T : Type 0} → HostRules T → Code.Program → Named → (args : List Expr)

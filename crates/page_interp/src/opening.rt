@@ -2,12 +2,12 @@
 
 ghost use Rattle.std.specs.Prelude.{◌≡◌, ◌<◌, ◌≤◌, Some, IfOk, IfErr};
 ghost use Rattle.std.specs.Option.{option_map};
-ghost use Rattle.page_values.specs.Seen.{seen};
+ghost use Rattle.page_values.specs.Seen.{seen, seen_func};
 ghost use Rattle.lang_ast.specs.Calls.{CallsFit};
 ghost use Rattle.lang_ast.specs.Names.{in_block};
 ghost use Rattle.page_interp.specs.CodeNames.{function_at};
 ghost use Rattle.page_interp.specs.Frames.{IsWant, IsUncalled, IsBody, call_names};
-ghost use Rattle.page_interp.specs.Runs.{func_of, func_seen};
+ghost use Rattle.page_interp.specs.Runs.{func_of};
 ghost use Rattle.page_interp.specs.StackClauses.{body_at, AreCallLocals, OpensOn};
 
 use crate::code::Code;
@@ -24,7 +24,7 @@ pub const OPEN_CALLS: u64 = 256;
 
 /// The function that a value is, where it can be called with so many open calls.
 pub fn callable(depth: u64, value: Option<Value>) -> Result<Func, FaultName>
-    ensures ok { IfOk result (λ f. func_of (option_map seen value) ≡ Some (func_seen f)) }
+    ensures ok { IfOk result (λ f. func_of (option_map seen value) ≡ Some (seen_func f)) }
     ensures room { IfOk result (λ _. depth < 256) }
     ensures err { IfErr result (IsUncalled depth (func_of (option_map seen value))) }
 {

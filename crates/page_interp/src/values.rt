@@ -5,8 +5,8 @@ ghost use Rattle.std.specs.Option.{option_map};
 ghost use Rattle.page_types.specs.Values.{items_of, ListValue, TextValue};
 ghost use Rattle.page_types.specs.declared.FaultName.TheVariants.{RangeError};
 ghost use Rattle.lang_meaning.specs.Evaluation.{limited_value};
-ghost use Rattle.page_values.specs.Seen.{seen, seen_all};
-ghost use Rattle.page_interp.specs.Runs.{value_left, unit_left, call_left, func_of, func_seen};
+ghost use Rattle.page_values.specs.Seen.{seen, seen_all, seen_func};
+ghost use Rattle.page_interp.specs.Runs.{value_left, unit_left, call_left, func_of};
 ghost use Rattle.page_interp.specs.Answers.{Answers, MadeGives};
 
 use crate::exit::Exit;
@@ -64,7 +64,7 @@ pub fn append<S: Drop>(values: &mut Vec<Value>, value: Value) -> Result<(), Exit
 /// The function that a value is.
 pub fn callee(value: Option<Value>) -> Option<Func>
     ensures none { IfNone result (func_of (option_map seen value) ≡ None) }
-    ensures some { IfSome result (λ f. func_of (option_map seen value) ≡ Some (func_seen f)) }
+    ensures some { IfSome result (λ f. func_of (option_map seen value) ≡ Some (seen_func f)) }
 {
     match value {
         Some(Value::Fun(function)) => Some(function),

@@ -1,6 +1,5 @@
 -- What a change of one promise does to the notices, and what is told of it.
-use Rattle.std.specs.Prelude.{◌≡◌, ℕ, Bool, true, false, if◌then◌else◌, List, [], ◌∷◌, Option, Some, None, ◌==◌, Result, IfOk, MatchOption}
-use Rattle.std.specs.Borrow.{Bor}
+use Rattle.std.specs.Prelude.{◌≡◌, ℕ, Bool, true, false, if◌then◌else◌, List, [], ◌∷◌, Option, Some, None, ◌==◌, Result, IfOk}
 use Rattle.page_types.specs.Events.{Event, Settle}
 use Rattle.page_parts.specs.Words.{without}
 use Rattle.page_parts.specs.Spelling.{spelled}
@@ -44,10 +43,6 @@ followed_change n how s = Parts.follow n (the_promise s.promises n) (settled_see
 -- the change by which it is given a reaction
 abbrev pub subscribed_change : ℕ → Reaction → Notices → Parts.Change
 subscribed_change n r s = Parts.subscribe n (the_promise s.promises n) (reaction_seen r)
-
--- the outcome that a call lends is this one, and none exactly where there is none
-abbrev pub IsOutcome : Option (Bor (Result Value Value)) → Option Settled → Type 0
-IsOutcome result outcome = MatchOption result (outcome ≡ None) (λ how. outcome ≡ Some (settled_seen how.now))
 
 -- the line of promise number n, settled with this value or reason
 abbrev pub settle_lines : List (List ℕ) → ℕ → (ok : Bool) → Value → List Event

@@ -9,11 +9,11 @@ ghost use Rattle.page_values.specs.Seen.{seen};
 ghost use Rattle.page_parts.specs.Notices.{no_notices, is_outstanding};
 ghost use Rattle.page_values.specs.Written.{IsNumbered};
 ghost use Rattle.promise_core.specs.Held.{IsMade, all_within};
-ghost use Rattle.promise_core.specs.Seen.{settled_seen};
+ghost use Rattle.promise_core.specs.Seen.{settled_seen, IsOutcome};
 ghost use Rattle.trace_text.specs.declared.lines.NoLine.TheVariants.{OutOfMemory};
 ghost use Rattle.page_notices.specs.Seen.{waiting_seen, todo_seen};
 ghost use Rattle.page_notices.specs.Steps.{held};
-ghost use Rattle.page_notices.specs.Changes.{BringsWhereOk, settled_change, followed_change, subscribed_change, no_longer_unhandled, IsOutcome, IsNamed, settled_line_of, settle_lines};
+ghost use Rattle.page_notices.specs.Changes.{BringsWhereOk, settled_change, followed_change, subscribed_change, no_longer_unhandled, IsNamed, settled_line_of, settle_lines};
 ghost use Rattle.page_notices.specs.Calls.{Writes, Settles, Follows, Subscribes, PutsMicro, TellsChange, QueuesJobs, QueuesJob, context_at};
 
 use crate::jobs::{Moment, NextJob, Todo};

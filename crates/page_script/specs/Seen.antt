@@ -1,7 +1,7 @@
 -- What registrations, scheduling states and messages of the code are seen as.
 use Rattle.std.specs.Prelude.{Option, Some, None}
 use Rattle.page_values.specs.declared.Func.{Func}
-use Rattle.page_values.specs.Seen.{seen}
+use Rattle.page_values.specs.Seen.{seen, seen_func}
 use Rattle.page_parts.specs.Kinds as Kinds
 use Rattle.page_parts.specs.Channels as Channels
 use Rattle.page_model.specs.State as m
@@ -14,9 +14,6 @@ use Rattle.page_script.specs.declared.parts.Registration.{Registration}
 use Rattle.page_script.specs.declared.parts.SchedulingState.{SchedulingState}
 use Rattle.page_script.specs.declared.parts.Post.{Post}
 
-abbrev pub function_seen : Func → Kinds.Func
-function_seen f = record { function = f.function; bound = f.bound }
-
 abbrev pub role_seen : Role → m.Role
 role_seen role.Script = m.ScriptRole
 role_seen (role.Of kind) = m.OfKind kind
@@ -24,16 +21,16 @@ role_seen (role.Of kind) = m.OfKind kind
 -- the first callback of a registration
 abbrev pub first_seen : Callbacks → Option Kinds.Func
 first_seen callbacks.Absent = None
-first_seen (callbacks.First f) = Some (function_seen f)
+first_seen (callbacks.First f) = Some (seen_func f)
 first_seen (callbacks.Second f) = None
-first_seen (callbacks.Both fs) = Some (function_seen fs.value.first)
+first_seen (callbacks.Both fs) = Some (seen_func fs.value.first)
 
 -- its second callback
 abbrev pub second_seen : Callbacks → Option Kinds.Func
 second_seen callbacks.Absent = None
 second_seen (callbacks.First f) = None
-second_seen (callbacks.Second f) = Some (function_seen f)
-second_seen (callbacks.Both fs) = Some (function_seen fs.value.second)
+second_seen (callbacks.Second f) = Some (seen_func f)
+second_seen (callbacks.Both fs) = Some (seen_func fs.value.second)
 
 abbrev pub registration_seen : Registration → m.Registration
 registration_seen r =

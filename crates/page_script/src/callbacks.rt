@@ -2,7 +2,8 @@
 
 ghost use Rattle.std.specs.Prelude.{◌≡◌, None, IfOk};
 ghost use Rattle.std.specs.Option.{option_map};
-ghost use Rattle.page_script.specs.Seen.{function_seen, first_seen, second_seen};
+ghost use Rattle.page_script.specs.Seen.{first_seen, second_seen};
+ghost use Rattle.page_values.specs.Seen.{seen_func};
 ghost use Rattle.page_script.specs.Calls.{LendsSeen};
 
 use page_values::{Func, MemoryFault};
@@ -29,7 +30,7 @@ pub struct BothCallbacks {
 impl Callbacks {
     /// The first callback alone, where there is one. Takes no memory.
     pub fn first_alone(first: Option<Func>) -> Callbacks
-        ensures the_first { first_seen result ≡ option_map function_seen first }
+        ensures the_first { first_seen result ≡ option_map seen_func first }
         ensures the_second { second_seen result ≡ None }
     {
         match first {
@@ -44,8 +45,8 @@ impl Callbacks {
         first: Option<Func>,
         second: Option<Func>,
     ) -> Result<Callbacks, MemoryFault>
-        ensures the_first { IfOk result (λ made. first_seen made ≡ option_map function_seen first) }
-        ensures the_second { IfOk result (λ made. second_seen made ≡ option_map function_seen second) }
+        ensures the_first { IfOk result (λ made. first_seen made ≡ option_map seen_func first) }
+        ensures the_second { IfOk result (λ made. second_seen made ≡ option_map seen_func second) }
     {
         match (first, second) {
             (Some(first), Some(second)) => {
@@ -59,7 +60,7 @@ impl Callbacks {
 
     /// The first callback, none exactly where there is none. Takes no memory.
     pub fn first(&self) -> Option<&Func>
-        ensures { LendsSeen function_seen result (first_seen self.now) }
+        ensures { LendsSeen seen_func result (first_seen self.now) }
     {
         match self {
             Callbacks::First(first) => Some(first),
@@ -70,7 +71,7 @@ impl Callbacks {
 
     /// The second callback, none exactly where there is none. Takes no memory.
     pub fn second(&self) -> Option<&Func>
-        ensures { LendsSeen function_seen result (second_seen self.now) }
+        ensures { LendsSeen seen_func result (second_seen self.now) }
     {
         match self {
             Callbacks::Second(second) => Some(second),

@@ -2,13 +2,13 @@
 
 ghost use Rattle.std.specs.Prelude.{◌≡◌, ◌+◌, ◌^◌, ◌<◌, ◌≤◌, ◌↔◌, length, IfOk, IfErr, IfSome, OnOk, IsTrue};
 ghost use Rattle.page_parts.specs.Spelling.{spelled};
-ghost use Rattle.page_values.specs.Seen.{seen};
+ghost use Rattle.page_values.specs.Seen.{seen, seen_func};
 ghost use Rattle.page_values.specs.Written.{IsNumbered};
 ghost use Rattle.page_model.specs.State as model;
 ghost use Rattle.trace_text.specs.EventSeen.{event_seen};
 ghost use Rattle.trace_text.specs.declared.lines.NoLine.TheVariants.{OutOfMemory};
 ghost use Rattle.page_script.specs.ScriptActs.{read_by};
-ghost use Rattle.page_script.specs.Seen.{registration_seen, function_seen};
+ghost use Rattle.page_script.specs.Seen.{registration_seen};
 ghost use Rattle.page_script.specs.First.{IsFirst};
 ghost use Rattle.page_script.specs.TimerIds.{first_with_id};
 ghost use Rattle.page_script.specs.Calls.{Writes, LendsSeen, register_as, callback_at, with_registration};
@@ -181,7 +181,7 @@ impl PageScript {
     pub fn callback(&self, r: u32, second: bool) -> Option<&Func>
         requires counted { 0 < r }
         requires made { r ≤ length self.now.registrations }
-        ensures { LendsSeen function_seen result (read_by (callback_at r second) self.now) }
+        ensures { LendsSeen seen_func result (read_by (callback_at r second) self.now) }
     {
         let registration = self.registration(r);
         if second {

@@ -6,7 +6,7 @@ use Rattle.page_types.specs.declared.RegKind.TheVariants.{Then}
 use Rattle.page_parts.specs.Frames.{callback_in}
 use Rattle.page_values.specs.declared.Value.{Value}
 use Rattle.page_values.specs.declared.Func.{Func}
-use Rattle.page_values.specs.Seen.{seen}
+use Rattle.page_values.specs.Seen.{seen, seen_func}
 use Rattle.promise_core.specs.Seen.{settled_seen}
 use Rattle.promise_combine.specs.declared.kind.Kind.{Kind}
 use Rattle.promise_combine.specs.Seen.{kind_seen}
@@ -19,9 +19,7 @@ use Rattle.page_model.specs.PageSignals as signals
 use Rattle.page_model.specs.PageCombinators as combinators
 use Rattle.page_script.specs.declared.parts.Combined.{Combined}
 use Rattle.page_script.specs.declared.parts.Registration.{Registration}
-use Rattle.page_script.specs.declared.parts.WhenReported.{WhenReported}
-use Rattle.page_script.specs.Seen.{function_seen, registration_seen}
-use Rattle.page_script.specs.Reports.{when_seen}
+use Rattle.page_script.specs.Seen.{registration_seen}
 use Rattle.page_state.specs.Standing.{Standing}
 use Rattle.page_state.specs.PageActs.{read_by}
 use Rattle.page_state.specs.Handling as handling
@@ -29,13 +27,9 @@ use Rattle.page_state.specs.Handling.{item_taken, last_reaction}
 
 -- ---- Registrations
 
--- a registration is made, with its line
-abbrev pub register_as : RegKind → Registration → Page → Page
-register_as kind registration = invoke.register_as kind (registration_seen registration)
-
 -- the promise and the registration of a task, a delay or a host answer are made, with its abort steps
 abbrev pub promised : RegKind → (callback : Option Func) → (signal : Option ℕ) → Page → Page
-promised kind callback signal = operations.promised kind (option_map function_seen callback) signal
+promised kind callback signal = operations.promised kind (option_map seen_func callback) signal
 
 -- the abort steps of a registration
 abbrev pub abort_registration : (reason : Value) → (registration : ℕ) → Page → Page
@@ -47,7 +41,7 @@ promise_rejected reason r = λ p. reject (the_registration p r).promise (seen re
 
 -- the callback of a registration, its second one or the first, is this one
 abbrev pub HasCallback : Standing → (registration : ℕ) → (second : Bool) → Func → Type 0
-HasCallback s r second f = read_by (λ p. invoke.callback_of second (the_registration p r)) s ≡ Some (function_seen f)
+HasCallback s r second f = read_by (λ p. invoke.callback_of second (the_registration p r)) s ≡ Some (seen_func f)
 
 -- there is no such callback
 abbrev pub HasNoCallback : Standing → (registration : ℕ) → (second : Bool) → Type 0
@@ -56,14 +50,6 @@ HasNoCallback s r second = read_by (λ p. invoke.callback_of second (the_registr
 -- the registration of the frame callback with a handle
 abbrev pub frame_registration : (handle : ℕ) → Page → Option ℕ
 frame_registration handle = λ p. option_map (λ c. c.registration) (callback_in p.frames.callbacks handle)
-
--- the report of a throw before the checkpoint, where it belongs there
-abbrev pub report_before : WhenReported → Value → Page → Page
-report_before when v = invoke.report_before (when_seen when) (seen v)
-
--- the report of a throw after the checkpoint, where it belongs there
-abbrev pub report_after : WhenReported → Value → Page → Page
-report_after when v = invoke.report_after (when_seen when) (seen v)
 
 -- ---- Handlers. ECMA-262, "Promise.prototype.then"
 
@@ -82,13 +68,9 @@ handled n registration =
 
 -- a registration of these handlers
 abbrev pub then_with : (first second : Option Func) → (finally : Bool) → model.Registration
-then_with first second finally = handling.then_with (option_map function_seen first) (option_map function_seen second) finally
+then_with first second finally = handling.then_with (option_map seen_func first) (option_map seen_func second) finally
 
 -- ---- Combinators. ECMA-262, "Promise.all" and its like
-
--- a promise and a combinator of so many elements are made
-abbrev pub combinator_made : Kind → (count : ℕ) → Page → Page
-combinator_made kind count = combinators.combinator_made (kind_seen kind) count
 
 -- `all`, `any` and `allSettled`
 abbrev pub all_made : Kind → List Value → Page → Page

@@ -1,14 +1,11 @@
 -- Turns, jobs, checkpoints, outcomes and listeners of a page, in the pieces that contracts name.
-use Rattle.std.specs.Prelude.{◌≡◌, ℕ, suc, List, Option, Some, None, MatchOption, Result}
-use Rattle.std.specs.Borrow.{Bor}
+use Rattle.std.specs.Prelude.{ℕ, suc, List, Option}
 use Rattle.page_types.specs.declared.Source.{Source}
 use Rattle.page_types.specs.Events.{Turn, Wait}
 use Rattle.page_values.specs.declared.Func.{Func}
-use Rattle.page_values.specs.declared.Value.{Value}
 use Rattle.page_parts.specs.Listeners.{snapshot}
 use Rattle.page_parts.specs.Notices.{queue_micro}
 use Rattle.page_parts.specs.Promises as parts
-use Rattle.promise_core.specs.Seen.{settled_seen}
 use Rattle.page_notices.specs.Seen.{current}
 use Rattle.page_events.specs.declared.target.Target.{Target}
 use Rattle.page_events.specs.Seen.{seen_target}
@@ -17,7 +14,7 @@ use Rattle.page_model.specs.Invoke.{checkpoint_ended, under}
 use Rattle.page_model.specs.PagePromises.{promise_at}
 use Rattle.page_model.specs.Operations as operations
 use Rattle.page_model.specs.Turns.{at_time}
-use Rattle.page_script.specs.Seen.{function_seen}
+use Rattle.page_values.specs.Seen.{seen_func}
 use Rattle.page_script.specs.ScriptActs as script_acts
 use Rattle.page_state.specs.Standing.{Standing}
 
@@ -43,7 +40,7 @@ script_changed f s = record s { script = script_acts.changed_by f s.script }
 
 -- a microtask callback of the code is registered and queued
 abbrev pub micro_made : Func → Page → Page
-micro_made callback = operations.micro_registered (function_seen callback)
+micro_made callback = operations.micro_registered (seen_func callback)
 
 -- the job of a microtask registration is queued behind all others
 abbrev pub micro_queued : (registration : ℕ) → Page → Page
@@ -55,15 +52,11 @@ micro_queued r p = on_notices (queue_micro (context p) r) p
 abbrev pub outcome_now : (n : ℕ) → Page → Option parts.Settled
 outcome_now n p = (promise_at p n).outcome
 
--- the code tells this outcome, and none where there is none
-abbrev pub IsOutcome : Option (Bor (Result Value Value)) → Option parts.Settled → Type 0
-IsOutcome told outcome = MatchOption told (outcome ≡ None) (λ how. outcome ≡ Some (settled_seen how.now))
-
 -- ---- DOM, "Interface EventTarget"; "Dispatching events"
 
 -- a listener of the code is registered and added
 abbrev pub hears_at : Target → (name : List ℕ) → Func → Page → Page
-hears_at target name callback = operations.listener_added (seen_target target) name (function_seen callback)
+hears_at target name callback = operations.listener_added (seen_target target) name (seen_func callback)
 
 -- the listeners of a target and a name as they are now
 abbrev pub listeners_at : Target → (name : List ℕ) → Page → List ℕ

@@ -3,7 +3,7 @@
 ghost use Rattle.std.specs.Prelude.{◌≡◌, Option, Some, None, MatchOption};
 ghost use Rattle.page_parts.specs.Kinds.{is_unit, bool_in, int_in, text_in, list_in, func_in, promise_in, signal_in, controller_in, deadline_in, fault_in, Fault};
 ghost use Rattle.page_base.specs.Found.{IsFound};
-ghost use Rattle.page_values.specs.Seen.{seen, seen_function};
+ghost use Rattle.page_values.specs.Seen.{seen, seen_func};
 
 use crate::{FaultName, Func, Items, Str, Value};
 
@@ -59,7 +59,7 @@ pub fn as_list(value: &Value) -> Option<&Items>
 
 /// The function of a `Fun`, and `None` for any other value.
 pub fn as_function(value: &Value) -> Option<&Func>
-    ensures { IsFound result (func_in (seen value.now)) (λ f. seen_function f.now) }
+    ensures { IsFound result (func_in (seen value.now)) (λ f. seen_func f.now) }
 {
     match value {
         Value::Fun(function) => Some(function),

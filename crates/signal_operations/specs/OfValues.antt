@@ -7,13 +7,12 @@ use Rattle.page_parts.specs.Kinds.{controller_in}
 use Rattle.page_parts.specs.TaskSignals.{priority_of}
 use Rattle.page_values.specs.declared.Func.{Func}
 use Rattle.page_values.specs.declared.Value.{Value}
-use Rattle.page_values.specs.Seen.{seen}
+use Rattle.page_values.specs.Seen.{seen, seen_func}
 use Rattle.lang_meaning.specs.Machine.{Done, Gives, given}
 use Rattle.page_model.specs.State.{Page, State}
 use Rattle.page_model.specs.Operations as model
 use Rattle.page_model.specs.PageSignals.{is_aborted, priority_value, reason_value}
 use Rattle.post_task.specs.declared.level.PrioSource.{PrioSource}
-use Rattle.page_script.specs.Seen.{function_seen}
 use Rattle.page_tasks.specs.Seen.{prio_source}
 
 -- ---- DOM, "Interface AbortController" and "Interface AbortSignal"; Prioritized Task Scheduling, "The TaskSignal Interface"
@@ -60,11 +59,11 @@ post_of callback priority signal ms = model.post_task (seen callback) (seen prio
 
 -- the same with arguments of the right kinds
 abbrev pub post_with : Func → Option Priority → (signal : Option ℕ) → (milliseconds : ℕ) → State → Done Page
-post_with callback priority signal ms = model.post_accepted (function_seen callback) priority signal ms
+post_with callback priority signal ms = model.post_accepted (seen_func callback) priority signal ms
 
 -- its registration, and its task that is enqueued now or after the delay
 abbrev pub queued_with : Func → PrioSource → (signal : Option ℕ) → (milliseconds : ℕ) → Page → Page
-queued_with callback source signal ms = model.post_queued (function_seen callback) (prio_source source) signal ms
+queued_with callback source signal ms = model.post_queued (seen_func callback) (prio_source source) signal ms
 
 -- the promise that is rejected with the reason of an abort source
 abbrev pub rejected_for : Option ℕ → State → Done Page

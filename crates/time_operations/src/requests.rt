@@ -2,7 +2,8 @@
 //! requestIdleCallback).
 
 ghost use Rattle.std.specs.Prelude.{◌≡◌, ◌^◌, ◌<◌};
-ghost use Rattle.page_script.specs.Seen.{function_seen, registration_seen};
+ghost use Rattle.page_script.specs.Seen.{registration_seen};
+ghost use Rattle.page_values.specs.Seen.{seen_func};
 ghost use Rattle.page_state.specs.Makes.{Makes};
 ghost use Rattle.time_operations.specs.Rows.{callback_of_kind};
 ghost use Rattle.time_operations.specs.OfValues.{frame_requested_with, idle_requested_with, set_with};
@@ -70,7 +71,7 @@ pub(crate) fn idle_requested<P: HostPort, M: Ledger, L: Lines>(
 
 // The registration of a callback of a kind, with this timer id, 0 where it has none.
 fn callback_of_kind(kind: RegKind, callback: Func, timer_id: u32) -> Registration
-    ensures { registration_seen result ≡ callback_of_kind kind (function_seen callback) timer_id }
+    ensures { registration_seen result ≡ callback_of_kind kind (seen_func callback) timer_id }
 {
     Registration {
         role: Role::Of(kind),

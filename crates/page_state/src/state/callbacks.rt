@@ -10,7 +10,8 @@ ghost use Rattle.page_script.specs.Seen.{registration_seen};
 ghost use Rattle.page_script.specs.Reports.{logged};
 ghost use Rattle.page_state.specs.PageActs.{read_by};
 ghost use Rattle.page_state.specs.Makes.{Makes};
-ghost use Rattle.page_state.specs.CodeValues.{register_as, HasCallback, HasNoCallback, report_before, report_after};
+ghost use Rattle.page_state.specs.CodeValues.{HasCallback, HasNoCallback};
+ghost use Rattle.page_script.specs.Calls.{register_as, report_after, report_before};
 
 use super::PageState;
 use page_hosts::HostPort;

@@ -12,7 +12,7 @@ ghost use Rattle.page_script.specs.Leading.{IsItem};
 ghost use Rattle.page_state.specs.PageActs.{read_by};
 ghost use Rattle.page_state.specs.Handling.{element_reacted as element_put};
 ghost use Rattle.page_state.specs.Makes.{Makes};
-ghost use Rattle.page_state.specs.CodeValues.{combinator_made};
+ghost use Rattle.page_script.specs.Calls.{combinator_made};
 
 use super::PageState;
 use page_hosts::HostPort;

@@ -3,10 +3,10 @@
 ghost use Rattle.std.specs.Prelude.{◌≡◌, Option, None, true, false, IfErr, IfOk};
 ghost use Rattle.std.specs.Option.{option_map};
 ghost use Rattle.page_parts.specs.Kinds.{func_in};
-ghost use Rattle.page_values.specs.Seen.{seen};
+ghost use Rattle.page_values.specs.Seen.{seen, seen_func};
 ghost use Rattle.page_model.specs.PagePromises.{last_promise};
 ghost use Rattle.page_model.specs.Operations.{finally_made};
-ghost use Rattle.page_script.specs.Seen.{function_seen, registration_seen};
+ghost use Rattle.page_script.specs.Seen.{registration_seen};
 ghost use Rattle.trace_text.specs.declared.lines.NoLine.TheVariants.{OutOfMemory};
 ghost use Rattle.page_state.specs.PageActs.{read_by};
 ghost use Rattle.page_state.specs.Makes.{Makes};
@@ -121,7 +121,7 @@ fn handlers(
 
 // The function that a value is.
 fn function_of(value: Value) -> Option<Func>
-    ensures { option_map function_seen result ≡ func_in (seen value) }
+    ensures { option_map seen_func result ≡ func_in (seen value) }
 {
     match value {
         Value::Fun(function) => Some(function),

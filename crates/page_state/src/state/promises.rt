@@ -6,7 +6,7 @@ ghost use Rattle.page_parts.specs.Promises.{settled_value};
 ghost use Rattle.page_parts.specs.Notices.{is_outstanding};
 ghost use Rattle.page_values.specs.Written.{IsNumbered};
 ghost use Rattle.promise_core.specs.Held.{IsMade};
-ghost use Rattle.promise_core.specs.Seen.{settled_seen, reaction_seen};
+ghost use Rattle.promise_core.specs.Seen.{settled_seen, reaction_seen, IsOutcome};
 ghost use Rattle.page_notices.specs.Steps.{held};
 ghost use Rattle.page_model.specs.PagePromises as model;
 ghost use Rattle.page_model.specs.PagePromises.{subscribe};
@@ -14,7 +14,7 @@ ghost use Rattle.page_model.specs.Operations.{script_promise};
 ghost use Rattle.page_script.specs.Marks.{settled_at_once};
 ghost use Rattle.page_state.specs.PageActs.{changed_by, read_by, IsWanted};
 ghost use Rattle.page_state.specs.Makes.{Makes};
-ghost use Rattle.page_state.specs.JobActs.{outcome_now, IsOutcome};
+ghost use Rattle.page_state.specs.JobActs.{outcome_now};
 ghost use Rattle.page_state.specs.Handling.{told_if, reacted};
 
 use super::PageState;

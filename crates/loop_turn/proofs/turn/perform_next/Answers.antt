@@ -6,7 +6,7 @@ use Rattle.page_model.specs.View.{view}
 use Rattle.page_model.specs.Turns.{with_turn_fuel}
 use Rattle.page_state.specs.Standing.{page_of}
 use Rattle.page_host.specs.Moments.{state_of, calling}
-use Rattle.page_host.specs.Turning.{turn_begun}
+use Rattle.page_state.specs.JobActs.{turn_counted}
 use Rattle.loop_turn.specs.Outcomes.{Turns}
 use Rattle.loop_turn.specs.RunRules.{run_rules, no_reading}
 use Rattle.loop_turn.specs.RunStops.{run_stop_of, stop_outcome}
@@ -31,7 +31,7 @@ returns-in_err-begin_turn-clause-does g c =
     (λ left. reached g.L.Lines.seen m q (serving g.K.Chooser.held c.args.chooser.now left))
     c.from_residual.result (run_stop_of why) c.from_residual.ensures.1
     (λ first left. with-fuel rules (calling m) m.globals p.state (serving g.K.Chooser.held c.args.chooser.now first) p.fuel q.fuel c.in_err-begin_turn.ensures.fuel
-    (act-exit (turn_begun None)
+    (act-exit (turn_counted None)
     (λ w. Turns g.L.Lines.keeping (shown g.L.Lines.seen p) (with_turn_fuel rules (calling m) (suc q.fuel) (around m.globals (suc q.fuel) p.state) (serving g.K.Chooser.held c.args.chooser.now first)) w (stop_outcome (run_stop_of why)) (reached g.L.Lines.seen m q (serving g.K.Chooser.held c.args.chooser.now left)))
     why c.in_err-begin_turn.ensures.does c.in_err-begin_turn.ensures.stops
     (λ fault h. none-stop rules (calling m) (calling-adds m) m.globals q.fuel p.state (serving g.K.Chooser.held c.args.chooser.now first) (sym c.has_no_task.ensures ∙ c.if-has_no_task.true)
@@ -45,17 +45,17 @@ returns-then-has_no_task-clause-does g c =
     let q = c.begin_turn.new.self in
     λ left h. (
       left,
-      kept-then p.state.kept q.state.kept (work-kept (turn_begun None) c.in_ok-begin_turn.ensures.does) left h,
+      kept-then p.state.kept q.state.kept (work-kept (turn_counted None) c.in_ok-begin_turn.ensures.does) left h,
       with-fuel rules (calling m) m.globals p.state (serving g.K.Chooser.held c.args.chooser.now left) p.fuel q.fuel c.in_ok-begin_turn.ensures.fuel
           (none-begins rules (calling m) (calling-adds m) m.globals q.fuel p.state (serving g.K.Chooser.held c.args.chooser.now left) (sym c.has_no_task.ensures ∙ c.if-has_no_task.true) c.in_ok-begin_turn.ensures.does),
     )
 
 pub returns-then-has_no_task-clause-answers : goal.returns-then-has_no_task-clause-answers
-returns-then-has_no_task-clause-answers g c = work-refusals (turn_begun None) c.in_ok-begin_turn.ensures.does
+returns-then-has_no_task-clause-answers g c = work-refusals (turn_counted None) c.in_ok-begin_turn.ensures.does
 
 pub returns-then-has_no_task-clause-goes_on : goal.returns-then-has_no_task-clause-goes_on
 returns-then-has_no_task-clause-goes_on g c = record {
-  ready = work-can (turn_begun None) c.in_ok-begin_turn.ensures.does tt c.args.machine.now c.args.page.now.until c.in_ok-begin_turn.ensures.stops c.in_ok-begin_turn.ensures.same c.requires.ready;
+  ready = work-can (turn_counted None) c.in_ok-begin_turn.ensures.does tt c.args.machine.now c.args.page.now.until c.in_ok-begin_turn.ensures.stops c.in_ok-begin_turn.ensures.same c.requires.ready;
   fuel = let taken = c.in_ok-begin_turn.ensures.fuel in omega (arith, taken);
 }
 
@@ -74,7 +74,7 @@ returns-in_err-begin_turn-2-clause-does g c =
     (λ left. reached g.L.Lines.seen m q (serving g.K.Chooser.held c.choose.new.self left))
     c.from_residual-in_err-begin_turn-2.result (run_stop_of why) c.from_residual-in_err-begin_turn-2.ensures.1
     (λ first left. with-fuel rules (calling m) m.globals p.state (serving g.K.Chooser.held c.args.chooser.now first) p.fuel q.fuel c.in_err-begin_turn-2.ensures.fuel
-    (act-exit (turn_begun (Some source))
+    (act-exit (turn_counted (Some source))
     (λ w. Turns g.L.Lines.keeping (shown g.L.Lines.seen p) (with_turn_fuel rules (calling m) (suc q.fuel) (around m.globals (suc q.fuel) p.state) (serving g.K.Chooser.held c.args.chooser.now first)) w (stop_outcome (run_stop_of why)) (reached g.L.Lines.seen m q (serving g.K.Chooser.held c.choose.new.self left)))
     why c.in_err-begin_turn-2.ensures.does c.in_err-begin_turn-2.ensures.stops
     (λ fault h. pick-stop rules (calling m) (calling-adds m) m.globals q.fuel p.state (serving g.K.Chooser.held c.args.chooser.now first) (sym c.has_no_task.ensures ∙ c.if-has_no_task.false)
@@ -84,7 +84,7 @@ returns-in_err-begin_turn-2-clause-does g c =
 
 pub perform-requires-clause-ready : goal.perform-requires-clause-ready
 perform-requires-clause-ready g c =
-    let can = work-can (turn_begun (Some c.in_ok-source.source)) c.in_ok-begin_turn-2.ensures.does tt c.args.machine.now c.args.page.now.until c.in_ok-begin_turn-2.ensures.stops c.in_ok-begin_turn-2.ensures.same c.requires.ready in
+    let can = work-can (turn_counted (Some c.in_ok-source.source)) c.in_ok-begin_turn-2.ensures.does tt c.args.machine.now c.args.page.now.until c.in_ok-begin_turn-2.ensures.stops c.in_ok-begin_turn-2.ensures.same c.requires.ready in
     record {
       running = can.running;
       at_rest = can.at_rest;
@@ -95,7 +95,7 @@ perform-requires-clause-ready g c =
 
 pub perform-requires-clause-in_time : goal.perform-requires-clause-in_time
 perform-requires-clause-in_time g c =
-    let now = ap (λ (p : Page). p.now) (work-page (turn_begun (Some c.in_ok-source.source)) c.in_ok-begin_turn-2.ensures.does) in
+    let now = ap (λ (p : Page). p.now) (work-page (turn_counted (Some c.in_ok-source.source)) c.in_ok-begin_turn-2.ensures.does) in
     let until = c.in_ok-begin_turn-2.ensures.same.until in
     let before = c.requires.in_time in
     omega (arith, now, until, before)
@@ -104,7 +104,7 @@ pub perform-requires-clause-runnable : goal.perform-requires-clause-runnable
 perform-requires-clause-runnable g c =
     let legal = rw c.view.ensures at c.in_ok-source.ensures.legal in
     let P : Page → Type 0 = λ p. IsTrue (is_runnable (view p) c.in_ok-source.source) in
-    subst P (sym (work-page (turn_begun (Some c.in_ok-source.source)) c.in_ok-begin_turn-2.ensures.does)) legal
+    subst P (sym (work-page (turn_counted (Some c.in_ok-source.source)) c.in_ok-begin_turn-2.ensures.does)) legal
 
 pub returns-clause-does : goal.returns-clause-does
 returns-clause-does g c =
@@ -118,7 +118,7 @@ returns-clause-does g c =
     let legal = rw c.view.ensures at c.in_ok-source.ensures.legal in
     λ left h. let x = c.perform.ensures.does left h in (
       x.0,
-      kept-then p.state.kept q.state.kept (work-kept (turn_begun (Some source)) c.in_ok-begin_turn-2.ensures.does) x.0 x.1,
+      kept-then p.state.kept q.state.kept (work-kept (turn_counted (Some source)) c.in_ok-begin_turn-2.ensures.does) x.0 x.1,
       with-fuel rules (calling m) m.globals p.state (serving g.K.Chooser.held c.args.chooser.now x.0) p.fuel q.fuel c.in_ok-begin_turn-2.ensures.fuel
           (pick-then rules (calling m) (calling-adds m) m.globals q.fuel p.state (serving g.K.Chooser.held c.args.chooser.now x.0) (sym c.has_no_task.ensures ∙ c.if-has_no_task.false)
           source (serving g.K.Chooser.held c.choose.new.self x.0)
@@ -128,4 +128,4 @@ returns-clause-does g c =
     )
 
 pub returns-clause-answers : goal.returns-clause-answers
-returns-clause-answers g c = rw (work-refusals (turn_begun (Some c.in_ok-source.source)) c.in_ok-begin_turn-2.ensures.does) at c.perform.ensures.answers
+returns-clause-answers g c = rw (work-refusals (turn_counted (Some c.in_ok-source.source)) c.in_ok-begin_turn-2.ensures.does) at c.perform.ensures.answers

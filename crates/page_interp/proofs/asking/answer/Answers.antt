@@ -1,10 +1,9 @@
 use Rattle.std.proofs.Common.{refl, ap, Ok, Err, map}
 use Rattle.std.proofs.lemmas.Result.{err_from_is_err_and}
-use Rattle.page_values.specs.Seen.{seen}
+use Rattle.page_values.specs.Seen.{seen, seen_func}
 use Rattle.lang_ast.specs.Steps.{seen_step}
 use Rattle.lang_ast.specs.SeenProgram.{seen_program}
 use Rattle.page_interp.specs.Frames.{stacked, tickets_in}
-use Rattle.page_interp.specs.Runs.{func_seen}
 use Rattle.page_interp.proofs.Steps.{still}
 use Rattle.page_interp.proofs.AskSteps.{leaves_trans}
 use Rattle.page_interp.proofs.HostTurns.{answered_first, answered_more, calls_fall, value_advances, throw_advances, push_fails, open_leaves, wants_unsettled, refuses_callback}
@@ -30,7 +29,7 @@ pub returns-in-Ok-clause-unsettled : goal.returns-in-Ok-clause-unsettled
 returns-in-Ok-clause-unsettled g c = wants_unsettled _ _ c.open.ensures.err
 
 pub returns-in-Ok-clause-leaves : goal.returns-in-Ok-clause-leaves
-returns-in-Ok-clause-leaves g c = rw (← c.loop-step.invariant.store, ← c.loop-step.invariant.current, ← c.loop-step.invariant.stack) (λ ts n k e. let x = c.loop-step.invariant.answered.further ts n k e in let b = c.loop-step.invariant.answered.kept ts k in leaves_trans g.H.Host.rules g.H.Host.leaves (seen_program c.args.code.now) ts _ _ 2 _ _ _ _ _ _ _ _ x.asks (wants_unsettled _ _ c.open.ensures.err) (open_leaves g.H.Host.rules g.H.Host.leaves (seen_program c.args.code.now) ts (g.H.Host.left (g.H.Host.now c.loop-step.host).told) c.loop-step.store c.loop-step.current (stacked c.loop-step.stack.items) _ _ _ _ _ _ (func_seen c.in-Ok.called) x.number _ _ _ _ (ap seen_step c.in-Invoke.is) b x.enough c.in-Ok.ensures.ok c.in-Ok.ensures.room c.in_ok-all-in-Ok.ensures (opens_at g.H.Host.rules c.args.code.now _ c.in_ok-all-in-Ok.all _ _ _ c.push.new.stack _ _ c.open.new.stack _ c.in_ok-push-in-Ok.ensures.pushed c.open.ensures.ok) c.open.ensures.err c.open.ensures.globals c.open.ensures.fuel))
+returns-in-Ok-clause-leaves g c = rw (← c.loop-step.invariant.store, ← c.loop-step.invariant.current, ← c.loop-step.invariant.stack) (λ ts n k e. let x = c.loop-step.invariant.answered.further ts n k e in let b = c.loop-step.invariant.answered.kept ts k in leaves_trans g.H.Host.rules g.H.Host.leaves (seen_program c.args.code.now) ts _ _ 2 _ _ _ _ _ _ _ _ x.asks (wants_unsettled _ _ c.open.ensures.err) (open_leaves g.H.Host.rules g.H.Host.leaves (seen_program c.args.code.now) ts (g.H.Host.left (g.H.Host.now c.loop-step.host).told) c.loop-step.store c.loop-step.current (stacked c.loop-step.stack.items) _ _ _ _ _ _ (seen_func c.in-Ok.called) x.number _ _ _ _ (ap seen_step c.in-Invoke.is) b x.enough c.in-Ok.ensures.ok c.in-Ok.ensures.room c.in_ok-all-in-Ok.ensures (opens_at g.H.Host.rules c.args.code.now _ c.in_ok-all-in-Ok.all _ _ _ c.push.new.stack _ _ c.open.new.stack _ c.in_ok-push-in-Ok.ensures.pushed c.open.ensures.ok) c.open.ensures.err c.open.ensures.globals c.open.ensures.fuel))
 
 pub resume-requires-clause-open_ticket : goal.resume-requires-clause-open_ticket
 resume-requires-clause-open_ticket g c = let k = rw (← c.loop-step.invariant.store, ← c.loop-step.invariant.current, ← c.loop-step.invariant.stack) at c.requires.answering.1 in let b = c.loop-step.invariant.answered.kept c.requires.answering.0 k in (tickets_in (stacked c.loop-step.stack.items) c.requires.answering.0, rw (ap seen_step c.in-Invoke.is) at b.tickets)

@@ -1,6 +1,6 @@
 use Rattle.std.proofs.Common.{refl}
 use Rattle.lang_ast.specs.SeenProgram.{seen_program}
-use Rattle.page_interp.specs.Runs.{func_seen}
+use Rattle.page_values.specs.Seen.{seen_func}
 use Rattle.page_interp.proofs.Steps.{still}
 use Rattle.page_interp.proofs.RunSteps.{opened_goes, uncalled_goes, if_err}
 use Rattle.page_interp.proofs.stepping.call.Goals as goal
@@ -18,7 +18,7 @@ pub open-requires : goal.open-requires
 open-requires g c = record { room = c.in-Ok.ensures.room }
 
 pub returns-in-Ok-joined-clause-ok : goal.returns-in-Ok-joined-clause-ok
-returns-in-Ok-joined-clause-ok g c = opened_goes g.H.Host.rules (seen_program c.args.code.now) _ _ _ c.open.result _ _ _ _ _ (func_seen c.in-Ok.called) _ c.in-Ok.ensures.ok c.in-Ok-joined.ensures c.open.ensures.ok
+returns-in-Ok-joined-clause-ok g c = opened_goes g.H.Host.rules (seen_program c.args.code.now) _ _ _ c.open.result _ _ _ _ _ (seen_func c.in-Ok.called) _ c.in-Ok.ensures.ok c.in-Ok-joined.ensures c.open.ensures.ok
 
 pub returns-in-Ok-joined-clause-err : goal.returns-in-Ok-joined-clause-err
 returns-in-Ok-joined-clause-err g c = c.open.ensures.err

@@ -8,8 +8,7 @@ use Rattle.page_types.specs.declared.FaultName.TheVariants.{TypeError}
 use Rattle.page_parts.specs.Kinds.{Func, func_in, text_in}
 use Rattle.page_parts.specs.Listeners.{Target}
 use Rattle.page_events.specs.Seen.{seen_target}
-use Rattle.page_values.specs.Seen.{seen}
-use Rattle.page_script.specs.Seen.{function_seen}
+use Rattle.page_values.specs.Seen.{seen, seen_func}
 use Rattle.lang_meaning.specs.Machine.{Done, given}
 use Rattle.lang_meaning.specs.HostSteps.{StepValue}
 use Rattle.page_model.specs.State.{Page, State, last_registration}
@@ -60,7 +59,7 @@ pub returns-then-not-is_registration_left : goal.returns-then-not-is_registratio
 returns-then-not-is_registration_left g c =
     let target = seen_target c.in-Some.target in
     let name = c.in-Some-as_text.name.now in
-    let f = function_seen c.in-Some-function_of.callback in
+    let f = seen_func c.in-Some-function_of.callback in
     let old = at c.args.page.now (g.L.Lines.seen c.args.lines.now) in
     Answers-given (target_in (seen c.args.target)) target TypeError (with_target (seen c.args.name) (seen c.args.callback)) old c.in-Some.ensures
     (Answers-given (text_in (seen c.args.name)) name TypeError (with_name (seen c.args.callback) target) old (sym c.in-Some-as_text.ensures)
@@ -72,7 +71,7 @@ pub returns-in_err-r : goal.returns-in_err-r
 returns-in_err-r g c =
     let target = seen_target c.in-Some.target in
     let name = c.in-Some-as_text.name.now in
-    let f = function_seen c.in-Some-function_of.callback in
+    let f = seen_func c.in-Some-function_of.callback in
     let F = listener_added target name f in
     let old = at c.args.page.now (g.L.Lines.seen c.args.lines.now) in
     Answers-given (target_in (seen c.args.target)) target TypeError (with_target (seen c.args.name) (seen c.args.callback)) old c.in-Some.ensures
@@ -85,7 +84,7 @@ pub returns : goal.returns
 returns g c =
     let target = seen_target c.in-Some.target in
     let name = c.in-Some-as_text.name.now in
-    let f = function_seen c.in-Some-function_of.callback in
+    let f = seen_func c.in-Some-function_of.callback in
     let F = listener_added target name f in
     let small : c.in_ok-r.r < 2 ^ 63 = search rules in
     let old = at c.args.page.now (g.L.Lines.seen c.args.lines.now) in

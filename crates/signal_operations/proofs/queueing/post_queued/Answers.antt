@@ -4,7 +4,7 @@ use Rattle.page_types.specs.declared.RegKind.TheVariants.{Post as PostKind}
 use Rattle.page_model.specs.State.{last_registration}
 use Rattle.page_model.specs.SchedulerTasks.{enqueue}
 use Rattle.page_model.specs.Operations.{post_delayed, promised}
-use Rattle.page_script.specs.Seen.{function_seen}
+use Rattle.page_values.specs.Seen.{seen_func}
 use Rattle.page_tasks.specs.Seen.{prio_source}
 use Rattle.page_state.specs.Standing.{page_of}
 use Rattle.page_state.specs.PageActs.{at}
@@ -17,7 +17,7 @@ pub returns-in_err-registration : goal.returns-in_err-registration
 returns-in_err-registration g c =
     let ms = c.args.ms in
     let source = prio_source c.args.source in
-    Does-leave (promised PostKind (Some (function_seen c.args.callback)) c.args.signal) (posted_last (eqb ms 0) ms source) _ (posted_last-adds (eqb ms 0) ms source) c.from_residual.ensures.1
+    Does-leave (promised PostKind (Some (seen_func c.args.callback)) c.args.signal) (posted_last (eqb ms 0) ms source) _ (posted_last-adds (eqb ms 0) ms source) c.from_residual.ensures.1
     c.in_err-registration.ensures.does
 
 pub returns-then-ms-eq0 : goal.returns-then-ms-eq0
@@ -26,7 +26,7 @@ returns-then-ms-eq0 g c =
     let source = prio_source c.args.source in
     let r = c.in_ok-registration.registration in
     let mid = c.promised.new.self in
-    Does-next (promised PostKind (Some (function_seen c.args.callback)) c.args.signal) (posted_last (eqb ms 0) ms source) (posted_last-adds (eqb ms 0) ms source)
+    Does-next (promised PostKind (Some (seen_func c.args.callback)) c.args.signal) (posted_last (eqb ms 0) ms source) (posted_last-adds (eqb ms 0) ms source)
     c.in_ok-registration.ensures.does
     (Does-read (λ (n : ℕ) p. cond (eqb ms 0) (enqueue n source false) (post_delayed ms n source) p) last_registration r mid c.in_ok-registration.ensures.number
     (Does-is (enqueue r source false) (λ p. cond (eqb ms 0) (enqueue r source false) (post_delayed ms r source) p) (at mid (g.L.Lines.seen c.promised.new.lines))
@@ -40,7 +40,7 @@ returns g c =
     let r = c.in_ok-registration.registration in
     let mid = c.promised.new.self in
     let some : eqb ms 0 ≡ false = grind (arith, nat_tests, c.if-ms-eq0.false) in
-    Does-next (promised PostKind (Some (function_seen c.args.callback)) c.args.signal) (posted_last (eqb ms 0) ms source) (posted_last-adds (eqb ms 0) ms source)
+    Does-next (promised PostKind (Some (seen_func c.args.callback)) c.args.signal) (posted_last (eqb ms 0) ms source) (posted_last-adds (eqb ms 0) ms source)
     c.in_ok-registration.ensures.does
     (Does-read (λ (n : ℕ) p. cond (eqb ms 0) (enqueue n source false) (post_delayed ms n source) p) last_registration r mid c.in_ok-registration.ensures.number
     (Does-is (post_delayed ms r source) (λ p. cond (eqb ms 0) (enqueue r source false) (post_delayed ms r source) p) (at mid (g.L.Lines.seen c.promised.new.lines))

@@ -6,7 +6,7 @@ use Rattle.page_model.specs.State.{Page, State, PrioSource}
 use Rattle.page_model.specs.PageHost.{bare}
 use Rattle.page_model.specs.PageSignals.{is_aborted_source}
 use Rattle.page_model.specs.Operations.{answers, last_promise_value, post_queued, prio_source_of}
-use Rattle.page_script.specs.Seen.{function_seen}
+use Rattle.page_values.specs.Seen.{seen_func}
 use Rattle.page_tasks.specs.Seen.{prio_source}
 use Rattle.page_state.specs.Standing.{page_of}
 use Rattle.page_state.specs.PageActs.{at}
@@ -26,12 +26,12 @@ posted_by f priority signal ms m = posted f (prio_source_of m.host priority sign
 pub returns-then-is_aborted_source : goal.returns-then-is_aborted_source
 returns-then-is_aborted_source g c =
     let signal = c.args.signal in
-    Answers-then (λ p. is_aborted_source p signal) (refused signal) (posted_by (function_seen c.args.callback) c.args.priority signal c.args.ms) (at c.args.page.now (g.L.Lines.seen c.args.lines.now))
+    Answers-then (λ p. is_aborted_source p signal) (refused signal) (posted_by (seen_func c.args.callback) c.args.priority signal c.args.ms) (at c.args.page.now (g.L.Lines.seen c.args.lines.now))
     c.if-is_aborted_source.true c.is_aborted_source.ensures c.reject_aborted.ensures
 
 pub returns-then-not-are_both_left : goal.returns-then-not-are_both_left
 returns-then-not-are_both_left g c =
-    let f = function_seen c.args.callback in
+    let f = seen_func c.args.callback in
     let signal = c.args.signal in
     let source = prio_source_of (page_of c.args.page.now) c.args.priority signal in
     let old = at c.args.page.now (g.L.Lines.seen c.args.lines.now) in
@@ -42,7 +42,7 @@ returns-then-not-are_both_left g c =
 
 pub returns-in_err-post_queued : goal.returns-in_err-post_queued
 returns-in_err-post_queued g c =
-    let f = function_seen c.args.callback in
+    let f = seen_func c.args.callback in
     let signal = c.args.signal in
     let source = prio_source c.prio_source_of-source.result in
     let F = post_queued f source signal c.args.ms in
@@ -55,7 +55,7 @@ returns-in_err-post_queued g c =
 
 pub returns : goal.returns
 returns g c =
-    let f = function_seen c.args.callback in
+    let f = seen_func c.args.callback in
     let signal = c.args.signal in
     let source = prio_source c.prio_source_of-source.result in
     let F = post_queued f source signal c.args.ms in

@@ -2,8 +2,7 @@ use Rattle.std.proofs.Common.{ℕ, Option}
 use Rattle.page_types.specs.Values as model
 use Rattle.page_types.specs.declared.Priority.{Priority}
 use Rattle.page_parts.specs.Kinds.{Func, func_in}
-use Rattle.page_values.specs.Seen.{seen}
-use Rattle.page_script.specs.Seen.{function_seen}
+use Rattle.page_values.specs.Seen.{seen, seen_func}
 use Rattle.lang_meaning.specs.Machine.{Done}
 use Rattle.page_model.specs.State.{Page, State}
 use Rattle.page_model.specs.Operations.{delay_in, given_or_rejected, post_accepted, priority_or_unit, signal_or_unit}
@@ -31,7 +30,7 @@ returns-in_default g c =
 
 pub returns-in_default-priority_or_unit : goal.returns-in_default-priority_or_unit
 returns-in_default-priority_or_unit g c =
-    let f = function_seen c.in-Some.callback in
+    let f = seen_func c.in-Some.callback in
     let old = at c.args.page.now (g.L.Lines.seen c.args.lines.now) in
     Answers-accepted (func_in (seen c.args.callback)) f (with_function (seen c.args.priority) (seen c.args.signal) (seen c.args.ms)) old c.in-Some.ensures
     (Answers-rejected (priority_or_unit (seen c.args.priority)) (with_priority (seen c.args.signal) (seen c.args.ms) f) old
@@ -39,7 +38,7 @@ returns-in_default-priority_or_unit g c =
 
 pub returns-in_default-signal_or_unit : goal.returns-in_default-signal_or_unit
 returns-in_default-signal_or_unit g c =
-    let f = function_seen c.in-Some.callback in
+    let f = seen_func c.in-Some.callback in
     let priority = c.in-Some-priority_or_unit.priority in
     let old = at c.args.page.now (g.L.Lines.seen c.args.lines.now) in
     Answers-accepted (func_in (seen c.args.callback)) f (with_function (seen c.args.priority) (seen c.args.signal) (seen c.args.ms)) old c.in-Some.ensures
@@ -49,7 +48,7 @@ returns-in_default-signal_or_unit g c =
 
 pub returns-in_default-delay_in : goal.returns-in_default-delay_in
 returns-in_default-delay_in g c =
-    let f = function_seen c.in-Some.callback in
+    let f = seen_func c.in-Some.callback in
     let priority = c.in-Some-priority_or_unit.priority in
     let signal = c.in-Some-signal_or_unit.signal in
     let old = at c.args.page.now (g.L.Lines.seen c.args.lines.now) in
@@ -61,7 +60,7 @@ returns-in_default-delay_in g c =
 
 pub returns : goal.returns
 returns g c =
-    let f = function_seen c.in-Some.callback in
+    let f = seen_func c.in-Some.callback in
     let priority = c.in-Some-priority_or_unit.priority in
     let signal = c.in-Some-signal_or_unit.signal in
     let ms = c.in-Some-delay_in.ms in

@@ -1,7 +1,6 @@
 use Rattle.page_types.specs.declared.FaultName.TheVariants.{TypeError}
 use Rattle.page_parts.specs.Kinds.{func_in}
-use Rattle.page_values.specs.Seen.{seen}
-use Rattle.page_script.specs.Seen.{function_seen}
+use Rattle.page_values.specs.Seen.{seen, seen_func}
 use Rattle.page_state.specs.PageActs.{at}
 use Rattle.time_operations.specs.Rows.{frame_accepted}
 use Rattle.page_answers.proofs.Choosing.{Answers-given, Answers-not_given}
@@ -15,4 +14,4 @@ returns-in_default g c =
 pub returns : goal.returns
 returns g c =
     let old = at c.args.page.now (g.L.Lines.seen c.args.lines.now) in
-    Answers-given (func_in (seen c.args.callback)) (function_seen c.in-Some.callback) TypeError frame_accepted old c.in-Some.ensures c.accept_frame.ensures
+    Answers-given (func_in (seen c.args.callback)) (seen_func c.in-Some.callback) TypeError frame_accepted old c.in-Some.ensures c.accept_frame.ensures

@@ -5,7 +5,7 @@ use Rattle.page_parts.specs.Words.{not_below_zero}
 use Rattle.lang_meaning.specs.HostSteps.{StepValue}
 use Rattle.page_model.specs.State.{Page}
 use Rattle.page_model.specs.Operations.{answers, idle_requested}
-use Rattle.page_script.specs.Seen.{function_seen}
+use Rattle.page_values.specs.Seen.{seen_func}
 use Rattle.page_state.specs.PageActs.{at}
 use Rattle.page_answers.proofs.Choosing.{Answers-exit, Answers-left, Answers-none_left}
 use Rattle.time_operations.specs.Rows.{idle_left}
@@ -18,13 +18,13 @@ value p = IntValue (pos p.idle.made)
 
 pub returns-then-not-has_idle_left : goal.returns-then-not-has_idle_left
 returns-then-not-has_idle_left g c =
-    let F = idle_requested (function_seen c.args.callback) (not_below_zero c.args.timeout) in
+    let F = idle_requested (seen_func c.args.callback) (not_below_zero c.args.timeout) in
     Answers-none_left g.L.Lines.keeping (idle_left c.args.timeout) (answers value F) (at c.args.page.now (g.L.Lines.seen c.args.lines.now)) c.throw.result
     c.if-not-has_idle_left.true (rw (to_z-of_z c.ranges.timeout) at c.has_idle_left.ensures) c.throw.ensures
 
 pub returns-in_err-idle_requested : goal.returns-in_err-idle_requested
 returns-in_err-idle_requested g c =
-    let F = idle_requested (function_seen c.args.callback) (not_below_zero c.args.timeout) in
+    let F = idle_requested (seen_func c.args.callback) (not_below_zero c.args.timeout) in
     let old = at c.args.page.now (g.L.Lines.seen c.args.lines.now) in
     let same : c.not_below_zero.result ≡ not_below_zero c.args.timeout = rw (to_z-of_z c.ranges.timeout) at c.not_below_zero.ensures in
     Answers-left (idle_left c.args.timeout) (answers value F) old c.if-not-has_idle_left.false (rw (to_z-of_z c.ranges.timeout) at c.has_idle_left.ensures)
@@ -32,7 +32,7 @@ returns-in_err-idle_requested g c =
 
 pub returns : goal.returns
 returns g c =
-    let F = idle_requested (function_seen c.args.callback) (not_below_zero c.args.timeout) in
+    let F = idle_requested (seen_func c.args.callback) (not_below_zero c.args.timeout) in
     let old = at c.args.page.now (g.L.Lines.seen c.args.lines.now) in
     let same : c.not_below_zero.result ≡ not_below_zero c.args.timeout = rw (to_z-of_z c.ranges.timeout) at c.not_below_zero.ensures in
     Answers-left (idle_left c.args.timeout) (answers value F) old c.if-not-has_idle_left.false (rw (to_z-of_z c.ranges.timeout) at c.has_idle_left.ensures)

@@ -3,8 +3,7 @@ use Rattle.std.proofs.Math.Facts.{to_z-of_z}
 use Rattle.page_types.specs.declared.FaultName.TheVariants.{TypeError}
 use Rattle.page_parts.specs.Kinds.{func_in, int_in}
 use Rattle.lang_meaning.specs.Machine.{given}
-use Rattle.page_values.specs.Seen.{seen}
-use Rattle.page_script.specs.Seen.{function_seen}
+use Rattle.page_values.specs.Seen.{seen, seen_func}
 use Rattle.page_state.specs.PageActs.{at}
 use Rattle.time_operations.specs.Rows.{idle_accepted}
 use Rattle.page_answers.proofs.Choosing.{Answers-given, Answers-not_given}
@@ -18,7 +17,7 @@ returns-in_default g c =
 pub returns-in_default-as_int : goal.returns-in_default-as_int
 returns-in_default-as_int g c =
     let old = at c.args.page.now (g.L.Lines.seen c.args.lines.now) in
-    let f = function_seen c.in-Some.callback in
+    let f = seen_func c.in-Some.callback in
     Answers-given (func_in (seen c.args.callback)) f TypeError (λ f m. given (int_in (seen c.args.timeout)) TypeError m (idle_accepted f)) old c.in-Some.ensures
     (Answers-not_given g.L.Lines.keeping (int_in (seen c.args.timeout)) TypeError (idle_accepted f) old c.throw-in_default-as_int.result c.in_default-as_int.ensures c.throw-in_default-as_int.ensures)
 
@@ -26,6 +25,6 @@ pub returns : goal.returns
 returns g c =
     let old = at c.args.page.now (g.L.Lines.seen c.args.lines.now) in
     let fits : SFits w64 c.in-Some-as_int.timeout = search rules in
-    let f = function_seen c.in-Some.callback in
+    let f = seen_func c.in-Some.callback in
     Answers-given (func_in (seen c.args.callback)) f TypeError (λ f m. given (int_in (seen c.args.timeout)) TypeError m (idle_accepted f)) old c.in-Some.ensures
     (Answers-given (int_in (seen c.args.timeout)) c.in-Some-as_int.timeout TypeError (idle_accepted f) old c.in-Some-as_int.ensures (rw (to_z-of_z fits) at c.accept_idle.ensures))

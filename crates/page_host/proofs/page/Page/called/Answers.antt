@@ -1,9 +1,8 @@
 use Rattle.std.proofs.Common.{map, ap, ◌∙◌}
 use Rattle.std.specs.Option.{option_map}
-use Rattle.page_values.specs.Seen.{seen}
+use Rattle.page_values.specs.Seen.{seen, seen_func}
 use Rattle.page_model.specs.State.{the_registration}
 use Rattle.page_model.specs.Invoke.{callback_of}
-use Rattle.page_script.specs.Seen.{function_seen}
 use Rattle.page_state.specs.Standing.{page_of}
 use Rattle.page_host.specs.PageNow.{PageNow}
 use Rattle.page_host.specs.StateActs.{RanOut}
@@ -31,4 +30,4 @@ returns-in_err-call_begun g c =
 
 pub returns : goal.returns
 returns g c =
-    called-does c.args.r c.args.second (map seen c.args.args.items) (option_map function_seen c.in-Ok.fun) (c.in-Ok.ensures ∙ ap (λ (p : PageNow g.row.L.Denot). callback_of c.args.second (the_registration (page_of p.state) c.args.r)) c.self.view_is) c.in_ok-call_begun.ensures c.call_back.ensures
+    called-does c.args.r c.args.second (map seen c.args.args.items) (option_map seen_func c.in-Ok.fun) (c.in-Ok.ensures ∙ ap (λ (p : PageNow g.row.L.Denot). callback_of c.args.second (the_registration (page_of p.state) c.args.r)) c.self.view_is) c.in_ok-call_begun.ensures c.call_back.ensures

@@ -1,6 +1,6 @@
 use Rattle.std.proofs.Common.{not, ap, sym, ◌∙◌}
 use Rattle.promise_core.specs.Seen.{settled_seen, reaction_seen}
-use Rattle.page_script.specs.Seen.{function_seen}
+use Rattle.page_values.specs.Seen.{seen_func}
 use Rattle.page_host.specs.Moments.{how_of}
 use Rattle.page_host.proofs.Checkpoints.{handler-absent, handler-there}
 use Rattle.page_host.proofs.Composing.{runs-exit}
@@ -21,4 +21,4 @@ returns-then-is_none g c =
 pub returns : goal.returns
 returns g c =
     let some = there _ _ c.callback_of.result (c.is_none.ensures ∙ ap not c.if-is_none.false) c.callback_of.ensures in
-    handler-there c.args.r (function_seen some.0.now) (reaction_seen c.args.reaction) (settled_seen c.args.how) (sym (handler-of c.args.r c.args.how c.is_err.ensures.value c.self.view_is) ∙ some.1) c.handle.ensures
+    handler-there c.args.r (seen_func some.0.now) (reaction_seen c.args.reaction) (settled_seen c.args.how) (sym (handler-of c.args.r c.args.how c.is_err.ensures.value c.self.view_is) ∙ some.1) c.handle.ensures

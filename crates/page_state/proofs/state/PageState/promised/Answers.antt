@@ -5,7 +5,7 @@ use Rattle.page_model.specs.Invoke.{register_as}
 use Rattle.page_model.specs.Operations.{promised}
 use Rattle.page_model.specs.PagePromises.{new_promise, last_promise}
 use Rattle.page_model.specs.PageSignals.{watch}
-use Rattle.page_script.specs.Seen.{function_seen}
+use Rattle.page_values.specs.Seen.{seen_func}
 use Rattle.page_state.proofs.Acting.{Does-next, Does-leave, Does-silent}
 use Rattle.page_state.proofs.Telling.{Does-wanted}
 use Rattle.page_state.proofs.Handled.{Does-read}
@@ -14,12 +14,12 @@ use Rattle.page_state.proofs.state.PageState.promised.Goals as goal
 
 pub returns-in_err-promise-clause-does : goal.returns-in_err-promise-clause-does
 returns-in_err-promise-clause-does g c =
-    Does-wanted g.L.Lines.keeping (promised c.args.kind (option_map function_seen c.args.callback) c.args.signal) c.args.self.now c.new_promise.new.self _ _ c.from_residual.ensures.1 c.in_err-promise.ensures.memory
+    Does-wanted g.L.Lines.keeping (promised c.args.kind (option_map seen_func c.args.callback) c.args.signal) c.args.self.now c.new_promise.new.self _ _ c.from_residual.ensures.1 c.in_err-promise.ensures.memory
 
 pub returns-in_err-r-clause-does : goal.returns-in_err-r-clause-does
 returns-in_err-r-clause-does g c =
     let kind = c.args.kind in
-    let f = option_map function_seen c.args.callback in
+    let f = option_map seen_func c.args.callback in
     let signal = c.args.signal in
     let n = c.in_ok-promise.promise in
     let x = promising kind f signal n in
@@ -31,7 +31,7 @@ returns-in_err-r-clause-does g c =
 pub returns-in_err-watch-clause-does : goal.returns-in_err-watch-clause-does
 returns-in_err-watch-clause-does g c =
     let kind = c.args.kind in
-    let f = option_map function_seen c.args.callback in
+    let f = option_map seen_func c.args.callback in
     let signal = c.args.signal in
     let n = c.in_ok-promise.promise in
     let x = promising kind f signal n in
@@ -45,7 +45,7 @@ returns-in_err-watch-clause-does g c =
 pub returns-clause-does : goal.returns-clause-does
 returns-clause-does g c =
     let kind = c.args.kind in
-    let f = option_map function_seen c.args.callback in
+    let f = option_map seen_func c.args.callback in
     let signal = c.args.signal in
     let n = c.in_ok-promise.promise in
     let x = promising kind f signal n in

@@ -1,8 +1,7 @@
 use Rattle.std.proofs.Common.{false}
 use Rattle.std.specs.Option.{option_map}
 use Rattle.page_parts.specs.Kinds.{func_in}
-use Rattle.page_values.specs.Seen.{seen}
-use Rattle.page_script.specs.Seen.{function_seen}
+use Rattle.page_values.specs.Seen.{seen, seen_func}
 use Rattle.page_model.specs.Operations.{then_made}
 use Rattle.page_state.proofs.Handled.{Does-same_handlers}
 use Rattle.page_state.proofs.Telling.{Does-wanted, wanted-still}
@@ -14,5 +13,5 @@ returns-in_err-registration-clause-does g c =
 
 pub returns-clause-does : goal.returns-clause-does
 returns-clause-does g c =
-    Does-same_handlers c.args.p (option_map function_seen c.function_of-first.result) (option_map function_seen c.function_of-second.result) (func_in (seen c.args.fulfilled)) (func_in (seen c.args.rejected)) false _ c.args.self.now
+    Does-same_handlers c.args.p (option_map seen_func c.function_of-first.result) (option_map seen_func c.function_of-second.result) (func_in (seen c.args.fulfilled)) (func_in (seen c.args.rejected)) false _ c.args.self.now
     c.in_ok-registration.ensures.made c.function_of-first.ensures c.function_of-second.ensures c.handlers_made.ensures.does
