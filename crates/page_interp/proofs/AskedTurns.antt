@@ -44,11 +44,11 @@ module _ {T S : Type 0} (rules : HostRules T) (leaves : Ask → T → T → Type
       → IfErr result (λ x. x ≡ exit.OutOfMemory) → IfErr result (λ _. IsKept (seen_program p) b store) → Steps rules leaves (seen_program p) h a result h1 store current fs
   leads_steps h h1 a b result store current fs x k e i = proceeds_steps rules leaves (seen_program p) h h1 h1 a b result store current fs (memory_unsettled result e) x (steps_leads rules leaves (seen_program p) h1 result b store current fs k e i)
 
-  pub stmts_steps : (h h1 : HostNow T S) (store store1 store2 store3 : Store) (current current1 current2 : Current) (fs fs1 : List Frame) (block rest : Bor (List Stmt)) (ss : List Stmt) (result : Result Focus (Exit S)) → BlockBrings rules p store current block.now store1 current1 ss
-      → BlockAsks rules leaves p h store1 current1 ss h1 store2 current2 rest.now → IfOk result (λ f. Leads rules (seen_program p) (place store2 current2 fs (focus.Block rest)) (place store3 current2 fs1 f))
-      → IfErr result (λ x. x ≡ exit.OutOfMemory) → IfErr result (λ _. store3 ≡ store2) → Steps rules leaves (seen_program p) h (place store current fs (focus.Block block)) result h1 store3 current2 fs1
-  stmts_steps h h1 store store1 store2 store3 current current1 current2 fs fs1 block rest ss result b y k e i =
-      leads_steps h h1 _ (place store2 current2 fs (focus.Block rest)) result store3 current2 fs1
+  pub stmts_steps : (h h1 : HostNow T S) (store store1 store2 store3 : Store) (current current1 current2 current3 : Current) (fs fs1 : List Frame) (block rest : Bor (List Stmt)) (ss : List Stmt) (result : Result Focus (Exit S)) → BlockBrings rules p store current block.now store1 current1 ss
+      → BlockAsks rules leaves p h store1 current1 ss h1 store2 current2 rest.now → IfOk result (λ f. Leads rules (seen_program p) (place store2 current2 fs (focus.Block rest)) (place store3 current3 fs1 f))
+      → IfErr result (λ x. x ≡ exit.OutOfMemory) → IfErr result (λ _. store3 ≡ store2) → Steps rules leaves (seen_program p) h (place store current fs (focus.Block block)) result h1 store3 current3 fs1
+  stmts_steps h h1 store store1 store2 store3 current current1 current2 current3 fs fs1 block rest ss result b y k e i =
+      leads_steps h h1 _ (place store2 current2 fs (focus.Block rest)) result store3 current3 fs1
       (block_asks_on rules leaves p h h h1 store store1 store2 current current1 current2 block.now ss rest.now (block_brought rules leaves p h store store1 current current1 block.now ss b) y fs block rest refl refl) k e
       (kept_as (seen_program p) result (place store2 current2 fs (focus.Block rest)) store2 store3 i (if_kept (seen_program p) result (place store2 current2 fs (focus.Block rest))))
 
@@ -109,14 +109,14 @@ module _ {T S : Type 0} (rules : HostRules T) (leaves : Ask → T → T → Type
           }
 
       -- statements are left of it
-      pub turn_goes_on : (fs fs1 : List Frame) (v : Value) (test : Bor Expr) (block more : Bor (List Stmt)) (result : Result Focus (Exit S)) (store3 : Store) → test.now ≡ e → block.now ≡ ss → TurnsTo rules leaves p h0 store0 current0 e ss h store current
+      pub turn_goes_on : (fs fs1 : List Frame) (v : Value) (test : Bor Expr) (block more : Bor (List Stmt)) (result : Result Focus (Exit S)) (store3 : Store) (current3 : Current) → test.now ≡ e → block.now ≡ ss → TurnsTo rules leaves p h0 store0 current0 e ss h store current
           → TurnBegins rules p e ss store current store1 current1 left → BlockAsks rules leaves p h store1 current1 left h1 store2 current2 more.now
-          → IfOk result (λ f. Leads rules (seen_program p) (place store2 current2 (frame.Turn test block ∷ fs) (focus.Block more)) (place store3 current2 fs1 f))
-          → IfErr result (λ x. x ≡ exit.OutOfMemory) → IfErr result (λ _. store3 ≡ store2) → Steps rules leaves (seen_program p) h0 (turned store0 current0 test block fs v) result h1 store3 current2 fs1
-      turn_goes_on fs fs1 v test block more result store3 q r t b y k x i =
+          → IfOk result (λ f. Leads rules (seen_program p) (place store2 current2 (frame.Turn test block ∷ fs) (focus.Block more)) (place store3 current3 fs1 f))
+          → IfErr result (λ x. x ≡ exit.OutOfMemory) → IfErr result (λ _. store3 ≡ store2) → Steps rules leaves (seen_program p) h0 (turned store0 current0 test block fs v) result h1 store3 current3 fs1
+      turn_goes_on fs fs1 v test block more result store3 current3 q r t b y k x i =
           let rest : Bor (List Stmt) = record { ref_ptr = (0, 0); now = left } in
           let here = place store2 current2 (frame.Turn test block ∷ fs) (focus.Block more) in
-          leads_steps rules leaves p h0 h1 _ here result store3 current2 fs1
+          leads_steps rules leaves p h0 h1 _ here result store3 current3 fs1
           (proceeds_trans rules leaves (seen_program p) h0 h h1 _ _ _ (turn_begun fs v test block q r t b rest refl) (y (frame.Turn test block ∷ fs) rest more refl refl)) k x
           (kept_as (seen_program p) result here store2 store3 i (if_kept (seen_program p) result here))
 

@@ -98,15 +98,15 @@ module _ {T : Type 0} (rules : HostRules T) (fs : List Frame) where
   side_moves v block others last rest o f q h = pops_moves rules (before_stmt rest fs) (if_picks v block others last o f q h)
 
 module _ {T : Type 0} (rules : HostRules T) (p : Code.Program) (store : Store) (current : Current) where
-  pub leads_after : {X : Type 0} {fs0 fs1 : List Frame} {f0 f1 : Focus} (result : Result Focus (Exit X)) (store1 : Store) (fs2 : List Frame) → Moves rules fs0 f0 fs1 f1 → IfOk result (λ f. Leads rules (seen_program p) (place store current fs1 f1) (place store1 current fs2 f))
-      → IfOk result (λ f. Leads rules (seen_program p) (place store current fs0 f0) (place store1 current fs2 f))
-  leads_after (Ok f) store1 fs2 m k = λ h. let one = m.goes (seen_program p) store current h in goes_trans rules (seen_program p) _ _ _ one (k one.holds)
-  leads_after (Err x) store1 fs2 m k = tt
+  pub leads_after : {X : Type 0} {fs0 fs1 : List Frame} {f0 f1 : Focus} (result : Result Focus (Exit X)) (store1 : Store) (current1 : Current) (fs2 : List Frame) → Moves rules fs0 f0 fs1 f1 → IfOk result (λ f. Leads rules (seen_program p) (place store current fs1 f1) (place store1 current1 fs2 f))
+      → IfOk result (λ f. Leads rules (seen_program p) (place store current fs0 f0) (place store1 current1 fs2 f))
+  leads_after (Ok f) store1 current1 fs2 m k = λ h. let one = m.goes (seen_program p) store current h in goes_trans rules (seen_program p) _ _ _ one (k one.holds)
+  leads_after (Err x) store1 current1 fs2 m k = tt
 
   -- a statement that is an expression, for whose end those after it wait
   pub expr_leads : {X : Type 0} (result : Result Focus (Exit X)) (store1 : Store) (fs fs1 fs2 : List Frame) (s : Bor Stmt) (rest : Bor (List Stmt)) (e : Bor Expr) (f : Expr) → s.now ≡ S.Expr f → e.now ≡ f → fs1 ≡ before_stmt rest fs
       → IfOk result (λ g. Leads rules (seen_program p) (place store current fs1 (focus.Expr e)) (place store1 current fs2 g)) → IfOk result (λ g. Leads rules (seen_program p) (place store current (before_stmt rest fs) (focus.Stmt s)) (place store1 current fs2 g))
-  expr_leads result store1 fs fs1 fs2 s rest e f q a b k = leads_after result store1 fs2 (expr_moves rules fs s rest e f q a) (rw b at k)
+  expr_leads result store1 fs fs1 fs2 s rest e f q a b k = leads_after result store1 current fs2 (expr_moves rules fs s rest e f q a) (rw b at k)
 
   -- a `return` whose value is found at once
   pub return_direct : (fs : List Frame) (s : Bor Stmt) (rest : Bor (List Stmt)) (e : Bor Expr) (v : Value) → s.now ≡ S.Return (Some e.now) → direct_there p store current e.now ≡ Some (seen v)

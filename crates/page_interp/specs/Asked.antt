@@ -20,16 +20,14 @@ use Rattle.lang_meaning.specs.OpNames.{op_named}
 use Rattle.page_interp.specs.declared.exit.Exit.{Exit}
 use Rattle.page_interp.specs.declared.exit.Store.{Store}
 use Rattle.page_interp.specs.declared.stack.Current.{Current}
-use Rattle.page_interp.specs.declared.stack.Focus.{Focus}
 use Rattle.page_interp.specs.declared.stack.Focus.TheVariants as focus
 use Rattle.page_interp.specs.declared.stack.Frame.{Frame}
-use Rattle.page_interp.specs.declared.stack.Frame.TheVariants as frame
-use Rattle.page_interp.specs.AtOnce.{Assigns, Leads, turned}
+use Rattle.page_interp.specs.AtOnce.{Assigns, turned}
 use Rattle.page_interp.specs.Clauses.{script}
-use Rattle.page_interp.specs.Frames.{Place, HaveTurns, Gets, Stood, Finishes, Steps, does, place, stacked, steps_left}
+use Rattle.page_interp.specs.Frames.{Place, HaveTurns, Gets, Stood, Finishes, Steps, does, place, steps_left}
 use Rattle.page_interp.specs.Direct.{NameHolds, direct_there}
 use Rattle.page_interp.specs.Runs.{IsUnsettled}
-use Rattle.page_interp.specs.StackClauses.{AreFound, IsStanding, stand}
+use Rattle.page_interp.specs.StackClauses.{AreFound, IsStanding}
 
 -- ---- An ask
 
@@ -242,23 +240,3 @@ TurnStands rules leaves code h store current e ss =
     (fs : List Frame) × (v : Value) × (test : Bor Expr) × (block : Bor (List Stmt))
     × (test.now ≡ e) × (block.now ≡ ss)
     × IsStanding rules leaves code h (turned store current test block fs v)
-
--- it leads on from the rest of a turn's block
-abbrev pub TurnGoesOn : {T : Type 0} → HostRules T → Code.Program → Bor Expr → Bor (List Stmt)
-    → (rest : Bor (List Stmt)) → Store → Current → Vec Frame Global → Store → Vec Frame Global
-    → Focus → Type 0
-TurnGoesOn rules code test block rest store current stack store' stack' = λ f'.
-    Leads rules (script code)
-    (place store current (frame.Turn test block ∷ stacked stack.items) (focus.Block rest))
-    (stand store' current stack' f')
-
--- a step leads on from the end of a turn, whatever value it ended with
-abbrev pub TurnSteps : {Self T S : Type 0} → HostRules T → (Ask → T → T → Type 0)
-    → (now : Self → HostNow T S) → Code.Program → Bor Expr → Bor (List Stmt)
-    → Result Focus (Exit S) → Self → Store → Current → Vec Frame Global
-    → Self → Store → Current → Vec Frame Global → Type 0
-TurnSteps rules leaves now code test block result
-    host store current stack host' store' current' stack' =
-    (v : Value) → Steps rules leaves (script code) (now host)
-    (turned store current test block (stacked stack.items) v) result
-    (now host') store' current' (stacked stack'.items)

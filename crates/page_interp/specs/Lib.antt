@@ -1,6 +1,7 @@
 pub mod Places
 pub mod OpIndex
 pub mod Runs
+pub mod Running
 pub mod Answers
 pub mod Sizes
 pub mod NumberTests

@@ -7,7 +7,6 @@ use Rattle.page_types.specs.Tree.{Program}
 use Rattle.page_types.specs.declared.FaultName.TheVariants.{TypeError}
 use Rattle.page_parts.specs.Kinds.{Func, func_in}
 use Rattle.page_values.specs.declared.Value.{Value}
-use Rattle.page_values.specs.declared.Func.{Func as HeldFunc}
 use Rattle.page_values.specs.Seen.{seen}
 use Rattle.page_values.specs.Written.{IsNumbered}
 use Rattle.lang_ast.specs.Hosts.{HostNow}

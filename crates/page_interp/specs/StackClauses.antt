@@ -1,17 +1,15 @@
 -- What the functions of the machine promise of a step, with the stack that they work on.
-use Rattle.std.specs.Prelude.{◌≡◌, ◌≤◌, ◌+◌, ◌*◌, ◌^◌, ℕ, List, [], ◌∷◌, map, Option, Some, None, Result, Vec, IfOk, IfErr, IfSome, IfNone}
+use Rattle.std.specs.Prelude.{◌≡◌, ◌+◌, ℕ, List, [], ◌∷◌, map, Option, Some, None, Result, Vec, IfOk, IfSome, IfNone}
 use Rattle.std.specs.Option.{option_map}
 use Rattle.std.specs.declared.alloc.Global.{Global}
 use Rattle.std.specs.Borrow.{Bor}
 use Rattle.page_types.specs.Tree.{Block, with_stmt}
 use Rattle.page_types.specs.Values.{FunValue, no_values}
-use Rattle.page_types.specs.declared.Op.{Op}
 use Rattle.page_types.specs.declared.ProductSign.{ProductSign}
 use Rattle.page_types.specs.declared.SumSign.{SumSign}
 use Rattle.page_parts.specs.Kinds.{bool_in}
 use Rattle.page_values.specs.declared.Value.{Value}
 use Rattle.page_values.specs.Seen.{seen}
-use Rattle.lang_ast.specs.declared.host.HostStep.{HostStep as HeldStep}
 use Rattle.lang_ast.specs.declared.program.Program as Code
 use Rattle.lang_ast.specs.declared.tree.Named.{Named}
 use Rattle.lang_ast.specs.declared.tree.Expr.{Expr}
@@ -20,12 +18,10 @@ use Rattle.lang_ast.specs.declared.tree.Stmt.{Stmt}
 use Rattle.lang_ast.specs.declared.tree.Stmt.TheVariants as statement
 use Rattle.lang_ast.specs.declared.tree.Item.{Item}
 use Rattle.lang_ast.specs.Seen.{seen_stmt, seen_items}
-use Rattle.lang_ast.specs.Steps.{seen_step}
 use Rattle.lang_ast.specs.Hosts.{HostNow}
 use Rattle.lang_meaning.specs.Evaluation.{Function, own_body}
-use Rattle.lang_meaning.specs.HostSteps.{HostRules, HostStep, Ask, CallbackEnd, asked_by}
+use Rattle.lang_meaning.specs.HostSteps.{HostRules, HostStep, Ask}
 use Rattle.lang_meaning.specs.OpNames.{op_named}
-use Rattle.lang_meaning.specs.Asks.{ask_limited}
 use Rattle.page_interp.specs.declared.exit.Exit.{Exit}
 use Rattle.page_interp.specs.declared.exit.Store.{Store}
 use Rattle.page_interp.specs.declared.stack.Current.{Current}
@@ -37,10 +33,10 @@ use Rattle.page_interp.specs.declared.stack.Purpose.{Purpose}
 use Rattle.page_interp.specs.declared.stack.Waiting.{Waiting}
 use Rattle.page_interp.specs.declared.stack.Waiting.TheVariants as waiting
 use Rattle.page_interp.specs.Direct.{NameHolds, names_there}
-use Rattle.page_interp.specs.AtOnce.{Assigns, EndsWanting, Leads, Brings, before_stmt, branches, turned, tested_at, waited_at}
-use Rattle.page_interp.specs.Clauses.{CallRuns, script, count_in}
+use Rattle.page_interp.specs.AtOnce.{Assigns, Leads, Brings, before_stmt, branches, turned, waited_at}
+use Rattle.page_interp.specs.Clauses.{CallRuns, script}
 use Rattle.page_interp.specs.CodeNames.{function_at}
-use Rattle.page_interp.specs.Frames.{Place, Holds, IsCalled, IsPicked, Moves, Opens, Stood, Steps, Answering, MayCome, Leaves, Finishes, stacked, place, waiting_at, moment_at, tickets_in, does, steps_on, resumes, call_names, call_variables, call_body, AreSeenNumbered}
+use Rattle.page_interp.specs.Frames.{Place, IsCalled, IsPicked, Moves, Stood, Answering, stacked, place, moment_at, tickets_in, call_names, call_variables, call_body}
 use Rattle.page_interp.specs.Runs.{IsReady, outside, value_left, variables_of}
 
 -- ---- The stack
@@ -48,10 +44,6 @@ use Rattle.page_interp.specs.Runs.{IsReady, outside, value_left, variables_of}
 -- where the machine stands, with this stack
 abbrev pub stand : Store → Current → Vec Frame Global → Focus → Place
 stand store current stack f = place store current (stacked stack.items) f
-
--- where it stands and needs nothing more of what is next
-abbrev pub resting : Store → Current → Vec Frame Global → Place
-resting store current stack = waiting_at store current (stacked stack.items)
 
 -- ---- A step that does not ask the host
 
@@ -124,12 +116,6 @@ abbrev pub ExprLeads : {T X : Type 0} → Result Focus X → HostRules T → Cod
     → Store → Current → Vec Frame Global → Store → Vec Frame Global → Type 0
 ExprLeads result rules code expr store current stack store' stack' =
     IfOk result (LeadsOn rules code (focus.Expr expr) store current stack store' current stack')
-
--- the same from the statements of a block
-abbrev pub BlockLeads : {T X : Type 0} → Result Focus X → HostRules T → Code.Program
-    → Bor (List Stmt) → Store → Current → Vec Frame Global → Store → Vec Frame Global → Type 0
-BlockLeads result rules code block store current stack store' stack' =
-    IfOk result (LeadsOn rules code (focus.Block block) store current stack store' current stack')
 
 -- the first statement among some items, and the items after it
 abbrev pub IsFirstAmong : List Item → Bor Stmt × Bor (List Item) → Type 0
@@ -253,34 +239,15 @@ CallComes rules code function args store current v store' =
     op_named name.name ≡ None → NameHolds code store current name.name (FunValue function no_values) →
     ValueComes rules code e store current v store'
 
--- the same where these statements wait for its end
-abbrev pub LeadsBefore : {T : Type 0} → HostRules T → Code.Program → Bor (List Stmt) → Focus
-    → Store → Current → Vec Frame Global → Store → Vec Frame Global → Focus → Type 0
-LeadsBefore rules code rest f store current old store' new = λ f'.
-    Leads rules (script code) (place store current (before_stmt rest (stacked old.items)) f)
-    (stand store' current new f')
-
--- the same of a statement that returns the value of this expression, and the stack alone changes
+-- it leads on from a statement that returns the value of this expression, where these statements wait
+-- for its end, and the stack alone changes
 abbrev pub ReturnLeads : {T : Type 0} → HostRules T → Code.Program → Expr
     → Store → Current → (old new : Vec Frame Global) → Focus → Type 0
 ReturnLeads rules code e store current old new = λ f.
     (stmt : Bor Stmt) (rest : Bor (List Stmt)) → stmt.now ≡ statement.Return (Some e) →
-    LeadsBefore rules code rest (focus.Stmt stmt) store current old store new f
-
--- it leads on from the value of a loop's condition
-abbrev pub TestLeads : {T : Type 0} → HostRules T → Code.Program
-    → Bor Expr → Bor (List Stmt) → Value
-    → Store → Current → Vec Frame Global → Store → Current → Vec Frame Global → Focus → Type 0
-TestLeads rules code test block v store current stack store' current' stack' = λ f'.
-    Leads rules (script code) (tested_at store current test block (stacked stack.items) v)
-    (stand store' current' stack' f')
-
--- where there is no result, a unit is wanting there, or memory
-abbrev pub TestWants : {X S : Type 0} → Result X (Exit S) → Code.Program
-    → Bor Expr → Bor (List Stmt) → Value → Store → Current → Vec Frame Global → Store → Type 0
-TestWants result code test block v store current stack store' =
-    IfErr result (EndsWanting (script code)
-    (tested_at store current test block (stacked stack.items) v) store')
+    Leads rules (script code)
+    (place store current (before_stmt rest (stacked old.items)) (focus.Stmt stmt))
+    (stand store current new f)
 
 -- it leads on from the end of a loop's turn to where the condition is next
 abbrev pub TurnComes : {T : Type 0} → HostRules T → Code.Program → Expr → List Stmt
@@ -323,45 +290,12 @@ abbrev pub AreCallLocals : Option Function → (args locals : Vec Value Global) 
 AreCallLocals called args locals =
     variables_of (call_names called) locals.items ≡ call_variables called (map seen args.items)
 
--- a call opens, whatever was next before it
-abbrev pub OpensOn : {T : Type 0} → HostRules T → Code.Program → ℕ → (args : Vec Value Global)
-    → Store → Current → Vec Frame Global → Store → Current → Vec Frame Global → Focus → Type 0
-OpensOn rules code function args store current stack store' current' stack' = λ f'.
-    (f : Focus) → Holds (script code) (stand store current stack f) →
-    AreSeenNumbered (count_in code) args →
-    Opens rules (script code) function (map seen args.items)
-    (stand store current stack f) (stand store' current' stack' f')
-
 -- ---- A step that may ask the host
 
 -- a run stands there, with some tickets that were open before it
 abbrev pub IsStanding : {T S : Type 0} → HostRules T → (Ask → T → T → Type 0) → Code.Program
     → HostNow T S → Place → Type 0
 IsStanding rules leaves code h a = (ts : List ℕ) × Stood rules leaves (script code) ts h a
-
--- the same of a host, a store, the variables, a stack and what is next
-abbrev pub RunsAt : {Self T S : Type 0} → HostRules T → (Ask → T → T → Type 0)
-    → (now : Self → HostNow T S) → Code.Program
-    → Self → Store → Current → Vec Frame Global → Focus → Type 0
-RunsAt rules leaves now code host store current stack f =
-    IsStanding rules leaves code (now host) (stand store current stack f)
-
--- a step leads from the host, the store, the variables and the stack before to those after
-abbrev pub StepsOn : {Self T S : Type 0} → HostRules T → (Ask → T → T → Type 0)
-    → (now : Self → HostNow T S) → Code.Program → Focus → Result Focus (Exit S)
-    → Self → Store → Current → Vec Frame Global
-    → Self → Store → Current → Vec Frame Global → Type 0
-StepsOn rules leaves now code f result
-    host store current stack host' store' current' stack' =
-    Steps rules leaves (script code) (now host) (stand store current stack f) result
-    (now host') store' current' (stacked stack'.items)
-
--- a run from there ends so, whatever tickets were open before it
-abbrev pub RunEnds : {T S : Type 0} → HostRules T → (Ask → T → T → Type 0) → Code.Program
-    → Place → HostNow T S → Exit S → HostNow T S → Store → Type 0
-RunEnds rules leaves code a h x h' store' =
-    (ts : List ℕ) → Stood rules leaves (script code) ts h a →
-    Finishes rules leaves (script code) ts (λ d. does d a.focus) h a x h' store'
 
 -- a call of this function with these arguments has this result, where no call is open
 abbrev pub RunsCall : {Self T S : Type 0} → HostRules T → (Ask → T → T → Type 0)
@@ -379,29 +313,6 @@ abbrev pub HasAnswered : {T S : Type 0} → HostRules T → (Ask → T → T →
 HasAnswered rules leaves left code ts h a step =
     Answering rules leaves (script code) ts (left h.told) h a step
 
--- the same, with some tickets that were open before, where nothing more is needed of what is next
-abbrev pub StandsAnswered : {Self T S : Type 0} → HostRules T → (Ask → T → T → Type 0)
-    → (left : T → ℕ → ℕ) → (now : Self → HostNow T S) → Code.Program
-    → Self → Store → Current → Vec Frame Global → HeldStep → Type 0
-StandsAnswered rules leaves left now code host store current stack step =
-    (ts : List ℕ) × HasAnswered rules leaves left code ts
-    (now host) (resting store current stack) (seen_step step)
-
--- what comes of an answer of the host
-abbrev pub AnswerLeaves : {Self T S : Type 0} → HostRules T → (Ask → T → T → Type 0)
-    → (left : T → ℕ → ℕ) → (now : Self → HostNow T S) → Code.Program
-    → HostStep → Result Focus (Exit S)
-    → Self → Store → Current → Vec Frame Global
-    → Self → Store → Current → Vec Frame Global → Type 0
-AnswerLeaves rules leaves left now code step result
-    host store current stack host' store' current' stack' =
-    (ts : List ℕ) (n : ℕ) →
-    HasAnswered rules leaves left code ts (now host) (resting store current stack) step →
-    MayCome store.fuel (left (now host).told) step n →
-    Leaves rules leaves (script code) ts (steps_on rules n step) 2
-    (now host) (resting store current stack) result
-    (now host') store' current' (stacked stack'.items)
-
 -- the host waits for a callback under this ticket, above those of its frames
 abbrev pub WaitsUnder : {T S : Type 0} → (ticket : ℕ) → HostNow T S → Vec Frame Global
     → List ℕ → Type 0
@@ -412,31 +323,3 @@ abbrev pub IsReadyAt : {T S : Type 0} → HostRules T → (Ask → T → T → T
     → HostNow T S → Place → Type 0
 IsReadyAt rules leaves code h a =
     IsReady (outside rules leaves (script code)) (moment_at (script code) h a)
-
--- what comes of the host's going on after a callback that ended so
-abbrev pub Resumes : {Self T S : Type 0} → HostRules T → (Ask → T → T → Type 0)
-    → (now : Self → HostNow T S) → Code.Program
-    → (ticket : ℕ) → CallbackEnd → Result Focus (Exit S)
-    → Self → Store → Current → Vec Frame Global
-    → Self → Store → Current → Vec Frame Global → Type 0
-Resumes rules leaves now code ticket end result
-    host store current stack host' store' current' stack' =
-    (ts : List ℕ) (n : ℕ) → WaitsUnder ticket (now host) stack ts →
-    (store.fuel + 1) * (2 ^ 64) ≤ n →
-    Leaves rules leaves (script code) ts (resumes rules n ticket end) 2
-    (now host) (resting store current stack) result
-    (now host') store' current' (stacked stack'.items)
-
--- what comes of an operation that the host is asked for
-abbrev pub AskLeaves : {Self T S : Type 0} → HostRules T → (Ask → T → T → Type 0)
-    → (now : Self → HostNow T S) → Code.Program
-    → Op → (args : Vec Value Global) → Result Focus (Exit S)
-    → Self → Store → Current → Vec Frame Global
-    → Self → Store → Current → Vec Frame Global → Type 0
-AskLeaves rules leaves now code op args result
-    host store current stack host' store' current' stack' =
-    (ts : List ℕ) → Stood rules leaves (script code) ts (now host) (resting store current stack) →
-    Leaves rules leaves (script code) ts
-    (λ d. asked_by (ask_limited rules) d.call op (map seen args.items)) 2
-    (now host) (resting store current stack) result
-    (now host') store' current' (stacked stack'.items)

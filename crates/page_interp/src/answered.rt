@@ -7,7 +7,8 @@ ghost use Rattle.lang_ast.specs.Hosts.{GivesValue};
 ghost use Rattle.lang_ast.specs.Operations.{count_of};
 ghost use Rattle.lang_ast.specs.Steps.{AllNumbered};
 ghost use Rattle.lang_meaning.specs.HostSteps.{is_busy};
-ghost use Rattle.page_interp.specs.Asked.{IsAnswered, ArePair, BlockAsks, BlockStands, BlockStops, ExprStands, ExprStops, IsKnown, RefusesAsk, SetsAsked, IsPlainCall, IsPlainLook, IsBesideOwn, FindsByAsk, DoneByAsk, StopsInExpr, IsSureOfOwn};
+ghost use Rattle.page_interp.specs.Asked.{IsAnswered, ArePair, ExprStands, IsKnown, RefusesAsk, IsPlainCall, IsPlainLook, IsBesideOwn, FindsByAsk, DoneByAsk, StopsInExpr, IsSureOfOwn};
+ghost use Rattle.page_interp.specs.Running.{AllAsk, AtBlock, AtExpr, FirstAsks, SetsByAsk, StopsAtExpr, StopsInBlock};
 
 use crate::at_once::{first_values, set};
 use crate::blocks::assigned;
@@ -15,7 +16,7 @@ use crate::code::Code;
 use crate::direct::{direct_held, direct_value, variable};
 use crate::exit::{Exit, Store};
 use crate::operations::may_be_known;
-use crate::stack::Current;
+use crate::stack::{Current, Running};
 use crate::variables::take;
 use lang_ast::{Expr, Host, HostStep, Named, Op, Stmt};
 use page_values::{MemoryFault, Value};
@@ -247,32 +248,31 @@ fn gives_for_own<'x, H: Host>(
 fn takes_own<'c, H: Host>(
     code: &'c Code,
     host: &mut H,
-    store: &mut Store,
-    current: &mut Current<'c>,
+    run: &mut Running<'c>,
     target: &Named,
     expr: &'c Expr,
 ) -> Result<bool, Exit<H::Stop>>
-    requires { ExprStands H.rules H.leaves code.now (H.now host.old) store.old current.old expr.now }
-    ensures done { IfOk result (λ done. done ≡ true → SetsAsked H.rules H.leaves code.now target.now
-        expr.now (H.now host.old) store.old current.old (H.now host.new) store.new current.new) }
+    requires { AtExpr H.Host code.now host.old run.old expr.now }
+    ensures done { SetsByAsk H.Host code.now target.now expr.now result
+        host.old run.old host.new run.new }
     ensures host { IfOk result (λ done. done ≡ false → host.new ≡ host.old) }
-    ensures store { IfOk result (λ done. done ≡ false → store.new ≡ store.old) }
-    ensures variables { IfOk result (λ done. done ≡ false → current.new ≡ current.old) }
-    ensures fuel { store.new.fuel ≡ store.old.fuel }
-    ensures stops { IfErr result (ExprStops H.rules H.leaves code.now expr.now
-        store.old current.old (H.now host.old) (H.now host.new) store.new) }
+    ensures run { IfOk result (λ done. done ≡ false → run.new ≡ run.old) }
+    ensures stack { run.new.stack ≡ run.old.stack }
+    ensures fuel { run.new.store.fuel ≡ run.old.store.fuel }
+    ensures stops { StopsAtExpr H.Host code.now expr.now result host.old run.old host.new run.new }
 {
     let Expr::Call(name, args) = expr else {
         return Ok(false);
     };
-    let Some((op, second)) = beside_own(code, store, current, target, name, args) else {
+    let Some((op, second)) = beside_own(code, &run.store, &run.current, target, name, args) else {
         return Ok(false);
     };
-    if !gives_for_own(&*code, host, store, current, target, op, &second) {
+    if !gives_for_own(&*code, host, &run.store, &run.current, target, op, &second) {
         drop(second);
         return Ok(false);
     }
-    let Some(own) = take(code, store, current.names, &mut current.locals, target) else {
+    let names = run.current.names;
+    let Some(own) = take(code, &mut run.store, names, &mut run.current.locals, target) else {
         drop(second);
         return Ok(false);
     };
@@ -282,7 +282,7 @@ fn takes_own<'c, H: Host>(
     };
     match answer(host, op, values) {
         Ok(value) => {
-            set(code, store, current, target, value);
+            set(code, &mut run.store, &mut run.current, target, value);
             Ok(true)
         }
         Err(stop) => Err(Exit::Host(stop)),
@@ -293,29 +293,27 @@ fn takes_own<'c, H: Host>(
 fn takes_answer<'c, H: Host>(
     code: &'c Code,
     host: &mut H,
-    store: &mut Store,
-    current: &mut Current<'c>,
+    run: &mut Running<'c>,
     target: &Named,
     expr: &'c Expr,
 ) -> Result<bool, Exit<H::Stop>>
-    requires { ExprStands H.rules H.leaves code.now (H.now host.old) store.old current.old expr.now }
-    ensures done { IfOk result (λ done. done ≡ true → SetsAsked H.rules H.leaves code.now target.now
-        expr.now (H.now host.old) store.old current.old (H.now host.new) store.new current.new) }
+    requires { AtExpr H.Host code.now host.old run.old expr.now }
+    ensures done { SetsByAsk H.Host code.now target.now expr.now result
+        host.old run.old host.new run.new }
     ensures host { IfOk result (λ done. done ≡ false → host.new ≡ host.old) }
-    ensures store { IfOk result (λ done. done ≡ false → store.new ≡ store.old) }
-    ensures variables { IfOk result (λ done. done ≡ false → current.new ≡ current.old) }
-    ensures fuel { store.new.fuel ≡ store.old.fuel }
-    ensures stops { IfErr result (ExprStops H.rules H.leaves code.now expr.now
-        store.old current.old (H.now host.old) (H.now host.new) store.new) }
+    ensures run { IfOk result (λ done. done ≡ false → run.new ≡ run.old) }
+    ensures stack { run.new.stack ≡ run.old.stack }
+    ensures fuel { run.new.store.fuel ≡ run.old.store.fuel }
+    ensures stops { StopsAtExpr H.Host code.now expr.now result host.old run.old host.new run.new }
 {
-    match takes_own(code, host, store, current, target, expr) {
+    match takes_own(code, host, run, target, expr) {
         Ok(true) => return Ok(true),
         Ok(false) => {}
         Err(exit) => return Err(exit),
     }
-    match value(code, host, store, current, expr) {
+    match value(code, host, &run.store, &run.current, expr) {
         Ok(Some(value)) => {
-            set(code, store, current, target, value);
+            set(code, &mut run.store, &mut run.current, target, value);
             Ok(true)
         }
         Ok(None) => Ok(false),
@@ -328,29 +326,25 @@ fn takes_answer<'c, H: Host>(
 fn first_asked<'c, H: Host>(
     code: &'c Code,
     host: &mut H,
-    store: &mut Store,
-    current: &mut Current<'c>,
+    run: &mut Running<'c>,
     stmts: &'c [Stmt],
 ) -> Result<Option<&'c [Stmt]>, Exit<H::Stop>>
-    requires { BlockStands H.rules H.leaves code.now (H.now host.old) store.old current.old stmts.now }
-    ensures some { IfOk result (λ o. IfSome o (λ rest. BlockAsks H.rules H.leaves code.now
-        (H.now host.old) store.old current.old stmts.now
-        (H.now host.new) store.new current.new rest.now)) }
+    requires { AtBlock H.Host code.now host.old run.old stmts.now }
+    ensures some { FirstAsks H.Host code.now stmts.now result host.old run.old host.new run.new }
     ensures shorter { IfOk result (λ o. IfSome o (λ rest. length rest.now < length stmts.now)) }
     ensures host { IfOk result (λ o. IfNone o (host.new ≡ host.old)) }
-    ensures store { IfOk result (λ o. IfNone o (store.new ≡ store.old)) }
-    ensures variables { IfOk result (λ o. IfNone o (current.new ≡ current.old)) }
-    ensures fuel { store.new.fuel ≡ store.old.fuel }
-    ensures stops { IfErr result (BlockStops H.rules H.leaves code.now
-        (H.now host.old) store.old current.old stmts.now (H.now host.new) store.new) }
+    ensures run { IfOk result (λ o. IfNone o (run.new ≡ run.old)) }
+    ensures stack { run.new.stack ≡ run.old.stack }
+    ensures fuel { run.new.store.fuel ≡ run.old.store.fuel }
+    ensures stops { StopsInBlock H.Host code.now stmts.now result host.old run.old host.new run.new }
 {
     let Some((stmt, rest)) = stmts.split_first() else {
         return Ok(None);
     };
     let done = match stmt {
-        Stmt::Var(name, expr) => takes_answer(code, host, store, current, name, expr),
-        Stmt::Assign(name, expr) => takes_answer(code, host, store, current, name, expr),
-        Stmt::Expr(expr) => asks(code, host, store, current, expr),
+        Stmt::Var(name, expr) => takes_answer(code, host, run, name, expr),
+        Stmt::Assign(name, expr) => takes_answer(code, host, run, name, expr),
+        Stmt::Expr(expr) => asks(code, host, &run.store, &run.current, expr),
         _ => Ok(false),
     };
     match done {
@@ -365,22 +359,21 @@ fn first_asked<'c, H: Host>(
 pub fn asked<'c, H: Host>(
     code: &'c Code,
     host: &mut H,
-    store: &mut Store,
-    current: &mut Current<'c>,
+    run: &mut Running<'c>,
     stmts: &'c [Stmt],
 ) -> Result<&'c [Stmt], Exit<H::Stop>>
-    requires { BlockStands H.rules H.leaves code.now (H.now host.old) store.old current.old stmts.now }
-    ensures ok { IfOk result (λ rest. BlockAsks H.rules H.leaves code.now
-        (H.now host.old) store.old current.old stmts.now
-        (H.now host.new) store.new current.new rest.now) }
-    ensures fuel { store.new.fuel ≤ store.old.fuel }
-    ensures stops { IfErr result (BlockStops H.rules H.leaves code.now
-        (H.now host.old) store.old current.old stmts.now (H.now host.new) store.new) }
+    requires { AtBlock H.Host code.now host.old run.old stmts.now }
+    ensures ok { AllAsk H.Host code.now stmts.now result host.old run.old host.new run.new }
+    ensures stack { run.new.stack ≡ run.old.stack }
+    ensures fuel { run.new.store.fuel ≤ run.old.store.fuel }
+    ensures stops { StopsInBlock H.Host code.now stmts.now result host.old run.old host.new run.new }
 {
     let mut rest = stmts;
     'asked: loop {
-        match first_asked(code, host, store, current, rest) {
-            Ok(Some(more)) => rest = assigned::<H>(code, store, current, more),
+        match first_asked(code, host, run, rest) {
+            Ok(Some(more)) => {
+                rest = assigned::<H>(code, &mut run.store, &mut run.current, more);
+            }
             Ok(None) => return Ok(rest),
             Err(exit) => return Err(exit),
         }

@@ -7,13 +7,14 @@ ghost use Rattle.lang_meaning.specs.HostSteps.{is_busy};
 ghost use Rattle.page_interp.specs.Clauses.{script, count_in};
 ghost use Rattle.page_interp.specs.Frames.{Holds, AreSeenNumbered};
 ghost use Rattle.page_interp.specs.Runs.{IsUnsettled};
-ghost use Rattle.page_interp.specs.StackClauses.{resting, AnswerLeaves, IsReadyAt, WaitsUnder, Resumes, IsStanding, AskLeaves, StepsOn, RunsAt, StandsAnswered};
+ghost use Rattle.page_interp.specs.Running.{resting, AnswerLeaves, AskLeaves, Resumes, RunsAt, StandsAnswered, StepsOn};
+ghost use Rattle.page_interp.specs.StackClauses.{IsReadyAt, IsStanding, WaitsUnder};
 ghost use Rattle.page_interp.specs.declared.stack.Focus.TheVariants as focus;
 
 use crate::code::Code;
-use crate::exit::{Exit, Store};
+use crate::exit::Exit;
 use crate::opening::{callable, open};
-use crate::stack::{Current, Focus, Frame, push};
+use crate::stack::{Focus, Frame, Running, push};
 use crate::values::joined;
 use lang_ast::{Host, HostStep, Op, Outcome, is_busy};
 use page_values::{Value, fault};
@@ -23,16 +24,13 @@ use page_values::{Value, fault};
 fn answer<'c, H: Host>(
     code: &'c Code,
     host: &mut H,
-    store: &mut Store,
-    current: &mut Current<'c>,
-    stack: &mut Vec<Frame<'c>>,
+    run: &mut Running<'c>,
     first: HostStep,
 ) -> Result<Focus<'c>, Exit<H::Stop>>
-    requires answering { StandsAnswered H.rules H.leaves H.left H.now code.now
-        host.old store.old current.old stack.old first }
+    requires answering { StandsAnswered H.Host code.now host.old run.old first }
     ensures unsettled { IfErr result IsUnsettled }
-    ensures leaves { AnswerLeaves H.rules H.leaves H.left H.now code.now (seen_step first) result
-        host.old store.old current.old stack.old host.new store.new current.new stack.new }
+    ensures leaves { AnswerLeaves H.Host code.now (seen_step first) result
+        host.old run.old host.new run.new }
 {
     let mut step = first;
     loop {
@@ -43,11 +41,11 @@ fn answer<'c, H: Host>(
                 callback,
                 args,
                 ticket,
-            } => match callable(current.depth, Some(callback)) {
+            } => match callable(run.current.depth, Some(callback)) {
                 Ok(called) => {
-                    push(stack, Frame::Host(ticket))?;
+                    push(&mut run.stack, Frame::Host(ticket))?;
                     let all = joined(called.bound, args)?;
-                    return open::<H>(code, store, current, stack, called.function, all);
+                    return open::<H>(code, run, called.function, all);
                 }
                 Err(name) => {
                     let thrown = Outcome::Throw(fault(code.alloc(), name));
@@ -65,23 +63,20 @@ fn answer<'c, H: Host>(
 pub fn resume<'c, H: Host>(
     code: &'c Code,
     host: &mut H,
-    store: &mut Store,
-    current: &mut Current<'c>,
-    stack: &mut Vec<Frame<'c>>,
+    run: &mut Running<'c>,
     ticket: u64,
     outcome: Outcome,
 ) -> Result<Focus<'c>, Exit<H::Stop>>
-    requires holds { Holds (script code.now) (resting store.old current.old stack.old) }
-    requires ready { IsReadyAt H.rules H.leaves code.now (H.now host.old)
-        (resting store.old current.old stack.old) }
-    requires tickets { (ts : List ℕ) × WaitsUnder ticket (H.now host.old) stack.old ts }
+    requires holds { Holds (script code.now) (resting run.old) }
+    requires ready { IsReadyAt H.rules H.leaves code.now (H.now host.old) (resting run.old) }
+    requires tickets { (ts : List ℕ) × WaitsUnder ticket (H.now host.old) run.old.stack ts }
     requires numbered { EndIsNumbered (count_in code.now) (seen_outcome outcome) }
     ensures unsettled { IfErr result IsUnsettled }
-    ensures leaves { Resumes H.rules H.leaves H.now code.now ticket (seen_outcome outcome) result
-        host.old store.old current.old stack.old host.new store.new current.new stack.new }
+    ensures leaves { Resumes H.Host code.now ticket (seen_outcome outcome) result
+        host.old run.old host.new run.new }
 {
     match host.resume(ticket, outcome) {
-        Ok(step) => answer(code, host, store, current, stack, step),
+        Ok(step) => answer(code, host, run, step),
         Err(stop) => Err(Exit::Host(stop)),
     }
 }
@@ -90,23 +85,19 @@ pub fn resume<'c, H: Host>(
 fn ask_host<'c, H: Host>(
     code: &'c Code,
     host: &mut H,
-    store: &mut Store,
-    current: &mut Current<'c>,
-    stack: &mut Vec<Frame<'c>>,
+    run: &mut Running<'c>,
     op: Op,
     args: Vec<Value>,
 ) -> Result<Focus<'c>, Exit<H::Stop>>
-    requires stood { IsStanding H.rules H.leaves code.now (H.now host.old)
-        (resting store.old current.old stack.old) }
+    requires stood { IsStanding H.rules H.leaves code.now (H.now host.old) (resting run.old) }
     requires count { length args.items ≡ count_of op }
     requires args { AreSeenNumbered (count_in code.now) args }
-    requires room { store.old.fuel + room_taken (is_busy op) ≤ (H.now host.old).room }
+    requires room { run.old.store.fuel + room_taken (is_busy op) ≤ (H.now host.old).room }
     ensures unsettled { IfErr result IsUnsettled }
-    ensures leaves { AskLeaves H.rules H.leaves H.now code.now op args result
-        host.old store.old current.old stack.old host.new store.new current.new stack.new }
+    ensures leaves { AskLeaves H.Host code.now op args result host.old run.old host.new run.new }
 {
     match host.op(op, args) {
-        Ok(step) => answer(code, host, store, current, stack, step),
+        Ok(step) => answer(code, host, run, step),
         Err(stop) => Err(Exit::Host(stop)),
     }
 }
@@ -115,23 +106,19 @@ fn ask_host<'c, H: Host>(
 pub fn ask<'c, H: Host>(
     code: &'c Code,
     host: &mut H,
-    store: &mut Store,
-    current: &mut Current<'c>,
-    stack: &mut Vec<Frame<'c>>,
+    run: &mut Running<'c>,
     op: Op,
     args: Vec<Value>,
 ) -> Result<Focus<'c>, Exit<H::Stop>>
-    requires stood { RunsAt H.rules H.leaves H.now code.now
-        host.old store.old current.old stack.old (focus.Ask op args) }
-    ensures { StepsOn H.rules H.leaves H.now code.now (focus.Ask op args) result
-        host.old store.old current.old stack.old host.new store.new current.new stack.new }
+    requires stood { RunsAt H.Host code.now host.old run.old (focus.Ask op args) }
+    ensures { StepsOn H.Host code.now (focus.Ask op args) result host.old run.old host.new run.new }
 {
     if is_busy(op) {
-        if store.fuel == 0 {
+        if run.store.fuel == 0 {
             return Err(Exit::Fuel);
         }
-        store.fuel -= 1;
-        return ask_host(code, host, store, current, stack, op, args);
+        run.store.fuel -= 1;
+        return ask_host(code, host, run, op, args);
     }
-    ask_host(code, host, store, current, stack, op, args)
+    ask_host(code, host, run, op, args)
 }

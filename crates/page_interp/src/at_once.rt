@@ -7,7 +7,8 @@ ghost use Rattle.page_values.specs.declared.Value.{Value};
 ghost use Rattle.page_values.specs.Seen.{seen};
 ghost use Rattle.page_interp.specs.AtOnce.{HasFirst, IsBoolThere};
 ghost use Rattle.page_interp.specs.Frames.{IsSet};
-ghost use Rattle.page_interp.specs.StackClauses.{TestLeads, TestWants, RowLeaves, RowGoes, BeginsTurn, ComesToTest};
+ghost use Rattle.page_interp.specs.StackClauses.{RowLeaves, RowGoes, BeginsTurn, ComesToTest};
+ghost use Rattle.page_interp.specs.Running.{TestLeads, TestWants};
 ghost use Rattle.page_interp.specs.declared.exit.Exit.TheVariants as exit;
 
 use crate::blocks::assigned;
@@ -15,7 +16,7 @@ use crate::code::Code;
 use crate::direct::{direct_compare, direct_value};
 use crate::exit::{Exit, Store};
 use crate::expressions::from_row;
-use crate::stack::{Current, Focus, Frame, Purpose, push};
+use crate::stack::{Current, Focus, Frame, Purpose, Running, push};
 use crate::variables::assign;
 use lang_ast::{Expr, Host, Named, Stmt};
 use page_values::{FaultName, MemoryFault, Value, as_bool, fault};
@@ -36,26 +37,23 @@ pub fn set<'c>(
 /// From the value of a loop's condition: its block is next, with a unit less.
 pub fn into_test<'c, H: Host>(
     code: &'c Code,
-    store: &mut Store,
-    current: &Current<'c>,
-    stack: &mut Vec<Frame<'c>>,
+    run: &mut Running<'c>,
     value: &Value,
     test: &'c Expr,
     block: &'c [Stmt],
 ) -> Result<Focus<'c>, Exit<H::Stop>>
     ensures ok { IfOk result (TestLeads H.rules code.now test.entry block.entry value.now
-        store.old current.now stack.old store.new current.now stack.new) }
-    ensures err { TestWants result code.now test.entry block.entry value.now
-        store.old current.now stack.old store.new }
+        run.old run.new) }
+    ensures err { TestWants result code.now test.entry block.entry value.now run.old run.new }
     ensures enters { IfErr result (λ _. bool_in (seen value.now) ≡ Some true) }
 {
     match as_bool(value) {
         Some(true) => {
-            if store.fuel == 0 {
+            if run.store.fuel == 0 {
                 return Err(Exit::Fuel);
             }
-            store.fuel -= 1;
-            push(stack, Frame::Turn(test, block))?;
+            run.store.fuel -= 1;
+            push(&mut run.stack, Frame::Turn(test, block))?;
             Ok(Focus::Block(block))
         }
         Some(false) => Ok(Focus::Value(Value::Unit)),

@@ -2,7 +2,8 @@
 
 ghost use Rattle.std.specs.Prelude.{◌≡◌, ◌<◌, ◌≤◌, true, false, IfOk, IfErr, IfSome, IfNone, length};
 ghost use Rattle.page_values.specs.declared.Value.{Value};
-ghost use Rattle.page_interp.specs.StackClauses.{MovesBefore, LeadsBefore, BlockBrings, BlockLeaves, Sets, ValueComes, ElseMoves, TakesBranch, ReturnLeads, BlockLeads};
+ghost use Rattle.page_interp.specs.Running.{LeadsBefore, LeadsTo};
+ghost use Rattle.page_interp.specs.StackClauses.{MovesBefore, BlockBrings, BlockLeaves, Sets, ValueComes, ElseMoves, TakesBranch, ReturnLeads};
 ghost use Rattle.page_interp.specs.declared.exit.Exit.TheVariants as exit;
 ghost use Rattle.page_interp.specs.declared.stack.Focus.TheVariants as focus;
 
@@ -12,7 +13,7 @@ use crate::direct::{direct_int, direct_other, direct_value};
 use crate::exit::{Exit, Store};
 use crate::expressions::from_expr;
 use crate::simple::{NO_CALLS, call_value, returned};
-use crate::stack::{Current, Focus, Frame, Waiting, push, wait, within};
+use crate::stack::{Current, Focus, Frame, Running, Waiting, push, wait, within};
 use crate::statements::from_stmt;
 use lang_ast::{Expr, Host, Named, Stmt};
 use page_values::{FaultName, Value, as_bool, fault};
@@ -207,52 +208,50 @@ fn into_return<'c, H: Host>(
 /// From the first statement of some, where these come after it.
 fn from_first<'c, H: Host>(
     code: &'c Code,
-    store: &mut Store,
-    current: &Current<'c>,
-    stack: &mut Vec<Frame<'c>>,
+    run: &mut Running<'c>,
     stmt: &'c Stmt,
     rest: &'c [Stmt],
 ) -> Result<Focus<'c>, Exit<H::Stop>>
     ensures ok { IfOk result (LeadsBefore H.rules code.now rest.entry (focus.Stmt stmt.entry)
-        store.old current.now stack.old store.new stack.new) }
+        run.old run.new) }
     ensures err { IfErr result (λ x. x ≡ exit.OutOfMemory) }
-    ensures same { IfErr result (λ _. store.new ≡ store.old) }
+    ensures same { IfErr result (λ _. run.new.store ≡ run.old.store) }
 {
     match stmt {
         Stmt::Expr(expr) => {
-            push(stack, Frame::Wait(Waiting::Stmts(rest)))?;
-            from_expr::<H>(code, store, current, stack, expr)
+            push(&mut run.stack, Frame::Wait(Waiting::Stmts(rest)))?;
+            from_expr::<H>(code, &mut run.store, &run.current, &mut run.stack, expr)
         }
-        Stmt::If(test, block, others, last) => match direct_value(code, store, current, test) {
-            Ok(Some(value)) => {
-                into_branch::<H>(code.alloc(), stack, value, block, others, last, rest)
+        Stmt::If(test, block, others, last) => {
+            match direct_value(code, &run.store, &run.current, test) {
+                Ok(Some(value)) => {
+                    let stack = &mut run.stack;
+                    into_branch::<H>(code.alloc(), stack, value, block, others, last, rest)
+                }
+                Ok(None) => later::<H>(&mut run.stack, stmt, rest),
+                Err(_) => Err(Exit::OutOfMemory),
             }
-            Ok(None) => later::<H>(stack, stmt, rest),
-            Err(_) => Err(Exit::OutOfMemory),
-        },
+        }
         Stmt::Return(value) => match value {
-            Some(expr) => into_return::<H>(code, store, current, stack, expr),
-            None => later::<H>(stack, stmt, rest),
+            Some(expr) => { into_return::<H>(code, &run.store, &run.current, &mut run.stack, expr) }
+            None => later::<H>(&mut run.stack, stmt, rest),
         },
-        _ => later::<H>(stack, stmt, rest),
+        _ => later::<H>(&mut run.stack, stmt, rest),
     }
 }
 
 /// From the statements of a block of which the first one gives no variable a value at once.
 pub fn from_block<'c, H: Host>(
     code: &'c Code,
-    store: &mut Store,
-    current: &Current<'c>,
-    stack: &mut Vec<Frame<'c>>,
+    run: &mut Running<'c>,
     stmts: &'c [Stmt],
 ) -> Result<Focus<'c>, Exit<H::Stop>>
-    ensures ok { BlockLeads result H.rules code.now stmts.entry
-        store.old current.now stack.old store.new stack.new }
+    ensures ok { IfOk result (LeadsTo H.rules code.now (focus.Block stmts.entry) run.old run.new) }
     ensures err { IfErr result (λ x. x ≡ exit.OutOfMemory) }
-    ensures same { IfErr result (λ _. store.new ≡ store.old) }
+    ensures same { IfErr result (λ _. run.new.store ≡ run.old.store) }
 {
     match stmts.split_first() {
-        Some((stmt, rest)) => from_first::<H>(code, store, current, stack, stmt, rest),
+        Some((stmt, rest)) => from_first::<H>(code, run, stmt, rest),
         None => Ok(Focus::Value(Value::Unit)),
     }
 }
@@ -281,22 +280,19 @@ pub fn assigned<'c, H: Host>(
 /// found at once, where it can be.
 pub fn from_rest<'c, H: Host>(
     code: &'c Code,
-    store: &mut Store,
-    current: &Current<'c>,
-    stack: &mut Vec<Frame<'c>>,
+    run: &mut Running<'c>,
     rest: &'c [Stmt],
 ) -> Result<Focus<'c>, Exit<H::Stop>>
-    ensures ok { BlockLeads result H.rules code.now rest.entry
-        store.old current.now stack.old store.new stack.new }
+    ensures ok { IfOk result (LeadsTo H.rules code.now (focus.Block rest.entry) run.old run.new) }
     ensures err { IfErr result (λ x. x ≡ exit.OutOfMemory) }
-    ensures same { IfErr result (λ _. store.new ≡ store.old) }
+    ensures same { IfErr result (λ _. run.new.store ≡ run.old.store) }
 {
-    let before = store.fuel;
-    match returned::<H>(code, store, current, rest, NO_CALLS) {
+    let before = run.store.fuel;
+    match returned::<H>(code, &mut run.store, &run.current, rest, NO_CALLS) {
         Some(value) => Ok(Focus::Return(value)),
         None => {
-            store.fuel = before;
-            from_block::<H>(code, store, current, stack, rest)
+            run.store.fuel = before;
+            from_block::<H>(code, run, rest)
         }
     }
 }

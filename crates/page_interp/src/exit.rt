@@ -4,7 +4,7 @@ ghost use Rattle.std.specs.Prelude.{◌≡◌};
 ghost use Rattle.page_interp.specs.declared.exit.Exit.TheVariants.{OutOfMemory};
 
 use page_values::{MemoryFault, Value};
-use std::alloc::AllocError;
+use std::alloc::{AllocError, Global};
 
 /// Why an expression has no value, or a statement is not done.
 #[derive(Drop)]
@@ -40,4 +40,12 @@ impl<S> From<MemoryFault> for Exit<S> {
 pub struct Store {
     pub globals: Vec<Value>,
     pub fuel: u64,
+}
+
+/// A store that holds nothing. Takes no memory.
+pub fn no_store(alloc: Global) -> Store {
+    Store {
+        globals: Vec::new(alloc),
+        fuel: 0,
+    }
 }

@@ -8,12 +8,13 @@ ghost use Rattle.lang_ast.specs.Names.{in_block};
 ghost use Rattle.page_interp.specs.CodeNames.{function_at};
 ghost use Rattle.page_interp.specs.Frames.{IsWant, IsUncalled, IsBody, call_names};
 ghost use Rattle.page_interp.specs.Runs.{func_of};
-ghost use Rattle.page_interp.specs.StackClauses.{body_at, AreCallLocals, OpensOn};
+ghost use Rattle.page_interp.specs.Running.{OpensOn};
+ghost use Rattle.page_interp.specs.StackClauses.{body_at, AreCallLocals};
 
 use crate::code::Code;
-use crate::exit::{Exit, Store};
+use crate::exit::Exit;
 use crate::names::Names;
-use crate::stack::{Current, Focus, Frame, push};
+use crate::stack::{Focus, Frame, Running, push};
 use crate::values::{callee, joined};
 use crate::variables::locals_for;
 use lang_ast::Host;
@@ -75,20 +76,17 @@ pub fn callee_body<'c>(code: &'c Code, function: u32) -> Focus<'c>
 /// A call opens, where fewer than 256 are open: the body is next, with a unit less.
 pub fn open<'c, H: Host>(
     code: &'c Code,
-    store: &mut Store,
-    current: &mut Current<'c>,
-    stack: &mut Vec<Frame<'c>>,
+    run: &mut Running<'c>,
     function: u32,
     args: Vec<Value>,
 ) -> Result<Focus<'c>, Exit<H::Stop>>
-    requires room { current.old.depth < 256 }
-    ensures ok { IfOk result (OpensOn H.rules code.now function args
-        store.old current.old stack.old store.new current.new stack.new) }
-    ensures err { IfErr result (IsWant store.old.fuel) }
-    ensures globals { store.new.globals ≡ store.old.globals }
-    ensures fuel { store.new.fuel ≤ store.old.fuel }
+    requires room { run.old.current.depth < 256 }
+    ensures ok { IfOk result (OpensOn H.rules code.now function args run.old run.new) }
+    ensures err { IfErr result (IsWant run.old.store.fuel) }
+    ensures globals { run.new.store.globals ≡ run.old.store.globals }
+    ensures fuel { run.new.store.fuel ≤ run.old.store.fuel }
 {
-    if store.fuel == 0 {
+    if run.store.fuel == 0 {
         return Err(Exit::Fuel);
     }
     let names = callee_names(code, function);
@@ -96,10 +94,10 @@ pub fn open<'c, H: Host>(
         Ok(locals) => locals,
         Err(_) => return Err(Exit::OutOfMemory),
     };
-    let caller = std::mem::replace(&mut current.locals, locals);
-    push(stack, Frame::Open(current.names, caller))?;
-    current.names = names;
-    current.depth += 1;
-    store.fuel -= 1;
+    let caller = std::mem::replace(&mut run.current.locals, locals);
+    push(&mut run.stack, Frame::Open(run.current.names, caller))?;
+    run.current.names = names;
+    run.current.depth += 1;
+    run.store.fuel -= 1;
     Ok(callee_body(code, function))
 }

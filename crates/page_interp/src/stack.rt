@@ -6,7 +6,7 @@ ghost use Rattle.page_interp.specs.declared.exit.Exit.TheVariants as exit;
 ghost use Rattle.page_interp.specs.declared.stack.Focus.TheVariants as focus;
 ghost use Rattle.page_interp.specs.declared.stack.Frame.TheVariants as frame;
 
-use crate::exit::Exit;
+use crate::exit::{Exit, Store};
 use crate::names::Names;
 use lang_ast::{CompareSign, Expr, Item, Named, Op, ProductSign, Stmt, SumSign, UnarySign};
 use page_values::Value;
@@ -100,6 +100,14 @@ pub struct Current<'c> {
     pub names: &'c Names,
     pub locals: Vec<Value>,
     pub depth: u64,
+}
+
+/// Where a run stands, but for what is next: the variables, the units of fuel left, and the frames.
+#[derive(Drop)]
+pub struct Running<'c> {
+    pub store: Store,
+    pub current: Current<'c>,
+    pub stack: Vec<Frame<'c>>,
 }
 
 /// A frame on top.

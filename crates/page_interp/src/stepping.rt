@@ -4,8 +4,9 @@ ghost use Rattle.std.specs.Prelude.{◌≡◌, [], ◌+◌, ◌<◌, ◌≤◌, 
 ghost use Rattle.std.specs.Option.{option_map};
 ghost use Rattle.page_values.specs.Seen.{seen};
 ghost use Rattle.page_interp.specs.Clauses.{count_in, CanCall};
-ghost use Rattle.page_interp.specs.Frames.{place, IsWant, IsCallable, AreSeenNumbered};
-ghost use Rattle.page_interp.specs.StackClauses.{stand, LeadsOn, IsStanding, StepsOn, RunEnds, RunsAt, RunsCall};
+ghost use Rattle.page_interp.specs.Frames.{IsWant, IsCallable, AreSeenNumbered};
+ghost use Rattle.page_interp.specs.Running.{LeadsTo, RunBegins, RunEnds, RunsAt, StepsOn};
+ghost use Rattle.page_interp.specs.StackClauses.{RunsCall};
 ghost use Rattle.page_interp.specs.declared.exit.Exit.TheVariants as exit;
 ghost use Rattle.page_interp.specs.declared.stack.Focus.TheVariants as focus;
 
@@ -13,12 +14,12 @@ use crate::answered::known;
 use crate::asking::{ask, resume};
 use crate::at_once::{into_test, next_in_row, set};
 use crate::code::Code;
-use crate::exit::{Exit, Store};
+use crate::exit::{Exit, Store, no_store};
 use crate::expressions::from_expr;
 use crate::names::Names;
 use crate::opening::{callable, callee_body, callee_locals, callee_names, open};
 use crate::receiving::receive;
-use crate::stack::{Current, Focus, Frame, Waiting, pop};
+use crate::stack::{Current, Focus, Frame, Running, Waiting, pop};
 use crate::statements::{from_items, from_others, from_stmt};
 use crate::turns::{from_stmts, next_turn};
 use crate::values::{ended, joined};
@@ -40,26 +41,23 @@ fn close<'c>(current: &mut Current<'c>, names: &'c Names, locals: Vec<Value>)
 /// A call of what a name stood for.
 fn call<'c, H: Host>(
     code: &'c Code,
-    store: &mut Store,
-    current: &mut Current<'c>,
-    stack: &mut Vec<Frame<'c>>,
+    run: &mut Running<'c>,
     callee: Option<Value>,
     args: Vec<Value>,
 ) -> Result<Focus<'c>, Exit<H::Stop>>
-    ensures ok { IfOk result (LeadsOn H.rules code.now (focus.Call callee args)
-        store.old current.old stack.old store.new current.new stack.new) }
-    ensures err { IfErr result (IsWant store.old.fuel) }
-    ensures called { IfErr result (λ _. IsCallable current.old.depth (option_map seen callee)) }
-    ensures globals { store.new.globals ≡ store.old.globals }
-    ensures fuel { store.new.fuel ≤ store.old.fuel }
+    ensures ok { IfOk result (LeadsTo H.rules code.now (focus.Call callee args) run.old run.new) }
+    ensures err { IfErr result (IsWant run.old.store.fuel) }
+    ensures called { IfErr result (λ _. IsCallable run.old.current.depth (option_map seen callee)) }
+    ensures globals { run.new.store.globals ≡ run.old.store.globals }
+    ensures fuel { run.new.store.fuel ≤ run.old.store.fuel }
 {
-    match callable(current.depth, callee) {
+    match callable(run.current.depth, callee) {
         Ok(called) => {
             let all = match joined(called.bound, args) {
                 Ok(all) => all,
                 Err(_) => return Err(Exit::OutOfMemory),
             };
-            open::<H>(code, store, current, stack, called.function, all)
+            open::<H>(code, run, called.function, all)
         }
         Err(name) => Ok(Focus::Throw(fault(code.alloc(), name))),
     }
@@ -69,56 +67,42 @@ fn call<'c, H: Host>(
 fn from_value<'c, H: Host>(
     code: &'c Code,
     host: &mut H,
-    store: &mut Store,
-    current: &mut Current<'c>,
-    stack: &mut Vec<Frame<'c>>,
+    run: &mut Running<'c>,
     value: Value,
 ) -> Result<Focus<'c>, Exit<H::Stop>>
-    requires stood { RunsAt H.rules H.leaves H.now code.now
-        host.old store.old current.old stack.old (focus.Value value) }
-    ensures { StepsOn H.rules H.leaves H.now code.now (focus.Value value) result
-        host.old store.old current.old stack.old host.new store.new current.new stack.new }
+    requires stood { RunsAt H.Host code.now host.old run.old (focus.Value value) }
+    ensures { StepsOn H.Host code.now (focus.Value value) result host.old run.old host.new run.new }
 {
-    match pop(stack) {
+    match pop(&mut run.stack) {
         None => {
             drop(value);
             Err(Exit::Return(Value::Unit))
         }
         Some(Frame::Wait(Waiting::Stmts(rest))) => {
             drop(value);
-            from_stmts(code, host, store, current, stack, rest)
+            from_stmts(code, host, run, rest)
         }
-        Some(Frame::Wait(waiting)) => receive::<H>(code.alloc(), stack, waiting, value),
+        Some(Frame::Wait(waiting)) => receive::<H>(code.alloc(), &mut run.stack, waiting, value),
         Some(Frame::Assign(name)) => {
-            set(code, store, current, name, value);
+            set(code, &mut run.store, &mut run.current, name, value);
             Ok(Focus::Value(Value::Unit))
         }
         Some(Frame::Test(test, block)) => {
-            let next = into_test::<H>(code, store, current, stack, &value, test, block);
+            let next = into_test::<H>(code, run, &value, test, block);
             drop(value);
             next
         }
         Some(Frame::Turn(test, block)) => {
             drop(value);
-            next_turn(code, host, store, current, stack, test, block)
+            next_turn(code, host, run, test, block)
         }
         Some(Frame::Try(_, _)) => Ok(Focus::Value(value)),
         Some(Frame::Open(names, locals)) => {
             drop(value);
-            close(current, names, locals);
+            close(&mut run.current, names, locals);
             Ok(Focus::Value(Value::Unit))
         }
-        Some(Frame::Host(ticket)) => {
-            resume(
-                code,
-                host,
-                store,
-                current,
-                stack,
-                ticket,
-                Outcome::Value(value),
-            )
-        }
+        Some(Frame::Host(ticket)) => resume(code, host, run, ticket, Outcome::Value(value)),
     }
 }
 
@@ -126,17 +110,13 @@ fn from_value<'c, H: Host>(
 fn from_throw<'c, H: Host>(
     code: &'c Code,
     host: &mut H,
-    store: &mut Store,
-    current: &mut Current<'c>,
-    stack: &mut Vec<Frame<'c>>,
+    run: &mut Running<'c>,
     value: Value,
 ) -> Result<Focus<'c>, Exit<H::Stop>>
-    requires stood { RunsAt H.rules H.leaves H.now code.now
-        host.old store.old current.old stack.old (focus.Throw value) }
-    ensures { StepsOn H.rules H.leaves H.now code.now (focus.Throw value) result
-        host.old store.old current.old stack.old host.new store.new current.new stack.new }
+    requires stood { RunsAt H.Host code.now host.old run.old (focus.Throw value) }
+    ensures { StepsOn H.Host code.now (focus.Throw value) result host.old run.old host.new run.new }
 {
-    match pop(stack) {
+    match pop(&mut run.stack) {
         None => Err(Exit::Throw(value)),
         Some(Frame::Wait(waiting)) => {
             drop(waiting);
@@ -146,24 +126,14 @@ fn from_throw<'c, H: Host>(
         Some(Frame::Test(_, _)) => Ok(Focus::Throw(value)),
         Some(Frame::Turn(_, _)) => Ok(Focus::Throw(value)),
         Some(Frame::Try(name, handler)) => {
-            set(code, store, current, name, value);
+            set(code, &mut run.store, &mut run.current, name, value);
             Ok(Focus::Block(handler))
         }
         Some(Frame::Open(names, locals)) => {
-            close(current, names, locals);
+            close(&mut run.current, names, locals);
             Ok(Focus::Throw(value))
         }
-        Some(Frame::Host(ticket)) => {
-            resume(
-                code,
-                host,
-                store,
-                current,
-                stack,
-                ticket,
-                Outcome::Throw(value),
-            )
-        }
+        Some(Frame::Host(ticket)) => resume(code, host, run, ticket, Outcome::Throw(value)),
     }
 }
 
@@ -171,17 +141,13 @@ fn from_throw<'c, H: Host>(
 fn from_return<'c, H: Host>(
     code: &'c Code,
     host: &mut H,
-    store: &mut Store,
-    current: &mut Current<'c>,
-    stack: &mut Vec<Frame<'c>>,
+    run: &mut Running<'c>,
     value: Value,
 ) -> Result<Focus<'c>, Exit<H::Stop>>
-    requires stood { RunsAt H.rules H.leaves H.now code.now
-        host.old store.old current.old stack.old (focus.Return value) }
-    ensures { StepsOn H.rules H.leaves H.now code.now (focus.Return value) result
-        host.old store.old current.old stack.old host.new store.new current.new stack.new }
+    requires stood { RunsAt H.Host code.now host.old run.old (focus.Return value) }
+    ensures { StepsOn H.Host code.now (focus.Return value) result host.old run.old host.new run.new }
 {
-    match pop(stack) {
+    match pop(&mut run.stack) {
         None => Err(Exit::Return(value)),
         Some(Frame::Wait(waiting)) => {
             drop(waiting);
@@ -192,20 +158,10 @@ fn from_return<'c, H: Host>(
         Some(Frame::Turn(_, _)) => Ok(Focus::Return(value)),
         Some(Frame::Try(_, _)) => Ok(Focus::Return(value)),
         Some(Frame::Open(names, locals)) => {
-            close(current, names, locals);
+            close(&mut run.current, names, locals);
             Ok(Focus::Value(value))
         }
-        Some(Frame::Host(ticket)) => {
-            resume(
-                code,
-                host,
-                store,
-                current,
-                stack,
-                ticket,
-                Outcome::Value(value),
-            )
-        }
+        Some(Frame::Host(ticket)) => resume(code, host, run, ticket, Outcome::Value(value)),
     }
 }
 
@@ -213,53 +169,55 @@ fn from_return<'c, H: Host>(
 fn step<'c, H: Host>(
     code: &'c Code,
     host: &mut H,
-    store: &mut Store,
-    current: &mut Current<'c>,
-    stack: &mut Vec<Frame<'c>>,
+    run: &mut Running<'c>,
     focus: Focus<'c>,
 ) -> Result<Focus<'c>, Exit<H::Stop>>
-    requires stood { IsStanding H.rules H.leaves code.now (H.now host.old)
-        (stand store.old current.old stack.old focus) }
-    ensures { StepsOn H.rules H.leaves H.now code.now focus.entry result
-        host.old store.old current.old stack.old host.new store.new current.new stack.new }
+    requires stood { RunsAt H.Host code.now host.old run.old focus }
+    ensures { StepsOn H.Host code.now focus.entry result host.old run.old host.new run.new }
 {
     match focus {
-        Focus::Expr(expr) => match known(&*code, &*host, store, current, expr) {
+        Focus::Expr(expr) => match known(&*code, &*host, &run.store, &run.current, expr) {
             Some(value) => Ok(Focus::Value(value)),
-            None => from_expr::<H>(code, store, current, stack, expr),
+            None => { from_expr::<H>(code, &mut run.store, &run.current, &mut run.stack, expr) }
         },
         Focus::Row(purpose, values, exprs) => {
-            next_in_row::<H>(code, store, current, stack, purpose, values, exprs)
+            let stack = &mut run.stack;
+            next_in_row::<H>(
+                code,
+                &run.store,
+                &run.current,
+                stack,
+                purpose,
+                values,
+                exprs,
+            )
         }
-        Focus::Stmt(stmt) => from_stmt::<H>(stack, stmt),
-        Focus::Block(stmts) => from_stmts(code, host, store, current, stack, stmts),
-        Focus::Items(items) => from_items::<H>(stack, items),
-        Focus::Others(others, last) => from_others::<H>(stack, others, last),
-        Focus::Ask(op, args) => ask(code, host, store, current, stack, op, args),
-        Focus::Call(callee, args) => call::<H>(code, store, current, stack, callee, args),
-        Focus::Value(value) => from_value(code, host, store, current, stack, value),
-        Focus::Throw(value) => from_throw(code, host, store, current, stack, value),
-        Focus::Return(value) => from_return(code, host, store, current, stack, value),
+        Focus::Stmt(stmt) => from_stmt::<H>(&mut run.stack, stmt),
+        Focus::Block(stmts) => from_stmts(code, host, run, stmts),
+        Focus::Items(items) => from_items::<H>(&mut run.stack, items),
+        Focus::Others(others, last) => from_others::<H>(&mut run.stack, others, last),
+        Focus::Ask(op, args) => ask(code, host, run, op, args),
+        Focus::Call(callee, args) => call::<H>(code, run, callee, args),
+        Focus::Value(value) => from_value(code, host, run, value),
+        Focus::Throw(value) => from_throw(code, host, run, value),
+        Focus::Return(value) => from_return(code, host, run, value),
     }
 }
 
-/// All steps of a call whose body is next: how it ends.
-fn run<'c, H: Host>(
+/// All steps of a call whose body is next, where nothing waits for its end: how it ends.
+fn run_on<'c, H: Host>(
     code: &'c Code,
     host: &mut H,
-    store: &mut Store,
-    mut current: Current<'c>,
+    run: &mut Running<'c>,
     first: Focus<'c>,
 ) -> Exit<H::Stop>
-    requires stood { IsStanding H.rules H.leaves code.now (H.now host.old)
-        (place store.old current [] first) }
-    ensures { RunEnds H.rules H.leaves code.now (place store.old current.entry [] first.entry)
-        (H.now host.old) result (H.now host.new) store.new }
+    requires stood { RunBegins H.Host code.now host.old run.old first }
+    requires alone { run.old.stack.items ≡ [] }
+    ensures { RunEnds H.Host code.now first.entry host.old run.old result host.new run.new }
 {
-    let mut stack = Vec::new(code.alloc());
     let mut focus = first;
     'steps: loop {
-        focus = match step(code, host, store, &mut current, &mut stack, focus) {
+        focus = match step(code, host, run, focus) {
             Ok(next) => next,
             Err(exit) => return exit,
         };
@@ -293,5 +251,12 @@ pub fn run_function<H: Host>(
         depth: 1,
     };
     let body = callee_body(code, function);
-    ended(Err(run(code, host, store, current, body)))
+    let mut run = Running {
+        store: std::mem::replace(store, no_store(code.alloc())),
+        current,
+        stack: Vec::new(code.alloc()),
+    };
+    let exit = run_on(code, host, &mut run, body);
+    *store = run.store;
+    ended(Err(exit))
 }

@@ -2,9 +2,8 @@
 //! sure to answer with a value.
 
 ghost use Rattle.std.specs.Prelude.{◌≡◌, IfOk, IfErr};
-ghost use Rattle.page_interp.specs.Asked.{BlockStands, TurnGoesOn, TurnStands, TurnSteps};
+ghost use Rattle.page_interp.specs.Running.{AtBlock, AtTurn, StepsOn, TurnGoesOn, TurnSteps};
 ghost use Rattle.page_interp.specs.Runs.{IsUnsettled};
-ghost use Rattle.page_interp.specs.StackClauses.{StepsOn};
 ghost use Rattle.page_interp.specs.declared.exit.Exit.TheVariants as exit;
 ghost use Rattle.page_interp.specs.declared.stack.Focus.TheVariants as focus;
 
@@ -12,8 +11,8 @@ use crate::answered::asked;
 use crate::at_once::turns_at_once;
 use crate::blocks::{assigned, from_block, from_rest};
 use crate::code::Code;
-use crate::exit::{Exit, Store};
-use crate::stack::{Current, Focus, Frame, push, within};
+use crate::exit::Exit;
+use crate::stack::{Focus, Frame, Running, push, within};
 use lang_ast::{Expr, Host, Stmt};
 
 /// From the statements of a block. Those in front that are done with no frame are done in one step
@@ -21,19 +20,17 @@ use lang_ast::{Expr, Host, Stmt};
 pub fn from_stmts<'c, H: Host>(
     code: &'c Code,
     host: &mut H,
-    store: &mut Store,
-    current: &mut Current<'c>,
-    stack: &mut Vec<Frame<'c>>,
+    run: &mut Running<'c>,
     stmts: &'c [Stmt],
 ) -> Result<Focus<'c>, Exit<H::Stop>>
-    requires { BlockStands H.rules H.leaves code.now (H.now host.old) store.old current.old stmts.now }
-    ensures steps { StepsOn H.rules H.leaves H.now code.now (focus.Block stmts.entry) result
-        host.old store.old current.old stack.old host.new store.new current.new stack.new }
+    requires { AtBlock H.Host code.now host.old run.old stmts.now }
+    ensures steps { StepsOn H.Host code.now (focus.Block stmts.entry) result
+        host.old run.old host.new run.new }
     ensures unsettled { IfErr result IsUnsettled }
 {
-    let first = assigned::<H>(code, store, current, stmts);
-    match asked(code, host, store, current, first) {
-        Ok(rest) => from_rest::<H>(code, store, current, stack, rest),
+    let first = assigned::<H>(code, &mut run.store, &mut run.current, stmts);
+    match asked(code, host, run, first) {
+        Ok(rest) => from_rest::<H>(code, run, rest),
         Err(exit) => Err(exit),
     }
 }
@@ -41,20 +38,18 @@ pub fn from_stmts<'c, H: Host>(
 /// From the rest of the block of a turn, for whose end the loop waits.
 fn within_turn<'c, H: Host>(
     code: &'c Code,
-    store: &mut Store,
-    current: &Current<'c>,
-    stack: &mut Vec<Frame<'c>>,
+    run: &mut Running<'c>,
     test: &'c Expr,
     block: &'c [Stmt],
     rest: &'c [Stmt],
 ) -> Result<Focus<'c>, Exit<H::Stop>>
     ensures ok { IfOk result (TurnGoesOn H.rules code.now test.entry block.entry rest.entry
-        store.old current.now stack.old store.new stack.new) }
+        run.old run.new) }
     ensures err { IfErr result (λ x. x ≡ exit.OutOfMemory) }
-    ensures same { IfErr result (λ _. store.new ≡ store.old) }
+    ensures same { IfErr result (λ _. run.new.store ≡ run.old.store) }
 {
-    push(stack, Frame::Turn(test, block))?;
-    from_block::<H>(code, store, current, stack, rest)
+    push(&mut run.stack, Frame::Turn(test, block))?;
+    from_block::<H>(code, run, rest)
 }
 
 /// A turn of a loop ends: its condition is next. Turns of which all is done with no frame are done in
@@ -62,24 +57,22 @@ fn within_turn<'c, H: Host>(
 pub fn next_turn<'c, H: Host>(
     code: &'c Code,
     host: &mut H,
-    store: &mut Store,
-    current: &mut Current<'c>,
-    stack: &mut Vec<Frame<'c>>,
+    run: &mut Running<'c>,
     test: &'c Expr,
     block: &'c [Stmt],
 ) -> Result<Focus<'c>, Exit<H::Stop>>
-    requires { TurnStands H.rules H.leaves code.now (H.now host.old) store.old current.old
-        test.now block.now }
-    ensures { TurnSteps H.rules H.leaves H.now code.now test.entry block.entry result
-        host.old store.old current.old stack.old host.new store.new current.new stack.new }
+    requires { AtTurn H.Host code.now host.old run.old test.now block.now }
+    ensures { TurnSteps H.Host code.now test.entry block.entry result
+        host.old run.old host.new run.new }
 {
     'turns: loop {
-        let Some(rest) = turns_at_once::<H>(code, store, current, test, block) else {
-            return within(stack, Frame::Test(test, block), Focus::Expr(test));
+        let Some(rest) = turns_at_once::<H>(code, &mut run.store, &mut run.current, test, block)
+        else {
+            return within(&mut run.stack, Frame::Test(test, block), Focus::Expr(test));
         };
-        match asked(code, host, store, current, rest) {
+        match asked(code, host, run, rest) {
             Ok(left) if left.is_empty() => {}
-            Ok(left) => return within_turn::<H>(code, store, current, stack, test, block, left),
+            Ok(left) => return within_turn::<H>(code, run, test, block, left),
             Err(exit) => return Err(exit),
         }
     }

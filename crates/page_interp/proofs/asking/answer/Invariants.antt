@@ -8,10 +8,8 @@ use Rattle.page_interp.proofs.asking.answer.Given as goal
 abbrev pub invariant-loop-step : goal.invariant-loop-step
 invariant-loop-step g l =
     record {
-      answered : Answered g.H.Host.rules g.H.Host.leaves (seen_program l.code) g.H.Host.left (waiting_at l.store l.current (stacked l.stack.items)) (g.H.Host.now l.fn.host) (seen_step l.fn.first) (g.H.Host.now l.host) (seen_step l.step);
-      store : l.store ≡ l.fn.store;
-      current : l.current ≡ l.fn.current;
-      stack : l.stack ≡ l.fn.stack;
+      answered : Answered g.H.Host.rules g.H.Host.leaves (seen_program l.code) g.H.Host.left (waiting_at l.run.store l.run.current (stacked l.run.stack.items)) (g.H.Host.now l.fn.host) (seen_step l.fn.first) (g.H.Host.now l.host) (seen_step l.step);
+      run : l.run ≡ l.fn.run;
     }
 
 abbrev pub decreases-loop-step : goal.decreases-loop-step

@@ -56,4 +56,4 @@ pub returns-in-Paren-clause-ok : goal.returns-in-Paren-clause-ok
 returns-in-Paren-clause-ok g c = (stays_moves g.H.Host.rules _ (paren_stays _ _ _ c.in-Paren.is c.deref-in-Paren.ensures)).goes _ _ _
 
 pub returns-in-List-clause-ok : goal.returns-in-List-clause-ok
-returns-in-List-clause-ok g c = leads_after g.H.Host.rules c.args.code.now c.args.store.now c.args.current.now c.next_in_row.result c.args.store.now _ (stays_moves g.H.Host.rules _ (list_stays _ _ _ _ c.in-List.is c.deref-in-List.ensures.value c.new-values.ensures.items)) c.next_in_row.ensures.ok
+returns-in-List-clause-ok g c = leads_after g.H.Host.rules c.args.code.now c.args.store.now c.args.current.now c.next_in_row.result c.args.store.now c.args.current.now _ (stays_moves g.H.Host.rules _ (list_stays _ _ _ _ c.in-List.is c.deref-in-List.ensures.value c.new-values.ensures.items)) c.next_in_row.ensures.ok

@@ -12,25 +12,25 @@ pub returns-in-None : goal.returns-in-None
 returns-in-None g c = rw c.in-None.ensures.none (λ ts st. return_ends g.H.Host.rules g.H.Host.leaves (seen_program c.args.code.now) (g.H.Host.now c.args.host.now) _ _ _ ts st)
 
 pub returns-in-Some-Wait : goal.returns-in-Some-Wait
-returns-in-Some-Wait g c = let e = rw c.in-Some-Wait.field-0-is at c.in-Some-Wait.ensures.some in rw e (step_goes g.H.Host.rules g.H.Host.leaves (seen_program c.args.code.now) (g.H.Host.now c.args.host.now) _ _ (pass_return g.H.Host.rules _ c.args.store.now c.args.current.now _ (frame.Wait _) _ tt))
+returns-in-Some-Wait g c = let e = rw c.in-Some-Wait.field-0-is at c.in-Some-Wait.ensures.some in rw e (step_goes g.H.Host.rules g.H.Host.leaves (seen_program c.args.code.now) (g.H.Host.now c.args.host.now) _ _ (pass_return g.H.Host.rules _ c.args.run.now.store c.args.run.now.current _ (frame.Wait _) _ tt))
 
 pub returns-in-Some-Assign : goal.returns-in-Some-Assign
-returns-in-Some-Assign g c = let e = rw c.in-Some-Assign.field-0-is at c.in-Some-Assign.ensures.some in rw e (step_goes g.H.Host.rules g.H.Host.leaves (seen_program c.args.code.now) (g.H.Host.now c.args.host.now) _ _ (pass_return g.H.Host.rules _ c.args.store.now c.args.current.now _ (frame.Assign _) _ tt))
+returns-in-Some-Assign g c = let e = rw c.in-Some-Assign.field-0-is at c.in-Some-Assign.ensures.some in rw e (step_goes g.H.Host.rules g.H.Host.leaves (seen_program c.args.code.now) (g.H.Host.now c.args.host.now) _ _ (pass_return g.H.Host.rules _ c.args.run.now.store c.args.run.now.current _ (frame.Assign _) _ tt))
 
 pub returns-in-Some-Test : goal.returns-in-Some-Test
-returns-in-Some-Test g c = let e = rw c.in-Some-Test.field-0-is at c.in-Some-Test.ensures.some in rw e (step_goes g.H.Host.rules g.H.Host.leaves (seen_program c.args.code.now) (g.H.Host.now c.args.host.now) _ _ (pass_return g.H.Host.rules _ c.args.store.now c.args.current.now _ (frame.Test _ _) _ tt))
+returns-in-Some-Test g c = let e = rw c.in-Some-Test.field-0-is at c.in-Some-Test.ensures.some in rw e (step_goes g.H.Host.rules g.H.Host.leaves (seen_program c.args.code.now) (g.H.Host.now c.args.host.now) _ _ (pass_return g.H.Host.rules _ c.args.run.now.store c.args.run.now.current _ (frame.Test _ _) _ tt))
 
 pub returns-in-Some-Turn : goal.returns-in-Some-Turn
-returns-in-Some-Turn g c = let e = rw c.in-Some-Turn.field-0-is at c.in-Some-Turn.ensures.some in rw e (step_goes g.H.Host.rules g.H.Host.leaves (seen_program c.args.code.now) (g.H.Host.now c.args.host.now) _ _ (pass_return g.H.Host.rules _ c.args.store.now c.args.current.now _ (frame.Turn _ _) _ tt))
+returns-in-Some-Turn g c = let e = rw c.in-Some-Turn.field-0-is at c.in-Some-Turn.ensures.some in rw e (step_goes g.H.Host.rules g.H.Host.leaves (seen_program c.args.code.now) (g.H.Host.now c.args.host.now) _ _ (pass_return g.H.Host.rules _ c.args.run.now.store c.args.run.now.current _ (frame.Turn _ _) _ tt))
 
 pub returns-in-Some-Try : goal.returns-in-Some-Try
-returns-in-Some-Try g c = let e = rw c.in-Some-Try.field-0-is at c.in-Some-Try.ensures.some in rw e (step_goes g.H.Host.rules g.H.Host.leaves (seen_program c.args.code.now) (g.H.Host.now c.args.host.now) _ _ (pass_return g.H.Host.rules _ c.args.store.now c.args.current.now _ (frame.Try _ _) _ tt))
+returns-in-Some-Try g c = let e = rw c.in-Some-Try.field-0-is at c.in-Some-Try.ensures.some in rw e (step_goes g.H.Host.rules g.H.Host.leaves (seen_program c.args.code.now) (g.H.Host.now c.args.host.now) _ _ (pass_return g.H.Host.rules _ c.args.run.now.store c.args.run.now.current _ (frame.Try _ _) _ tt))
 
 pub close-requires : goal.close-requires
 close-requires g c = let e = rw c.in-Some-Open.field-0-is at c.in-Some-Open.ensures.some in let st = rw e at c.requires.stood.1 in let z = st.holds.depth in omega (arith, z)
 
 pub returns-in-Some-Open : goal.returns-in-Some-Open
-returns-in-Some-Open g c = let e = rw c.in-Some-Open.field-0-is at c.in-Some-Open.ensures.some in rw e (step_goes g.H.Host.rules g.H.Host.leaves (seen_program c.args.code.now) (g.H.Host.now c.args.host.now) _ _ (close_return g.H.Host.rules _ c.args.store.now c.args.current.now _ _ _ _ _ c.close.ensures.names c.close.ensures.locals c.close.ensures.depth))
+returns-in-Some-Open g c = let e = rw c.in-Some-Open.field-0-is at c.in-Some-Open.ensures.some in rw e (step_goes g.H.Host.rules g.H.Host.leaves (seen_program c.args.code.now) (g.H.Host.now c.args.host.now) _ _ (close_return g.H.Host.rules _ c.args.run.now.store c.args.run.now.current _ _ _ _ _ c.close.ensures.names c.close.ensures.locals c.close.ensures.depth))
 
 pub resume-requires-clause-holds : goal.resume-requires-clause-holds
 resume-requires-clause-holds g c = let e = rw c.in-Some-Host.field-0-is at c.in-Some-Host.ensures.some in let st = rw e at c.requires.stood.1 in host_popped g.H.Host.rules g.H.Host.leaves (seen_program c.args.code.now) _ _ _ _ _ _ _ st

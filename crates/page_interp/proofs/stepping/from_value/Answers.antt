@@ -15,18 +15,18 @@ returns-in-None g c = rw c.in-None.ensures.none (λ ts st. value_ends g.H.Host.r
 pub from_stmts-requires : goal.from_stmts-requires
 from_stmts-requires g c =
     let e = rw (c.in-Some-Wait-Stmts.field-0-is, c.in-Some-Wait-Stmts.field-0-0-is) at c.in-Some-Wait-Stmts.ensures.some in
-    stmts_stand g.H.Host.rules g.H.Host.leaves c.args.code.now (g.H.Host.now c.args.host.now) c.args.store.now c.args.current.now (stacked c.pop.new.stack.items) c.in-Some-Wait-Stmts.rest c.args.value (rw e at c.requires.stood)
+    stmts_stand g.H.Host.rules g.H.Host.leaves c.args.code.now (g.H.Host.now c.args.host.now) c.args.run.now.store c.args.run.now.current (stacked c.pop.new.stack.items) c.in-Some-Wait-Stmts.rest c.args.value (rw e at c.requires.stood)
 
 pub returns-in-Some-Wait-Stmts : goal.returns-in-Some-Wait-Stmts
 returns-in-Some-Wait-Stmts g c =
     let e = rw (c.in-Some-Wait-Stmts.field-0-is, c.in-Some-Wait-Stmts.field-0-0-is) at c.in-Some-Wait-Stmts.ensures.some in
-    rw e (stmts_next g.H.Host.rules g.H.Host.leaves c.args.code.now (g.H.Host.now c.args.host.now) _ c.args.store.now _ c.args.current.now _ (stacked c.pop.new.stack.items) _ c.in-Some-Wait-Stmts.rest c.args.value c.from_stmts.result c.from_stmts.ensures.steps c.from_stmts.ensures.unsettled)
+    rw e (stmts_next g.H.Host.rules g.H.Host.leaves c.args.code.now (g.H.Host.now c.args.host.now) _ c.args.run.now.store _ c.args.run.now.current _ (stacked c.pop.new.stack.items) _ c.in-Some-Wait-Stmts.rest c.args.value c.from_stmts.result c.from_stmts.ensures.steps c.from_stmts.ensures.unsettled)
 
 pub returns-in-Some-Wait : goal.returns-in-Some-Wait
 returns-in-Some-Wait g c = let e = rw c.in-Some-Wait.field-0-is at c.in-Some-Wait.ensures.some in rw e (steps_moves g.H.Host.rules g.H.Host.leaves (seen_program c.args.code.now) (g.H.Host.now c.args.host.now) c.receive.result _ _ _ _ _ c.receive.ensures.ok c.receive.ensures.err)
 
 pub returns-in-Some-Assign : goal.returns-in-Some-Assign
-returns-in-Some-Assign g c = let e = rw c.in-Some-Assign.field-0-is at c.in-Some-Assign.ensures.some in rw e (step_goes g.H.Host.rules g.H.Host.leaves (seen_program c.args.code.now) (g.H.Host.now c.args.host.now) _ _ (assign_goes g.H.Host.rules _ c.args.store.now c.args.current.now _ _ _ _ _ c.set.ensures.names c.set.ensures.depth c.set.ensures.locals c.set.ensures.globals c.set.ensures.fuel))
+returns-in-Some-Assign g c = let e = rw c.in-Some-Assign.field-0-is at c.in-Some-Assign.ensures.some in rw e (step_goes g.H.Host.rules g.H.Host.leaves (seen_program c.args.code.now) (g.H.Host.now c.args.host.now) _ _ (assign_goes g.H.Host.rules _ c.args.run.now.store c.args.run.now.current _ _ _ _ _ c.set.ensures.names c.set.ensures.depth c.set.ensures.locals c.set.ensures.globals c.set.ensures.fuel))
 
 pub returns-in-Some-Test : goal.returns-in-Some-Test
 returns-in-Some-Test g c = let e = rw c.in-Some-Test.field-0-is at c.in-Some-Test.ensures.some in rw e (steps_test g.H.Host.rules g.H.Host.leaves (seen_program c.args.code.now) (g.H.Host.now c.args.host.now) c.into_test-next.result _ _ _ _ _ _ _ _ _ c.into_test-next.ensures.ok c.into_test-next.ensures.err c.into_test-next.ensures.enters)
@@ -38,13 +38,13 @@ pub returns-in-Some-Turn : goal.returns-in-Some-Turn
 returns-in-Some-Turn g c = let e = rw c.in-Some-Turn.field-0-is at c.in-Some-Turn.ensures.some in rw e (c.next_turn.ensures c.args.value)
 
 pub returns-in-Some-Try : goal.returns-in-Some-Try
-returns-in-Some-Try g c = let e = rw c.in-Some-Try.field-0-is at c.in-Some-Try.ensures.some in rw e (step_goes g.H.Host.rules g.H.Host.leaves (seen_program c.args.code.now) (g.H.Host.now c.args.host.now) _ _ (try_value g.H.Host.rules _ c.args.store.now c.args.current.now _ _ _ _))
+returns-in-Some-Try g c = let e = rw c.in-Some-Try.field-0-is at c.in-Some-Try.ensures.some in rw e (step_goes g.H.Host.rules g.H.Host.leaves (seen_program c.args.code.now) (g.H.Host.now c.args.host.now) _ _ (try_value g.H.Host.rules _ c.args.run.now.store c.args.run.now.current _ _ _ _))
 
 pub close-requires : goal.close-requires
 close-requires g c = let e = rw c.in-Some-Open.field-0-is at c.in-Some-Open.ensures.some in let st = rw e at c.requires.stood.1 in let z = st.holds.depth in omega (arith, z)
 
 pub returns-in-Some-Open : goal.returns-in-Some-Open
-returns-in-Some-Open g c = let e = rw c.in-Some-Open.field-0-is at c.in-Some-Open.ensures.some in rw e (step_goes g.H.Host.rules g.H.Host.leaves (seen_program c.args.code.now) (g.H.Host.now c.args.host.now) _ _ (close_value g.H.Host.rules _ c.args.store.now c.args.current.now _ _ _ _ _ c.close.ensures.names c.close.ensures.locals c.close.ensures.depth))
+returns-in-Some-Open g c = let e = rw c.in-Some-Open.field-0-is at c.in-Some-Open.ensures.some in rw e (step_goes g.H.Host.rules g.H.Host.leaves (seen_program c.args.code.now) (g.H.Host.now c.args.host.now) _ _ (close_value g.H.Host.rules _ c.args.run.now.store c.args.run.now.current _ _ _ _ _ c.close.ensures.names c.close.ensures.locals c.close.ensures.depth))
 
 pub resume-requires-clause-holds : goal.resume-requires-clause-holds
 resume-requires-clause-holds g c = let e = rw c.in-Some-Host.field-0-is at c.in-Some-Host.ensures.some in let st = rw e at c.requires.stood.1 in host_popped g.H.Host.rules g.H.Host.leaves (seen_program c.args.code.now) _ _ _ _ _ _ _ st

@@ -1,10 +1,10 @@
 use Rattle.lang_ast.specs.SeenProgram.{seen_program}
 use Rattle.page_interp.proofs.SmallSteps.{stacked_empty}
 use Rattle.page_interp.proofs.RunSteps.{underway_first, underway_more, underway_ends, fewer_left}
-use Rattle.page_interp.proofs.stepping.run.Goals as goal
+use Rattle.page_interp.proofs.stepping.run_on.Goals as goal
 
 pub steps-init : goal.steps-init
-steps-init g c = rw (stacked_empty _ c.new-stack.ensures.items) (underway_first g.H.Host.rules g.H.Host.leaves (seen_program c.args.code.now) _ _ _ (g.H.Host.now c.args.host.now))
+steps-init g c = rw (stacked_empty _ c.requires.alone) (underway_first g.H.Host.rules g.H.Host.leaves (seen_program c.args.code.now) _ _ _ (g.H.Host.now c.args.host.now))
 
 pub step-requires : goal.step-requires
 step-requires g c = record { stood = (c.requires.stood.0, c.steps.invariant.stood c.requires.stood.0 c.requires.stood.1) }
