@@ -1,7 +1,7 @@
 -- Cutting bytes at a byte, and at a start.
 use Rattle.std.proofs.Common.{◌≡◌, ℕ, Bool, true, false, cond, not, ◌&&◌, List, [], ◌∷◌, ◌++◌, Option, Some, None, refl, ap, sym, subst, ◌∙◌, eqb}
 use Rattle.std.specs.List.{list_all}
-use Rattle.std.specs.Option.{option_map}
+use Rattle.std.specs.Option.{option_map, option_or}
 use Rattle.std.proofs.lemmas.Bool.{eqb-true, eq-eqb}
 use Rattle.page_parts.specs.Words.{same_bytes}
 use Rattle.page_base.specs.Fields.{behind_start, behind, is_word, cut_at, ◌>>=◌, read_or}
@@ -104,6 +104,10 @@ or_by_answer P start w read other x (Some rest) at is found other_way = subst P 
 pub or_then : {X : Type 0} (P : List ℕ → Type 0) (start w : List ℕ) (read : List ℕ → Option X) (other : Option X) (x : X) → read_or (behind start w) read other ≡ Some x
     → ((rest : List ℕ) → read rest ≡ Some x → P (start ++ rest)) → (other ≡ Some x → P w) → P w
 or_then P start w read other x is found other_way = or_by_answer P start w read other x (behind start w) refl is found other_way
+
+pub either_then : {X : Type 0} (P : Type 0) (a b : Option X) (x : X) → option_or a b ≡ Some x → (a ≡ Some x → P) → (b ≡ Some x → P) → P
+either_then P None b x is first second = second is
+either_then P (Some a) b x is first second = first is
 
 word_by_answer : {X : Type 0} (P : List ℕ → Type 0) (word w : List ℕ) (answer : X) (other : Option X) (x : X) (t : Bool) → is_word word w ≡ t → cond t (Some answer) other ≡ Some x
     → (answer ≡ x → P word) → (other ≡ Some x → P w) → P w

@@ -8,9 +8,10 @@ use Rattle.page_types.specs.Events.{Queued, MicroJob, ReactJob, AdoptJob, QueueN
 use Rattle.page_parts.specs.Words.{decimal_of, int_decimal}
 use Rattle.page_parts.specs.Spelling.{priority_text}
 use Rattle.page_parts.specs.TraceText.{source_text, kind_text, event_text}
+use Rattle.page_base.specs.Fields.{◌>>=◌}
 use Rattle.trace_text.specs.Trace.{IsCount, AnswerFits, EventFits, IsForm, is_of_form}
-use Rattle.trace_text.specs.LineReading.{count_at, int_at, source_at, kind_at, priority_at, end_at, how_at, form_at, queue_at, queued_at, one, turn_at, reg_at, reg_by_at, prio_at, arm_at, job_at, enq_at, host_at, settle_at, send_at, answer_of, numbered_at, worded_at, valued_at}
-use Rattle.trace_text.proofs.Cutting.{cut_then, some_then, map_then, or_then, word_then}
+use Rattle.trace_text.specs.LineReading.{count_at, int_at, source_at, kind_at, priority_at, end_at, how_at, form_at, queue_at, queued_at, count_behind, one, three_at, four_at, turn_at, reg_at, reg_by_at, prio_at, arm_at, job_at, enq_at, host_at, settle_at, send_at, answer_of, registered_at, timed_at, identified_at, numbered_at, running_at, arranged_at, worded_at, valued_at}
+use Rattle.trace_text.proofs.Cutting.{cut_then, some_then, map_then, or_then, either_then, word_then}
 use Rattle.trace_text.proofs.Counts.{count_sound, int_sound}
 use Rattle.trace_text.proofs.FieldWords.{source_sound, kind_sound, priority_sound, end_sound, how_word, how_sound, form_word, form_sound, queue_word, queue_sound, queued_word, queued_sound}
 
@@ -87,29 +88,68 @@ same a b h = cc
 
 -- ---- events with one number
 
-one_sound : (form : ℕ) (start : List ℕ) (event : ℕ → Event) → ((n : ℕ) → IsCount n → EventFits (event n)) → ((n : ℕ) → IsTrue (is_of_form form (event n))) → ((n : ℕ) → start ++ decimal_of n ≡ event_text (event n)) → (e : Event) (rest : List ℕ) → one event rest ≡ Some e → Spelled form e (start ++ rest)
-unfolding one
-one_sound form start event fits formed text e rest is =
-    map_then (Spelled form e (start ++ rest)) (count_at rest) event e is
-    (λ n o is. let read = count_sound n rest o in subst (λ e. Spelled form e (start ++ rest)) is (fits n read.0, formed n, ap (λ xs. start ++ xs) read.1 ∙ text n))
+one_sound : (form : ℕ) (start : List ℕ) (event : ℕ → Event) → ((n : ℕ) → IsCount n → EventFits (event n)) → ((n : ℕ) → IsTrue (is_of_form form (event n))) → ((n : ℕ) → start ++ decimal_of n ≡ event_text (event n)) → (e : Event) (t : List ℕ) → one start event t ≡ Some e → Spelled form e t
+unfolding one count_behind
+one_sound form start event fits formed text e t is =
+    map_then (Spelled form e t) (count_behind start t) event e is
+    (λ n o is. or_then (Spelled form e) start t count_at None n o
+    (λ rest q. let read = count_sound n rest q in subst (λ e. Spelled form e (start ++ rest)) is (fits n read.0, formed n, ap (λ xs. start ++ xs) read.1 ∙ text n))
+    (λ h. absurd (cc)))
+
+registered_sound : (form : ℕ) (e : Event) (t : List ℕ) → registered_at t ≡ Some e → Spelled form e t
+unfolding registered_at
+registered_sound form e t is =
+    either_then (Spelled form e t) (one (codes "call ") Call t) _ e is (one_sound form (codes "call ") Call (λ n h. h) (λ n. refl) (λ n. refl) e t)
+    (λ e1. either_then (Spelled form e t) (one (codes "due ") Due t) _ e e1 (one_sound form (codes "due ") Due (λ n h. h) (λ n. refl) (λ n. refl) e t)
+    (one_sound form (codes "drop ") Drop (λ n h. h) (λ n. refl) (λ n. refl) e t))
+
+timed_sound : (form : ℕ) (e : Event) (t : List ℕ) → timed_at t ≡ Some e → Spelled form e t
+unfolding timed_at
+timed_sound form e t is =
+    either_then (Spelled form e t) (one (codes "period ") Period t) _ e is (one_sound form (codes "period ") Period (λ n h. h) (λ n. refl) (λ n. refl) e t)
+    (λ e1. either_then (Spelled form e t) (one (codes "idle ") IdleLine t) _ e e1 (one_sound form (codes "idle ") IdleLine (λ n h. h) (λ n. refl) (λ n. refl) e t)
+    (λ e2. either_then (Spelled form e t) (one (codes "frame ") Frame t) _ e e2 (one_sound form (codes "frame ") Frame (λ n h. h) (λ n. refl) (λ n. refl) e t)
+    (one_sound form (codes "wait ") Wait (λ n h. h) (λ n. refl) (λ n. refl) e t)))
+
+identified_sound : (form : ℕ) (e : Event) (t : List ℕ) → identified_at t ≡ Some e → Spelled form e t
+unfolding identified_at
+identified_sound form e t is =
+    either_then (Spelled form e t) (one (codes "run ") Run t) _ e is (one_sound form (codes "run ") Run (λ n h. h) (λ n. refl) (λ n. refl) e t)
+    (λ e1. either_then (Spelled form e t) (one (codes "abort ") Abort t) _ e e1 (one_sound form (codes "abort ") Abort (λ n h. h) (λ n. refl) (λ n. refl) e t)
+    (λ e2. either_then (Spelled form e t) (one (codes "unhandled ") Unhandled t) _ e e2 (one_sound form (codes "unhandled ") Unhandled (λ n h. h) (λ n. refl) (λ n. refl) e t)
+    (one_sound form (codes "handled ") Handled (λ n h. h) (λ n. refl) (λ n. refl) e t)))
 
 pub numbered_sound : (form : ℕ) (e : Event) (t : List ℕ) → numbered_at t ≡ Some e → Spelled form e t
 unfolding numbered_at
 numbered_sound form e t is =
-    or_then (Spelled form e) (codes "call ") t (one Call) _ e is (one_sound form (codes "call ") Call (λ n h. h) (λ n. refl) (λ n. refl) e)
-    (λ e1. or_then (Spelled form e) (codes "due ") t (one Due) _ e e1 (one_sound form (codes "due ") Due (λ n h. h) (λ n. refl) (λ n. refl) e)
-    (λ e2. or_then (Spelled form e) (codes "drop ") t (one Drop) _ e e2 (one_sound form (codes "drop ") Drop (λ n h. h) (λ n. refl) (λ n. refl) e)
-    (λ e3. or_then (Spelled form e) (codes "run ") t (one Run) _ e e3 (one_sound form (codes "run ") Run (λ n h. h) (λ n. refl) (λ n. refl) e)
-    (λ e4. or_then (Spelled form e) (codes "period ") t (one Period) _ e e4 (one_sound form (codes "period ") Period (λ n h. h) (λ n. refl) (λ n. refl) e)
-    (λ e5. or_then (Spelled form e) (codes "idle ") t (one IdleLine) _ e e5 (one_sound form (codes "idle ") IdleLine (λ n h. h) (λ n. refl) (λ n. refl) e)
-    (λ e6. or_then (Spelled form e) (codes "frame ") t (one Frame) _ e e6 (one_sound form (codes "frame ") Frame (λ n h. h) (λ n. refl) (λ n. refl) e)
-    (λ e7. or_then (Spelled form e) (codes "abort ") t (one Abort) _ e e7 (one_sound form (codes "abort ") Abort (λ n h. h) (λ n. refl) (λ n. refl) e)
-    (λ e8. or_then (Spelled form e) (codes "wait ") t (one Wait) _ e e8 (one_sound form (codes "wait ") Wait (λ n h. h) (λ n. refl) (λ n. refl) e)
-    (λ e9. or_then (Spelled form e) (codes "unhandled ") t (one Unhandled) _ e e9 (one_sound form (codes "unhandled ") Unhandled (λ n h. h) (λ n. refl) (λ n. refl) e)
-    (λ e10. or_then (Spelled form e) (codes "handled ") t (one Handled) None e e10 (one_sound form (codes "handled ") Handled (λ n h. h) (λ n. refl) (λ n. refl) e)
-    (λ h. absurd (cc))))))))))))
+    either_then (Spelled form e t) (registered_at t) _ e is (registered_sound form e t)
+    (λ e1. either_then (Spelled form e t) (timed_at t) _ e e1 (timed_sound form e t) (identified_sound form e t))
 
 -- ---- events with other fields
+
+abbrev the_three : (a b c : List ℕ) → List ℕ × List ℕ × List ℕ
+the_three a b c = (a, b, c)
+
+three_then : {X : Type 0} (P : List ℕ → Type 0) (w : List ℕ) (next : List ℕ × List ℕ × List ℕ → Option X) (x : X) → (three_at w >>= next) ≡ Some x
+    → ((a b c : List ℕ) → next (a, b, c) ≡ Some x → P (a ++ 32 ∷ (b ++ 32 ∷ c))) → P w
+unfolding three_at
+three_then P w next x is found =
+    some_then (P w) (three_at w) next x is
+    (λ fields o more. cut_then P w _ fields o
+    (λ a r c0. cut_then (λ w. P (a ++ 32 ∷ w)) r _ fields c0
+    (λ b c c1. let these : the_three a b c ≡ fields = cc in found a b c (subst (λ f. next f ≡ Some x) (sym these) more))))
+
+abbrev the_four : (a b c d : List ℕ) → List ℕ × List ℕ × List ℕ × List ℕ
+the_four a b c d = (a, b, c, d)
+
+four_then : {X : Type 0} (P : List ℕ → Type 0) (w : List ℕ) (next : List ℕ × List ℕ × List ℕ × List ℕ → Option X) (x : X) → (four_at w >>= next) ≡ Some x
+    → ((a b c d : List ℕ) → next (a, b, c, d) ≡ Some x → P (a ++ 32 ∷ (b ++ 32 ∷ (c ++ 32 ∷ d)))) → P w
+unfolding four_at
+four_then P w next x is found =
+    some_then (P w) (four_at w) next x is
+    (λ fields o more. cut_then P w _ fields o
+    (λ a r c0. three_then (λ w. P (a ++ 32 ∷ w)) r _ fields c0
+    (λ b c d c1. let these : the_four a b c d ≡ fields = cc in found a b c d (subst (λ f. next f ≡ Some x) (sym these) more))))
 
 answered : (ok : Bool) (v : ℤ) → FitsSigned w64 v → AnswerFits (answer_of ok v)
 answered true v h = h
@@ -140,16 +180,15 @@ reg_sound form e w formed is =
 reg_by_sound : (form : ℕ) (e : Event) (w : List ℕ) → (form == 2) ≡ true → reg_by_at w ≡ Some e → Spelled form e (codes "reg " ++ w)
 unfolding reg_by_at
 reg_by_sound form e w formed is =
-    cut_then (λ w. Spelled form e (codes "reg " ++ (w))) w _ e is
-    (λ a0 r0 c0. cut_then (λ w. Spelled form e (codes "reg " ++ (a0 ++ 32 ∷ w))) r0 _ e c0
-    (λ a1 r1 c1. some_then (Spelled form e (codes "reg " ++ (a0 ++ 32 ∷ (a1 ++ 32 ∷ r1)))) (count_at a0) _ e c1
+    three_then (λ w. Spelled form e (codes "reg " ++ (w))) w _ e is
+    (λ a0 a1 r1 c1. some_then (Spelled form e (codes "reg " ++ (a0 ++ 32 ∷ (a1 ++ 32 ∷ r1)))) (count_at a0) _ e c1
     (λ n0 o0 d0. some_then (Spelled form e (codes "reg " ++ (a0 ++ 32 ∷ (a1 ++ 32 ∷ r1)))) (kind_at a1) _ e d0
     (λ n1 o1 d1. some_then (Spelled form e (codes "reg " ++ (a0 ++ 32 ∷ (a1 ++ 32 ∷ r1)))) (count_at r1) _ e d1
     (λ n2 o2 d2.
     let f0 = count_sound n0 a0 o0 in
     let f1 = kind_sound n1 a1 o1 in
     let f2 = count_sound n2 r1 o2 in
-    subst (λ e. Spelled form e (codes "reg " ++ (a0 ++ 32 ∷ (a1 ++ 32 ∷ r1)))) (same (Reg n0 n1 (Some n2)) e d2) ((f0.0, f2.0), formed, three (codes "reg ") a0 a1 r1 (decimal_of n0) (kind_text n1) (decimal_of n2) f0.1 f1 f2.1 ∙ reg_by_is n0 n1 n2))))))
+    subst (λ e. Spelled form e (codes "reg " ++ (a0 ++ 32 ∷ (a1 ++ 32 ∷ r1)))) (same (Reg n0 n1 (Some n2)) e d2) ((f0.0, f2.0), formed, three (codes "reg ") a0 a1 r1 (decimal_of n0) (kind_text n1) (decimal_of n2) f0.1 f1 f2.1 ∙ reg_by_is n0 n1 n2)))))
 
 -- a form that is not 1 is 2
 pub second_form : (form : ℕ) → IsForm form → (form == 1) ≡ false → (form == 2) ≡ true
@@ -177,16 +216,15 @@ prio_sound form e w is =
 arm_sound : (form : ℕ) (e : Event) (w : List ℕ) → arm_at w ≡ Some e → Spelled form e (codes "arm " ++ w)
 unfolding arm_at
 arm_sound form e w is =
-    cut_then (λ w. Spelled form e (codes "arm " ++ (w))) w _ e is
-    (λ a0 r0 c0. cut_then (λ w. Spelled form e (codes "arm " ++ (a0 ++ 32 ∷ w))) r0 _ e c0
-    (λ a1 r1 c1. some_then (Spelled form e (codes "arm " ++ (a0 ++ 32 ∷ (a1 ++ 32 ∷ r1)))) (count_at a0) _ e c1
+    three_then (λ w. Spelled form e (codes "arm " ++ (w))) w _ e is
+    (λ a0 a1 r1 c1. some_then (Spelled form e (codes "arm " ++ (a0 ++ 32 ∷ (a1 ++ 32 ∷ r1)))) (count_at a0) _ e c1
     (λ n0 o0 d0. some_then (Spelled form e (codes "arm " ++ (a0 ++ 32 ∷ (a1 ++ 32 ∷ r1)))) (count_at a1) _ e d0
     (λ n1 o1 d1. some_then (Spelled form e (codes "arm " ++ (a0 ++ 32 ∷ (a1 ++ 32 ∷ r1)))) (count_at r1) _ e d1
     (λ n2 o2 d2.
     let f0 = count_sound n0 a0 o0 in
     let f1 = count_sound n1 a1 o1 in
     let f2 = count_sound n2 r1 o2 in
-    subst (λ e. Spelled form e (codes "arm " ++ (a0 ++ 32 ∷ (a1 ++ 32 ∷ r1)))) (same (Arm n0 n1 n2) e d2) ((f0.0, f1.0, f2.0), refl, three (codes "arm ") a0 a1 r1 (decimal_of n0) (decimal_of n1) (decimal_of n2) f0.1 f1.1 f2.1 ∙ arm_is n0 n1 n2))))))
+    subst (λ e. Spelled form e (codes "arm " ++ (a0 ++ 32 ∷ (a1 ++ 32 ∷ r1)))) (same (Arm n0 n1 n2) e d2) ((f0.0, f1.0, f2.0), refl, three (codes "arm ") a0 a1 r1 (decimal_of n0) (decimal_of n1) (decimal_of n2) f0.1 f1.1 f2.1 ∙ arm_is n0 n1 n2)))))
 
 job_sound : (form : ℕ) (e : Event) (w : List ℕ) → job_at w ≡ Some e → Spelled form e (codes "job " ++ w)
 unfolding job_at
@@ -202,10 +240,8 @@ job_sound form e w is =
 enq_sound : (form : ℕ) (e : Event) (w : List ℕ) → enq_at w ≡ Some e → Spelled form e (codes "enq " ++ w)
 unfolding enq_at
 enq_sound form e w is =
-    cut_then (λ w. Spelled form e (codes "enq " ++ (w))) w _ e is
-    (λ a0 r0 c0. cut_then (λ w. Spelled form e (codes "enq " ++ (a0 ++ 32 ∷ w))) r0 _ e c0
-    (λ a1 r1 c1. cut_then (λ w. Spelled form e (codes "enq " ++ (a0 ++ 32 ∷ (a1 ++ 32 ∷ w)))) r1 _ e c1
-    (λ a2 r2 c2. some_then (Spelled form e (codes "enq " ++ (a0 ++ 32 ∷ (a1 ++ 32 ∷ (a2 ++ 32 ∷ r2))))) (count_at a0) _ e c2
+    four_then (λ w. Spelled form e (codes "enq " ++ (w))) w _ e is
+    (λ a0 a1 a2 r2 c2. some_then (Spelled form e (codes "enq " ++ (a0 ++ 32 ∷ (a1 ++ 32 ∷ (a2 ++ 32 ∷ r2))))) (count_at a0) _ e c2
     (λ n0 o0 d0. some_then (Spelled form e (codes "enq " ++ (a0 ++ 32 ∷ (a1 ++ 32 ∷ (a2 ++ 32 ∷ r2))))) (queue_at a1) _ e d0
     (λ n1 o1 d1. some_then (Spelled form e (codes "enq " ++ (a0 ++ 32 ∷ (a1 ++ 32 ∷ (a2 ++ 32 ∷ r2))))) (form_at a2) _ e d1
     (λ n2 o2 d2. some_then (Spelled form e (codes "enq " ++ (a0 ++ 32 ∷ (a1 ++ 32 ∷ (a2 ++ 32 ∷ r2))))) (count_at r2) _ e d2
@@ -214,15 +250,13 @@ enq_sound form e w is =
     let f1 = queue_sound n1 a1 o1 in
     let f2 = form_sound n2 a2 o2 in
     let f3 = count_sound n3 r2 o3 in
-    subst (λ e. Spelled form e (codes "enq " ++ (a0 ++ 32 ∷ (a1 ++ 32 ∷ (a2 ++ 32 ∷ r2))))) (same (Enq n0 n1 n2 n3) e d3) ((f0.0, f1.0, f3.0), refl, four (codes "enq ") a0 a1 a2 r2 (decimal_of n0) (queue_word n1) (form_word n2) (decimal_of n3) f0.1 f1.1 f2 f3.1 ∙ enq_is n0 n1 n2 n3))))))))
+    subst (λ e. Spelled form e (codes "enq " ++ (a0 ++ 32 ∷ (a1 ++ 32 ∷ (a2 ++ 32 ∷ r2))))) (same (Enq n0 n1 n2 n3) e d3) ((f0.0, f1.0, f3.0), refl, four (codes "enq ") a0 a1 a2 r2 (decimal_of n0) (queue_word n1) (form_word n2) (decimal_of n3) f0.1 f1.1 f2 f3.1 ∙ enq_is n0 n1 n2 n3))))))
 
 host_sound : (form : ℕ) (e : Event) (w : List ℕ) → host_at w ≡ Some e → Spelled form e (codes "host " ++ w)
 unfolding host_at
 host_sound form e w is =
-    cut_then (λ w. Spelled form e (codes "host " ++ (w))) w _ e is
-    (λ a0 r0 c0. cut_then (λ w. Spelled form e (codes "host " ++ (a0 ++ 32 ∷ w))) r0 _ e c0
-    (λ a1 r1 c1. cut_then (λ w. Spelled form e (codes "host " ++ (a0 ++ 32 ∷ (a1 ++ 32 ∷ w)))) r1 _ e c1
-    (λ a2 r2 c2. some_then (Spelled form e (codes "host " ++ (a0 ++ 32 ∷ (a1 ++ 32 ∷ (a2 ++ 32 ∷ r2))))) (count_at a0) _ e c2
+    four_then (λ w. Spelled form e (codes "host " ++ (w))) w _ e is
+    (λ a0 a1 a2 r2 c2. some_then (Spelled form e (codes "host " ++ (a0 ++ 32 ∷ (a1 ++ 32 ∷ (a2 ++ 32 ∷ r2))))) (count_at a0) _ e c2
     (λ n0 o0 d0. some_then (Spelled form e (codes "host " ++ (a0 ++ 32 ∷ (a1 ++ 32 ∷ (a2 ++ 32 ∷ r2))))) (int_at a1) _ e d0
     (λ n1 o1 d1. some_then (Spelled form e (codes "host " ++ (a0 ++ 32 ∷ (a1 ++ 32 ∷ (a2 ++ 32 ∷ r2))))) (how_at a2) _ e d1
     (λ n2 o2 d2. some_then (Spelled form e (codes "host " ++ (a0 ++ 32 ∷ (a1 ++ 32 ∷ (a2 ++ 32 ∷ r2))))) (int_at r2) _ e d2
@@ -231,26 +265,35 @@ host_sound form e w is =
     let f1 = int_sound n1 a1 o1 in
     let f2 = how_sound n2 a2 o2 in
     let f3 = int_sound n3 r2 o3 in
-    subst (λ e. Spelled form e (codes "host " ++ (a0 ++ 32 ∷ (a1 ++ 32 ∷ (a2 ++ 32 ∷ r2))))) (same (Host n0 n1 (answer_of n2 n3)) e d3) ((f0.0, f1.0, answered n2 n3 f3.0), refl, four (codes "host ") a0 a1 a2 r2 (decimal_of n0) (int_decimal n1) (how_word n2) (int_decimal n3) f0.1 f1.1 f2 f3.1 ∙ host_is n0 n1 n2 n3))))))))
+    subst (λ e. Spelled form e (codes "host " ++ (a0 ++ 32 ∷ (a1 ++ 32 ∷ (a2 ++ 32 ∷ r2))))) (same (Host n0 n1 (answer_of n2 n3)) e d3) ((f0.0, f1.0, answered n2 n3 f3.0), refl, four (codes "host ") a0 a1 a2 r2 (decimal_of n0) (int_decimal n1) (how_word n2) (int_decimal n3) f0.1 f1.1 f2 f3.1 ∙ host_is n0 n1 n2 n3))))))
 
 end_line_sound : (form : ℕ) (e : Event) (w : List ℕ) → option_map EndLine (end_at w) ≡ Some e → Spelled form e (codes "end " ++ w)
 end_line_sound form e w is =
     map_then (Spelled form e (codes "end " ++ w)) (end_at w) EndLine e is
     (λ x o is. subst (λ e. Spelled form e (codes "end " ++ w)) is (tt, refl, ap (λ xs. codes "end " ++ xs) (end_sound x w o)))
 
-pub worded_sound : (form : ℕ) (e : Event) (t : List ℕ) → IsForm form → worded_at form t ≡ Some e → Spelled form e t
-unfolding worded_at
-worded_sound form e t known is =
+running_sound : (form : ℕ) (e : Event) (t : List ℕ) → running_at t ≡ Some e → Spelled form e t
+unfolding running_at
+running_sound form e t is =
     word_then (Spelled form e) (codes "ret") t Ret _ e is (λ h. subst (λ e. Spelled form e (codes "ret")) h (tt, refl, refl))
     (λ e0. or_then (Spelled form e) (codes "turn ") t turn_at _ e e0 (turn_sound form e)
-    (λ e1. or_then (Spelled form e) (codes "reg ") t (reg_read (form == 1)) _ e e1 (λ rest. reg_sound_by form e rest (form == 1) known refl)
-    (λ e2. or_then (Spelled form e) (codes "arm ") t arm_at _ e e2 (arm_sound form e)
-    (λ e3. or_then (Spelled form e) (codes "job ") t job_at _ e e3 (job_sound form e)
-    (λ e4. or_then (Spelled form e) (codes "enq ") t enq_at _ e e4 (enq_sound form e)
-    (λ e5. or_then (Spelled form e) (codes "prio ") t prio_at _ e e5 (prio_sound form e)
-    (λ e6. or_then (Spelled form e) (codes "host ") t host_at _ e e6 (host_sound form e)
-    (λ e7. or_then (Spelled form e) (codes "end ") t (λ word. option_map EndLine (end_at word)) None e e7 (end_line_sound form e)
-    (λ h. absurd (cc))))))))))
+    (λ e1. or_then (Spelled form e) (codes "job ") t job_at _ e e1 (job_sound form e)
+    (λ e2. or_then (Spelled form e) (codes "end ") t (λ word. option_map EndLine (end_at word)) None e e2 (end_line_sound form e)
+    (λ h. absurd (cc)))))
+
+arranged_sound : (form : ℕ) (e : Event) (t : List ℕ) → IsForm form → arranged_at form t ≡ Some e → Spelled form e t
+unfolding arranged_at
+arranged_sound form e t known is =
+    or_then (Spelled form e) (codes "reg ") t (reg_read (form == 1)) _ e is (λ rest. reg_sound_by form e rest (form == 1) known refl)
+    (λ e1. or_then (Spelled form e) (codes "arm ") t arm_at _ e e1 (arm_sound form e)
+    (λ e2. or_then (Spelled form e) (codes "enq ") t enq_at _ e e2 (enq_sound form e)
+    (λ e3. or_then (Spelled form e) (codes "prio ") t prio_at _ e e3 (prio_sound form e)
+    (λ e4. or_then (Spelled form e) (codes "host ") t host_at None e e4 (host_sound form e)
+    (λ h. absurd (cc))))))
+
+pub worded_sound : (form : ℕ) (e : Event) (t : List ℕ) → IsForm form → worded_at form t ≡ Some e → Spelled form e t
+unfolding worded_at
+worded_sound form e t known is = either_then (Spelled form e t) (running_at t) _ e is (running_sound form e t) (arranged_sound form e t known)
 
 -- ---- events with a value
 

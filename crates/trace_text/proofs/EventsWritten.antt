@@ -1,6 +1,7 @@
 -- The text of an event is read as that event, and holds no line feed.
 use Rattle.std.proofs.Common.{◌≡◌, ℕ, Bool, true, false, List, ◌∷◌, ◌++◌, Option, Some, None, Ok, Err, refl, ap, sym, ◌∙◌, arith, IsTrue}
 use Rattle.std.specs.Prelude.{codes, option_map, ℤ, FitsSigned, ◌==◌}
+use Rattle.std.specs.Option.{option_or}
 use Rattle.std.specs.Int.{w64}
 use Rattle.std.proofs.lemmas.Bool.Decides.{nat_tests}
 use Rattle.page_types.specs.declared.Source.{Source}
@@ -13,7 +14,7 @@ use Rattle.page_parts.specs.Spelling.{priority_text}
 use Rattle.page_parts.specs.TraceText.{source_text, end_text, kind_text, event_text}
 use Rattle.trace_text.specs.Trace.{IsCount, EventFits, is_of_form}
 use Rattle.page_base.specs.Fields.{behind, is_word}
-use Rattle.trace_text.specs.LineReading.{count_at, int_at, source_at, kind_at, priority_at, end_at, how_at, form_at, queue_at, queued_at, one, turn_at, reg_at, reg_by_at, prio_at, arm_at, job_at, enq_at, host_at, settle_at, send_at, answer_of, numbered_at, worded_at, valued_at}
+use Rattle.trace_text.specs.LineReading.{count_at, int_at, source_at, kind_at, priority_at, end_at, how_at, form_at, queue_at, queued_at, count_behind, one, three_at, four_at, turn_at, reg_at, reg_by_at, prio_at, arm_at, job_at, enq_at, host_at, settle_at, send_at, answer_of, registered_at, timed_at, identified_at, numbered_at, running_at, arranged_at, worded_at, valued_at}
 use Rattle.trace_text.proofs.Cutting.{lacks, lacks-append, cut_front}
 use Rattle.trace_text.proofs.Counts.{count_complete, int_complete, lacks-decimal, lacks-int}
 use Rattle.trace_text.proofs.FieldWords.{source_complete, source_free, kind_complete, kind_free, kind_spaceless, priority_complete, priority_free, end_complete, end_free, how_word, how_complete, how_free, form_word, form_complete, form_free, queue_word, queue_complete, queue_free, queue_spaceless, queued_word, queued_complete, queued_free}
@@ -22,110 +23,109 @@ use Rattle.trace_text.proofs.SpelledLines.{printed_free}
 
 -- ---- which fields a word leads to
 
-call_step : (form : ℕ) (w : List ℕ) (e : Event) → one Call w ≡ Some e → event_at form (codes "call " ++ w) ≡ Some e
-unfolding event_at numbered_at worded_at valued_at behind is_word
-call_step form w e is = ap (λ o. first_of o None) is
+call_step : (form : ℕ) (w : List ℕ) (e : Event) → option_map Call (count_at w) ≡ Some e → event_at form (codes "call " ++ w) ≡ Some e
+unfolding event_at numbered_at registered_at timed_at identified_at one count_behind worded_at running_at arranged_at valued_at behind is_word
+call_step form w e is = ap (λ o. first_of (option_or (option_or o None) None) None) is
 
-due_step : (form : ℕ) (w : List ℕ) (e : Event) → one Due w ≡ Some e → event_at form (codes "due " ++ w) ≡ Some e
-unfolding event_at numbered_at worded_at valued_at behind is_word
-due_step form w e is = ap (λ o. first_of o None) is
+due_step : (form : ℕ) (w : List ℕ) (e : Event) → option_map Due (count_at w) ≡ Some e → event_at form (codes "due " ++ w) ≡ Some e
+unfolding event_at numbered_at registered_at timed_at identified_at one count_behind worded_at running_at arranged_at valued_at behind is_word
+due_step form w e is = ap (λ o. first_of (option_or (option_or o None) None) None) is
 
-drop_step : (form : ℕ) (w : List ℕ) (e : Event) → one Drop w ≡ Some e → event_at form (codes "drop " ++ w) ≡ Some e
-unfolding event_at numbered_at worded_at valued_at behind is_word
-drop_step form w e is = ap (λ o. first_of o None) is
+drop_step : (form : ℕ) (w : List ℕ) (e : Event) → option_map Drop (count_at w) ≡ Some e → event_at form (codes "drop " ++ w) ≡ Some e
+unfolding event_at numbered_at registered_at timed_at identified_at one count_behind worded_at running_at arranged_at valued_at behind is_word
+drop_step form w e is = ap (λ o. first_of (option_or o None) None) is
 
-run_step : (form : ℕ) (w : List ℕ) (e : Event) → one Run w ≡ Some e → event_at form (codes "run " ++ w) ≡ Some e
-unfolding event_at numbered_at worded_at valued_at behind is_word
-run_step form w e is = ap (λ o. first_of o None) is
+run_step : (form : ℕ) (w : List ℕ) (e : Event) → option_map Run (count_at w) ≡ Some e → event_at form (codes "run " ++ w) ≡ Some e
+unfolding event_at numbered_at registered_at timed_at identified_at one count_behind worded_at running_at arranged_at valued_at behind is_word
+run_step form w e is = ap (λ o. first_of (option_or o None) None) is
 
-period_step : (form : ℕ) (w : List ℕ) (e : Event) → one Period w ≡ Some e → event_at form (codes "period " ++ w) ≡ Some e
-unfolding event_at numbered_at worded_at valued_at behind is_word
-period_step form w e is = ap (λ o. first_of o None) is
+period_step : (form : ℕ) (w : List ℕ) (e : Event) → option_map Period (count_at w) ≡ Some e → event_at form (codes "period " ++ w) ≡ Some e
+unfolding event_at numbered_at registered_at timed_at identified_at one count_behind worded_at running_at arranged_at valued_at behind is_word
+period_step form w e is = ap (λ o. first_of (option_or (option_or o None) None) None) is
 
-idle_step : (form : ℕ) (w : List ℕ) (e : Event) → one IdleLine w ≡ Some e → event_at form (codes "idle " ++ w) ≡ Some e
-unfolding event_at numbered_at worded_at valued_at behind is_word
-idle_step form w e is = ap (λ o. first_of o None) is
+idle_step : (form : ℕ) (w : List ℕ) (e : Event) → option_map IdleLine (count_at w) ≡ Some e → event_at form (codes "idle " ++ w) ≡ Some e
+unfolding event_at numbered_at registered_at timed_at identified_at one count_behind worded_at running_at arranged_at valued_at behind is_word
+idle_step form w e is = ap (λ o. first_of (option_or (option_or o None) None) None) is
 
-frame_step : (form : ℕ) (w : List ℕ) (e : Event) → one Frame w ≡ Some e → event_at form (codes "frame " ++ w) ≡ Some e
-unfolding event_at numbered_at worded_at valued_at behind is_word
-frame_step form w e is = ap (λ o. first_of o None) is
+frame_step : (form : ℕ) (w : List ℕ) (e : Event) → option_map Frame (count_at w) ≡ Some e → event_at form (codes "frame " ++ w) ≡ Some e
+unfolding event_at numbered_at registered_at timed_at identified_at one count_behind worded_at running_at arranged_at valued_at behind is_word
+frame_step form w e is = ap (λ o. first_of (option_or (option_or o None) None) None) is
 
-abort_step : (form : ℕ) (w : List ℕ) (e : Event) → one Abort w ≡ Some e → event_at form (codes "abort " ++ w) ≡ Some e
-unfolding event_at numbered_at worded_at valued_at behind is_word
-abort_step form w e is = ap (λ o. first_of o None) is
+abort_step : (form : ℕ) (w : List ℕ) (e : Event) → option_map Abort (count_at w) ≡ Some e → event_at form (codes "abort " ++ w) ≡ Some e
+unfolding event_at numbered_at registered_at timed_at identified_at one count_behind worded_at running_at arranged_at valued_at behind is_word
+abort_step form w e is = ap (λ o. first_of (option_or o None) None) is
 
-wait_step : (form : ℕ) (w : List ℕ) (e : Event) → one Wait w ≡ Some e → event_at form (codes "wait " ++ w) ≡ Some e
-unfolding event_at numbered_at worded_at valued_at behind is_word
-wait_step form w e is = ap (λ o. first_of o None) is
+wait_step : (form : ℕ) (w : List ℕ) (e : Event) → option_map Wait (count_at w) ≡ Some e → event_at form (codes "wait " ++ w) ≡ Some e
+unfolding event_at numbered_at registered_at timed_at identified_at one count_behind worded_at running_at arranged_at valued_at behind is_word
+wait_step form w e is = ap (λ o. first_of (option_or o None) None) is
 
-unhandled_step : (form : ℕ) (w : List ℕ) (e : Event) → one Unhandled w ≡ Some e → event_at form (codes "unhandled " ++ w) ≡ Some e
-unfolding event_at numbered_at worded_at valued_at behind is_word
-unhandled_step form w e is = ap (λ o. first_of o None) is
+unhandled_step : (form : ℕ) (w : List ℕ) (e : Event) → option_map Unhandled (count_at w) ≡ Some e → event_at form (codes "unhandled " ++ w) ≡ Some e
+unfolding event_at numbered_at registered_at timed_at identified_at one count_behind worded_at running_at arranged_at valued_at behind is_word
+unhandled_step form w e is = ap (λ o. first_of (option_or o None) None) is
 
-handled_step : (form : ℕ) (w : List ℕ) (e : Event) → one Handled w ≡ Some e → event_at form (codes "handled " ++ w) ≡ Some e
-unfolding event_at numbered_at worded_at valued_at behind is_word
+handled_step : (form : ℕ) (w : List ℕ) (e : Event) → option_map Handled (count_at w) ≡ Some e → event_at form (codes "handled " ++ w) ≡ Some e
+unfolding event_at numbered_at registered_at timed_at identified_at one count_behind worded_at running_at arranged_at valued_at behind is_word
 handled_step form w e is = ap (λ o. first_of o None) is
 
 turn_step : (form : ℕ) (w : List ℕ) (e : Event) → turn_at w ≡ Some e → event_at form (codes "turn " ++ w) ≡ Some e
-unfolding event_at numbered_at worded_at valued_at behind is_word
-turn_step form w e is = ap (λ o. first_of o None) is
+unfolding event_at numbered_at registered_at timed_at identified_at one count_behind worded_at running_at arranged_at valued_at behind is_word
+turn_step form w e is = ap (λ o. first_of (option_or o None) None) is
 
 reg_step : (form : ℕ) (w : List ℕ) (e : Event) → reg_read (form == 1) w ≡ Some e → event_at form (codes "reg " ++ w) ≡ Some e
-unfolding event_at numbered_at worded_at valued_at behind is_word
+unfolding event_at numbered_at registered_at timed_at identified_at one count_behind worded_at running_at arranged_at valued_at behind is_word
 reg_step form w e is = ap (λ o. first_of o None) is
 
 arm_step : (form : ℕ) (w : List ℕ) (e : Event) → arm_at w ≡ Some e → event_at form (codes "arm " ++ w) ≡ Some e
-unfolding event_at numbered_at worded_at valued_at behind is_word
+unfolding event_at numbered_at registered_at timed_at identified_at one count_behind worded_at running_at arranged_at valued_at behind is_word
 arm_step form w e is = ap (λ o. first_of o None) is
 
 job_step : (form : ℕ) (w : List ℕ) (e : Event) → job_at w ≡ Some e → event_at form (codes "job " ++ w) ≡ Some e
-unfolding event_at numbered_at worded_at valued_at behind is_word
-job_step form w e is = ap (λ o. first_of o None) is
+unfolding event_at numbered_at registered_at timed_at identified_at one count_behind worded_at running_at arranged_at valued_at behind is_word
+job_step form w e is = ap (λ o. first_of (option_or o None) None) is
 
 enq_step : (form : ℕ) (w : List ℕ) (e : Event) → enq_at w ≡ Some e → event_at form (codes "enq " ++ w) ≡ Some e
-unfolding event_at numbered_at worded_at valued_at behind is_word
+unfolding event_at numbered_at registered_at timed_at identified_at one count_behind worded_at running_at arranged_at valued_at behind is_word
 enq_step form w e is = ap (λ o. first_of o None) is
 
 prio_step : (form : ℕ) (w : List ℕ) (e : Event) → prio_at w ≡ Some e → event_at form (codes "prio " ++ w) ≡ Some e
-unfolding event_at numbered_at worded_at valued_at behind is_word
+unfolding event_at numbered_at registered_at timed_at identified_at one count_behind worded_at running_at arranged_at valued_at behind is_word
 prio_step form w e is = ap (λ o. first_of o None) is
 
 host_step : (form : ℕ) (w : List ℕ) (e : Event) → host_at w ≡ Some e → event_at form (codes "host " ++ w) ≡ Some e
-unfolding event_at numbered_at worded_at valued_at behind is_word
+unfolding event_at numbered_at registered_at timed_at identified_at one count_behind worded_at running_at arranged_at valued_at behind is_word
 host_step form w e is = ap (λ o. first_of o None) is
 
 end_step : (form : ℕ) (x : End) (w : List ℕ) → end_at w ≡ Some x → event_at form (codes "end " ++ w) ≡ Some (EndLine x)
-unfolding event_at numbered_at worded_at valued_at behind is_word
-end_step form x w is = ap (λ o. first_of (option_map EndLine o) None) is
+unfolding event_at numbered_at registered_at timed_at identified_at one count_behind worded_at running_at arranged_at valued_at behind is_word
+end_step form x w is = ap (λ o. first_of (option_or (option_map EndLine o) None) None) is
 
 ret_step : (form : ℕ) → event_at form (codes "ret") ≡ Some Ret
-unfolding event_at numbered_at worded_at valued_at behind is_word
+unfolding event_at numbered_at registered_at timed_at identified_at one count_behind worded_at running_at arranged_at valued_at behind is_word
 ret_step form = refl
 
 settle_step : (form : ℕ) (w : List ℕ) (e : Event) → settle_at w ≡ Some e → event_at form (codes "settle " ++ w) ≡ Some e
-unfolding event_at numbered_at worded_at valued_at behind is_word
+unfolding event_at numbered_at registered_at timed_at identified_at one count_behind worded_at running_at arranged_at valued_at behind is_word
 settle_step form w e is = is
 
 send_step : (form : ℕ) (w : List ℕ) (e : Event) → send_at w ≡ Some e → event_at form (codes "send " ++ w) ≡ Some e
-unfolding event_at numbered_at worded_at valued_at behind is_word
+unfolding event_at numbered_at registered_at timed_at identified_at one count_behind worded_at running_at arranged_at valued_at behind is_word
 send_step form w e is = is
 
 throw_step : (form : ℕ) (v : List ℕ) → event_at form (codes "throw " ++ v) ≡ Some (Throw v)
-unfolding event_at numbered_at worded_at valued_at behind is_word
+unfolding event_at numbered_at registered_at timed_at identified_at one count_behind worded_at running_at arranged_at valued_at behind is_word
 throw_step form v = refl
 
 report_step : (form : ℕ) (v : List ℕ) → event_at form (codes "report " ++ v) ≡ Some (Report v)
-unfolding event_at numbered_at worded_at valued_at behind is_word
+unfolding event_at numbered_at registered_at timed_at identified_at one count_behind worded_at running_at arranged_at valued_at behind is_word
 report_step form v = refl
 
 log_step : (form : ℕ) (v : List ℕ) → event_at form (codes "log " ++ v) ≡ Some (Log v)
-unfolding event_at numbered_at worded_at valued_at behind is_word
+unfolding event_at numbered_at registered_at timed_at identified_at one count_behind worded_at running_at arranged_at valued_at behind is_word
 log_step form v = refl
 
 -- ---- fields that are read
 
-one_reads : (event : ℕ → Event) (n : ℕ) → IsCount n → one event (decimal_of n) ≡ Some (event n)
-unfolding one
+one_reads : (event : ℕ → Event) (n : ℕ) → IsCount n → option_map event (count_at (decimal_of n)) ≡ Some (event n)
 one_reads event n fits = ap (option_map event) (count_complete n fits)
 
 turn_reads : (a0 a1 : List ℕ) (n0 : ℕ) (n1 : Option Source) → lacks 32 a0 ≡ true → count_at a0 ≡ Some n0 → source_at a1 ≡ Some n1 → turn_at (a0 ++ 32 ∷ a1) ≡ Some (Turn n0 n1)
@@ -137,7 +137,7 @@ unfolding reg_at
 reg_reads a0 a1 n0 n1 h0 g0 g1 = rw (cut_front 32 a0 (a1) h0, g0, g1) refl
 
 reg_by_reads : (a0 a1 a2 : List ℕ) (n0 : ℕ) (n1 : RegKind) (n2 : ℕ) → lacks 32 a0 ≡ true → lacks 32 a1 ≡ true → count_at a0 ≡ Some n0 → kind_at a1 ≡ Some n1 → count_at a2 ≡ Some n2 → reg_by_at (a0 ++ 32 ∷ (a1 ++ 32 ∷ a2)) ≡ Some (Reg n0 n1 (Some n2))
-unfolding reg_by_at
+unfolding reg_by_at three_at
 reg_by_reads a0 a1 a2 n0 n1 n2 h0 h1 g0 g1 g2 = rw (cut_front 32 a0 (a1 ++ 32 ∷ a2) h0, cut_front 32 a1 (a2) h1, g0, g1, g2) refl
 
 prio_reads : (a0 a1 : List ℕ) (n0 : ℕ) (n1 : Priority) → lacks 32 a0 ≡ true → count_at a0 ≡ Some n0 → priority_at a1 ≡ Some n1 → prio_at (a0 ++ 32 ∷ a1) ≡ Some (Prio n0 n1)
@@ -145,7 +145,7 @@ unfolding prio_at
 prio_reads a0 a1 n0 n1 h0 g0 g1 = rw (cut_front 32 a0 (a1) h0, g0, g1) refl
 
 arm_reads : (a0 a1 a2 : List ℕ) (n0 : ℕ) (n1 : ℕ) (n2 : ℕ) → lacks 32 a0 ≡ true → lacks 32 a1 ≡ true → count_at a0 ≡ Some n0 → count_at a1 ≡ Some n1 → count_at a2 ≡ Some n2 → arm_at (a0 ++ 32 ∷ (a1 ++ 32 ∷ a2)) ≡ Some (Arm n0 n1 n2)
-unfolding arm_at
+unfolding arm_at three_at
 arm_reads a0 a1 a2 n0 n1 n2 h0 h1 g0 g1 g2 = rw (cut_front 32 a0 (a1 ++ 32 ∷ a2) h0, cut_front 32 a1 (a2) h1, g0, g1, g2) refl
 
 job_reads : (a0 a1 : List ℕ) (n0 : ℕ) (n1 : Queued) → lacks 32 a0 ≡ true → count_at a0 ≡ Some n0 → queued_at a1 ≡ Some n1 → job_at (a0 ++ 32 ∷ a1) ≡ Some (Job n0 n1)
@@ -153,11 +153,11 @@ unfolding job_at
 job_reads a0 a1 n0 n1 h0 g0 g1 = rw (cut_front 32 a0 (a1) h0, g0, g1) refl
 
 enq_reads : (a0 a1 a2 a3 : List ℕ) (n0 : ℕ) (n1 : QueueName) (n2 : Bool) (n3 : ℕ) → lacks 32 a0 ≡ true → lacks 32 a1 ≡ true → lacks 32 a2 ≡ true → count_at a0 ≡ Some n0 → queue_at a1 ≡ Some n1 → form_at a2 ≡ Some n2 → count_at a3 ≡ Some n3 → enq_at (a0 ++ 32 ∷ (a1 ++ 32 ∷ (a2 ++ 32 ∷ a3))) ≡ Some (Enq n0 n1 n2 n3)
-unfolding enq_at
+unfolding enq_at four_at three_at
 enq_reads a0 a1 a2 a3 n0 n1 n2 n3 h0 h1 h2 g0 g1 g2 g3 = rw (cut_front 32 a0 (a1 ++ 32 ∷ (a2 ++ 32 ∷ a3)) h0, cut_front 32 a1 (a2 ++ 32 ∷ a3) h1, cut_front 32 a2 (a3) h2, g0, g1, g2, g3) refl
 
 host_reads : (a0 a1 a2 a3 : List ℕ) (n0 : ℕ) (n1 : ℤ) (n2 : Bool) (n3 : ℤ) → lacks 32 a0 ≡ true → lacks 32 a1 ≡ true → lacks 32 a2 ≡ true → count_at a0 ≡ Some n0 → int_at a1 ≡ Some n1 → how_at a2 ≡ Some n2 → int_at a3 ≡ Some n3 → host_at (a0 ++ 32 ∷ (a1 ++ 32 ∷ (a2 ++ 32 ∷ a3))) ≡ Some (Host n0 n1 (answer_of n2 n3))
-unfolding host_at
+unfolding host_at four_at three_at
 host_reads a0 a1 a2 a3 n0 n1 n2 n3 h0 h1 h2 g0 g1 g2 g3 = rw (cut_front 32 a0 (a1 ++ 32 ∷ (a2 ++ 32 ∷ a3)) h0, cut_front 32 a1 (a2 ++ 32 ∷ a3) h1, cut_front 32 a2 (a3) h2, g0, g1, g2, g3) refl
 
 send_reads : (a0 v : List ℕ) (n : ℕ) → lacks 32 a0 ≡ true → count_at a0 ≡ Some n → send_at (a0 ++ 32 ∷ v) ≡ Some (Send n v)

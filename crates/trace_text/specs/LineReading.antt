@@ -1,5 +1,6 @@
 -- How one line of a trace is read, by its fields.
 use Rattle.std.specs.Prelude.{◌≡◌, ◌≢◌, ℕ, zero, suc, Bool, true, false, List, [], ◌∷◌, ◌++◌, Option, Some, None, option_map, Result, Ok, Err, ℤ, pos, negsuc, codes, find, IsTrue, ◌==◌, if◌then◌else◌}
+use Rattle.std.specs.Option.{option_or}
 use Rattle.page_types.specs.declared.Source.{Source}
 use Rattle.page_types.specs.declared.Source.TheVariants.{User, Net, Dom, Timer, Render, Sched, Idle}
 use Rattle.page_types.specs.declared.End.{End}
@@ -88,9 +89,27 @@ queued_at bytes =
 
 -- ---- Ours: the fields of events
 
--- an event with one number
-unfoldable pub one : (ℕ → Event) → List ℕ → Option Event
-one event bytes = option_map event (count_at bytes)
+-- the number that is all that stands behind a word
+unfoldable pub count_behind : (word bytes : List ℕ) → Option ℕ
+count_behind word bytes = read_or (behind word bytes) count_at None
+
+-- an event with one number, behind its word
+unfoldable pub one : (word : List ℕ) → (ℕ → Event) → List ℕ → Option Event
+one word event bytes = option_map event (count_behind word bytes)
+
+-- three fields, a space between each two; more spaces belong to the last
+unfoldable pub three_at : List ℕ → Option (List ℕ × List ℕ × List ℕ)
+three_at bytes = do
+  first ← cut_at 32 bytes
+  second ← cut_at 32 first.1
+  Some (first.0, second.0, second.1)
+
+-- four fields in the same way
+unfoldable pub four_at : List ℕ → Option (List ℕ × List ℕ × List ℕ × List ℕ)
+four_at bytes = do
+  first ← cut_at 32 bytes
+  others ← three_at first.1
+  Some (first.0, others.0, others.1, others.2)
 
 unfoldable pub turn_at : List ℕ → Option Event
 turn_at bytes = do
@@ -110,11 +129,10 @@ reg_at bytes = do
 -- a registration in the second form, which tells who registered
 unfoldable pub reg_by_at : List ℕ → Option Event
 reg_by_at bytes = do
-  first ← cut_at 32 bytes
-  second ← cut_at 32 first.1
-  r ← count_at first.0
-  kind ← kind_at second.0
-  by ← count_at second.1
+  fields ← three_at bytes
+  r ← count_at fields.0
+  kind ← kind_at fields.1
+  by ← count_at fields.2
   Some (Reg r kind (Some by))
 
 unfoldable pub prio_at : List ℕ → Option Event
@@ -126,11 +144,10 @@ prio_at bytes = do
 
 unfoldable pub arm_at : List ℕ → Option Event
 arm_at bytes = do
-  first ← cut_at 32 bytes
-  second ← cut_at 32 first.1
-  r ← count_at first.0
-  due ← count_at second.0
-  level ← count_at second.1
+  fields ← three_at bytes
+  r ← count_at fields.0
+  due ← count_at fields.1
+  level ← count_at fields.2
   Some (Arm r due level)
 
 unfoldable pub job_at : List ℕ → Option Event
@@ -142,13 +159,11 @@ job_at bytes = do
 
 unfoldable pub enq_at : List ℕ → Option Event
 enq_at bytes = do
-  first ← cut_at 32 bytes
-  second ← cut_at 32 first.1
-  third ← cut_at 32 second.1
-  r ← count_at first.0
-  queue ← queue_at second.0
-  continuation ← form_at third.0
-  n ← count_at third.1
+  fields ← four_at bytes
+  r ← count_at fields.0
+  queue ← queue_at fields.1
+  continuation ← form_at fields.2
+  n ← count_at fields.3
   Some (Enq r queue continuation n)
 
 -- the answer of a host closure: its value, or its fault
@@ -158,13 +173,11 @@ answer_of false value = Err value
 
 unfoldable pub host_at : List ℕ → Option Event
 host_at bytes = do
-  first ← cut_at 32 bytes
-  second ← cut_at 32 first.1
-  third ← cut_at 32 second.1
-  k ← count_at first.0
-  x ← int_at second.0
-  ok ← how_at third.0
-  value ← int_at third.1
+  fields ← four_at bytes
+  k ← count_at fields.0
+  x ← int_at fields.1
+  ok ← how_at fields.2
+  value ← int_at fields.3
   Some (Host k x (answer_of ok value))
 
 -- the value is the rest of the line, as it stands
@@ -184,33 +197,50 @@ send_at bytes = do
 
 -- ---- Ours: events
 
+-- the events with the number of a registration
+unfoldable pub registered_at : List ℕ → Option Event
+registered_at bytes =
+    option_or (one (codes "call ") Call bytes)
+    (option_or (one (codes "due ") Due bytes) (one (codes "drop ") Drop bytes))
+
+-- the events with a moment
+unfoldable pub timed_at : List ℕ → Option Event
+timed_at bytes =
+    option_or (one (codes "period ") Period bytes)
+    (option_or (one (codes "idle ") IdleLine bytes)
+    (option_or (one (codes "frame ") Frame bytes) (one (codes "wait ") Wait bytes)))
+
+-- the events with the number of a job, a signal or a promise
+unfoldable pub identified_at : List ℕ → Option Event
+identified_at bytes =
+    option_or (one (codes "run ") Run bytes)
+    (option_or (one (codes "abort ") Abort bytes)
+    (option_or (one (codes "unhandled ") Unhandled bytes) (one (codes "handled ") Handled bytes)))
+
 -- the events with one number
 unfoldable pub numbered_at : List ℕ → Option Event
-numbered_at bytes =
-    read_or (behind (codes "call ") bytes) (one Call)
-    (read_or (behind (codes "due ") bytes) (one Due)
-    (read_or (behind (codes "drop ") bytes) (one Drop)
-    (read_or (behind (codes "run ") bytes) (one Run)
-    (read_or (behind (codes "period ") bytes) (one Period)
-    (read_or (behind (codes "idle ") bytes) (one IdleLine)
-    (read_or (behind (codes "frame ") bytes) (one Frame)
-    (read_or (behind (codes "abort ") bytes) (one Abort)
-    (read_or (behind (codes "wait ") bytes) (one Wait)
-    (read_or (behind (codes "unhandled ") bytes) (one Unhandled)
-    (read_or (behind (codes "handled ") bytes) (one Handled) None))))))))))
+numbered_at bytes = option_or (registered_at bytes) (option_or (timed_at bytes) (identified_at bytes))
+
+-- the events that tell how a run goes on
+unfoldable pub running_at : List ℕ → Option Event
+running_at bytes =
+    if is_word (codes "ret") bytes then Some Ret
+    else read_or (behind (codes "turn ") bytes) turn_at
+    (read_or (behind (codes "job ") bytes) job_at
+    (read_or (behind (codes "end ") bytes) (λ word. option_map EndLine (end_at word)) None))
+
+-- the events that tell what is arranged for a callback, in a form
+unfoldable pub arranged_at : ℕ → List ℕ → Option Event
+arranged_at form bytes =
+    read_or (behind (codes "reg ") bytes) (if form == 1 then reg_at else reg_by_at)
+    (read_or (behind (codes "arm ") bytes) arm_at
+    (read_or (behind (codes "enq ") bytes) enq_at
+    (read_or (behind (codes "prio ") bytes) prio_at
+    (read_or (behind (codes "host ") bytes) host_at None))))
 
 -- the events with other fields, but no value, in a form
 unfoldable pub worded_at : ℕ → List ℕ → Option Event
-worded_at form bytes =
-    if is_word (codes "ret") bytes then Some Ret
-    else read_or (behind (codes "turn ") bytes) turn_at
-    (read_or (behind (codes "reg ") bytes) (if form == 1 then reg_at else reg_by_at)
-    (read_or (behind (codes "arm ") bytes) arm_at
-    (read_or (behind (codes "job ") bytes) job_at
-    (read_or (behind (codes "enq ") bytes) enq_at
-    (read_or (behind (codes "prio ") bytes) prio_at
-    (read_or (behind (codes "host ") bytes) host_at
-    (read_or (behind (codes "end ") bytes) (λ word. option_map EndLine (end_at word)) None)))))))
+worded_at form bytes = option_or (running_at bytes) (arranged_at form bytes)
 
 -- the events with a value
 unfoldable pub valued_at : List ℕ → Option Event

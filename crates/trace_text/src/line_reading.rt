@@ -2,7 +2,8 @@
 
 ghost use Rattle.std.specs.Prelude.{◌≡◌, IfOk, IfSome};
 ghost use Rattle.std.specs.Option.{option_map};
-ghost use Rattle.trace_text.specs.LineReading.{turn_at, reg_at, reg_by_at, prio_at, arm_at, job_at, enq_at, host_at, settle_at, send_at, numbered_at, worded_at, valued_at, IsTested, IsEventRead, IsRead};
+ghost use Rattle.page_base.specs.Found.{IsFound};
+ghost use Rattle.trace_text.specs.LineReading.{three_at, four_at, turn_at, reg_at, reg_by_at, prio_at, arm_at, job_at, enq_at, host_at, settle_at, send_at, count_behind, registered_at, timed_at, identified_at, numbered_at, running_at, arranged_at, worded_at, valued_at, IsTested, IsEventRead, IsRead};
 ghost use Rattle.trace_text.specs.EventSeen.{event_seen, stamped_seen};
 ghost use Rattle.trace_text.specs.Trace.{IsForm};
 
@@ -51,44 +52,76 @@ fn read_event(alloc: Global, form: u32, text: &[u8]) -> Result<Option<Event>, Al
 }
 
 // An event with one number.
-#[tactic(auto, unfolding(crate::specs::LineReading::numbered_at, crate::specs::LineReading::one))]
+#[tactic(auto, unfolding(crate::specs::LineReading::numbered_at))]
 fn read_numbered(text: &[u8]) -> Option<Event>
     ensures { option_map event_seen result ≡ numbered_at text.now }
 {
-    if let Some(rest) = behind(text, b"call ") {
-        return read_count(rest).map(|r| Event::Call { r });
+    if let Some(event) = read_registered(text) {
+        return Some(event);
     }
-    if let Some(rest) = behind(text, b"due ") {
-        return read_count(rest).map(|r| Event::Due { r });
+    if let Some(event) = read_timed(text) {
+        return Some(event);
     }
-    if let Some(rest) = behind(text, b"drop ") {
-        return read_count(rest).map(|r| Event::Drop { r });
+    read_identified(text)
+}
+
+// What becomes of a registration, which the event tells by its number.
+#[tactic(auto, unfolding(crate::specs::LineReading::registered_at, crate::specs::LineReading::one))]
+fn read_registered(text: &[u8]) -> Option<Event>
+    ensures { option_map event_seen result ≡ registered_at text.now }
+{
+    if let Some(r) = read_behind(text, b"call ") {
+        return Some(Event::Call { r });
     }
-    if let Some(rest) = behind(text, b"run ") {
-        return read_count(rest).map(|j| Event::Run { j });
+    if let Some(r) = read_behind(text, b"due ") {
+        return Some(Event::Due { r });
     }
-    if let Some(rest) = behind(text, b"period ") {
-        return read_count(rest).map(|d| Event::Period { d: Micros(d) });
+    let r = read_behind(text, b"drop ")?;
+    Some(Event::Drop { r })
+}
+
+// An event that tells a moment, in microseconds.
+#[tactic(auto, unfolding(crate::specs::LineReading::timed_at, crate::specs::LineReading::one))]
+fn read_timed(text: &[u8]) -> Option<Event>
+    ensures { option_map event_seen result ≡ timed_at text.now }
+{
+    if let Some(d) = read_behind(text, b"period ") {
+        return Some(Event::Period { d: Micros(d) });
     }
-    if let Some(rest) = behind(text, b"idle ") {
-        return read_count(rest).map(|d| Event::Idle { d: Micros(d) });
+    if let Some(d) = read_behind(text, b"idle ") {
+        return Some(Event::Idle { d: Micros(d) });
     }
-    if let Some(rest) = behind(text, b"frame ") {
-        return read_count(rest).map(|t| Event::Frame { t: Micros(t) });
+    if let Some(t) = read_behind(text, b"frame ") {
+        return Some(Event::Frame { t: Micros(t) });
     }
-    if let Some(rest) = behind(text, b"abort ") {
-        return read_count(rest).map(|s| Event::Abort { s });
+    let t = read_behind(text, b"wait ")?;
+    Some(Event::Wait { t: Micros(t) })
+}
+
+// What becomes of a job, a signal or a promise, which the event tells by its number.
+#[tactic(auto, unfolding(crate::specs::LineReading::identified_at, crate::specs::LineReading::one))]
+fn read_identified(text: &[u8]) -> Option<Event>
+    ensures { option_map event_seen result ≡ identified_at text.now }
+{
+    if let Some(j) = read_behind(text, b"run ") {
+        return Some(Event::Run { j });
     }
-    if let Some(rest) = behind(text, b"wait ") {
-        return read_count(rest).map(|t| Event::Wait { t: Micros(t) });
+    if let Some(s) = read_behind(text, b"abort ") {
+        return Some(Event::Abort { s });
     }
-    if let Some(rest) = behind(text, b"unhandled ") {
-        return read_count(rest).map(|p| Event::Unhandled { p });
+    if let Some(p) = read_behind(text, b"unhandled ") {
+        return Some(Event::Unhandled { p });
     }
-    if let Some(rest) = behind(text, b"handled ") {
-        return read_count(rest).map(|p| Event::Handled { p });
-    }
-    None
+    let p = read_behind(text, b"handled ")?;
+    Some(Event::Handled { p })
+}
+
+// The number that is all that stands behind a word.
+#[tactic(auto, unfolding(crate::specs::LineReading::count_behind))]
+fn read_behind(text: &[u8], word: &[u8]) -> Option<u64>
+    ensures { result ≡ count_behind word.now text.now }
+{
+    read_count(behind(text, word)?)
 }
 
 // An event with other fields, but no value.
@@ -96,12 +129,35 @@ fn read_numbered(text: &[u8]) -> Option<Event>
 fn read_worded(form: u32, text: &[u8]) -> Option<Event>
     ensures { option_map event_seen result ≡ worded_at form text.now }
 {
+    if let Some(event) = read_running(text) {
+        return Some(event);
+    }
+    read_arranged(form, text)
+}
+
+// How a run goes on: a turn, the end of a call, a job that was queued, the end of the run.
+#[tactic(auto, unfolding(crate::specs::LineReading::running_at))]
+fn read_running(text: &[u8]) -> Option<Event>
+    ensures { option_map event_seen result ≡ running_at text.now }
+{
     if is_word(text, b"ret") {
         return Some(Event::Ret);
     }
     if let Some(rest) = behind(text, b"turn ") {
         return read_turn(rest);
     }
+    if let Some(rest) = behind(text, b"job ") {
+        return read_job(rest);
+    }
+    let rest = behind(text, b"end ")?;
+    read_end(rest).map(Event::End)
+}
+
+// What is arranged for a callback: a registration, a timer, a task, a priority, a host's answer.
+#[tactic(auto, unfolding(crate::specs::LineReading::arranged_at))]
+fn read_arranged(form: u32, text: &[u8]) -> Option<Event>
+    ensures { option_map event_seen result ≡ arranged_at form text.now }
+{
     if let Some(rest) = behind(text, b"reg ") {
         return if form == 1 {
             read_reg(rest)
@@ -112,22 +168,33 @@ fn read_worded(form: u32, text: &[u8]) -> Option<Event>
     if let Some(rest) = behind(text, b"arm ") {
         return read_arm(rest);
     }
-    if let Some(rest) = behind(text, b"job ") {
-        return read_job(rest);
-    }
     if let Some(rest) = behind(text, b"enq ") {
         return read_enq(rest);
     }
     if let Some(rest) = behind(text, b"prio ") {
         return read_prio(rest);
     }
-    if let Some(rest) = behind(text, b"host ") {
-        return read_host(rest);
-    }
-    if let Some(rest) = behind(text, b"end ") {
-        return read_end(rest).map(Event::End);
-    }
-    None
+    read_host(behind(text, b"host ")?)
+}
+
+// What stands before, between and behind the first two spaces.
+#[tactic(auto, unfolding(crate::specs::LineReading::three_at))]
+fn cut_in_three(text: &[u8]) -> Option<(&[u8], &[u8], &[u8])>
+    ensures { IsFound result (three_at text.now) (λ f. (f.0.now, f.1.now, f.2.now)) }
+{
+    let (first, rest) = cut_at(text, b' ')?;
+    let (second, third) = cut_at(rest, b' ')?;
+    Some((first, second, third))
+}
+
+// What stands before, between and behind the first three spaces.
+#[tactic(auto, unfolding(crate::specs::LineReading::four_at))]
+fn cut_in_four(text: &[u8]) -> Option<(&[u8], &[u8], &[u8], &[u8])>
+    ensures { IsFound result (four_at text.now) (λ f. (f.0.now, f.1.now, f.2.now, f.3.now)) }
+{
+    let (first, rest) = cut_at(text, b' ')?;
+    let (second, third, fourth) = cut_in_three(rest)?;
+    Some((first, second, third, fourth))
 }
 
 #[tactic(auto, unfolding(crate::specs::LineReading::turn_at))]
@@ -154,11 +221,10 @@ fn read_reg(fields: &[u8]) -> Option<Event>
 fn read_reg_by(fields: &[u8]) -> Option<Event>
     ensures { option_map event_seen result ≡ reg_by_at fields.now }
 {
-    let (first, rest) = cut_at(fields, b' ')?;
-    let (second, rest) = cut_at(rest, b' ')?;
+    let (first, second, third) = cut_in_three(fields)?;
     let r = read_count(first)?;
     let kind = read_kind(second)?;
-    let by = Some(read_count(rest)?);
+    let by = Some(read_count(third)?);
     Some(Event::Reg { r, kind, by })
 }
 
@@ -176,11 +242,10 @@ fn read_prio(fields: &[u8]) -> Option<Event>
 fn read_arm(fields: &[u8]) -> Option<Event>
     ensures { option_map event_seen result ≡ arm_at fields.now }
 {
-    let (first, rest) = cut_at(fields, b' ')?;
-    let (second, rest) = cut_at(rest, b' ')?;
+    let (first, second, third) = cut_in_three(fields)?;
     let r = read_count(first)?;
     let due = read_count(second)?;
-    let level = read_count(rest)?;
+    let level = read_count(third)?;
     Some(Event::Arm {
         r,
         due: Micros(due),
@@ -202,13 +267,11 @@ fn read_job(fields: &[u8]) -> Option<Event>
 fn read_enq(fields: &[u8]) -> Option<Event>
     ensures { option_map event_seen result ≡ enq_at fields.now }
 {
-    let (first, rest) = cut_at(fields, b' ')?;
-    let (second, rest) = cut_at(rest, b' ')?;
-    let (third, rest) = cut_at(rest, b' ')?;
+    let (first, second, third, fourth) = cut_in_four(fields)?;
     let r = read_count(first)?;
     let queue = read_queue(second)?;
     let cont = read_form(third)?;
-    let n = read_count(rest)?;
+    let n = read_count(fourth)?;
     Some(Event::Enq { r, queue, cont, n })
 }
 
@@ -216,13 +279,11 @@ fn read_enq(fields: &[u8]) -> Option<Event>
 fn read_host(fields: &[u8]) -> Option<Event>
     ensures { option_map event_seen result ≡ host_at fields.now }
 {
-    let (first, rest) = cut_at(fields, b' ')?;
-    let (second, rest) = cut_at(rest, b' ')?;
-    let (third, rest) = cut_at(rest, b' ')?;
+    let (first, second, third, fourth) = cut_in_four(fields)?;
     let k = read_count(first)?;
     let x = read_int(second)?;
     let ok = read_how(third)?;
-    let value = read_int(rest)?;
+    let value = read_int(fourth)?;
     let answer = if ok { Ok(value) } else { Err(value) };
     Some(Event::Host { k, x, answer })
 }
