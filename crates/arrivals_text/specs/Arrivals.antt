@@ -42,19 +42,31 @@ pub data Line : Type 0 where
   HostLine : Latency → Line
   ArrivalLine : Arrival → Line
 
+-- the line that these bytes spell, of those on what comes from outside the page: a host's latency, or an arrival
+abbrev pub outside_at : List ℕ → Option Line
+outside_at bytes =
+    read_or (behind (codes "host ") bytes) (λ rest. option_map HostLine (latency_at rest))
+    (read_or (behind (codes "at ") bytes) (λ rest. option_map ArrivalLine (arrival_at rest)) None)
+
+-- the same of these and of those on how exact a run is: frames a second, latenesses, or cells that a page reserves
+abbrev pub detail_at : List ℕ → Option Line
+detail_at bytes =
+    read_or (behind (codes "refresh ") bytes) (λ rest. option_map RefreshLine (number_in 1 240 rest))
+    (read_or (behind (codes "late ") bytes) (λ rest. option_map LateLine (late_at rest))
+    (read_or (behind (codes "room ") bytes) (λ rest. option_map RoomLine (number_in 0 1000000 rest)) (outside_at bytes)))
+
+-- the same of these and of those on how long a run goes on: fuel, or when it ends
+abbrev pub amount_at : List ℕ → Option Line
+amount_at bytes =
+    read_or (behind (codes "fuel ") bytes) (λ rest. option_map FuelLine (number_in 1 10000000 rest))
+    (read_or (behind (codes "until ") bytes) (λ rest. option_map UntilLine (number_in 1 1000000000000 rest)) (detail_at bytes))
+
 -- the line that these bytes spell
 unfoldable pub line_at : List ℕ → Option Line
 line_at bytes =
     read_or (behind (codes "page ") bytes) (λ rest. option_map PageLine (number_in 1 2 rest))
     (if is_word (codes "trace 2") bytes then Some TraceLine
-    else read_or (behind (codes "policy ") bytes) (λ rest. option_map PolicyLine (policy_at rest))
-    (read_or (behind (codes "fuel ") bytes) (λ rest. option_map FuelLine (number_in 1 10000000 rest))
-    (read_or (behind (codes "until ") bytes) (λ rest. option_map UntilLine (number_in 1 1000000000000 rest))
-    (read_or (behind (codes "refresh ") bytes) (λ rest. option_map RefreshLine (number_in 1 240 rest))
-    (read_or (behind (codes "late ") bytes) (λ rest. option_map LateLine (late_at rest))
-    (read_or (behind (codes "room ") bytes) (λ rest. option_map RoomLine (number_in 0 1000000 rest))
-    (read_or (behind (codes "host ") bytes) (λ rest. option_map HostLine (latency_at rest))
-    (read_or (behind (codes "at ") bytes) (λ rest. option_map ArrivalLine (arrival_at rest)) None))))))))
+    else read_or (behind (codes "policy ") bytes) (λ rest. option_map PolicyLine (policy_at rest)) (amount_at bytes))
 
 -- The bytes between line feeds. What stands behind the last one is a line only where it is not empty.
 abbrev pub but_empty_last : List (List ℕ) → List (List ℕ)

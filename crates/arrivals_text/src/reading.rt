@@ -4,7 +4,7 @@ ghost use Rattle.std.specs.Prelude.{◌≡◌, ◌<◌, ◌∷◌, [], length, S
 ghost use Rattle.std.specs.Option.{option_map};
 ghost use Rattle.page_parts.specs.Setup.{IsSetup};
 ghost use Rattle.arrivals_text.specs.Fields.{arrival_at, latency_at};
-ghost use Rattle.arrivals_text.specs.Arrivals.{HostLine, line_at, lines_of, says_something as says, place_of as placed, SetsUp, IsBadLine, default_settings, settings_after, BeginsWith};
+ghost use Rattle.arrivals_text.specs.Arrivals.{HostLine, line_at, amount_at, detail_at, outside_at, lines_of, says_something as says, place_of as placed, SetsUp, IsBadLine, default_settings, settings_after, BeginsWith};
 ghost use Rattle.arrivals_text.specs.Reading.{step, goes, settled, draft_of, Gives, IsWithin, is_start as starts, TakesLine};
 ghost use Rattle.arrivals_text.specs.SeenParts.{arrival_of};
 ghost use Rattle.arrivals_text.specs.Seen.{settings_of, line_of};
@@ -214,12 +214,26 @@ fn read_line(alloc: Global, text: &[u8]) -> Result<Option<Line>, AllocError>
             None => Ok(None),
         };
     }
+    read_amount(alloc, text)
+}
+
+// The line that these bytes spell, of those on how long a run goes on and those below.
+fn read_amount(alloc: Global, text: &[u8]) -> Result<Option<Line>, AllocError>
+    ensures { IfOk result (λ line. option_map line_of line ≡ amount_at text.now) }
+{
     if let Some(rest) = behind(text, b"fuel ") {
         return Ok(number_in(rest, 1, 10_000_000).map(Line::Fuel));
     }
     if let Some(rest) = behind(text, b"until ") {
         return Ok(number_in(rest, 1, 1_000_000_000_000).map(Line::Until));
     }
+    read_detail(alloc, text)
+}
+
+// The line that these bytes spell, of those on how exact a run is and those below.
+fn read_detail(alloc: Global, text: &[u8]) -> Result<Option<Line>, AllocError>
+    ensures { IfOk result (λ line. option_map line_of line ≡ detail_at text.now) }
+{
     if let Some(rest) = behind(text, b"refresh ") {
         return Ok(number_in(rest, 1, 240).map(|rate| Line::Refresh(rate as u32)));
     }
@@ -232,6 +246,13 @@ fn read_line(alloc: Global, text: &[u8]) -> Result<Option<Line>, AllocError>
     if let Some(rest) = behind(text, b"room ") {
         return Ok(number_in(rest, 0, 1_000_000).map(|room| Line::Room(room as usize)));
     }
+    read_outside(alloc, text)
+}
+
+// The line that these bytes spell, of those on what comes from outside the page.
+fn read_outside(alloc: Global, text: &[u8]) -> Result<Option<Line>, AllocError>
+    ensures { IfOk result (λ line. option_map line_of line ≡ outside_at text.now) }
+{
     if let Some(rest) = behind(text, b"host ") {
         return Ok(read_latency(rest));
     }

@@ -4,8 +4,8 @@ ghost use Rattle.std.specs.Prelude.{◌≡◌, ◌≢◌, ◌≤◌, ◌∷◌, 
 ghost use Rattle.std.specs.Option.{option_map};
 ghost use Rattle.page_values.specs.Seen.{seen};
 ghost use Rattle.page_values.specs.Texts.{is_text, is_text_byte};
-ghost use Rattle.arrivals_text.specs.Fields.{negative as negated, int_at, text_at, parts_at, value_at};
-ghost use Rattle.arrivals_text.specs.Parts.{IsPart};
+ghost use Rattle.arrivals_text.specs.Fields.{negative as negated, is_plain as plain, int_at, text_at, parts_at, value_at};
+ghost use Rattle.arrivals_text.specs.Parts.{IsPart, IsEscape};
 
 use crate::fields::number_in;
 use page_base::{behind, is_word};
@@ -66,9 +66,14 @@ fn negative(size: u64) -> i64
 fn read_text(alloc: Global, parts: &[u8]) -> Result<Option<Str>, AllocError>
     ensures { IfOk result (λ text. text ≡ text_at parts.now) }
 {
-    match read_parts(alloc, parts)? {
-        Some(bytes) if bytes.len() <= TEXT_LIMIT => Ok(Some(Str::new(bytes))),
-        _ => Ok(None),
+    let Some(bytes) = read_parts(alloc, parts)? else {
+        return Ok(None);
+    };
+    if bytes.len() <= TEXT_LIMIT {
+        Ok(Some(Str::new(bytes)))
+    } else {
+        drop(bytes);
+        Ok(None)
     }
 }
 
@@ -99,16 +104,33 @@ fn read_part(byte: u8, after: &[u8]) -> Option<(u8, &[u8])>
     ensures text { IfSome result (λ part. IsTrue (is_text_byte part.0)) }
     ensures shorter { IfSome result (λ part. length part.1.now ≤ length after.now) }
 {
-    match byte {
-        b'\\' => {
-            let (escaped, behind) = after.split_first()?;
-            match *escaped {
-                b'"' | b'\\' => Some((*escaped, behind)),
-                b'n' => Some((b'\n', behind)),
-                _ => None,
-            }
-        }
-        0x20..=0x7E => Some((byte, after)),
+    if byte == b'\\' {
+        return read_escape(after);
+    }
+    if is_plain(byte) {
+        Some((byte, after))
+    } else {
+        None
+    }
+}
+
+// Whether a byte stands for itself.
+fn is_plain(byte: u8) -> bool
+    ensures { result ≡ plain byte }
+{
+    0x20 <= byte && byte <= 0x7E && byte != b'"' && byte != b'\\'
+}
+
+// The byte that stands behind a backslash, as what it stands for, and what follows it.
+fn read_escape(text: &[u8]) -> Option<(u8, &[u8])>
+    ensures part { IsEscape result text.now }
+    ensures text { IfSome result (λ part. IsTrue (is_text_byte part.0)) }
+    ensures shorter { IfSome result (λ part. length part.1.now ≤ length text.now) }
+{
+    let (byte, after) = text.split_first()?;
+    match *byte {
+        b'"' | b'\\' => Some((*byte, after)),
+        b'n' => Some((b'\n', after)),
         _ => None,
     }
 }
