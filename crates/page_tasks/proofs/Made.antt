@@ -16,7 +16,6 @@ use Rattle.post_task.specs.declared.level.PrioSource.{PrioSource}
 use Rattle.post_task.specs.declared.level.PrioSource.TheVariants.{Fixed, Signal}
 use Rattle.post_task.specs.Waiting.{Waiting, same_source}
 use Rattle.post_task.specs.Levels.{Sched as SchedLevels, all_queues, has_source, Lone, waiting, priority_in, Kept}
-use Rattle.post_task.proofs.Moves.{still_kept}
 use Rattle.page_tasks.specs.declared.page_task.PageTask.{PageTask}
 use Rattle.page_tasks.specs.Queued.{SignalPriority, none_queued}
 use Rattle.page_tasks.specs.Standing.{seen_in, priorities_in, priority_by, tasks_in, sched_tasks_in, AreTasks, AreScheduled, AreOnce, IsStanding}
@@ -58,7 +57,7 @@ no_priorities (level ∷ rest) none =
     rw h.0 (no_priorities rest h.1)
 
 -- what making the queues and the pool says
-pub record IsMade (p0 p1 p2 p3 : Lists PageTask) (queues : Queues PageTask) (sched : SchedLevels) (tickets : ℕ → Option Ticket) : Type 0 where
+pub record IsMade (p0 p1 p2 : Lists PageTask) (queues : Queues PageTask) (sched : SchedLevels) (tickets : ℕ → Option Ticket) : Type 0 where
   pub begun : p0.lists ≡ []
   pub stand : StandIn queues p1
   pub empty : (s : Source) → tasks_of queues p1 s ≡ []
@@ -68,16 +67,15 @@ pub record IsMade (p0 p1 p2 p3 : Lists PageTask) (queues : Queues PageTask) (sch
   pub apart : (l : ℕ) → l < length p1.lists → Lone l (all_queues sched.levels)
   pub more : length p1.lists ≤ length p2.lists
   pub second : (l : ℕ) → list_of p2 l ≡ list_of p1 l
-  pub third : p3 ≡ record p2 { spare = p3.spare }
   pub inserts : p2.inserts ≡ 0
   pub no_ticket : (r : ℕ) → tickets r ≡ None
   pub signals : (s : ℕ) → priority_in sched.levels (Signal s) ≡ None
 
-module _ (p0 p1 p2 p3 : Lists PageTask) (queues : Queues PageTask) (sched : SchedLevels) (tickets : ℕ → Option Ticket) (m : IsMade p0 p1 p2 p3 queues sched tickets) where
-  list_is : (l : ℕ) → list_of p3 l ≡ list_of p1 l
-  list_is l = ap (λ (p : Lists PageTask). list_of p l) m.third ∙ m.second l
+module _ (p0 p1 p2 : Lists PageTask) (queues : Queues PageTask) (sched : SchedLevels) (tickets : ℕ → Option Ticket) (m : IsMade p0 p1 p2 queues sched tickets) where
+  list_is : (l : ℕ) → list_of p2 l ≡ list_of p1 l
+  list_is l = m.second l
 
-  tasks_by : (s : Source) → tasks_of queues p3 s ≡ []
+  tasks_by : (s : Source) → tasks_of queues p2 s ≡ []
   tasks_by User = list_is (list_number queues User) ∙ m.empty User
   tasks_by Net = list_is (list_number queues Net) ∙ m.empty Net
   tasks_by Dom = list_is (list_number queues Dom) ∙ m.empty Dom
@@ -86,37 +84,37 @@ module _ (p0 p1 p2 p3 : Lists PageTask) (queues : Queues PageTask) (sched : Sche
   tasks_by Idle = list_is (list_number queues Idle) ∙ m.empty Idle
   tasks_by Sched = refl
 
-  tasks_are : tasks_of queues p3 ≡ no_lists
+  tasks_are : tasks_of queues p2 ≡ no_lists
   tasks_are = fun_ext tasks_by
 
-  waiting_are : waiting sched.levels p3 ≡ []
-  waiting_are = ap (λ (p : Lists PageTask). waiting sched.levels p) m.third ∙ m.none
+  waiting_are : waiting sched.levels p2 ≡ []
+  waiting_are = m.none
 
   no_list : (l : ℕ) → list_of p0 l ≡ []
   no_list l = ap (λ (ls : List (List (Entry PageTask))). slice_index_or ls l []) m.begun
 
-  within : length p1.lists ≤ length p3.lists
-  within = omega (arith, m.more, ap (λ (p : Lists PageTask). length p.lists) m.third)
+  within : length p1.lists ≤ length p2.lists
+  within = m.more
 
-  pub made_standing : IsStanding p3 queues sched tickets [] 0
+  pub made_standing : IsStanding p2 queues sched tickets [] 0
   made_standing =
-      let tasks : AreTasks (tasks_of queues p3) [] 0 = subst (λ (ls : BySource PageTask). AreTasks ls [] 0) (sym tasks_are) (none_tasks 0) in
-      let scheduled : AreScheduled sched.levels (waiting sched.levels p3) tickets p3.inserts 0 = subst (λ (ws : List (Waiting PageTask)). AreScheduled sched.levels ws tickets p3.inserts 0) (sym waiting_are) (none_scheduled sched.levels tickets p3.inserts 0 m.no_ticket) in
+      let tasks : AreTasks (tasks_of queues p2) [] 0 = subst (λ (ls : BySource PageTask). AreTasks ls [] 0) (sym tasks_are) (none_tasks 0) in
+      let scheduled : AreScheduled sched.levels (waiting sched.levels p2) tickets p2.inserts 0 = subst (λ (ws : List (Waiting PageTask)). AreScheduled sched.levels ws tickets p2.inserts 0) (sym waiting_are) (none_scheduled sched.levels tickets p2.inserts 0 m.no_ticket) in
       record {
         lists = record {
           stand = omega (arith, m.stand, within);
-          kept = still_kept sched p2 p3 (omega (arith, ap (λ (p : Lists PageTask). length p.lists) m.third)) (λ l. ap (λ (p : Lists PageTask). list_of p l) m.third) m.kept;
+          kept = m.kept;
           apart = λ s other. m.apart (list_number queues s) (list_within queues p1 s m.stand other);
           others = λ l apart lone. list_is l ∙ m.first l ∙ no_list l;
         };
         tasks = tasks;
         scheduled = scheduled;
-        once = subst (λ (ws : List (Waiting PageTask)). AreOnce (merged (tasks_of queues p3)) ws) (sym waiting_are) (λ w i. absurd i);
-        inserts = omega (arith, ap (λ (p : Lists PageTask). p.inserts) m.third, m.inserts);
+        once = subst (λ (ws : List (Waiting PageTask)). AreOnce (merged (tasks_of queues p2)) ws) (sym waiting_are) (λ w i. absurd i);
+        inserts = omega (arith, m.inserts);
       }
 
-  pub made_seen : seen_in p3 queues sched 0 ≡ none_queued p3.spare
+  pub made_seen : seen_in p2 queues sched 0 ≡ none_queued p2.spare
   made_seen =
-      ap (λ (ls : BySource PageTask). record (seen_in p3 queues sched 0) { tasks = tasks_in ls }) tasks_are
-      ∙ ap (λ (ws : List (Waiting PageTask)). record (none_queued p3.spare) { sched_tasks = sched_tasks_in ws; priorities = priorities_in sched.levels }) waiting_are
-      ∙ ap (λ (ps : List SignalPriority). record (none_queued p3.spare) { priorities = ps }) (no_priorities sched.levels m.signals)
+      ap (λ (ls : BySource PageTask). record (seen_in p2 queues sched 0) { tasks = tasks_in ls }) tasks_are
+      ∙ ap (λ (ws : List (Waiting PageTask)). record (none_queued p2.spare) { sched_tasks = sched_tasks_in ws; priorities = priorities_in sched.levels }) waiting_are
+      ∙ ap (λ (ps : List SignalPriority). record (none_queued p2.spare) { priorities = ps }) (no_priorities sched.levels m.signals)

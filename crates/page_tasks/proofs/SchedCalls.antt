@@ -1,7 +1,7 @@
 -- The calls on the scheduler's queues, on the whole.
-use Rattle.std.proofs.Common.{◌≡◌, ◌≢◌, ℕ, suc, ◌<◌, ◌≤◌, Bool, true, false, cond, List, [], ◌∷◌, length, Option, None, Some, eqb, filter, refl, sym, ◌∙◌, ap, subst, inl, inr, arith}
+use Rattle.std.proofs.Common.{◌≡◌, ◌≢◌, ℕ, suc, ◌<◌, ◌≤◌, Bool, true, false, cond, List, [], ◌∷◌, length, Option, None, Some, Result, Ok, Err, OnErr, IsErr, eqb, filter, refl, sym, ◌∙◌, ap, subst, inl, inr, arith}
 use mathlib.Core.Path.{fun_ext}
-use Rattle.std.specs.Prelude.{OnSome, is_some, option_map}
+use Rattle.std.specs.Prelude.{OnSome, IsOk, is_some, option_map}
 use Rattle.std.specs.List.{AllByRecursion, find}
 use Rattle.std.proofs.lemmas.Bool.{eqb-true}
 use Rattle.page_parts.specs.Words.{and_last}
@@ -78,6 +78,11 @@ module _ (old new : Lists PageTask) (queues : Queues PageTask) (sched after : Sc
       sched_standing made (omega arith) (omega (arith, ap (λ (p : Lists PageTask). p.inserts) e, st.inserts))
       (subst (λ (us : List (Waiting PageTask)). AreScheduled sched.levels us now new.inserts made) (sym ws) scheduled)
       (subst (λ (us : List (Waiting PageTask)). AreOnce (merged (tasks_of queues old)) us) (sym ws) st.once)
+
+  pub still_seen : new ≡ old → seen_in new queues after made ≡ seen_in old queues sched made
+  still_seen e =
+      let ws : waiting after.levels new ≡ waiting sched.levels old = ap (λ (ls : List Level). waiting ls new) call.same ∙ ap (λ (p : Lists PageTask). waiting sched.levels p) e in
+      sched_seen made (sched_tasks_in (waiting sched.levels old)) (ap sched_tasks_in ws) ∙ ap (λ (p : Lists PageTask). record (seen_in old queues sched made) { spare = p.spare }) e
 
   -- ---- a task is enqueued
 
@@ -157,3 +162,17 @@ not_none o e none = let h = ap is_some none in cc
 pub on_some : {X Y P : Type 0} (f : X → Y) (o : Option X) (r : Option Y) → is_some o ≡ true → r ≡ option_map f o → OnSome r P → P
 on_some f None r e is h = absurd (cc)
 on_some {P = P} f (Some x) r e is h = subst (λ u. OnSome u P) is h
+
+-- ---- what an error tells
+
+pub is_error : {A E P : Type 0} (r : Result A E) → IsErr r → OnErr r P → P
+is_error (Ok x) h f = absurd (cc)
+is_error (Err e) h f = f
+
+pub on_err : {A E P : Type 0} (r : Result A E) → P → OnErr r P
+on_err (Ok x) p = tt
+on_err (Err e) p = p
+
+pub not_both : {A E : Type 0} (r : Result A E) → IsOk r → IsErr r → ⊥
+not_both (Ok x) ok err = absurd (cc)
+not_both (Err e) ok err = absurd (cc)

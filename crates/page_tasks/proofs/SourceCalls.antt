@@ -1,11 +1,12 @@
 -- The calls on the task sources, on the whole.
-use Rattle.std.proofs.Common.{Box, Global, ◌≡◌, ◌≢◌, ℕ, suc, ◌+◌, ◌≤◌, not, List, [], ◌∷◌, ◌++◌, drop, length, Option, None, Some, eqb, filter, refl, sym, ◌∙◌, ap, subst, arith}
+use Rattle.std.proofs.Common.{Box, Global, ◌≡◌, ◌≢◌, ℕ, suc, ◌+◌, ◌≤◌, not, List, [], ◌∷◌, ◌++◌, drop, length, Option, None, Some, eqb, filter, IsTrue, refl, sym, ◌∙◌, ap, subst, arith}
 use Rattle.std.specs.Prelude.{unwrap_or}
 use Rattle.std.specs.List.{AllByRecursion}
 use Rattle.std.specs.Option.{option_to_list, option_map}
 use Rattle.page_types.specs.declared.Source.{Source}
 use Rattle.page_parts.specs.Words.{and_last}
 use Rattle.page_model.specs.State as Model
+use Rattle.page_model.specs.PageSignals.{host_task_of}
 use Rattle.page_model.specs.PageTime.{first_task}
 use Rattle.page_fields.specs.Fields as Fields
 use Rattle.cell_room.specs.declared.room.Cell.{Cell}
@@ -18,15 +19,16 @@ use Rattle.post_task.specs.declared.level.Level.{Level}
 use Rattle.post_task.specs.Waiting.{Waiting}
 use Rattle.post_task.specs.Levels.{Sched as SchedLevels, waiting}
 use Rattle.page_tasks.specs.declared.asked.Asked.{Asked}
+use Rattle.page_tasks.specs.declared.tasks.HostTask.{HostTask}
 use Rattle.page_tasks.specs.declared.page_task.TaskSteps.{TaskSteps}
 use Rattle.page_tasks.specs.declared.page_task.PageTask.{PageTask}
 use Rattle.page_tasks.specs.declared.page_task.PageTask.TheVariants.{OfSource}
-use Rattle.page_tasks.specs.Seen.{steps_of, steps_in}
-use Rattle.page_tasks.specs.Asking.{asked_by}
-use Rattle.page_tasks.specs.Queued.{queued, with_spare, without_number, taken}
+use Rattle.page_tasks.specs.Seen.{steps_of, host_task, has_steps, steps_in}
+use Rattle.page_tasks.specs.Asking.{host_task_in, asked_by}
+use Rattle.page_tasks.specs.Queued.{queued, with_spare, without_number}
 use Rattle.page_tasks.specs.Standing.{seen_in, tasks_in, sched_tasks_in, AreTasks, AreScheduled, AreOnce, IsStanding}
 use Rattle.page_tasks.proofs.Beside.{same_waiting, source_changed}
-use Rattle.page_tasks.proofs.Sources.{all_last, all_without, queued_merged, queued_seen, queued_tasks, taken_merged, taken_seen, taken_tasks, first_by_list}
+use Rattle.page_tasks.proofs.Sources.{all_last, all_without, queued_merged, queued_seen, queued_tasks, taken_merged, taken_seen, taken_tasks, first_by_list, first_steps, host_is}
 
 -- more was put in, and more numbers were given out
 pub later : (levels : List Level) (ws : List (Waiting PageTask)) (tickets : ℕ → Option Ticket) (i j m n : ℕ) → i ≤ j → m ≤ n → AreScheduled levels ws tickets i m → AreScheduled levels ws tickets j n
@@ -137,9 +139,32 @@ module _ (lists : BySource PageTask) (asked : List Asked) (made : ℕ) (s : Sour
   pub no_first : option_map numbered (first_entry (lists s)) ≡ None → None ≡ first_task s (tasks_in lists)
   no_first none = sym (first_by_list lists asked made s a ∙ ap (λ o. option_map (Fields.task_of steps_in) (option_map (sourced s) o)) (none_given (lists s) none))
 
-  pub the_first : (number : ℕ) (steps : Box TaskSteps Global) → option_map numbered (first_entry (lists s)) ≡ Some (number, OfSource steps) → Some (taken s (number, steps.value)) ≡ first_task s (tasks_in lists)
-  the_first number steps e =
-      let g = gives (lists s) number (OfSource steps) e in
-      ap (λ (n : ℕ). Some (taken s (n, steps.value))) (sym g.number_is)
-      ∙ ap (λ (t : PageTask). Some (record { number = g.entry.number; source = s; steps = steps_in t })) (sym g.item_is)
+  -- a task of this source
+  abbrev pub numbered_task : ℕ → Model.Steps → Model.Task
+  numbered_task number steps = record { number = number; source = s; steps = steps }
+
+  pub the_first : (number : ℕ) (task : PageTask) → option_map numbered (first_entry (lists s)) ≡ Some (number, task) → Some (numbered_task number (steps_in task)) ≡ first_task s (tasks_in lists)
+  the_first number task e =
+      let g = gives (lists s) number task e in
+      ap (λ (n : ℕ). Some (numbered_task n (steps_in task))) (sym g.number_is)
+      ∙ ap (λ (t : PageTask). Some (numbered_task g.entry.number (steps_in t))) (sym g.item_is)
       ∙ sym (first_by_list lists asked made s a ∙ ap (λ o. option_map (Fields.task_of steps_in) (option_map (sourced s) o)) g.first)
+
+  -- what is handed out has steps
+  pub the_steps : (number : ℕ) (task : PageTask) → option_map numbered (first_entry (lists s)) ≡ Some (number, task) → IsTrue (has_steps task)
+  the_steps number task e =
+      let g = gives (lists s) number task e in
+      subst (λ (t : PageTask). IsTrue (has_steps t)) g.item_is (first_steps lists asked made s g.entry a g.first)
+
+-- ---- what is noted
+
+-- a task of a host closure, noted with its number
+abbrev noted_with : ℕ → HostTask → Asked
+noted_with number task = record { number = number; task = task }
+
+not_host : (o : Option HostTask) → option_map host_task o ≡ None → o ≡ None
+not_host None e = refl
+not_host (Some t) e = absurd (cc)
+
+pub not_asked : (number : ℕ) (steps : TaskSteps) → host_task_of (steps_of steps) ≡ None → asked_by number steps ≡ None
+not_asked number steps none = ap (λ (o : Option HostTask). option_map (noted_with number) o) (not_host (host_task_in steps) (sym (host_is steps) ∙ none))

@@ -21,7 +21,7 @@ use Rattle.page_tasks.specs.declared.asked.Asked.{Asked}
 use Rattle.page_tasks.specs.declared.page_task.PageTask.{PageTask}
 use Rattle.page_tasks.specs.declared.page_task.PageTask.TheVariants.{OfScheduler}
 use Rattle.page_tasks.specs.Seen.{host_task, has_steps, steps_in, registration_in, prio_source}
-use Rattle.page_tasks.specs.Queued.{SignalPriority, Queued}
+use Rattle.page_tasks.specs.Queued.{SignalPriority, Queued, none_queued}
 
 -- ---- what is seen
 
@@ -133,6 +133,13 @@ pub record IsStanding (pool : Lists PageTask) (queues : Queues PageTask) (sched 
   pub scheduled : AreScheduled sched.levels (waiting sched.levels pool) tickets pool.inserts made
   pub once : AreOnce (merged (tasks_of queues pool)) (waiting sched.levels pool)
   pub inserts : pool.inserts ≤ made
+
+-- the lists of both sides are new: with no ticket and no number given out they stand in the pool,
+-- and are seen as no task
+pub record AreNew (pool : Lists PageTask) (queues : Queues PageTask) (sched : SchedLevels)
+    : Type 0 where
+  pub stand : IsStanding pool queues sched (λ _. None) [] 0
+  pub seen : seen_in pool queues sched 0 ≡ none_queued pool.spare
 
 -- a registration has this ticket now, and every other one keeps what it had
 abbrev pub PutsTicket : (registration : ℕ) → Ticket → (old new : ℕ → Option Ticket) → Type 0

@@ -1,5 +1,8 @@
 //! What a queued task is: the steps of a task of a task source, or a scheduler task.
 
+ghost use Rattle.std.specs.Prelude.{◌≡◌, IsTrue};
+ghost use Rattle.page_tasks.specs.Seen.{has_steps, steps_in, steps_of};
+
 use crate::tasks::{HostTask, TimerTask};
 use page_base::Micros;
 use page_values::{Str, Value};
@@ -63,4 +66,15 @@ pub enum PageTask {
     OfSource(Box<TaskSteps>),
     /// A scheduler task.
     OfScheduler(PostedTask),
+}
+
+/// The steps of a task of a task source.
+pub fn into_steps(task: PageTask) -> TaskSteps
+    requires { IsTrue (has_steps task) }
+    ensures { steps_of result ≡ steps_in task }
+{
+    match task {
+        PageTask::OfSource(steps) => Box::into_inner(steps),
+        PageTask::OfScheduler(_) => unreachable!(),
+    }
 }

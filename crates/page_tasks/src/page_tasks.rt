@@ -1,8 +1,9 @@
-ghost use Rattle.std.specs.Prelude.{◌≡◌, ◌≢◌, ◌+◌, ◌^◌, ◌<◌, ◌≤◌, map, None, Some, IfOk, OnOk, OnErr, IsOk, IfSome, IfNone, if◌then◌else◌, option_map, is_some, not};
+ghost use Rattle.std.specs.Prelude.{[], ◌≡◌, ◌≢◌, ◌+◌, ◌^◌, ◌<◌, ◌≤◌, map, None, Some, IfOk, OnOk, OnErr, IsOk, IfSome, IfNone, if◌then◌else◌, option_map, is_some, not};
 ghost use Rattle.std.specs.List.{list_all};
+ghost use Rattle.page_tasks.specs.Standing.{AreNew};
 
 use crate::asked::{Asked, asked_of, find_asked, forget, make_room, note};
-use crate::page_task::{PageTask, PostedTask, SchedTask, TaskSteps};
+use crate::page_task::{PageTask, PostedTask, SchedTask, TaskSteps, into_steps};
 use crate::tasks::HostTask;
 use crate::tickets::{has_ticket, make_place, put_ticket, take_ticket, ticket_of};
 use page_base::Source;
@@ -72,9 +73,7 @@ impl<L: Ledger> PageTasks<L> {
         ensures room { IfOk result (λ tasks. room ≤ tasks.spare) }
     {
         let mut pool = Pool::new(alloc);
-        let queues = Queues::new(&mut pool)?;
-        let sched = SchedQueues::new(alloc, &mut pool)?;
-        pool.reserve(room)?;
+        let (queues, sched) = new_queues(alloc, &mut pool, room)?;
         Ok(PageTasks {
             pool,
             queues,
@@ -129,10 +128,7 @@ impl<L: Ledger> PageTasks<L> {
             .queues
             .take(&mut self.pool, source, &mut self.accesses)?;
         forget(&mut self.asked, number);
-        match task {
-            PageTask::OfSource(steps) => Some((number, Box::into_inner(steps))),
-            PageTask::OfScheduler(_) => unreachable!(),
-        }
+        Some((number, into_steps(task)))
     }
 
     /// Enqueues a scheduler task, and gives its order, which is the next number (Prioritized Task Scheduling, "Scheduling tasks and
@@ -278,6 +274,24 @@ impl<L: Ledger> PageTasks<L> {
     {
         self.sched.move_priority(signal, priority);
     }
+}
+
+// The queues of the task sources and those of the scheduler, with no task, in a pool that had no
+// list. At least so many tasks are sure to find room in the pool.
+fn new_queues(
+    alloc: Global,
+    pool: &mut Pool<PageTask>,
+    room: usize,
+) -> Result<(Queues<PageTask>, SchedQueues<PageTask>), MemoryFault>
+    requires lists { pool.old.lists ≡ [] }
+    requires inserts { pool.old.inserts ≡ 0 }
+    ensures made { IfOk result (λ made. AreNew pool.new made.0 made.1) }
+    ensures room { OnOk result (room ≤ pool.new.spare) }
+{
+    pool.reserve(room)?;
+    let queues = Queues::new(pool)?;
+    let sched = SchedQueues::new(alloc, pool)?;
+    Ok((queues, sched))
 }
 
 // Whether no source has a number.

@@ -65,7 +65,9 @@ impl Arrivals {
         ensures err { OnErr result (self.new ≡ self.old) }
     {
         let number = self.made + 1;
-        self.waiting.insert((arrival.at, number), arrival)?;
+        // Each number is new, so nothing stood there.
+        let before = self.waiting.insert((arrival.at, number), arrival)?;
+        drop(before);
         self.made = number;
         Ok(())
     }

@@ -1,5 +1,5 @@
 -- What waits once a priority has changed, and once a source has got its lists.
-use Rattle.std.proofs.Common.{◌≡◌, ◌≢◌, ℕ, ◌+◌, ◌≤◌, ◌<◌, Bool, true, false, cond, List, [], ◌∷◌, ◌++◌, map, length, get_or, set, Option, Some, None, refl, sym, ◌∙◌, ap, subst, arith, length-append}
+use Rattle.std.proofs.Common.{◌≡◌, ◌≢◌, ℕ, zero, suc, ◌+◌, ◌≤◌, ◌<◌, Bool, true, false, cond, List, [], ◌∷◌, ◌++◌, map, length, get_or, set, Option, Some, None, refl, sym, ◌∙◌, ap, subst, arith, length-append}
 use Rattle.std.specs.Prelude.{IsSome}
 use Rattle.std.specs.List.{find}
 use Rattle.std.specs.Option.{option_map, option_or}
@@ -213,26 +213,26 @@ module _ {T : Type 0} where
 
   pub added_kept : (old new : List Level) (before after : Lists T) (source : PrioSource) (priority : Priority) → AreKept before (all_queues old) → ((l : ℕ) → list_of after l ≡ list_of before l) → Added old new before after source priority → AreKept after (all_queues new)
   added_kept old new before after source priority k same a =
-      let sizes : length after.lists ≡ length before.lists + 2 = ap length a.lists ∙ length-append (before.lists ++ [] ∷ []) ([] ∷ []) ∙ ap (λ (n : ℕ). n + 1) (length-append before.lists ([] ∷ [])) ∙ omega arith in
-      let second : a.level.continuations.0 ≡ length before.lists + 1 = a.continuations ∙ length-append before.lists ([] ∷ []) in
+      let sizes : length after.lists ≡ length before.lists + 2 = ap length a.made.lists ∙ length-append (before.lists ++ [] ∷ []) ([] ∷ []) ∙ ap (λ (n : ℕ). n + 1) (length-append before.lists ([] ∷ [])) ∙ omega arith in
+      let second : a.level.continuations.0 ≡ length before.lists + 1 = a.made.continuations ∙ length-append before.lists ([] ∷ []) in
       let plain : Queue = record { source = a.level.source; priority = a.level.priority; continuation = false; list = a.level.plain.0 } in
       let more : Queue = record { source = a.level.source; priority = a.level.priority; continuation = true; list = a.level.continuations.0 } in
       let kept : AreKept after (all_queues old) = same_kept before after (all_queues old) (omega (arith, sizes)) same k in
       let empty = λ (l : ℕ) (h : length before.lists ≤ l). subst (λ (es : List (Entry T)). Rises es) (sym (same l ∙ none_past before l h)) tt in
-      let lone_plain : Lone plain.list (all_queues old) = fresh_lone before plain.list (all_queues old) k (omega (arith, a.plain)) in
+      let lone_plain : Lone plain.list (all_queues old) = fresh_lone before plain.list (all_queues old) k (omega (arith, a.made.plain)) in
       let lone_more : Lone more.list (all_queues old) = fresh_lone before more.list (all_queues old) k (omega (arith, second)) in
-      let one : AreKept after (all_queues old ++ plain ∷ []) = kept_push after (all_queues old) plain kept (omega (arith, a.plain, sizes)) (empty plain.list (omega (arith, a.plain))) lone_plain in
+      let one : AreKept after (all_queues old ++ plain ∷ []) = kept_push after (all_queues old) plain kept (omega (arith, a.made.plain, sizes)) (empty plain.list (omega (arith, a.made.plain))) lone_plain in
       let two : AreKept after ((all_queues old ++ plain ∷ []) ++ more ∷ []) =
-      kept_push after (all_queues old ++ plain ∷ []) more one (omega (arith, second, sizes)) (empty more.list (omega (arith, second))) (lone_push more.list (all_queues old) plain lone_more (λ e. absurd (omega (arith, a.plain, second, e)))) in
+      kept_push after (all_queues old ++ plain ∷ []) more one (omega (arith, second, sizes)) (empty more.list (omega (arith, second))) (lone_push more.list (all_queues old) plain lone_more (λ e. absurd (omega (arith, a.made.plain, second, e)))) in
       let lists_are : all_queues new ≡ (all_queues old ++ plain ∷ []) ++ more ∷ [] = ap all_queues a.is ∙ all-append old a.level ∙ sym (append_assoc (all_queues old) (plain ∷ []) (more ∷ [])) in
       subst (λ (qs : List Queue). AreKept after qs) (sym lists_are) two
 
   pub added_waiting : (old new : List Level) (before after : Lists T) (source : PrioSource) (priority : Priority) → ((l : ℕ) → list_of after l ≡ list_of before l) → Added old new before after source priority → waiting new after ≡ waiting old before
   added_waiting old new before after source priority same a =
-      let second : a.level.continuations.0 ≡ length before.lists + 1 = a.continuations ∙ length-append before.lists ([] ∷ []) in
+      let second : a.level.continuations.0 ≡ length before.lists + 1 = a.made.continuations ∙ length-append before.lists ([] ∷ []) in
       let plain : Queue = record { source = a.level.source; priority = a.level.priority; continuation = false; list = a.level.plain.0 } in
       let more : Queue = record { source = a.level.source; priority = a.level.priority; continuation = true; list = a.level.continuations.0 } in
-      let first_none : of_queue after plain ≡ [] = ap (map (in_queue plain)) (same plain.list ∙ none_past before plain.list (omega (arith, a.plain))) in
+      let first_none : of_queue after plain ≡ [] = ap (map (in_queue plain)) (same plain.list ∙ none_past before plain.list (omega (arith, a.made.plain))) in
       let second_none : of_queue after more ≡ [] = ap (map (in_queue more)) (same more.list ∙ none_past before more.list (omega (arith, second))) in
       ap (λ (ls : List Level). waiting ls after) a.is
       ∙ ap (waiting_in after) (all-append old a.level)
@@ -245,10 +245,10 @@ module _ {T : Type 0} where
   -- no list that was there before is one of the new ones
   pub added_lone : (old new : List Level) (before after : Lists T) (source : PrioSource) (priority : Priority) → Added old new before after source priority → (l : ℕ) → l < length before.lists → Lone l (all_queues old) → Lone l (all_queues new)
   added_lone old new before after source priority a l h lone =
-      let second : a.level.continuations.0 ≡ length before.lists + 1 = a.continuations ∙ length-append before.lists ([] ∷ []) in
+      let second : a.level.continuations.0 ≡ length before.lists + 1 = a.made.continuations ∙ length-append before.lists ([] ∷ []) in
       let plain : Queue = record { source = a.level.source; priority = a.level.priority; continuation = false; list = a.level.plain.0 } in
       let more : Queue = record { source = a.level.source; priority = a.level.priority; continuation = true; list = a.level.continuations.0 } in
-      let one : Lone l (all_queues old ++ plain ∷ []) = lone_push l (all_queues old) plain lone (λ e. absurd (omega (arith, a.plain, e, h))) in
+      let one : Lone l (all_queues old ++ plain ∷ []) = lone_push l (all_queues old) plain lone (λ e. absurd (omega (arith, a.made.plain, e, h))) in
       let two : Lone l ((all_queues old ++ plain ∷ []) ++ more ∷ []) = lone_push l (all_queues old ++ plain ∷ []) more one (λ e. absurd (omega (arith, second, e, h))) in
       let lists_are : all_queues new ≡ (all_queues old ++ plain ∷ []) ++ more ∷ [] = ap all_queues a.is ∙ all-append old a.level ∙ sym (append_assoc (all_queues old) (plain ∷ []) (more ∷ [])) in
       subst (λ (qs : List Queue). Lone l qs) (sym lists_are) two
@@ -261,11 +261,18 @@ module _ {T : Type 0} where
       let k2 = added_lone l1 l2 p1 p2 (Fixed UserVisible) UserVisible b l (omega (arith, h, m1)) k1 in
       added_lone l2 l3 p2 p3 (Fixed UserBlocking) UserBlocking c l (omega (arith, h, m1, m2)) k2
 
+  -- one more empty list changes no list
+  pub list_more : (lists : List (List (Entry T))) (l : ℕ) → get_or (lists ++ [] ∷ []) l [] ≡ get_or lists l []
+  list_more [] zero = refl
+  list_more [] (suc l) = refl
+  list_more (list ∷ rest) zero = refl
+  list_more (list ∷ rest) (suc l) = list_more rest l
+
   -- a new source has no first task
   pub firsts_added : (old new : List Level) (before after : Lists T) (source : PrioSource) (priority : Priority) → ((l : ℕ) → list_of after l ≡ list_of before l) → Added old new before after source priority → firsts new after ≡ firsts old before ++ None ∷ []
   firsts_added old new before after source priority same a =
-      let second : a.level.continuations.0 ≡ length before.lists + 1 = a.continuations ∙ length-append before.lists ([] ∷ []) in
-      let plain : list_of after a.level.plain.0 ≡ [] = same a.level.plain.0 ∙ none_past before a.level.plain.0 (omega (arith, a.plain)) in
+      let second : a.level.continuations.0 ≡ length before.lists + 1 = a.made.continuations ∙ length-append before.lists ([] ∷ []) in
+      let plain : list_of after a.level.plain.0 ≡ [] = same a.level.plain.0 ∙ none_past before a.level.plain.0 (omega (arith, a.made.plain)) in
       let more : list_of after a.level.continuations.0 ≡ [] = same a.level.continuations.0 ∙ none_past before a.level.continuations.0 (omega (arith, second)) in
       let none : first_of after a.level ≡ None =
       ap (λ (es : List (Entry T)). option_or (head_in (effective_of a.level.priority true) es) (head_in (effective_of a.level.priority false) (list_of after a.level.plain.0))) more
@@ -281,7 +288,7 @@ module _ {T : Type 0} where
 
   pub fresh_after : (old new : List Level) (before after : Lists T) (source other : PrioSource) (priority : Priority) → Added old new before after source priority → place_of old other ≡ None → same_source source other ≡ false → place_of new other ≡ None
   fresh_after old new before after source other priority a none differs =
-      ap (λ (ls : List Level). place_of ls other) a.is ∙ none_push old a.level other none (ap (λ (x : PrioSource). same_source x other) a.source_is ∙ differs)
+      ap (λ (ls : List Level). place_of ls other) a.is ∙ none_push old a.level other none (ap (λ (x : PrioSource). same_source x other) a.made.source_is ∙ differs)
 
   -- ---- the three fixed priorities
 
@@ -294,15 +301,15 @@ module _ {T : Type 0} where
       let k2 : AreKept p2 (all_queues l2) = added_kept l1 l2 p1 p2 (Fixed UserVisible) UserVisible k1 s2 b in
       let k3 : AreKept p3 (all_queues l3) = added_kept l2 l3 p2 p3 (Fixed UserBlocking) UserBlocking k2 s3 c in
       let none_in = λ (source : PrioSource). ap (find (has_source source)) none in
-      let f1 : priority_in l1 (Fixed Background) ≡ Some Background = ap (λ (ls : List Level). priority_in ls (Fixed Background)) a.is ∙ found_last l0 a.level (Fixed Background) a.source_is (none_in (Fixed Background)) ∙ ap (λ (x : Priority). Some x) a.priority_is in
+      let f1 : priority_in l1 (Fixed Background) ≡ Some Background = ap (λ (ls : List Level). priority_in ls (Fixed Background)) a.is ∙ found_last l0 a.level (Fixed Background) a.made.source_is (none_in (Fixed Background)) ∙ ap (λ (x : Priority). Some x) a.made.priority_is in
       let f2 : priority_in l2 (Fixed Background) ≡ Some Background = ap (λ (ls : List Level). priority_in ls (Fixed Background)) b.is ∙ still_fixed l1 b.level (Fixed Background) Background f1 in
       let f3 : priority_in l3 (Fixed Background) ≡ Some Background = ap (λ (ls : List Level). priority_in ls (Fixed Background)) c.is ∙ still_fixed l2 c.level (Fixed Background) Background f2 in
-      let n1 : find (has_source (Fixed UserVisible)) l1 ≡ None = ap (find (has_source (Fixed UserVisible))) a.is ∙ not_last l0 a.level (Fixed UserVisible) (none_in (Fixed UserVisible)) (ap (λ (x : PrioSource). same_source x (Fixed UserVisible)) a.source_is) in
-      let g2 : priority_in l2 (Fixed UserVisible) ≡ Some UserVisible = ap (λ (ls : List Level). priority_in ls (Fixed UserVisible)) b.is ∙ found_last l1 b.level (Fixed UserVisible) b.source_is n1 ∙ ap (λ (x : Priority). Some x) b.priority_is in
+      let n1 : find (has_source (Fixed UserVisible)) l1 ≡ None = ap (find (has_source (Fixed UserVisible))) a.is ∙ not_last l0 a.level (Fixed UserVisible) (none_in (Fixed UserVisible)) (ap (λ (x : PrioSource). same_source x (Fixed UserVisible)) a.made.source_is) in
+      let g2 : priority_in l2 (Fixed UserVisible) ≡ Some UserVisible = ap (λ (ls : List Level). priority_in ls (Fixed UserVisible)) b.is ∙ found_last l1 b.level (Fixed UserVisible) b.made.source_is n1 ∙ ap (λ (x : Priority). Some x) b.made.priority_is in
       let g3 : priority_in l3 (Fixed UserVisible) ≡ Some UserVisible = ap (λ (ls : List Level). priority_in ls (Fixed UserVisible)) c.is ∙ still_fixed l2 c.level (Fixed UserVisible) UserVisible g2 in
-      let m1 : find (has_source (Fixed UserBlocking)) l1 ≡ None = ap (find (has_source (Fixed UserBlocking))) a.is ∙ not_last l0 a.level (Fixed UserBlocking) (none_in (Fixed UserBlocking)) (ap (λ (x : PrioSource). same_source x (Fixed UserBlocking)) a.source_is) in
-      let m2 : find (has_source (Fixed UserBlocking)) l2 ≡ None = ap (find (has_source (Fixed UserBlocking))) b.is ∙ not_last l1 b.level (Fixed UserBlocking) m1 (ap (λ (x : PrioSource). same_source x (Fixed UserBlocking)) b.source_is) in
-      let h3 : priority_in l3 (Fixed UserBlocking) ≡ Some UserBlocking = ap (λ (ls : List Level). priority_in ls (Fixed UserBlocking)) c.is ∙ found_last l2 c.level (Fixed UserBlocking) c.source_is m2 ∙ ap (λ (x : Priority). Some x) c.priority_is in (
+      let m1 : find (has_source (Fixed UserBlocking)) l1 ≡ None = ap (find (has_source (Fixed UserBlocking))) a.is ∙ not_last l0 a.level (Fixed UserBlocking) (none_in (Fixed UserBlocking)) (ap (λ (x : PrioSource). same_source x (Fixed UserBlocking)) a.made.source_is) in
+      let m2 : find (has_source (Fixed UserBlocking)) l2 ≡ None = ap (find (has_source (Fixed UserBlocking))) b.is ∙ not_last l1 b.level (Fixed UserBlocking) m1 (ap (λ (x : PrioSource). same_source x (Fixed UserBlocking)) b.made.source_is) in
+      let h3 : priority_in l3 (Fixed UserBlocking) ≡ Some UserBlocking = ap (λ (ls : List Level). priority_in ls (Fixed UserBlocking)) c.is ∙ found_last l2 c.level (Fixed UserBlocking) c.made.source_is m2 ∙ ap (λ (x : Priority). Some x) c.made.priority_is in (
         k3,
         λ f. each_priority l3 f f3 g3 h3,
         added_waiting l2 l3 p2 p3 (Fixed UserBlocking) UserBlocking s3 c
@@ -335,11 +342,11 @@ module _ {T : Type 0} where
   pub added_others : (old new : List Level) (before after : Lists T) (source : PrioSource) (priority : Priority) → Added old new before after source priority → SameBut source old new
   added_others old new before after source priority a other differs =
       ap (λ (ls : List Level). priority_in ls other) a.is
-      ∙ other_push old a.level other (ap (λ (x : PrioSource). same_source x other) a.source_is ∙ same_source-turned source other ∙ differs)
+      ∙ other_push old a.level other (ap (λ (x : PrioSource). same_source x other) a.made.source_is ∙ same_source-turned source other ∙ differs)
 
   pub signal_room : (old new : List Level) (before after : Lists T) (s : ℕ) (priority : Priority) → find (has_source (Signal s)) old ≡ None → Added old new before after (Signal s) priority → priority_in new (Signal s) ≡ Some priority
   signal_room old new before after s priority none a =
-      ap (λ (ls : List Level). priority_in ls (Signal s)) a.is ∙ found_last old a.level (Signal s) a.source_is none ∙ ap (λ (x : Priority). Some x) a.priority_is
+      ap (λ (ls : List Level). priority_in ls (Signal s)) a.is ∙ found_last old a.level (Signal s) a.made.source_is none ∙ ap (λ (x : Priority). Some x) a.made.priority_is
 
   pub signal_waiting : (old new : List Level) (before after : Lists T) (s : ℕ) (p priority : Priority) → find (has_source (Signal s)) old ≡ None → ((l : ℕ) → list_of after l ≡ list_of before l) → Added old new before after (Signal s) priority → waiting new after ≡ map (moved s p) (waiting old before)
   signal_waiting old new before after s p priority none same a =

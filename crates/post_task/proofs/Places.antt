@@ -1,6 +1,6 @@
 -- Where the lists of a priority source are.
 use Rattle.std.proofs.Common.{◌≡◌, ◌⊎◌, ℕ, suc, ◌≤◌, ◌<◌, Bool, true, false, cond, eqb, List, [], ◌∷◌, ◌++◌, map, length, get_or, set, Option, Some, None, refl, sym, ◌∙◌, ap, subst, inl, inr, arith}
-use Rattle.std.specs.Prelude.{IsSome, is_some, Result, Ok, Err, OnOk, is_err}
+use Rattle.std.specs.Prelude.{IsSome, is_some, Result, Ok, Err, OnOk, OnErr, is_err}
 use Rattle.std.specs.BTreeMap.{BTreeMap, get}
 use Rattle.std.specs.List.{find}
 use Rattle.std.specs.Option.{option_map, option_or}
@@ -246,31 +246,31 @@ known_case (Some m) true n h = absurd (no_place m (sym (h refl)))
 known_case (Some m) false n h = refl
 
 module _ {T : Type 0} where
-  rise_push : (pool : Lists T) (ls : List Level) (l : Level) → AreKept pool (all_queues ls) → ListsRise ls → length pool.lists ≤ l.plain.0 → l.plain.0 < l.continuations.0 → ListsRise (ls ++ l ∷ [])
+  pub rise_push : (pool : Lists T) (ls : List Level) (l : Level) → AreKept pool (all_queues ls) → ListsRise ls → length pool.lists ≤ l.plain.0 → l.plain.0 < l.continuations.0 → ListsRise (ls ++ l ∷ [])
   rise_push pool [] l k a p c = (c, tt, tt)
   rise_push pool (y ∷ ys) l k a p c =
       let i = k.3.0 in
       (a.0, behind_push y.continuations.0 ys l a.1 (omega (arith, i, p)) (omega (arith, i, p, c)), rise_push pool ys l k.3.3 a.2 p c)
 
-  pub placed_push : (pool : Lists T) (ls : List Level) (l : Level) (old new : BTreeMap ℕ ℕ) (n : ℕ) → ArePlaced ls old → AreKept pool (all_queues ls) → place_of ls l.source ≡ None → StandsNext l.source ls
-      → length pool.lists ≤ l.plain.0 → l.plain.0 < l.continuations.0 → n ≡ length ls
-      → ((s : ℕ) → get nat_cmp new s ≡ cond (same_source l.source (Signal s)) (Some n) (get nat_cmp old s)) → ArePlaced (ls ++ l ∷ []) new
-  placed_push pool ls l old new n a k none next p c size updates =
-      record {
-        apart = apart_push ls l a.apart none;
-        rising = rise_push pool ls l k a.rising p c;
-        fixed = λ priority place e.
-            elim (fixed_case (place_of ls (Fixed priority)) (has_source (Fixed priority) l) (length ls) place (sym (place_push ls l (Fixed priority)) ∙ e)) [
-              | inl before ↦ a.fixed priority place before
-              | inr last ↦ last.1 ∙ next_is l.source ls priority next (same_source-true l.source (Fixed priority) last.0)
-            ];
-        known = λ s.
-            updates s
-            ∙ ap (λ (m : ℕ). cond (same_source l.source (Signal s)) (Some m) (get nat_cmp old s)) size
-            ∙ ap (cond (same_source l.source (Signal s)) (Some (length ls))) (a.known s)
-            ∙ known_case (place_of ls (Signal s)) (same_source l.source (Signal s)) (length ls) (λ e. ap (place_of ls) (sym (same_source-true l.source (Signal s) e)) ∙ none)
-            ∙ sym (place_push ls l (Signal s));
-      }
+pub placed_push : (ls : List Level) (l : Level) (old new : BTreeMap ℕ ℕ) (n : ℕ) → ArePlaced ls old → ListsRise (ls ++ l ∷ []) → place_of ls l.source ≡ None → StandsNext l.source ls
+    → n ≡ length ls
+    → ((s : ℕ) → get nat_cmp new s ≡ cond (same_source l.source (Signal s)) (Some n) (get nat_cmp old s)) → ArePlaced (ls ++ l ∷ []) new
+placed_push ls l old new n a rising none next size updates =
+    record {
+      apart = apart_push ls l a.apart none;
+      rising = rising;
+      fixed = λ priority place e.
+          elim (fixed_case (place_of ls (Fixed priority)) (has_source (Fixed priority) l) (length ls) place (sym (place_push ls l (Fixed priority)) ∙ e)) [
+            | inl before ↦ a.fixed priority place before
+            | inr last ↦ last.1 ∙ next_is l.source ls priority next (same_source-true l.source (Fixed priority) last.0)
+          ];
+      known = λ s.
+          updates s
+          ∙ ap (λ (m : ℕ). cond (same_source l.source (Signal s)) (Some m) (get nat_cmp old s)) size
+          ∙ ap (cond (same_source l.source (Signal s)) (Some (length ls))) (a.known s)
+          ∙ known_case (place_of ls (Signal s)) (same_source l.source (Signal s)) (length ls) (λ e. ap (place_of ls) (sym (same_source-true l.source (Signal s) e)) ∙ none)
+          ∙ sym (place_push ls l (Signal s));
+    }
 
 -- the places are known as before
 pub placed_still : (ls : List Level) (old new : BTreeMap ℕ ℕ) → ArePlaced ls old → ((s : ℕ) → get nat_cmp new s ≡ get nat_cmp old s) → ArePlaced ls new
@@ -299,3 +299,8 @@ placed_none levels places none empty =
 pub was_ok : {A E P : Type 0} (r : Result A E) → is_err r ≡ false → OnOk r P → P
 was_ok (Ok x) h p = p
 was_ok (Err e) h p = absurd (cc)
+
+-- what one that was an error ensures
+pub was_err : {A E P : Type 0} (r : Result A E) → is_err r ≡ true → OnErr r P → P
+was_err (Ok x) h p = absurd (cc)
+was_err (Err e) h p = p

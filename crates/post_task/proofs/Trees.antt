@@ -1,5 +1,5 @@
 -- The tree of places: what is right after a change, and that its first node knows the winner.
-use Rattle.std.proofs.Common.{◌≡◌, ◌≢◌, ◌⊎◌, ℕ, zero, suc, ◌+◌, ◌*◌, ◌-◌, ◌/◌, ◌≤◌, ◌<◌, Bool, true, false, cond, ◌||◌, ◌&&◌, ◌==◌, nat_lt, List, [], ◌∷◌, ◌++◌, map, length, set, Option, Some, None, refl, sym, ◌∙◌, ap, subst, inl, inr, arith}
+use Rattle.std.proofs.Common.{◌≡◌, ◌≢◌, ◌⊎◌, ℕ, zero, suc, ◌+◌, ◌*◌, ◌-◌, ◌/◌, ◌≤◌, ◌<◌, Bool, true, false, cond, ◌||◌, ◌&&◌, ◌==◌, nat_lt, List, [], ◌∷◌, ◌++◌, map, length, get_or, set, Option, Some, None, refl, sym, ◌∙◌, ap, subst, inl, inr, arith}
 use Rattle.std.specs.Prelude.{MatchOption}
 use Rattle.std.specs.Option.{option_map}
 use Rattle.std.proofs.lemmas.Bool.{cases_eq}
@@ -70,6 +70,12 @@ mended_own nodes at = map-set_same own_of nodes at (record (node_at nodes at) { 
 
 pub mended_length : (nodes : List Node) (at : ℕ) → length (mended nodes at) ≡ length nodes
 mended_length nodes at = length-set nodes at (record (node_at nodes at) { best = champion nodes at })
+
+-- the node of a place, whatever stands behind the last one
+pub node_within : (nodes : List Node) (at : ℕ) (d : Node) → at < length nodes → get_or nodes at d ≡ node_at nodes at
+node_within [] at d h = absurd (omega arith)
+node_within (node ∷ rest) zero d h = refl
+node_within (node ∷ rest) (suc at) d h = node_within rest at d (omega (arith, h))
 
 -- a head that is set leaves each other node right
 pub right_but_set : (nodes : List Node) (at : ℕ) (x : Node) → at < length nodes → x.best ≡ best_at nodes at → IsRight nodes → IsRightBut at (set nodes at x)

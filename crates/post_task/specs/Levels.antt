@@ -207,12 +207,16 @@ module _ {T : Type 0} where
     pub fixed : (priority : Priority) → priority_in sched.levels (Fixed priority) ≡ Some priority
     pub heads : sched.heads ≡ firsts sched.levels pool
 
-  -- a priority source has got two empty lists, which are new in the pool
-  pub record Added (old new : List Level) (before after : Lists T) (source : PrioSource) (priority : Priority) : Type 0 where
-    pub level : Level
-    pub is : new ≡ old ++ level ∷ []
+  -- a priority source with two empty lists, which are new in the pool
+  pub record IsNew (level : Level) (before after : Lists T) (source : PrioSource) (priority : Priority) : Type 0 where
     pub source_is : level.source ≡ source
     pub priority_is : level.priority ≡ priority
     pub plain : level.plain.0 ≡ length before.lists
     pub continuations : level.continuations.0 ≡ length (before.lists ++ [] ∷ [])
     pub lists : after.lists ≡ (before.lists ++ [] ∷ []) ++ [] ∷ []
+
+  -- a priority source has got two empty lists, which are new in the pool
+  pub record Added (old new : List Level) (before after : Lists T) (source : PrioSource) (priority : Priority) : Type 0 where
+    pub level : Level
+    pub is : new ≡ old ++ level ∷ []
+    pub made : IsNew level before after source priority

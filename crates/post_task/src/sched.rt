@@ -3,7 +3,7 @@ ghost use Rattle.std.specs.List.{filter, find};
 ghost use Rattle.std.specs.Option.{option_map};
 ghost use Rattle.task_pool.specs.Lists.{Lists, list_of, entry_of, without};
 ghost use Rattle.post_task.specs.Waiting.{Waiting, Among, IsSelected, ordered, has_cell, lacks_cell, moved, HasFirstOrder};
-ghost use Rattle.post_task.specs.Levels.{all_queues, Lone, waiting, priority_in, place_of, HasRoom, Kept, AreKept, StandsNext, SameBut, ReadsAgain, Enqueues, IsTaken, moved_level, Added, IsLone};
+ghost use Rattle.post_task.specs.Levels.{all_queues, Lone, waiting, priority_in, place_of, HasRoom, Kept, AreKept, StandsNext, SameBut, ReadsAgain, Enqueues, IsTaken, moved_level, Added, IsNew, ListsRise, IsLone};
 
 use crate::PrioSource;
 use crate::heads::{place_of_list, read_first};
@@ -61,21 +61,7 @@ impl<T> SchedQueues<T> {
             heads: Tournament::new(alloc),
             tasks: PhantomData,
         };
-        queues.add(
-            pool,
-            PrioSource::Fixed(Priority::Background),
-            Priority::Background,
-        )?;
-        queues.add(
-            pool,
-            PrioSource::Fixed(Priority::UserVisible),
-            Priority::UserVisible,
-        )?;
-        queues.add(
-            pool,
-            PrioSource::Fixed(Priority::UserBlocking),
-            Priority::UserBlocking,
-        )?;
+        queues.add_fixed(pool)?;
         Ok(queues)
     }
 
@@ -257,6 +243,38 @@ impl<T> SchedQueues<T> {
         self.signals.get(&s).copied()
     }
 
+    // The lists of the three fixed priorities, where there are no others yet. Every other list of
+    // the pool is as it was, after an error too.
+    fn add_fixed(&mut self, pool: &mut Pool<T>) -> Result<(), MemoryFault>
+        requires none { self.old.levels ≡ [] }
+        requires heads { self.old.heads ≡ [] }
+        ensures kept { OnOk result (Kept self.new pool.new) }
+        ensures empty { OnOk result (waiting self.new.levels pool.new ≡ []) }
+        ensures made { OnOk result ((l : ℕ) → l < length pool.old.lists → IsLone l self.new.levels) }
+        ensures signals { OnOk result ((s : ℕ) → priority_in self.new.levels (PrioSource.Signal s) ≡ None) }
+        ensures more { length pool.old.lists ≤ length pool.new.lists }
+        ensures lists { (l : ℕ) → list_of pool.new l ≡ list_of pool.old l }
+        ensures spare { pool.new.spare ≡ pool.old.spare }
+        ensures inserts { pool.new.inserts ≡ pool.old.inserts }
+    {
+        self.add(
+            pool,
+            PrioSource::Fixed(Priority::Background),
+            Priority::Background,
+        )?;
+        self.add(
+            pool,
+            PrioSource::Fixed(Priority::UserVisible),
+            Priority::UserVisible,
+        )?;
+        self.add(
+            pool,
+            PrioSource::Fixed(Priority::UserBlocking),
+            Priority::UserBlocking,
+        )?;
+        Ok(())
+    }
+
     // Two new lists for a priority source that has none. The fixed priorities come first, in their order.
     fn add(
         &mut self,
@@ -275,21 +293,51 @@ impl<T> SchedQueues<T> {
         ensures spare { pool.new.spare ≡ pool.old.spare }
         ensures inserts { pool.new.inserts ≡ pool.old.inserts }
     {
-        let plain = pool.new_list()?;
-        let continuations = pool.new_list()?;
+        let level = new_level(pool, source, priority)?;
+        self.put(level)?;
+        Ok(())
+    }
+
+    // A priority source that has no lists yet stands behind the others, with these lists. No task
+    // waits in them.
+    fn put(&mut self, level: Level) -> Result<(), MemoryFault>
+        requires next { StandsNext level.source self.old.levels }
+        requires fresh { place_of self.old.levels level.source ≡ None }
+        requires rising { ListsRise self.old.levels → ListsRise (self.old.levels ++ level ∷ []) }
+        ensures levels { OnOk result (self.new.levels ≡ self.old.levels ++ level ∷ []) }
+        ensures head { OnOk result (self.new.heads ≡ self.old.heads ++ None ∷ []) }
+        ensures err { OnErr result (self.new ≡ self.old) }
+    {
         self.levels.reserve(1)?;
-        note_place(&mut self.signals, source, self.levels.len())?;
+        note_place(&mut self.signals, level.source, self.levels.len())?;
         if self.heads.push().is_err() {
-            forget_place(&mut self.signals, source);
+            forget_place(&mut self.signals, level.source);
             return Err(MemoryFault::OutOfMemory);
         }
-        let level = Level {
-            source,
-            priority,
-            plain,
-            continuations,
-        };
         self.levels.push(level).unwrap();
         Ok(())
     }
+}
+
+// A priority source with two lists that are new in the pool. Every other list of the pool is as
+// it was, after an error too.
+fn new_level<T>(
+    pool: &mut Pool<T>,
+    source: PrioSource,
+    priority: Priority,
+) -> Result<Level, MemoryFault>
+    ensures made { IfOk result (λ level. IsNew level pool.old pool.new source priority) }
+    ensures more { length pool.old.lists ≤ length pool.new.lists }
+    ensures lists { (l : ℕ) → list_of pool.new l ≡ list_of pool.old l }
+    ensures spare { pool.new.spare ≡ pool.old.spare }
+    ensures inserts { pool.new.inserts ≡ pool.old.inserts }
+{
+    let plain = pool.new_list()?;
+    let continuations = pool.new_list()?;
+    Ok(Level {
+        source,
+        priority,
+        plain,
+        continuations,
+    })
 }

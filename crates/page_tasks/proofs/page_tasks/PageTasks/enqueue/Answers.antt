@@ -1,4 +1,4 @@
-use Rattle.std.proofs.Common.{◌≡◌, ◌+◌, cond, Some, Result, Ok, Err, IfOk, OnOk, OnErr, IsErr, eqb, nat_eq, sym, ◌∙◌, ap, subst, arith}
+use Rattle.std.proofs.Common.{◌≡◌, ◌+◌, cond, Some, Result, IfOk, OnOk, eqb, nat_eq, sym, ◌∙◌, ap, subst, arith}
 use Rattle.std.specs.HashMap.{get}
 use Rattle.task_pool.specs.declared.pool.Ticket.{Ticket}
 use Rattle.post_task.specs.Waiting.{Inserted}
@@ -9,13 +9,9 @@ use Rattle.page_tasks.specs.Seen.{prio_source}
 use Rattle.page_tasks.specs.Queued.{Queued, enqueued, with_spare, sched_task_for}
 use Rattle.page_tasks.proofs.Priorities.{has_room, priority_there}
 use Rattle.page_tasks.proofs.Scheduled.{IsPut, no_ticket}
-use Rattle.page_tasks.proofs.SchedCalls.{IsSchedCall, still_standing, put_standing, put_as, same_tickets}
+use Rattle.page_tasks.proofs.SchedCalls.{IsSchedCall, still_standing, still_seen, put_standing, put_as, same_tickets, is_error, on_err}
 use Rattle.page_tasks.proofs.page_tasks.PageTasks.enqueue.Given.{Over}
 use Rattle.page_tasks.proofs.page_tasks.PageTasks.enqueue.Goals as goal
-
-is_error : {A E P : Type 0} (r : Result A E) → IsErr r → OnErr r P → P
-is_error (Ok x) h f = absurd (cc)
-is_error (Err e) h f = f
 
 pub invariant_of-self : goal.invariant_of-self
 invariant_of-self g c =
@@ -73,3 +69,24 @@ returns-clause-enqueued g c =
     put_as i.pool c.enqueue-put.new.pool i.queues i.sched c.enqueue-put.new.self (λ r. get nat_eq i.tickets r) (λ r. get nat_eq c.put_ticket.new.tickets r) i.asked.items i.made c.self.invariant (call g c)
     (i.made + 1) c.args.registration c.args.source c.args.continuation c.in_ok-ticket.ticket.0 (put g c)
     ∙ ap (λ (q : Queued). with_spare c.enqueue-put.new.pool.spare (enqueued c.args.registration (prio_source c.args.source) c.args.continuation q)) c.self.view_is
+
+pub returns-clause-spare : goal.returns-clause-spare
+returns-clause-spare g c = omega (arith, ap (λ (q : Queued). q.spare) c.self.view_is, c.enqueue-put.ensures.spare)
+
+pub returns-in_err-make_place-clause-spare : goal.returns-in_err-make_place-clause-spare
+returns-in_err-make_place-clause-spare g c = omega (arith, ap (λ (q : Queued). q.spare) c.self.view_is)
+
+pub returns-in_err-make_place-clause-err : goal.returns-in_err-make_place-clause-err
+returns-in_err-make_place-clause-err g c = on_err _ c.self.view_is
+
+pub returns-in_err-ticket-clause-spare : goal.returns-in_err-ticket-clause-spare
+returns-in_err-ticket-clause-spare g c = omega (arith, ap (λ (q : Queued). q.spare) c.self.view_is, c.enqueue-put.ensures.spare)
+
+pub returns-in_err-ticket-clause-err : goal.returns-in_err-ticket-clause-err
+returns-in_err-ticket-clause-err g c =
+    let i = c.self.inside in
+    let call : IsSchedCall i.pool c.enqueue-put.new.pool i.sched c.enqueue-put.new.self =
+    record { same = c.enqueue-put.ensures.same; kept = c.enqueue-put.ensures.kept; others = c.enqueue-put.ensures.others; count = c.enqueue-put.ensures.count } in
+    let same : c.enqueue-put.new.pool ≡ i.pool = is_error c.enqueue-put.result c.in_err-ticket.ensures.err c.enqueue-put.ensures.err in
+    on_err _ (still_seen i.pool c.enqueue-put.new.pool i.queues i.sched c.enqueue-put.new.self (λ r. get nat_eq i.tickets r) (λ r. get nat_eq i.tickets r) i.asked.items i.made c.self.invariant call same
+    ∙ c.self.view_is)

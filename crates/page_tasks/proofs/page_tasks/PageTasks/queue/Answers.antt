@@ -1,7 +1,7 @@
-use Rattle.std.proofs.Common.{◌≡◌, ℕ, suc, ◌+◌, ◌++◌, ◌∷◌, [], List, Option, Result, IfOk, OnOk, nat_eq, sym, ◌∙◌, ap, subst, arith}
+use Rattle.std.proofs.Common.{◌≡◌, ℕ, suc, ◌+◌, ◌<◌, ◌++◌, ◌∷◌, [], List, Option, Result, IfOk, OnOk, nat_eq, sym, ◌∙◌, ap, subst, arith}
 use Rattle.std.specs.HashMap.{get}
 use Rattle.std.specs.Option.{option_to_list}
-use Rattle.task_pool.specs.Lists.{Entry}
+use Rattle.task_pool.specs.Lists.{Entry, Lists}
 use Rattle.task_pool.specs.declared.pool.Ticket.{Ticket}
 use Rattle.task_queues.specs.declared.queues.Queues.{Queues}
 use Rattle.task_queues.specs.BySource.{tasks_of, StandIn, Queued as IsQueued}
@@ -13,7 +13,8 @@ use Rattle.page_tasks.specs.Seen.{steps_of}
 use Rattle.page_tasks.specs.Asking.{asked_by}
 use Rattle.page_tasks.specs.Queued.{Queued, queued, with_spare}
 use Rattle.page_tasks.specs.Standing.{seen_in, IsStanding}
-use Rattle.page_tasks.proofs.SourceCalls.{IsSourceCall, the_entry, queued_standing, queued_as}
+use Rattle.page_tasks.proofs.SourceCalls.{IsSourceCall, the_entry, queued_standing, queued_as, not_asked}
+use Rattle.page_tasks.proofs.SchedCalls.{is_error, on_err, not_both}
 use Rattle.page_tasks.proofs.page_tasks.PageTasks.queue.Given.{Over}
 use Rattle.page_tasks.proofs.page_tasks.PageTasks.queue.Goals as goal
 
@@ -59,3 +60,59 @@ returns-clause-queued g c =
     ap (λ (q : Queues PageTask). seen_in new q i.sched n) c.queue-put.ensures.same
     ∙ queued_as i.pool new i.queues i.sched (λ r. get nat_eq i.tickets r) i.asked.items i.made c.self.invariant c.args.source n c.in_ok-ticket_of.field-0.0 c.args.steps (next i.made) (call g c) (inserts g c)
     ∙ ap (λ (q : Queued). with_spare new.spare (queued c.args.source (steps_of c.args.steps.value) q)) c.self.view_is
+
+pub queue-put-requires-clause-inserts : goal.queue-put-requires-clause-inserts
+queue-put-requires-clause-inserts g c = omega (arith, c.self.invariant.inserts, c.requires.made, ap (λ (q : Queued). q.tasks_made) c.self.view_is)
+
+pub note-requires : goal.note-requires
+note-requires g c = c.in_ok-make_room.ensures.room
+
+pub returns-clause-spare : goal.returns-clause-spare
+returns-clause-spare g c = omega (arith, ap (λ (q : Queued). q.spare) c.self.view_is, c.queue-put.ensures.spare)
+
+-- ---- there is no memory to note it
+
+pub invariant_of-self : goal.invariant_of-self
+invariant_of-self g c =
+    let i = c.self.inside in
+    subst (λ (xs : List Asked). IsStanding i.pool i.queues i.sched (λ r. get nat_eq i.tickets r) xs i.made) (sym c.in_err-make_room.ensures.items) c.self.invariant
+
+pub returns-in_err-make_room-clause-spare : goal.returns-in_err-make_room-clause-spare
+returns-in_err-make_room-clause-spare g c = omega (arith, ap (λ (q : Queued). q.spare) c.self.view_is)
+
+pub returns-in_err-make_room-clause-succeeds : goal.returns-in_err-make_room-clause-succeeds
+returns-in_err-make_room-clause-succeeds g c room none =
+    let n = c.self.inside.made + 1 in
+    let free = c.asked_of-asked.ensures ∙ ap (λ (t : TaskSteps). asked_by n t) c.deref.ensures ∙ not_asked n c.args.steps.value none in
+    absurd (let ok = c.in_err-make_room.ensures.none free in cc)
+
+pub returns-in_err-make_room-clause-err : goal.returns-in_err-make_room-clause-err
+returns-in_err-make_room-clause-err g c = on_err _ c.self.view_is
+
+-- ---- there is no memory to put it in
+
+same : (g : Over) (c : goal.After-from_residual-in_err-ticket_of g) → c.queue-put.new.pool ≡ c.self.inside.pool
+same g c = is_error c.queue-put.result c.in_err-ticket_of.ensures.err c.queue-put.ensures.err
+
+pub invariant_of-self-in_err-ticket_of : goal.invariant_of-self-in_err-ticket_of
+invariant_of-self-in_err-ticket_of g c =
+    let i = c.self.inside in
+    let tickets : ℕ → Option Ticket = λ r. get nat_eq i.tickets r in
+    let P : List Asked → Type 0 = λ xs. IsStanding i.pool i.queues i.sched tickets xs i.made in
+    let Q : Queues PageTask → Type 0 = λ q. IsStanding i.pool q i.sched tickets c.make_room.new.asked.items i.made in
+    let R : Lists PageTask → Type 0 = λ p. IsStanding p c.queue-put.new.self i.sched tickets c.make_room.new.asked.items i.made in
+    subst R (sym (same g c)) (subst Q (sym c.queue-put.ensures.same) (subst P (sym c.in_ok-make_room.ensures.items) c.self.invariant))
+
+pub returns-in_err-ticket_of-clause-spare : goal.returns-in_err-ticket_of-clause-spare
+returns-in_err-ticket_of-clause-spare g c = omega (arith, ap (λ (q : Queued). q.spare) c.self.view_is, c.queue-put.ensures.spare)
+
+pub returns-in_err-ticket_of-clause-succeeds : goal.returns-in_err-ticket_of-clause-succeeds
+returns-in_err-ticket_of-clause-succeeds g c room none =
+    absurd (not_both c.queue-put.result (c.queue-put.ensures.succeeds (subst (λ (q : Queued). 0 < q.spare) (sym c.self.view_is) room)) c.in_err-ticket_of.ensures.err)
+
+pub returns-in_err-ticket_of-clause-err : goal.returns-in_err-ticket_of-clause-err
+returns-in_err-ticket_of-clause-err g c =
+    let i = c.self.inside in
+    on_err _ (ap (λ (p : Lists PageTask). seen_in p c.queue-put.new.self i.sched i.made) (same g c)
+    ∙ ap (λ (q : Queues PageTask). seen_in i.pool q i.sched i.made) c.queue-put.ensures.same
+    ∙ c.self.view_is)

@@ -1,16 +1,16 @@
 use Rattle.std.proofs.Common.{◌≡◌, ℕ, not, ◌+◌, drop, List, Option, Some, eqb, filter, nat_eq, sym, ◌∙◌, ap, subst}
 use Rattle.std.specs.Option.{option_map}
 use Rattle.std.specs.HashMap.{get}
+use Rattle.page_model.specs.State.{Steps}
 use Rattle.page_model.specs.PageTime.{first_task}
 use Rattle.task_pool.specs.Lists.{first_entry, numbered}
 use Rattle.task_queues.specs.declared.queues.Queues.{Queues}
 use Rattle.task_queues.specs.BySource.{tasks_of, StandIn}
 use Rattle.page_tasks.specs.declared.asked.Asked.{Asked}
-use Rattle.page_tasks.specs.declared.page_task.TaskSteps.{TaskSteps}
 use Rattle.page_tasks.specs.declared.page_task.PageTask.{PageTask}
 use Rattle.page_tasks.specs.Queued.{Queued, taken, without_number, with_spare}
 use Rattle.page_tasks.specs.Standing.{seen_in, IsStanding}
-use Rattle.page_tasks.proofs.SourceCalls.{IsSourceCall, Gives, gives, no_first, the_first, taken_standing, taken_as}
+use Rattle.page_tasks.proofs.SourceCalls.{IsSourceCall, Gives, gives, no_first, numbered_task, the_first, the_steps, taken_standing, taken_as}
 use Rattle.page_tasks.proofs.page_tasks.PageTasks.take.Given.{Over}
 use Rattle.page_tasks.proofs.page_tasks.PageTasks.take.Goals as goal
 
@@ -21,13 +21,13 @@ returns-in_err-number-clause-first g c =
     ∙ no_first (tasks_of i.queues i.pool) i.asked.items i.made c.args.source c.self.invariant.tasks (sym c.take.ensures.item ∙ c.in_err-number.was)
     ∙ ap (λ (q : Queued). first_task c.args.source q.tasks) c.self.view_is
 
-the_item : (g : Over) (c : goal.After-into_inner g) → option_map numbered (first_entry (tasks_of c.self.inside.queues c.self.inside.pool c.args.source)) ≡ Some (c.in_ok-number.number, c.in_ok-number.task)
+the_item : (g : Over) (c : goal.After-into_steps g) → option_map numbered (first_entry (tasks_of c.self.inside.queues c.self.inside.pool c.args.source)) ≡ Some (c.in_ok-number.number, c.in_ok-number.task)
 the_item g c = sym c.take.ensures.item ∙ c.in_ok-number.was
 
-given : (g : Over) (c : goal.After-into_inner g) → Gives (tasks_of c.self.inside.queues c.self.inside.pool c.args.source) c.in_ok-number.number c.in_ok-number.task
+given : (g : Over) (c : goal.After-into_steps g) → Gives (tasks_of c.self.inside.queues c.self.inside.pool c.args.source) c.in_ok-number.number c.in_ok-number.task
 given g c = gives (tasks_of c.self.inside.queues c.self.inside.pool c.args.source) c.in_ok-number.number c.in_ok-number.task (the_item g c)
 
-call : (g : Over) (c : goal.After-into_inner g) → let i = c.self.inside in IsSourceCall i.pool c.take.new.pool i.queues c.args.source (drop 1 (tasks_of i.queues i.pool c.args.source))
+call : (g : Over) (c : goal.After-into_steps g) → let i = c.self.inside in IsSourceCall i.pool c.take.new.pool i.queues c.args.source (drop 1 (tasks_of i.queues i.pool c.args.source))
 call g c =
     record {
       queued = c.take.ensures.taken;
@@ -49,11 +49,17 @@ invariant_of-self-2 g c =
     let Q : Queues PageTask → Type 0 = λ q. IsStanding new q i.sched tickets c.forget.new.asked.items i.made in
     subst Q (sym c.take.ensures.same) (subst P (sym left) whole)
 
+pub into_steps-requires : goal.into_steps-requires
+into_steps-requires g c =
+    let i = c.self.inside in
+    the_steps (tasks_of i.queues i.pool) i.asked.items i.made c.args.source c.self.invariant.tasks c.in_ok-number.number c.in_ok-number.task (sym c.take.ensures.item ∙ c.in_ok-number.was)
+
 pub returns-clause-first : goal.returns-clause-first
 returns-clause-first g c =
     let i = c.self.inside in
-    ap (λ (t : TaskSteps). Some (taken c.args.source (c.in_ok-number.number, t))) c.into_inner.ensures
-    ∙ the_first (tasks_of i.queues i.pool) i.asked.items i.made c.args.source c.self.invariant.tasks c.in_ok-number.number c.in-OfSource.steps (the_item g c ∙ ap (λ (t : PageTask). Some (c.in_ok-number.number, t)) c.in-OfSource.is)
+    let lists = tasks_of i.queues i.pool in
+    ap (λ (steps : Steps). Some (numbered_task lists i.asked.items i.made c.args.source c.self.invariant.tasks c.in_ok-number.number steps)) c.into_steps.ensures
+    ∙ the_first lists i.asked.items i.made c.args.source c.self.invariant.tasks c.in_ok-number.number c.in_ok-number.task (the_item g c)
     ∙ ap (λ (q : Queued). first_task c.args.source q.tasks) c.self.view_is
 
 pub returns-clause-gone : goal.returns-clause-gone

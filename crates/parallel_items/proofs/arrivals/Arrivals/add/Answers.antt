@@ -9,9 +9,9 @@ use Rattle.parallel_items.proofs.arrivals.Arrivals.add.Goals as goal
 
 pub invariant_of-self-2 : goal.invariant_of-self-2
 invariant_of-self-2 c =
-    subst (AreArrivalsKept (c.self.inside.made + 1)) (sym c.in_ok-insert.ensures.entries) (kept_inserted c.self.inside.made c.args.arrival _ c.self.invariant)
+    subst (AreArrivalsKept (c.self.inside.made + 1)) (sym c.in_ok-before.ensures.entries) (kept_inserted c.self.inside.made c.args.arrival _ c.self.invariant)
 
 pub returns-clause-added : goal.returns-clause-added
 returns-clause-added c =
-    ap arrivals_of c.in_ok-insert.ensures.entries ∙ arrivals_inserted c.self.inside.made c.args.arrival _ c.self.invariant.placed
+    ap arrivals_of c.in_ok-before.ensures.entries ∙ arrivals_inserted c.self.inside.made c.args.arrival _ c.self.invariant.placed
     ∙ ap (λ (l : ArrivalList). with_arrival (arrival_of c.args.arrival) l.arrivals) c.self.view_is

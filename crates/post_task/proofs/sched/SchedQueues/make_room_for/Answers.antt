@@ -58,3 +58,25 @@ returns-in_err-add-clause-stay g c l lone = subst (λ (s : Sched). Lone l (all_q
 
 pub returns-clause-stay : goal.returns-clause-stay
 returns-clause-stay g c l lone = lone_stays c.args.self.now.levels c.add.new.self.levels c.args.pool.now c.add.new.pool (Signal c.args.s) c.args.p c.in_ok-add.ensures.added l lone
+
+pub returns-then-is_some-clause-kept : goal.returns-then-is_some-clause-kept
+returns-then-is_some-clause-kept g c = c.move_priority.ensures.kept c.args.pool.now c.requires
+
+pub returns-then-is_some-clause-waiting : goal.returns-then-is_some-clause-waiting
+returns-then-is_some-clause-waiting g c = c.move_priority.ensures.waiting c.args.pool.now
+
+pub add-requires-clause-fresh : goal.add-requires-clause-fresh
+add-requires-clause-fresh g c =
+    none_place (place_of c.args.self.now.levels (Signal c.args.s)) (sym (ap is_some c.place_of_signal.ensures) ∙ sym c.is_some.ensures ∙ c.if-is_some.false)
+
+pub add-requires-clause-kept : goal.add-requires-clause-kept
+add-requires-clause-kept g c = c.requires.lists
+
+pub returns-in_err-add-clause-made : goal.returns-in_err-add-clause-made
+returns-in_err-add-clause-made g c l h lone = subst (λ (s : Sched). Lone l (all_queues s.levels)) (sym c.in_err-add.ensures.err) lone
+
+pub returns-in_err-add-clause-lists : goal.returns-in_err-add-clause-lists
+returns-in_err-add-clause-lists g c = c.in_err-add.ensures.lists
+
+pub returns-clause-lists : goal.returns-clause-lists
+returns-clause-lists g c = c.in_ok-add.ensures.lists

@@ -1,28 +1,25 @@
-use Rattle.post_task.proofs.Moves.{three_made, three_firsts}
-use Rattle.post_task.proofs.Stays.{three_signals}
+use Rattle.std.proofs.Common.{length, sym, ◌∙◌, ap}
+use Rattle.post_task.proofs.Places.{placed_none}
 use Rattle.post_task.proofs.sched.SchedQueues.new.Goals as goal
 
+pub invariant_of-queues : goal.invariant_of-queues
+invariant_of-queues g c =
+    (ap length c.new-3.ensures ∙ sym (ap length c.new.ensures.items), placed_none c.new.result.items c.new-2.result c.new.ensures.items c.new-2.ensures.empty)
+
 pub returns-clause-kept : goal.returns-clause-kept
-returns-clause-kept g c =
-    let made =
-    three_made c.new.result.items c.add.new.self.levels c.add-2.new.self.levels c.add-3.new.self.levels c.args.pool.now c.add.new.pool c.add-2.new.pool c.add-3.new.pool
-    c.new.ensures.items c.in_ok-add.ensures.added c.in_ok-add-2.ensures.added c.in_ok-add-3.ensures.added c.in_ok-add.ensures.lists c.in_ok-add-2.ensures.lists c.in_ok-add-3.ensures.lists in
-    record {
-      lists = made.0;
-      fixed = made.1;
-      heads =
-          three_firsts c.new.result.items c.add.new.self.levels c.add-2.new.self.levels c.add-3.new.self.levels c.args.pool.now c.add.new.pool c.add-2.new.pool c.add-3.new.pool
-          c.new-3.result c.add.new.self.heads c.add-2.new.self.heads c.add-3.new.self.heads
-          c.new.ensures.items c.in_ok-add.ensures.added c.in_ok-add-2.ensures.added c.in_ok-add-3.ensures.added c.in_ok-add.ensures.lists c.in_ok-add-2.ensures.lists c.in_ok-add-3.ensures.lists
-          c.new-3.ensures c.in_ok-add.ensures.head c.in_ok-add-2.ensures.head c.in_ok-add-3.ensures.head;
-    }
+returns-clause-kept g c = c.in_ok-add_fixed.ensures.kept
 
 pub returns-clause-empty : goal.returns-clause-empty
-returns-clause-empty g c =
-    (three_made c.new.result.items c.add.new.self.levels c.add-2.new.self.levels c.add-3.new.self.levels c.args.pool.now c.add.new.pool c.add-2.new.pool c.add-3.new.pool
-    c.new.ensures.items c.in_ok-add.ensures.added c.in_ok-add-2.ensures.added c.in_ok-add-3.ensures.added c.in_ok-add.ensures.lists c.in_ok-add-2.ensures.lists c.in_ok-add-3.ensures.lists).2
+returns-clause-empty g c = c.in_ok-add_fixed.ensures.empty
+
+pub returns-clause-made : goal.returns-clause-made
+returns-clause-made g c = c.in_ok-add_fixed.ensures.made
 
 pub returns-clause-signals : goal.returns-clause-signals
-returns-clause-signals g c s =
-    three_signals c.new.result.items c.add.new.self.levels c.add-2.new.self.levels c.add-3.new.self.levels c.args.pool.now c.add.new.pool c.add-2.new.pool c.add-3.new.pool
-    c.new.ensures.items c.in_ok-add.ensures.added c.in_ok-add-2.ensures.added c.in_ok-add-3.ensures.added s
+returns-clause-signals g c = c.in_ok-add_fixed.ensures.signals
+
+pub returns-clause-lists : goal.returns-clause-lists
+returns-clause-lists g c = c.in_ok-add_fixed.ensures.lists
+
+pub returns-in_err-add_fixed-clause-lists : goal.returns-in_err-add_fixed-clause-lists
+returns-in_err-add_fixed-clause-lists g c = c.in_err-add_fixed.ensures.lists

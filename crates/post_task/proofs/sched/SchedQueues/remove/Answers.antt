@@ -1,6 +1,8 @@
-use Rattle.std.proofs.Common.{List, None, Some, refl, ◌∙◌, ap}
+use Rattle.std.proofs.Common.{List, None, Some, length, refl, sym, ◌∙◌, ap, subst}
+use Rattle.std.proofs.lemmas.List.{length-map}
+use Rattle.task_pool.specs.Lists.{Lists, list_of, without}
 use Rattle.post_task.specs.declared.level.Level.{Level}
-use Rattle.post_task.specs.Levels.{all_queues, waiting}
+use Rattle.post_task.specs.Levels.{Kept, all_queues, waiting}
 use Rattle.post_task.specs.Heads.{firsts}
 use Rattle.post_task.proofs.Tasks.{removed, removed_others}
 use Rattle.post_task.proofs.Calls.{kept_as, gone_lists, gone_elsewhere, gone_waiting}
@@ -37,3 +39,23 @@ pub returns-clause-others : goal.returns-clause-others
 returns-clause-others g c l lone =
     removed_others c.args.t.0 c.args.pool.now c.unlink_listed.new.self (all_queues c.args.self.now.levels) c.in_ok-list.field-0 c.in_ok-list.ensures.item c.in_ok-list.ensures.there c.requires.ours
     c.in_ok-list.ensures.list l lone
+
+pub returns-clause-lists : goal.returns-clause-lists
+returns-clause-lists g c = c.in_ok-list.ensures.gone
+
+pub returns-clause-count : goal.returns-clause-count
+returns-clause-count g c = ap length c.in_ok-list.ensures.gone ∙ length-map c.args.pool.now.lists (without c.args.t.0)
+
+pub returns-in_err-list-clause-lists : goal.returns-in_err-list-clause-lists
+returns-in_err-list-clause-lists g c = c.in_err-list.ensures.gone
+
+pub returns-in_err-list-clause-count : goal.returns-in_err-list-clause-count
+returns-in_err-list-clause-count g c = ap length c.in_err-list.ensures.gone ∙ length-map c.args.pool.now.lists (without c.args.t.0)
+
+pub returns-in_err-list-clause-kept : goal.returns-in_err-list-clause-kept
+returns-in_err-list-clause-kept g c =
+    let P : Lists g.row.T.Denot → Type 0 = λ pool. Kept c.args.self.now pool in
+    subst P (sym c.in_err-list.ensures.none) c.requires.kept
+
+pub returns-in_err-list-clause-others : goal.returns-in_err-list-clause-others
+returns-in_err-list-clause-others g c l lone = ap (λ (pool : Lists g.row.T.Denot). list_of pool l) c.in_err-list.ensures.none

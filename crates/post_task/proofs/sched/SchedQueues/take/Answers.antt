@@ -1,13 +1,14 @@
-use Rattle.std.proofs.Common.{◌≡◌, true, false, List, [], Option, None, get_or, set, sym, ◌∙◌, ap, subst}
+use Rattle.std.proofs.Common.{◌≡◌, true, false, List, [], Option, None, get_or, set, length, sym, ◌∙◌, ap, subst, arith}
 use Rattle.std.specs.Prelude.{MatchOption}
 use Rattle.post_task.specs.declared.level.Level.{Level}
 use Rattle.post_task.specs.declared.tournament.Head.{Head}
 use Rattle.post_task.specs.Levels.{Sched, queue_in, waiting, TakesFirst}
 use Rattle.post_task.specs.Heads.{firsts}
 use Rattle.post_task.specs.Tournament.{HasNone, Wins}
-use Rattle.post_task.proofs.Best.{nothing}
+use Rattle.std.proofs.lemmas.List.{length-set}
+use Rattle.post_task.proofs.Best.{nothing, standing}
 use Rattle.post_task.proofs.Waits.{taken_order}
-use Rattle.post_task.proofs.Calls.{kept_as, level_within, winner_inside, taken_kept, taken_firsts, taken_others, taken}
+use Rattle.post_task.proofs.Calls.{kept_as, level_within, winner_inside, taken_inside, taken_kept, taken_firsts, taken_others, taken}
 use Rattle.post_task.proofs.sched.SchedQueues.take.Goals as goal
 
 pub returns-in_default-clause-order : goal.returns-in_default-clause-order
@@ -103,3 +104,42 @@ returns-clause-others g c =
     let is = c.index-level.ensures ∙ ap (λ (s : Sched). get_or s.levels w.place level) c.self.view_is in
     let at = c.list.ensures ∙ ap (λ b. (queue_in level b).list) c.is_continuation.ensures in
     taken_others c.args.pool.now levels w level c.list.result.0 c.requires.lists wins is at c.pop_front-taken.new.self c.pop_front-taken.ensures.gone
+
+pub returns-in_default-clause-kept : goal.returns-in_default-clause-kept
+returns-in_default-clause-kept g c = c.requires
+
+pub index-level-requires : goal.index-level-requires
+index-level-requires g c =
+    let w = c.in-Some.winner in
+    let levels = c.args.self.now.levels in
+    let P : List (Option Head) → Type 0 = λ heads. Wins heads w in
+    let wins = subst P (ap (λ (s : Sched). s.heads) c.self.view_is ∙ c.requires.heads) c.in-Some.ensures in
+    let inside = (standing c.args.pool.now levels w.place w.head wins.stands).0 in
+    let same = ap (λ (s : Sched). length s.levels) c.self.view_is in
+    let len = c.self.inside.levels.ok.0 in
+    omega (arith, inside, same, len)
+
+pub pop_front-taken-requires : goal.pop_front-taken-requires
+pop_front-taken-requires g c =
+    let w = c.in-Some.winner in
+    let levels = c.args.self.now.levels in
+    let P : List (Option Head) → Type 0 = λ heads. Wins heads w in
+    let wins = subst P (ap (λ (s : Sched). s.heads) c.self.view_is ∙ c.requires.heads) c.in-Some.ensures in
+    let level = c.index-level.result.now in
+    let is = c.index-level.ensures ∙ ap (λ (s : Sched). get_or s.levels w.place level) c.self.view_is in
+    let at = c.list.ensures ∙ ap (λ b. (queue_in level b).list) c.is_continuation.ensures in
+    taken_inside c.args.pool.now levels w level c.list.result.0 c.requires.lists wins is at
+
+pub set-requires : goal.set-requires
+set-requires g c =
+    let w = c.in-Some.winner in
+    let levels = c.args.self.now.levels in
+    let P : List (Option Head) → Type 0 = λ heads. Wins heads w in
+    let wins = subst P (ap (λ (s : Sched). s.heads) c.self.view_is ∙ c.requires.heads) c.in-Some.ensures in
+    let inside = (standing c.args.pool.now levels w.place w.head wins.stands).0 in
+    let same = ap (λ (s : Sched). length s.levels) c.self.view_is in
+    let len = c.self.invariant.0 in
+    omega (arith, inside, same, len)
+
+pub returns-clause-count : goal.returns-clause-count
+returns-clause-count g c = ap length c.pop_front-taken.ensures.gone ∙ length-set c.args.pool.now.lists c.list.result.0 _
