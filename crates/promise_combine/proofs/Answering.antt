@@ -1,17 +1,14 @@
 -- The answer that a report brings, by the outcome alone or by the list of all outcomes.
-use Rattle.std.proofs.Common.{◌≡◌, ℕ, ◌+◌, ◌<◌, arith, List, [], ◌∷◌, length, map, Bool, true, false, cond, not, ◌||◌, refl, ap, sym, ◌∙◌, inl, inr}
+use Rattle.std.proofs.Common.{◌≡◌, ℕ, ◌+◌, ◌<◌, arith, List, [], ◌∷◌, length, Bool, true, false, cond, not, ◌||◌, refl, ap, sym, ◌∙◌, inl, inr}
 use Rattle.std.specs.Prelude.{Option, Some, None, is_some, ◌==◌, find}
 use Rattle.std.specs.Option.{option_map, option_or}
 use Rattle.std.proofs.lemmas.Bool.Decides.{eqb_tells}
 use Rattle.std.proofs.lemmas.List.{length-append}
 use Rattle.std.proofs.lemmas.List.Folds.{find-append}
-use Rattle.page_types.specs.Values.{ListValue, values_of}
-use Rattle.page_types.specs.declared.FaultName.TheVariants.{RangeError}
 use Rattle.page_parts.specs.Words.{and_last}
-use Rattle.page_parts.specs.Kinds.{within_limits, a_fault}
 use Rattle.page_parts.specs.Promises.{Settled, Fulfilled, Failed, has_failed}
 use Rattle.page_parts.specs.Combinators.{CombinatorKind, All, AnyOf, AllSettled, Pass, Report, Combine, with_report, by_place, or_answer, first_failed, first_fulfilled, answer_of, report_answer}
-use Rattle.promise_combine.specs.Answers.{answer_at_once, item_by, list_settles}
+use Rattle.promise_combine.specs.Answers.{answer_at_once, listed_answer}
 
 -- ---- Options
 
@@ -42,13 +39,6 @@ length-last rs r = length-append rs (r ∷ [])
 
 eqb_other : (a b : ℕ) → a < b → (a == b) ≡ false
 eqb_other a b h = elim (eqb_tells a b) [ inl e ↦ absurd (omega (arith, h, e.1)) | inr e ↦ e.0 ]
-
--- ---- The list of all outcomes
-
--- the answer that it makes
-abbrev pub listed_answer : CombinatorKind → List Settled → Settled
-listed_answer kind outcomes =
-    elim (within_limits (ListValue (values_of (map (item_by kind) outcomes)))) [ None ↦ Failed (a_fault RangeError) | Some v ↦ list_settles kind v ]
 
 -- ---- The first that decides
 

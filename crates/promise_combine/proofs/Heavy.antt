@@ -1,5 +1,5 @@
 -- Lists that are too heavy, or nest too deep.
-use Rattle.std.proofs.Common.{◌≡◌, ◌+◌, ◌<◌, ◌≤◌, arith, List, [], ◌∷◌, ◌++◌, Bool, true, false, cond, ◌&&◌, refl, ap, sym, ◌∙◌, inl, inr, ◌⊎◌, subst, map}
+use Rattle.std.proofs.Common.{◌≡◌, ℕ, ◌+◌, ◌<◌, ◌≤◌, arith, List, [], ◌∷◌, ◌++◌, Bool, true, false, cond, ◌&&◌, refl, ap, sym, ◌∙◌, inl, inr, ◌⊎◌, subst}
 use Rattle.std.specs.Prelude.{Option, Some, None, nat_le, Result, Ok, Err, IsErrAnd}
 use Rattle.std.proofs.lemmas.Bool.{leb-false, lt-leb}
 use Rattle.page_types.specs.Values.{Value, ListValue, values_of}
@@ -7,9 +7,7 @@ use Rattle.page_values.specs.declared.Value as Made
 use Rattle.page_values.specs.declared.faults.ValueFault.{ValueFault}
 use Rattle.page_values.specs.declared.faults.ValueFault.TheVariants.{Is, OutOfMemory}
 use Rattle.page_values.specs.Made.{IsMade}
-use Rattle.page_values.specs.Seen.{seen}
-use Rattle.std.proofs.lemmas.List.{map-append}
-use Rattle.promise_combine.specs.Answers.{IsItem}
+use Rattle.promise_combine.specs.Answers.{IsItem, IsRefusal}
 use Rattle.page_parts.specs.Kinds.{weight, all_weights, nesting, greatest_nesting, within_limits}
 
 all_weights-append : (xs ys : List Value) → all_weights (values_of (xs ++ ys)) ≡ all_weights (values_of xs) + all_weights (values_of ys)
@@ -56,11 +54,14 @@ heavy-part xs ys v h =
     ]
 
 -- the refusal of an item is that of the list
-pub refused_item : (made : Result Made.Value ValueFault) (fault : ValueFault) (item : Value) (wanted : Option Value) → IsErrAnd made (λ e. e ≡ fault) → IsItem (Err fault) item
-    → (within_limits item ≡ None → wanted ≡ None) → IsMade made wanted
-refused_item (Ok v) fault item wanted e h k = absurd e
-refused_item (Err (Is heavy)) fault item wanted e h k = let P : ValueFault → Type 0 = λ f. IsItem (Err f) item in k (subst P (sym e) h)
-refused_item (Err OutOfMemory) fault item wanted e h k = tt
+pub refused_list : (made : Result Made.Value ValueFault) (fault : ValueFault) (room : ℕ) (item : Value) (wanted : Option Value) → IsErrAnd made (λ e. e ≡ fault) → IsRefusal {T = Unit {0}} (Err fault) room item
+    → ((within_limits item ≡ None) ⊎ (room < weight item) → wanted ≡ None) → IsMade made wanted
+refused_list (Ok v) fault room item wanted e h k = absurd e
+refused_list (Err (Is told)) fault room item wanted e h k = let P : ValueFault → Type 0 = λ f. IsRefusal {T = Unit {0}} (Err f) room item in k (subst P (sym e) h)
+refused_list (Err OutOfMemory) fault room item wanted e h k = tt
 
-pub seen-last : (vs : List Made.Value) (v : Made.Value) → map seen (vs ++ v ∷ []) ≡ map seen vs ++ seen v ∷ []
-seen-last vs v = map-append seen vs (v ∷ [])
+-- an item that cannot be made is refused in any room
+pub refused_item : {T : Type 0} (made : Result T ValueFault) (fault : ValueFault) (room : ℕ) (item : Value) → IsErrAnd made (λ e. e ≡ fault) → IsItem (Err fault) item → IsRefusal made room item
+refused_item (Ok x) fault room item e h = absurd e
+refused_item (Err (Is told)) fault room item e h = let P : ValueFault → Type 0 = λ f. IsItem (Err f) item in inl (subst P (sym e) h)
+refused_item (Err OutOfMemory) fault room item e h = tt

@@ -12,11 +12,11 @@ use Rattle.page_parts.specs.Promises.{Settled, Fulfilled, Failed}
 use Rattle.page_parts.specs.Combinators.{CombinatorKind, All, AnyOf, AllSettled, Pass, Report, Combine, with_report, by_place, or_answer, answer_of, report_answer}
 use Rattle.promise_core.specs.Seen.{settled_seen}
 use Rattle.promise_combine.specs.Seen.{outcome_of, reports_of, report_of, outcomes_with}
-use Rattle.promise_combine.specs.Answers.{answer_at_once, item_by, list_settles}
+use Rattle.promise_combine.specs.Answers.{answer_at_once, item_by, list_settles, listed_answer}
 use Rattle.promise_combine.specs.Reports.{HasCount, has_reported, are_places, IsKept}
 use Rattle.promise_combine.proofs.Places.{are_places-last, one_left}
 use Rattle.promise_combine.proofs.Outcomes.{reports_of-last, places-reports_of, silent-last, by_place-reports_of}
-use Rattle.promise_combine.proofs.Answering.{listed_answer, answer_of-last, answered-last}
+use Rattle.promise_combine.proofs.Answering.{answer_of-last, answered-last}
 
 -- what is seen of it
 abbrev pub view_of : CombinatorKind → List (Result Made.Value Made.Value) → List ℕ → Combine

@@ -1,6 +1,8 @@
 //! A combinator, its reports and its one answer.
 
-ghost use Rattle.std.specs.Prelude.{◌≡◌, ◌<◌, ◌↔◌, ℕ, length, IfOk, OnOk, OnErr, IsOk, IsTrue, None, false};
+ghost use Rattle.std.specs.Prelude.{◌≡◌, ◌<◌, ◌≤◌, ◌↔◌, ℕ, [], length, replicate, is_some};
+ghost use Rattle.std.specs.Prelude.{IfOk, OnOk, OnErr, IsOk, IsTrue, None, false};
+ghost use Rattle.std.specs.Vec.{vec_capacity};
 ghost use Rattle.page_types.specs.Values.{ListValue, no_values, UnitValue};
 ghost use Rattle.page_values.specs.Seen.{seen};
 ghost use Rattle.page_parts.specs.Promises.{Fulfilled};
@@ -9,9 +11,9 @@ ghost use Rattle.promise_combine.specs.Seen.{kind_seen, outcome_of, report_of};
 ghost use Rattle.promise_combine.specs.Answers.{answer_seen, IsAnswer};
 ghost use Rattle.promise_combine.specs.Reports.{HasCount, has_reported};
 
-use crate::kind::{Kind, answer_at_once, settled_with};
-use crate::listing::listed;
-use page_values::{FaultName, Items, MemoryFault, Value, ValueFault, fault};
+use crate::kind::{Kind, brought_by, copy_settled};
+use crate::listing::answer_of_all;
+use page_values::{Items, MemoryFault, Value};
 use promise_core::Settled;
 use std::alloc::Global;
 use std::marker::Model;
@@ -67,9 +69,7 @@ impl Combine {
         requires { HasCount (kind_seen kind) n }
         ensures { IfOk result (λ c. c ≡ combine (kind_seen kind) n) }
     {
-        let outcomes = silent_outcomes(alloc, n)?;
-        let order = Vec::with_capacity(alloc, n as usize)?;
-        let reported = vec![in alloc; false; n as usize]?;
+        let (outcomes, order, reported) = silent_rows(alloc, n)?;
         Ok(Combine {
             alloc,
             kind,
@@ -110,10 +110,7 @@ impl Combine {
         ensures memory { report_answer (report_of place outcome) self.old ≡ None → IsOk result }
     {
         let answer = self.answer_by(place, &outcome)?;
-        self.order.push(place)?;
-        self.reported[place as usize] = true;
-        self.answered |= answer.is_some();
-        self.outcomes[place as usize] = outcome;
+        self.note(place, outcome, answer.is_some());
         Ok(answer)
     }
 
@@ -128,6 +125,19 @@ impl Combine {
         }
     }
 
+    // Notes the report of an outcome at a place, and whether it brings an answer. There is room for each report.
+    fn note(&mut self, place: u32, outcome: Settled, answers: bool)
+        requires within { place < self.old.count }
+        requires fresh { has_reported place self.old ≡ false }
+        requires answers { answers ≡ is_some (report_answer (report_of place outcome) self.old) }
+        ensures { self.new ≡ with_report (report_of place outcome) self.old }
+    {
+        self.order.push_reserved(place);
+        self.reported[place as usize] = true;
+        self.answered |= answers;
+        self.outcomes[place as usize] = outcome;
+    }
+
     // The answer that this report would bring.
     fn answer_by(&self, place: u32, outcome: &Settled) -> Result<Option<Settled>, MemoryFault>
         requires within { place < self.now.count }
@@ -138,19 +148,30 @@ impl Combine {
         if self.answered {
             return Ok(None);
         }
-        if let Some(answer) = answer_at_once(self.alloc, &self.kind, outcome)? {
-            return Ok(Some(answer));
+        if let Some(brought) = brought_by(&self.kind, outcome) {
+            let copied = copy_settled(self.alloc, brought)?;
+            return Ok(Some(copied));
         }
         if self.order.len() + 1 != self.outcomes.len() {
             return Ok(None);
         }
-        let answer = match listed(self.alloc, &self.kind, &self.outcomes, place, outcome) {
-            Ok(list) => settled_with(&self.kind, list),
-            Err(ValueFault::Is(_)) => Err(fault(self.alloc, FaultName::RangeError)),
-            Err(ValueFault::OutOfMemory) => return Err(MemoryFault::OutOfMemory),
-        };
+        let answer = answer_of_all(self.alloc, &self.kind, &self.outcomes, place, outcome)?;
         Ok(Some(answer))
     }
+}
+
+// The rows of a combinator of which no element has reported: an outcome and a mark for each place,
+// and room for an order of them all.
+fn silent_rows(alloc: Global, n: u32) -> Result<(Vec<Settled>, Vec<u32>, Vec<bool>), MemoryFault>
+    ensures count { IfOk result (λ rows. length rows.0.items ≡ n) }
+    ensures silent { IfOk result (λ rows. (k : ℕ) → outcome_of rows.0.items k ≡ Fulfilled UnitValue) }
+    ensures order { IfOk result (λ rows. (rows.1.items ≡ []) × (n ≤ vec_capacity rows.1)) }
+    ensures marks { IfOk result (λ rows. rows.2.items ≡ replicate n false) }
+{
+    let order = Vec::with_capacity(alloc, n as usize)?;
+    let reported = vec![in alloc; false; n as usize]?;
+    let outcomes = silent_outcomes(alloc, n)?;
+    Ok((outcomes, order, reported))
 }
 
 // So many outcomes, of places that have not reported.

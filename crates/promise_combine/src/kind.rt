@@ -1,11 +1,12 @@
 //! Which combinator it is, and what depends on that alone.
 
-ghost use Rattle.std.specs.Prelude.{◌≡◌, None, IfOk, IsOk};
+ghost use Rattle.std.specs.Prelude.{◌≡◌, IfOk};
+ghost use Rattle.std.specs.Option.{option_map};
 ghost use Rattle.page_parts.specs.Promises.{settled_value};
 ghost use Rattle.promise_core.specs.Seen.{settled_seen};
 ghost use Rattle.page_values.specs.Seen.{seen};
 ghost use Rattle.promise_combine.specs.Seen.{kind_seen};
-ghost use Rattle.promise_combine.specs.Answers.{answer_at_once, list_settles, item_by, IsItem, IsAnswer};
+ghost use Rattle.promise_combine.specs.Answers.{brought_by, list_settles, item_by, IsItem};
 
 use page_values::{MemoryFault, Value, ValueFault, copy, make_list};
 use promise_core::Settled;
@@ -25,31 +26,25 @@ pub enum Kind {
     Pass(Settled),
 }
 
-// The answer that an outcome brings, whatever else was reported before: a copy.
-pub(crate) fn answer_at_once(
-    alloc: Global,
-    kind: &Kind,
-    outcome: &Settled,
-) -> Result<Option<Settled>, MemoryFault>
-    ensures answer { IsAnswer result (answer_at_once (kind_seen kind.now) (settled_seen outcome.now)) }
-    ensures memory { answer_at_once (kind_seen kind.now) (settled_seen outcome.now) ≡ None → IsOk result }
+// The answer that an outcome brings, whatever else was reported before.
+pub(crate) fn brought_by<'a>(kind: &'a Kind, outcome: &'a Settled) -> Option<&'a Settled>
+    ensures { option_map (λ settled. settled_seen settled.now) result ≡ brought_by kind.now outcome.now }
 {
-    let answer = match kind {
+    match kind {
         Kind::All => match outcome {
             Ok(_) => None,
-            Err(_) => Some(copy_settled(alloc, outcome)?),
+            Err(_) => Some(outcome),
         },
         Kind::Any => match outcome {
-            Ok(_) => Some(copy_settled(alloc, outcome)?),
+            Ok(_) => Some(outcome),
             Err(_) => None,
         },
         Kind::AllSettled => None,
         Kind::Pass(passed) => match outcome {
-            Ok(_) => Some(copy_settled(alloc, passed)?),
-            Err(_) => Some(copy_settled(alloc, outcome)?),
+            Ok(_) => Some(passed),
+            Err(_) => Some(outcome),
         },
-    };
-    Ok(answer)
+    }
 }
 
 // How the promise is settled by the list of all outcomes. No list comes of one that passes an outcome on.
@@ -68,12 +63,7 @@ pub(crate) fn item_of(alloc: Global, kind: &Kind, outcome: &Settled) -> Result<V
 {
     let value = copy(alloc, value_of(outcome))?;
     match kind {
-        Kind::AllSettled => {
-            let mut items = Vec::with_capacity(alloc, 2)?;
-            items.push(Value::Bool(outcome.is_ok()))?;
-            items.push(value)?;
-            make_list(items)
-        }
+        Kind::AllSettled => make_list(vec![in alloc; Value::Bool(outcome.is_ok()), value]?),
         Kind::All | Kind::Any | Kind::Pass(_) => Ok(value),
     }
 }
@@ -88,7 +78,8 @@ fn value_of(outcome: &Settled) -> &Value
     }
 }
 
-fn copy_settled(alloc: Global, outcome: &Settled) -> Result<Settled, MemoryFault>
+// A copy of how a promise is settled.
+pub(crate) fn copy_settled(alloc: Global, outcome: &Settled) -> Result<Settled, MemoryFault>
     ensures { IfOk result (λ made. settled_seen made ≡ settled_seen outcome.now) }
 {
     Ok(match outcome {
