@@ -1,17 +1,18 @@
 -- The signals of the code at their numbers.
-use Rattle.std.proofs.Common.{◌≡◌, ℕ, zero, suc, add-one, ◌-◌, ◌+◌, ◌<◌, ◌≤◌, List, [], ◌∷◌, ◌++◌, length, take, Some, Result, Ok, Err, OnErr, get_or, slice_set, slice_index_or, refl, sym, ap, ◌∙◌, arith}
+use Rattle.std.proofs.Common.{◌≡◌, ℕ, zero, suc, add-one, ◌-◌, ◌+◌, ◌<◌, ◌≤◌, List, [], ◌∷◌, ◌++◌, length, take, None, Some, Result, Ok, Err, OnErr, get_or, slice_set, slice_index_or, refl, sym, ap, ◌∙◌, arith}
 use Rattle.std.specs.Prelude.{slice_get, unwrap_or, ◌==◌}
 use Rattle.std.specs.Option.{option_map}
 use Rattle.std.proofs.Common.{◌⊎◌, inl, inr}
 use Rattle.std.proofs.lemmas.Bool.{cases_lt}
 use Rattle.std.proofs.lemmas.Option.{slice_get-map, slice_get_read, slice_get_past}
-use Rattle.std.proofs.lemmas.List.{map-set, set_past, length-map, take_more}
+use Rattle.std.proofs.lemmas.List.{map-set, map-append, set_past, length-map, take_more}
 use Rattle.std.proofs.Math.Seq.{map-set_same}
 use Rattle.page_parts.specs.Words.{with_numbered, and_last, without}
 use Rattle.page_parts.specs.AbortGraph as parts
 use Rattle.page_parts.specs.AbortGraph.{SignalRecord, Signals, fresh_signal, the_signal}
 use Rattle.abort_graph.specs.declared.signal.Signal.{Signal}
 use Rattle.abort_graph.specs.Seen.{signal_seen, signals_of}
+use Rattle.abort_graph.specs.Dependents.{new_signal}
 
 -- what an error leaves
 pub leaves : {T E P : Type 0} (r : Result T E) → P → OnErr r P
@@ -75,6 +76,11 @@ seen_take zero ss = refl
 seen_take (suc n) [] = refl
 seen_take (suc n) (s ∷ ss) = ap (λ rest. signal_seen s ∷ rest) (seen_take n ss)
 
+-- a signal comes last
+pub last_put : {R : Type 0} (ss new : List (Signal R)) (x : Signal R) (q : SignalRecord R) (old : Signals R) → new ≡ ss ++ x ∷ [] → signal_seen x ≡ q → signals_of ss ≡ old → signals_of new ≡ and_last old q
+last_put ss new x q old is seen view =
+    ap signals_of is ∙ map-append signal_seen ss (x ∷ []) ∙ ap (λ p. signals_of ss ++ p ∷ []) seen ∙ ap (λ before. before ++ q ∷ []) view
+
 -- the last signal leaves
 pub last_left : {R : Type 0} (ss new : List (Signal R)) (old : Signals R) (q : SignalRecord R) → signals_of ss ≡ and_last old q → new ≡ take (length ss - 1) ss → signals_of new ≡ old
 last_left ss new old q last is =
@@ -117,6 +123,14 @@ pub with_dependent-last : {R : Type 0} (d : ℕ) (xs : List ℕ) (x : ℕ) (ss :
     → parts.with_dependent d (xs ++ x ∷ []) ss ≡ with_numbered (parts.with_dependent d xs ss) x (with_last d (the_signal (parts.with_dependent d xs ss) x))
 with_dependent-last d [] x ss = refl
 with_dependent-last d (y ∷ xs) x ss = with_dependent-last d xs x _
+
+-- a signal that was put last has joined its sources
+pub last_joined : {R : Type 0} (n : ℕ) (sources kept : List ℕ) (old put new : Signals R) → n ≡ length old + 1 → kept ≡ sources
+    → put ≡ and_last old (new_signal None kept) → new ≡ parts.with_dependent n sources put → new ≡ parts.depend_on sources old
+last_joined n sources kept old put new number same is joined =
+    let last : Signals _ = and_last old (new_signal None sources) in
+    let count : n ≡ length last = omega (arith, number, long_by_one old (new_signal None sources)) in
+    joined ∙ ap (parts.with_dependent n sources) (is ∙ ap (λ ns. and_last old (new_signal None ns)) same) ∙ ap (λ m. parts.with_dependent m sources last) count
 
 -- ---- the loops
 

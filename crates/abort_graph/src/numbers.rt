@@ -46,7 +46,7 @@ impl Numbers {
         }
         self.list.reserve(1)?;
         self.known.insert(number)?;
-        self.list.push(number).unwrap();
+        self.list.push_reserved(number);
         Ok(())
     }
 

@@ -4,9 +4,8 @@ ghost use Rattle.page_parts.specs.Words.{with_numbered, and_last, has_number};
 ghost use Rattle.page_parts.specs.AbortGraph as parts;
 ghost use Rattle.page_parts.specs.AbortGraph.{the_signal, reason_of, fresh_signal};
 ghost use Rattle.abort_graph.specs.Seen.{signal_seen};
-ghost use Rattle.abort_graph.specs.Dependents.{new_signal, with_dependents, but_last, HasLeft};
+ghost use Rattle.abort_graph.specs.Dependents.{new_signal, with_dependents, but_last, HasGone, HasLeft};
 
-use crate::algorithms::Algorithms;
 use crate::numbers::Numbers;
 use crate::signal::Signal;
 use crate::{Marked, MemoryFault};
@@ -175,12 +174,8 @@ impl<R: Copy> Signals<R> {
         ensures err { OnErr result (self.new ≡ self.old) }
     {
         let number = self.made() + 1;
-        self.signals.push(Signal {
-            reason,
-            sources,
-            dependents: Vec::new(self.alloc),
-            algorithms: Algorithms::new(self.alloc),
-        })?;
+        let signal = Signal::new(self.alloc, reason, sources);
+        self.signals.push(signal)?;
         Ok(number)
     }
 
@@ -204,13 +199,30 @@ impl<R: Copy> Signals<R> {
         ensures err { OnErr result (self.new ≡ self.old) }
     {
         let sources = self.all_sources(of)?;
-        let kept = Vec::from_slice(self.alloc, &sources)?;
+        self.put_dependent(&sources)
+    }
+
+    // A signal that depends on these sources.
+    fn put_dependent(&mut self, sources: &[u32]) -> Result<u32, MemoryFault>
+        requires { length self.old + 1 < 2 ^ 32 }
+        ensures number { IfOk result (λ s. s ≡ length self.old + 1) }
+        ensures made { OnOk result (self.new ≡ parts.depend_on sources.now self.old) }
+        ensures err { OnErr result (self.new ≡ self.old) }
+    {
+        let kept = Vec::from_slice(self.alloc, sources)?;
         let number = self.put(None, kept)?;
-        if let Err(fault) = self.join(number, &sources) {
-            self.signals.pop();
+        if let Err(fault) = self.join(number, sources) {
+            self.drop_last();
             return Err(fault);
         }
         Ok(number)
+    }
+
+    // The signal that was made last goes.
+    fn drop_last(&mut self)
+        ensures { HasGone self.old self.new }
+    {
+        self.signals.pop();
     }
 
     // The sources through all of these signals, each once, in order.

@@ -1,15 +1,17 @@
 -- From what is told of a change to the step of the definitions.
-use Rattle.std.proofs.Common.{◌≡◌, ℕ, ◌<◌, ◌≤◌, List, [], length, Bool, cond, refl, ap, sym, ◌∙◌, subst, Option}
+use Rattle.std.proofs.Common.{◌≡◌, ℕ, ◌<◌, ◌≤◌, List, [], length, Bool, cond, refl, ap, sym, ◌∙◌, subst, Option, zero, suc, length-set}
+use Rattle.page_parts.specs.Words.{with_numbered}
 use Rattle.page_parts.specs.Promises as Parts
-use Rattle.page_parts.specs.Promises.{Settled, Fulfilled, Failed, pending_promise, the_promise, follow}
+use Rattle.page_parts.specs.Promises.{PromiseRecord, Settled, Fulfilled, Failed, pending_promise, the_promise, follow}
 use Rattle.page_parts.specs.Notices.{Notices, Noticed, Context, settle_line, queue_jobs, followed_by, promise_changed, changed, settle_promise, follow_promise}
 use Rattle.trace_text.specs.declared.lines.NoLine.{NoLine}
 use Rattle.trace_text.specs.Given.{Keeping, Seen, Gives}
 use Rattle.trace_text.specs.Acts.{At, Does}
 use Rattle.promise_core.specs.declared.record.Change.{Change}
 use Rattle.promise_core.specs.Seen.{jobs_seen}
+use Rattle.promise_core.specs.Held.{IsMade}
 use Rattle.promise_core.proofs.HeldLemmas.{numbered-with}
-use Rattle.page_notices.specs.Steps.{lines_at, timed, on}
+use Rattle.page_notices.specs.Steps.{lines_at, timed, on, held}
 use Rattle.page_notices.specs.Changes.{Brings, settling, telling, IsNamed}
 
 -- the outcome that a promise has after its change
@@ -71,3 +73,15 @@ named-brought count n c told s mid a w b h =
     let P : Bool → Type 0 = λ settled. IsNamed count settled (the_promise mid.promises n).outcome in
     let Q : Option Settled → Type 0 = λ o. IsNamed count c.settled o in
     subst P (sym b.tells.settled) (subst Q (sym outcome) h)
+
+-- as many promises as before
+length-with : (ps : List PromiseRecord) (n : ℕ) (q : PromiseRecord) → length (with_numbered ps n q) ≡ length ps
+length-with ps zero q = refl
+length-with ps (suc n) q = length-set ps n q
+
+-- the promise that was changed is still there
+pub made-brought : (n : ℕ) (c : Parts.Change) (told : Change) (s mid : Notices) → 0 < n → n ≤ length s.promises → Brings told n c s mid → IsMade (held mid) n
+made-brought n c told s mid a w b = record {
+  counted = a;
+  within = subst (λ count. n ≤ count) (sym (ap (λ m. length m.promises) b.state ∙ length-with s.promises n c.promise)) w;
+}

@@ -11,6 +11,7 @@ ghost use Rattle.page_values.specs.Written.{IsNumbered};
 ghost use Rattle.promise_core.specs.Held.{IsMade, all_within};
 ghost use Rattle.promise_core.specs.Seen.{settled_seen, IsOutcome};
 ghost use Rattle.trace_text.specs.declared.lines.NoLine.TheVariants.{OutOfMemory};
+ghost use Rattle.trace_text.specs.EventSeen.{event_seen};
 ghost use Rattle.page_notices.specs.Seen.{waiting_seen, todo_seen};
 ghost use Rattle.page_notices.specs.Steps.{held};
 ghost use Rattle.page_notices.specs.Changes.{BringsWhereOk, settled_change, followed_change, subscribed_change, no_longer_unhandled, IsNamed, settled_line_of, settle_lines};
@@ -337,13 +338,8 @@ impl Notices {
         ensures { QueuesJob L.keeping L.seen self.old lines.old now todo result self.new lines.new }
     {
         let job = self.push(todo, now)?;
-        lines.emit(&Stamped {
-            time: now.at,
-            event: Event::Job {
-                j: job,
-                what: todo.queued(),
-            },
-        })
+        let what = todo.queued();
+        emit(Event::Job { j: job, what }, now.at, lines)
     }
 
     // Puts a job behind all others, and answers its number.
@@ -385,10 +381,14 @@ fn emit_settle<L: Lines>(
     let Ok(v) = printed(alloc, value, names) else {
         return Err(NoLine::OutOfMemory);
     };
-    lines.emit(&Stamped {
-        time: at,
-        event: Event::Settle { p: p as u64, ok, v },
-    })
+    emit(Event::Settle { p: p as u64, ok, v }, at, lines)
+}
+
+// The line of an event, at this time.
+fn emit<L: Lines>(event: Event, at: Micros, lines: &mut L) -> Result<(), NoLine>
+    ensures { Writes L.keeping L.seen lines.old at (event_seen event ∷ []) result lines.new }
+{
+    lines.emit(&Stamped { time: at, event })
 }
 
 // The spelling of a value.

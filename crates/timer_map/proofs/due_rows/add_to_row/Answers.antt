@@ -13,7 +13,7 @@ returns-in_err-push_back-clause-filled g c =
     let had : get due_cmp c.args.rows.now c.args.due ≡ Some c.in-Some.row.now = search rules in
     let full = filled_found c.args.due c.in-Some.row.now c.args.rows.now.entries had c.requires in
     let items = c.in_err-push_back.ensures.items in
-    let some : 0 < length c.push_back.new.self.items = subst (λ is. 0 < length is) (sym items) full in
+    let some : 0 < length c.push_back.new.self.items = rw items full in
     subst AreFilled (sym (c.get_mut.follows.holds c.push_back.new.self).0) (filled_here c.args.due c.push_back.new.self c.args.rows.now.entries some c.requires)
 
 pub returns-in_err-push_back-clause-err : goal.returns-in_err-push_back-clause-err

@@ -2,6 +2,7 @@ use Rattle.std.proofs.Common.{◌≡◌, ℕ, List, ◌∷◌, nat_eq, ◌<◌, 
 use Rattle.std.proofs.lemmas.Int.{to_z-of_z}
 use Rattle.page_parts.specs.Timers.{Timers, TimerId, ActiveTimer, Armed, with_id, with_armed, armed as armed_of}
 use Rattle.page_parts.specs.Words.{and_last}
+use Rattle.std.specs.Option.{ForNone}
 use Rattle.std.specs.List.Sorted.{IsPermutation}
 use Rattle.std.specs.List.{IsDistinct}
 use Rattle.std.specs.Map.{remove_entry, keys_of}
@@ -26,6 +27,20 @@ module _ (handles : ℕ) (old new : List (ℕ × ℕ)) (same : new ≡ old) wher
 
   ids_stay : ids_in_order handles new ≡ ids_in_order handles old
   ids_stay = ap (ids_in_order handles) same
+
+pub id_and_last-id-requires : goal.id_and_last-id-requires
+id_and_last-id-requires c = subst (λ (t : Timers). ForNone c.args.again (t.ids_made + 1 < 2 ^ 32)) (sym c.self.view_is) c.requires.id
+
+pub put-requires : goal.put-requires
+put-requires c = record { placed = c.in_ok-make_place.ensures.placed }
+
+pub invariant_of-self : goal.invariant_of-self
+invariant_of-self c =
+    record { ids = placed _ _ _ c.in_err-make_place.ensures.same c.self.invariant.ids; active = c.self.invariant.active }
+
+pub returns-in_err-make_place-clause-err : goal.returns-in_err-make_place-clause-err
+returns-in_err-make_place-clause-err c =
+    on_err _ (same_timers _ _ _ (ids_stay c.self.inside.handles_made _ _ c.in_err-make_place.ensures.same) refl ∙ c.self.view_is)
 
 pub invariant_of-self-in_err-add : goal.invariant_of-self-in_err-add
 invariant_of-self-in_err-add c =
@@ -92,3 +107,8 @@ returns-clause-set c =
     let timeout = to_z-of_z w64 c.args.timeout c.ranges.timeout in
     rw (ids, active, last, id) (ap (with_armed c.args.again (seen_armed armed)) c.self.view_is)
     ∙ ap (λ a. with_armed c.args.again a c.args.self.now) (told ∙ ap (λ t. armed_of c.args.again t c.args.nesting c.args.now.0 c.args.self.now) timeout)
+
+pub returns-clause-armed : goal.returns-clause-armed
+returns-clause-armed c =
+    let timeout = to_z-of_z w64 c.args.timeout c.ranges.timeout in
+    c.would_arm-armed.ensures ∙ ap (λ t. armed_of c.args.again t c.args.nesting c.args.now.0 c.args.self.now) timeout
