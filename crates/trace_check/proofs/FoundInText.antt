@@ -16,8 +16,7 @@ use Rattle.trace_check.specs.Collected.{AreChoicesOf}
 use Rattle.trace_check.specs.Outcomes.{found_by}
 use Rattle.trace_check.specs.Replays.{Replays}
 use Rattle.trace_check.specs.Scanned.{AreChoicesIn, HasVerdictOn}
-use Rattle.trace_check.specs.TextKept.{TextKept, text_keeping}
-use Rattle.trace_text.specs.Checks.{seen_kept}
+use Rattle.trace_check.specs.TextKept.{TextKept, text_keeping, seen_in_text}
 use Rattle.trace_check.specs.Verdicts.{events_of, own_run, trace_lines}
 use Rattle.trace_check.proofs.Found.{found, never-failed}
 use Rattle.trace_check.proofs.TextLines.{Compared, compared, the_text, the_kept}
@@ -26,7 +25,7 @@ module _ (program : Program) (setup : Setup) (hosts : List HostClosure) (form : 
   -- the run under these choices was compared with the text
   abbrev pub ComparesText : TextKept → ℕ → Result End RunStop → Type 0
   ComparesText t refusals answer =
-      (es : List Stamped) → AreChoicesOf es choices → Replays text_keeping (seen_kept (the_text form text 0) 0) setup.trace (own_run program setup hosts es) answer (seen_kept t refusals)
+      (es : List Stamped) → AreChoicesOf es choices → Replays text_keeping (seen_in_text (the_text form text 0) 0) setup.trace (own_run program setup hosts es) answer (seen_in_text t refusals)
 
   module _ (h : AreChoicesIn form (head_text form ++ text) choices) where
     -- the trace that the text spells
@@ -41,7 +40,7 @@ module _ (program : Program) (setup : Setup) (hosts : List HostClosure) (form : 
       its-lines =
           let run = own_run program setup hosts (events_of the_seen) in
           compared form setup.trace (events_of the_seen) run answer t refusals h.is_trace.fit
-          (subst (λ bytes. Replays text_keeping (seen_kept (the_text form bytes 0) 0) setup.trace run answer (seen_kept t refusals)) text-is (k (events_of the_seen) h.choices_are))
+          (subst (λ bytes. Replays text_keeping (seen_in_text (the_text form bytes 0) 0) setup.trace run answer (seen_in_text t refusals)) text-is (k (events_of the_seen) h.choices_are))
 
       -- no line of it fails
       pub text-never-failed : answer ≡ Err stop.WriteFault → ⊥

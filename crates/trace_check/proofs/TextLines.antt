@@ -21,7 +21,7 @@ use Rattle.loop_turn.specs.RunStops.{line_fault}
 use Rattle.loop_turn.specs.declared.run_stop.RunStop.{RunStop}
 use Rattle.trace_check.specs.Replays.{Replays}
 use Rattle.trace_check.specs.Verdicts.{lines_of_run}
-use Rattle.trace_check.specs.TextKept.{TextKept, met_line, met_in_text, text_keeping}
+use Rattle.trace_check.specs.TextKept.{TextKept, met_line, met_in_text, text_keeping, seen_in_text}
 
 -- the bytes that are left are the lines that are left
 record Alike (t : TextKept) (k : Kept) : Type 0 where
@@ -151,7 +151,7 @@ told-too start t first lines (Some why) h told =
 
 -- a run whose lines were compared with the bytes of a trace, of which none was met
 pub compared : {C : Type 0} (kept form : ℕ) (es : List Stamped) (run : Turned C) (answer : Result End RunStop) (t : TextKept) (refusals : ℕ) → All (Fits kept) es
-    → Replays text_keeping (seen_kept (the_text kept (lines_text es) 0) 0) form run answer (seen_kept t refusals)
+    → Replays text_keeping (seen_in_text (the_text kept (lines_text es) 0) 0) form run answer (seen_in_text t refusals)
     → Compared (the_kept (kept_lines kept es 0) 0) form run answer t refusals
 compared kept form es run answer t refusals fit h =
     let first = the_kept (kept_lines kept es 0) 0 in

@@ -33,6 +33,10 @@ met_in_text kept (Of e) = if kept.matched == 0 then None else met_line kept e (c
 abbrev pub text_keeping : Keeping TextKept
 text_keeping = record { rule = met_in_text; left = λ kept line after. ⊥ }
 
+-- what is seen of a comparison: what is left, and how often a line differed
+abbrev pub seen_in_text : TextKept → ℕ → Seen TextKept
+seen_in_text kept refusals = record { told = Some kept; faults = 0; refusals = refusals }
+
 -- ---- Ours: what a comparison is seen as
 
 pub record TextComparison : Type 0 where

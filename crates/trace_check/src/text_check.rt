@@ -75,12 +75,11 @@ impl<'t> Lines for TextCheck<'t> {
     ghost use Rattle.trace_text.specs.EventSeen.{stamped_seen};
     ghost use Rattle.trace_text.specs.Line.{Head, Of};
     ghost use Rattle.trace_text.specs.Given.{Gives};
-    ghost use Rattle.trace_check.specs.TextKept.{TextKept, text_keeping};
-    ghost use Rattle.trace_text.specs.Checks.{seen_kept};
+    ghost use Rattle.trace_check.specs.TextKept.{TextKept, seen_in_text, text_keeping};
 
     ghost Told = { TextKept };
 
-    ghost seen = { λ check. seen_kept check.kept check.refusals };
+    ghost seen = { λ check. seen_in_text check.kept check.refusals };
 
     ghost keeping = { text_keeping };
 
