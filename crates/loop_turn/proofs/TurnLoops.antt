@@ -149,34 +149,42 @@ module _ {C T : Type 0} {k : Keeping T} (rules : Rules C) (call : Caller Page) (
   abbrev pub one : List (Result ℤ ℤ) → Turned C
   one answers = turn_or (Stuck AtBound) until rules call until m (hold' answers)
 
-  abbrev pub whole : List (Result ℤ ℤ) → Turned C
-  whole answers = row_of (turn_or (Stuck AtBound) until rules call until) (suc first.fuel) first (hold answers)
+  abbrev pub whole : (until : ℕ) → List (Result ℤ ℤ) → Turned C
+  whole until answers = row_of (turn_or (Stuck AtBound) until rules call until) (suc first.fuel) first (hold answers)
 
   module _ (reach : List (Result ℤ ℤ) → Reached C T) where
     pub run-stops : (why : RunStop)
         → ByAnswers {X = Option End} told' (Err why) told'' (λ before left. Turns k here (one before) (stop_fault why) (stop_outcome why) (reach left))
-        → ByAnswers {X = End} told (Err why) told'' (λ before left. Turns k start (whole before) (stop_fault why) (stop_outcome why) (reach left))
+        → ByAnswers {X = End} told (Err why) told'' (λ before left. Turns k start (whole until before) (stop_fault why) (stop_outcome why) (reach left))
     run-stops why does = λ left h.
         let x = does left h in
         let y = on.leads x.0 x.1 in
         (y.0, y.1, y.2 _ _ _ (row-stopped rules call adds until until on.left m (hold' x.0) why x.2))
 
-    -- the exit of a `?`
-    pub run-exit : (r : Result End RunStop) (why : RunStop) → IsErrAnd r (λ e. e ≡ why)
-        → ByAnswers {X = Option End} told' (Err why) told'' (λ before left. Turns k here (one before) (stop_fault why) (stop_outcome why) (reach left))
-        → ByAnswers {X = End} told r told'' (λ before left. Turns k start (whole before) (line_fault r) (run_outcome r) (reach left))
-    run-exit (Ok x) why is does = absurd is
-    run-exit (Err e) why is does =
-        let P : RunStop → Type 0 = λ w. ByAnswers {X = Option End} told' (Err w) told'' (λ before left. Turns k here (one before) (stop_fault w) (stop_outcome w) (reach left)) in
-        run-stops e (subst P (sym is) does)
+    -- what is done by the turns until one moment is done until the same moment
+    run-as : (r : Result End RunStop) (ends : ℕ) → ends ≡ until
+        → ByAnswers {X = End} told r told'' (λ before left. Turns k start (whole until before) (line_fault r) (run_outcome r) (reach left))
+        → ByAnswers {X = End} told r told'' (λ before left. Turns k start (whole ends before) (line_fault r) (run_outcome r) (reach left))
+    run-as r ends same does =
+        let P : ℕ → Type 0 = λ n. ByAnswers {X = End} told r told'' (λ before left. Turns k start (whole n before) (line_fault r) (run_outcome r) (reach left)) in
+        subst P (sym same) does
 
-    pub run-ends : (end : End)
+    -- the exit of a `?`
+    pub run-exit : (ends : ℕ) → ends ≡ until → (r : Result End RunStop) (why : RunStop) → IsErrAnd r (λ e. e ≡ why)
+        → ByAnswers {X = Option End} told' (Err why) told'' (λ before left. Turns k here (one before) (stop_fault why) (stop_outcome why) (reach left))
+        → ByAnswers {X = End} told r told'' (λ before left. Turns k start (whole ends before) (line_fault r) (run_outcome r) (reach left))
+    run-exit ends same (Ok x) why is does = absurd is
+    run-exit ends same (Err e) why is does =
+        let P : RunStop → Type 0 = λ w. ByAnswers {X = Option End} told' (Err w) told'' (λ before left. Turns k here (one before) (stop_fault w) (stop_outcome w) (reach left)) in
+        run-as (Err e) ends same (run-stops e (subst P (sym is) does))
+
+    pub run-ends : (ends : ℕ) → ends ≡ until → (end : End)
         → ByAnswers {X = Option End} told' (Ok (Some end)) told'' (λ before left. Turns k here (one before) None (Finished end) (reach left))
-        → ByAnswers {X = End} told (Ok end) told'' (λ before left. Turns k start (whole before) None (Finished end) (reach left))
-    run-ends end does = λ left h.
+        → ByAnswers {X = End} told (Ok end) told'' (λ before left. Turns k start (whole ends before) None (Finished end) (reach left))
+    run-ends ends same end does = run-as (Ok end) ends same (λ left h.
         let x = does left h in
         let y = on.leads x.0 x.1 in
-        (y.0, y.1, y.2 _ _ _ (row-ended rules call adds until until on.left m (hold' x.0) x.2))
+        (y.0, y.1, y.2 _ _ _ (row-ended rules call adds until until on.left m (hold' x.0) x.2)))
 
   -- the run goes on from this state
   pub run-goes : (there : Shown T) (n : State) (hold'' : List (Result ℤ ℤ) → C) → n.fuel < m.fuel

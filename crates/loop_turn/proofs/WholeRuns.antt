@@ -1,5 +1,5 @@
 -- Whole runs, from their turns: the lines with their head, and what is known of the end.
-use Rattle.std.proofs.Common.{◌≡◌, true, is_some, ℕ, suc, List, [], ◌∷◌, map, refl, sym, ◌∙◌, ap, subst, Some, None, Result, Err}
+use Rattle.std.proofs.Common.{◌≡◌, true, is_some, ℕ, suc, List, [], ◌∷◌, map, refl, sym, ◌∙◌, ap, subst, Option, Some, None, Result, Err}
 use Rattle.page_types.specs.declared.End.{End}
 use Rattle.page_types.specs.Tree.{Program}
 use Rattle.page_parts.specs.HostClosures.{HostClosure}
@@ -18,12 +18,19 @@ use Rattle.trace_text.specs.declared.lines.NoLine.TheVariants.{Failed, Differs, 
 use Rattle.trace_text.specs.Line.{Head}
 use Rattle.trace_text.specs.Given.{Keeping, Seen, Gives as TakesLines}
 use Rattle.trace_text.proofs.Giving.{Gives-then, Gives-stop}
+use Rattle.lang_ast.specs.declared.program.Program as code
+use Rattle.lang_ast.specs.SeenProgram.{seen_program}
+use Rattle.arrivals_text.specs.declared.setup.PageSetup.{PageSetup}
+use Rattle.arrivals_text.specs.Seen.{settings_of}
 use Rattle.page_interp.specs.MachineNow.{MachineNow, program_in}
 use Rattle.page_host.specs.Moments.{calling, state_of as host_state}
 use Rattle.page_host.specs.Starts.{Starts}
 use Rattle.page_host.specs.PageNow.{PageNow}
 use Rattle.loop_turn.specs.Firing.{FiresAmong}
-use Rattle.loop_turn.specs.Outcomes.{Shown, held_in, Turns}
+use Rattle.loop_turn.specs.Outcomes.{Shown, Outcome, Reached, held_in, Turns}
+use Rattle.loop_turn.specs.LivePages.{IsLoaded, state_in}
+use Rattle.loop_turn.specs.declared.live_page.LivePage.{LivePage}
+use Rattle.loop_turn.proofs.TurnSteps.{Turns-same}
 use Rattle.loop_turn.proofs.Fired.{fires-none}
 use Rattle.loop_turn.specs.RunRules.{Held}
 use Rattle.loop_turn.specs.RunStops.{run_stop_at, stop_fault, line_fault, run_outcome, readings_at, choices_at}
@@ -56,6 +63,19 @@ run-starts rules program setup hosts c m p same globals starts =
     ∙ (ap (λ q. row_of (turn_or (Stuck AtBound) setup.until rules (call_from_outside q page_operations) setup.until) (suc setup.fuel) first c) (sym same)
     ∙ (ap (λ n. row_of (turn_or (Stuck AtBound) setup.until rules (calling m) setup.until) (suc n) first c) (sym starts.fuel)
     ∙ ap (λ s. row_of (turn_or (Stuck AtBound) setup.until rules (calling m) setup.until) (suc p.fuel) s c) state))
+
+-- the turns of a page that is loaded are the model's run of its program under its setup
+pub loaded-run : {C P L M T : Type 0} {k : Keeping T} (rules : Rules C) (program : code.Program) (setup : PageSetup) (hosts : List HostClosure) (c : C)
+    (live : LivePage P L M) → IsLoaded program setup hosts live → {before : Shown T} {why : Option NoLine} {how : Outcome} {there : Reached C T}
+    → Turns k before
+    (row_of (turn_or (Stuck AtBound) live.page.until rules (calling live.machine) live.page.until) (suc live.page.fuel) (state_in live) c) why how there
+    → Turns k before (run_by rules (seen_program program) (settings_of setup).setup hosts c) why how there
+loaded-run {k = k} rules program setup hosts c live loaded {before = before} {why = why} {how = how} {there = there} h =
+    let P : ℕ → Type 0 = λ until.
+    Turns k before (row_of (turn_or (Stuck AtBound) until rules (calling live.machine) until) (suc live.page.fuel) (state_in live) c) why how there in
+    Turns-same
+    (run-starts rules (seen_program program) (settings_of setup).setup hosts c live.machine live.page (ap seen_program loaded.script) loaded.globals loaded.page)
+    (subst P loaded.page.until h)
 
 -- ---- a run behind its head
 

@@ -1,5 +1,5 @@
 -- What the calls of turns do, by the rules of the clock, of the chooser and of the lines that are handed in.
-use Rattle.std.specs.Prelude.{ℕ, ℤ, suc, List, Option, Result}
+use Rattle.std.specs.Prelude.{ℤ, suc, List, Option, Result}
 use Rattle.page_types.specs.declared.End.{End}
 use Rattle.page_types.specs.declared.Source.{Source}
 use Rattle.page_base.specs.declared.clock.Clock.{Ghosts as ClockRules}
@@ -10,82 +10,71 @@ use Rattle.lang_ast.specs.declared.program.Program.{Program}
 use Rattle.lang_ast.specs.SeenProgram.{seen_program}
 use Rattle.arrivals_text.specs.declared.setup.PageSetup.{PageSetup}
 use Rattle.arrivals_text.specs.Seen.{settings_of}
-use Rattle.page_interp.specs.MachineNow.{MachineNow}
 use Rattle.page_model.specs.Bounds.{row_of, turn_or}
 use Rattle.page_model.specs.Turns.{from_step_three, perform, run_by, with_turn_fuel, Stuck, AtBound}
 use Rattle.trace_text.specs.declared.lines.Lines.{Ghosts as LineRules}
-use Rattle.page_host.specs.PageNow.{PageNow}
-use Rattle.page_host.specs.Moments.{state_of, calling}
+use Rattle.page_host.specs.Moments.{calling}
 use Rattle.loop_turn.specs.Outcomes.{Turns}
 use Rattle.loop_turn.specs.RunRules.{answer_rules, no_reading, run_rules}
 use Rattle.loop_turn.specs.RunStops.{line_fault, run_outcome, turn_outcome}
 use Rattle.loop_turn.specs.Answers.{AreKept, ByAnswers}
 use Rattle.loop_turn.specs.Lawful.{KeepsLaws}
-use Rattle.loop_turn.specs.Runs.{DoesRun, event_lines, port_then, run_lines}
-use Rattle.loop_turn.specs.TurnActs.{holding, reached, serving, shown}
+use Rattle.loop_turn.specs.Runs.{DoesRun, port_then, run_lines}
+use Rattle.loop_turn.specs.TurnActs.{holding, serving}
+use Rattle.loop_turn.specs.LivePages.{state_in, shown_in, reached_in}
+use Rattle.loop_turn.specs.declared.live_page.LivePage.{LivePage}
 use Rattle.loop_turn.specs.declared.page_run.Ended.{Ended}
 use Rattle.loop_turn.specs.declared.run_stop.RunStop.{RunStop}
 
--- ---- Ours: by the answers of the host port, the calls do what the model's turns do. Each is told by what stands before it, the clock,
--- the chooser, the machine and the page, as far as it takes them, and by the same behind it.
+-- ---- Ours: by the answers of the host port, the calls do what the model's turns do. Each is told by the clock, the chooser and the page
+-- before it, as far as it takes them, and by the same behind it.
 
-module _ {L : Type 0} (lines : LineRules L) where
+module _ {P L M : Type 0} (lines : LineRules L) where
   -- the first task of a source is performed, with the checkpoint behind it
-  abbrev pub PerformsTask : Source → Result (Option End) RunStop → MachineNow → PageNow L → MachineNow → PageNow L → Type 0
-  PerformsTask source result m p m' p' =
-      ByAnswers p.state.kept result p'.state.kept (λ first left.
-      Turns lines.keeping (shown lines.seen p)
-      (perform answer_rules (calling m) source (state_of m p) first)
-      (line_fault result) (turn_outcome result) (reached lines.seen m' p' left))
+  abbrev pub PerformsTask : Source → Result (Option End) RunStop → (old new : LivePage P L M) → Type 0
+  PerformsTask source result old new =
+      ByAnswers old.page.state.kept result new.page.state.kept (λ first left.
+      Turns lines.keeping (shown_in lines.seen old)
+      (perform answer_rules (calling old.machine) source (state_in old) first)
+      (line_fault result) (turn_outcome result) (reached_in lines.seen new left))
 
-module _ {K L : Type 0} (chooser : ChooserRules K) (lines : LineRules L) where
+module _ {K P L M : Type 0} (chooser : ChooserRules K) (lines : LineRules L) where
   -- a unit of fuel is taken, and the first task is performed of the source that is chosen
-  abbrev pub DoesNext : Result (Option End) RunStop → K → MachineNow → PageNow L → K → MachineNow → PageNow L → Type 0
-  DoesNext result k m p k' m' p' =
-      ByAnswers p.state.kept result p'.state.kept (λ first left.
-      Turns lines.keeping (shown lines.seen p)
-      (with_turn_fuel (run_rules no_reading chooser.rule) (calling m) p.fuel (state_of m p) (serving chooser.held k first))
-      (line_fault result) (turn_outcome result) (reached lines.seen m' p' (serving chooser.held k' left)))
+  abbrev pub DoesNext : Result (Option End) RunStop → K → LivePage P L M → K → LivePage P L M → Type 0
+  DoesNext result k old k' new =
+      ByAnswers old.page.state.kept result new.page.state.kept (λ first left.
+      Turns lines.keeping (shown_in lines.seen old)
+      (with_turn_fuel (run_rules no_reading chooser.rule) (calling old.machine) old.page.fuel (state_in old) (serving chooser.held k first))
+      (line_fault result) (turn_outcome result) (reached_in lines.seen new (serving chooser.held k' left)))
 
   -- a turn is done from its third step on
-  abbrev pub Serves : (until : ℕ) → Result (Option End) RunStop → K → MachineNow → PageNow L → K → MachineNow → PageNow L
-      → Type 0
-  Serves until result k m p k' m' p' =
-      ByAnswers p.state.kept result p'.state.kept (λ first left.
-      Turns lines.keeping (shown lines.seen p)
-      (from_step_three (run_rules no_reading chooser.rule) (calling m) until (serving chooser.held k first) (state_of m p))
-      (line_fault result) (turn_outcome result) (reached lines.seen m' p' (serving chooser.held k' left)))
+  abbrev pub Serves : Result (Option End) RunStop → K → LivePage P L M → K → LivePage P L M → Type 0
+  Serves result k old k' new =
+      ByAnswers old.page.state.kept result new.page.state.kept (λ first left.
+      Turns lines.keeping (shown_in lines.seen old)
+      (from_step_three (run_rules no_reading chooser.rule) (calling old.machine) old.page.until (serving chooser.held k first) (state_in old))
+      (line_fault result) (turn_outcome result) (reached_in lines.seen new (serving chooser.held k' left)))
 
-module _ {C K L : Type 0} (clock : ClockRules C) (chooser : ChooserRules K) (lines : LineRules L) where
+module _ {C K P L M : Type 0} (clock : ClockRules C) (chooser : ChooserRules K) (lines : LineRules L) where
   -- one turn is done, with each wait that comes before its task
-  abbrev pub DoesTurn : (until : ℕ) → Result (Option End) RunStop → C → K → MachineNow → PageNow L
-      → C → K → MachineNow → PageNow L → Type 0
-  DoesTurn until result c k m p c' k' m' p' =
-      ByAnswers p.state.kept result p'.state.kept (λ first left.
-      Turns lines.keeping (shown lines.seen p)
-      (turn_or (Stuck AtBound) until (run_rules clock.rule chooser.rule) (calling m) until (state_of m p)
+  abbrev pub Turn : Result (Option End) RunStop → C → K → LivePage P L M → C → K → LivePage P L M → Type 0
+  Turn result c k old c' k' new =
+      let until = old.page.until
+      in ByAnswers old.page.state.kept result new.page.state.kept (λ first left.
+      Turns lines.keeping (shown_in lines.seen old)
+      (turn_or (Stuck AtBound) until (run_rules clock.rule chooser.rule) (calling old.machine) until (state_in old)
       (holding clock.held chooser.held c k first))
-      (line_fault result) (turn_outcome result) (reached lines.seen m' p' (holding clock.held chooser.held c' k' left)))
+      (line_fault result) (turn_outcome result) (reached_in lines.seen new (holding clock.held chooser.held c' k' left)))
 
   -- turns are done until the run ends
-  abbrev pub DoesTurns : (until : ℕ) → Result End RunStop → C → K → MachineNow → PageNow L
-      → C → K → MachineNow → PageNow L → Type 0
-  DoesTurns until result c k m p c' k' m' p' =
-      ByAnswers p.state.kept result p'.state.kept (λ first left.
-      Turns lines.keeping (shown lines.seen p)
-      (row_of (turn_or (Stuck AtBound) until (run_rules clock.rule chooser.rule) (calling m) until) (suc p.fuel)
-      (state_of m p) (holding clock.held chooser.held c k first))
-      (line_fault result) (run_outcome result) (reached lines.seen m' p' (holding clock.held chooser.held c' k' left)))
-
-  -- a program is run under a setup, on a page before its first turn and with some machine
-  abbrev pub RunsTurns : Program → PageSetup → Result End RunStop → C → K → PageNow L → C → K → PageNow L → Type 0
-  RunsTurns program setup result c k p c' k' p' =
-      ByAnswers p.state.kept result p'.state.kept (λ first left. (machine : MachineNow) ×
-      Turns lines.keeping (shown lines.seen p)
-      (run_by (run_rules clock.rule chooser.rule) (seen_program program) (settings_of setup).setup p.state.hosts
-      (holding clock.held chooser.held c k first))
-      (line_fault result) (run_outcome result)
-      (reached lines.seen machine p' (holding clock.held chooser.held c' k' left)))
+  abbrev pub Runs : Result End RunStop → C → K → LivePage P L M → C → K → LivePage P L M → Type 0
+  Runs result c k old c' k' new =
+      let until = old.page.until
+      in ByAnswers old.page.state.kept result new.page.state.kept (λ first left.
+      Turns lines.keeping (shown_in lines.seen old)
+      (row_of (turn_or (Stuck AtBound) until (run_rules clock.rule chooser.rule) (calling old.machine) until) (suc old.page.fuel)
+      (state_in old) (holding clock.held chooser.held c k first))
+      (line_fault result) (run_outcome result) (reached_in lines.seen new (holding clock.held chooser.held c' k' left)))
 
 module _ {C K : Type 0} (clock : ClockRules C) (chooser : ChooserRules K) where
   -- whatever the host closures answer, the run of a program under a setup keeps the laws
@@ -105,12 +94,3 @@ module _ {C K P L : Type 0} (clock : ClockRules C) (chooser : ChooserRules K) (p
       (holding clock.held chooser.held c k answers)
       in DoesRun lines.keeping (lines.seen l) (run_lines setup.trace run) run ended.outcome (clock.held c') (chooser.held k')
       (port_then port.closures port.kept (port.closures p) ended.port) (lines.seen ended.lines))
-
-  -- the same of a page that is made, with the lines behind the head
-  abbrev pub RunsMade : Program → PageSetup → C → K → PageNow L → Ended P L → C → K → Type 0
-  RunsMade program setup c k page ended c' k' =
-      (answers : List (Result ℤ ℤ)) × AreKept page.state.kept answers ×
-      (let run = run_by (run_rules clock.rule chooser.rule) (seen_program program) (settings_of setup).setup page.state.hosts
-      (holding clock.held chooser.held c k answers)
-      in DoesRun lines.keeping (lines.seen page.lines) (event_lines run) run ended.outcome (clock.held c') (chooser.held k')
-      (port_then port.closures port.kept page.state.at_port ended.port) (lines.seen ended.lines))

@@ -5,6 +5,7 @@ pub mod Waiting
 pub mod Answers
 pub mod RunStops
 pub mod TurnActs
+pub mod LivePages
 pub mod Runs
 pub mod Lawful
 pub mod ByRules

@@ -2,6 +2,7 @@
 #![tactic(auto)]
 
 mod finding;
+mod live_page;
 mod page_run;
 mod performing;
 mod run_stop;

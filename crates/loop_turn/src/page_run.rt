@@ -2,14 +2,12 @@
 
 ghost use Rattle.std.specs.Prelude.{◌≡◌, ◌≤◌, ◌^◌, None, Result, true, is_some, length, map, IsTrue};
 ghost use Rattle.std.specs.List.{list_all};
-ghost use Rattle.lang_ast.specs.SeenProgram.{seen_program};
-ghost use Rattle.arrivals_text.specs.Seen.{settings_of};
 ghost use Rattle.page_hosts.specs.Hosts.{is_unqueued, unasked};
-ghost use Rattle.page_host.specs.Starts.{Starts};
 ghost use Rattle.loop_turn.specs.RunStops.{line_fault, readings_refused, choices_refused};
 ghost use Rattle.loop_turn.specs.TurnActs.{CanTurn, PortRefuses};
-ghost use Rattle.loop_turn.specs.ByRules.{AreLawfulRuns, DoesTurns, RunsMade, RunsPage, RunsTurns};
+ghost use Rattle.loop_turn.specs.ByRules.{AreLawfulRuns, Runs, RunsPage};
 
+use crate::live_page::{LivePage, load};
 use crate::run_stop::RunStop;
 use crate::turn::turn;
 use arrivals_text::PageSetup;
@@ -19,7 +17,6 @@ use loop_policy::Chooser;
 use page_base::{Clock, End, Micros};
 use page_host::{NoPage, Page};
 use page_hosts::HostPort;
-use page_interp::Machine;
 use std::alloc::Global;
 use std::sync::ledger::Ledger;
 use trace_text::Lines;
@@ -68,8 +65,17 @@ pub fn run_page<C: Clock, K: Chooser, P: HostPort, L: Lines, M: Ledger>(
             lines,
         };
     }
-    match Page::new(alloc, program, setup, port, lines, accesses) {
-        Ok(page) => run_made(alloc, program, setup, page, clock, chooser),
+    match load(alloc, program, setup, port, lines, accesses) {
+        Ok(live) => {
+            let mut live = live;
+            let outcome = run_turns(&mut live, setup.until, clock, chooser);
+            let (port, lines) = parts_of(live.page, &outcome);
+            Ended {
+                outcome,
+                port,
+                lines,
+            }
+        }
         Err(NoPage { port, lines }) => Ended {
             outcome: Err(RunStop::OutOfMemory),
             port,
@@ -78,29 +84,24 @@ pub fn run_page<C: Clock, K: Chooser, P: HostPort, L: Lines, M: Ledger>(
     }
 }
 
-/// The run of a page that is made, behind its head.
-fn run_made<C: Clock, K: Chooser, P: HostPort, L: Lines, M: Ledger>(
-    alloc: Global,
-    program: &Program,
-    setup: &PageSetup,
-    page: Page<P, L, M>,
+/// The turns of a page until its run ends.
+fn run_turns<C: Clock, K: Chooser, P: HostPort, L: Lines, M: Ledger>(
+    live: &mut LivePage<'_, P, L, M>,
+    until: Micros,
     clock: &mut C,
     chooser: &mut K,
-) -> Ended<P, L>
-    requires { Starts (seen_program program.now) (settings_of setup.now).setup page.state.hosts page }
-    ensures run { RunsMade C.Clock K.Chooser P.HostPort L.Lines program.now setup.now
-        clock.old chooser.old page result clock.new chooser.new }
-    ensures readings { C.refusals clock.new ≡ readings_refused (C.refusals clock.old) result.outcome }
-    ensures choices { K.refusals chooser.new ≡ choices_refused (K.refusals chooser.old) result.outcome }
-    ensures answers { PortRefuses result.outcome page.state.refusals (P.refusals result.port) }
+) -> Result<End, RunStop>
+    requires { CanTurn live.old.machine live.old.page until.0 }
+    ensures does { Runs C.Clock K.Chooser L.Lines result
+        clock.old chooser.old live.old clock.new chooser.new live.new }
+    ensures readings { C.refusals clock.new ≡ readings_refused (C.refusals clock.old) result }
+    ensures choices { K.refusals chooser.new ≡ choices_refused (K.refusals chooser.old) result }
+    ensures answers { PortRefuses result live.old.page.state.refusals live.new.page.state.refusals }
 {
-    let mut page = page;
-    let outcome = run_turns(alloc, program, setup, &mut page, clock, chooser);
-    let (port, lines) = parts_of(page, &outcome);
-    Ended {
-        outcome,
-        port,
-        lines,
+    'turns: loop {
+        if let Some(end) = turn(live, until, clock, chooser)? {
+            return Ok(end);
+        }
     }
 }
 
@@ -120,50 +121,6 @@ fn parts_of<P: HostPort, L: Lines, M: Ledger>(
         Ok(_) | Err(RunStop::NoReading | RunStop::NoChoice | RunStop::NoHost) => page.into_parts(),
         Err(RunStop::WriteFault | RunStop::Differs | RunStop::OutOfMemory) => {
             page.into_parts_so_far()
-        }
-    }
-}
-
-/// The turns of a page before its first one, with the machine of its program.
-fn run_turns<C: Clock, K: Chooser, P: HostPort, L: Lines, M: Ledger>(
-    alloc: Global,
-    program: &Program,
-    setup: &PageSetup,
-    page: &mut Page<P, L, M>,
-    clock: &mut C,
-    chooser: &mut K,
-) -> Result<End, RunStop>
-    requires { Starts (seen_program program.now) (settings_of setup.now).setup page.old.state.hosts page.old }
-    ensures does { RunsTurns C.Clock K.Chooser L.Lines program.now setup.now result
-        clock.old chooser.old page.old clock.new chooser.new page.new }
-    ensures readings { C.refusals clock.new ≡ readings_refused (C.refusals clock.old) result }
-    ensures choices { K.refusals chooser.new ≡ choices_refused (K.refusals chooser.old) result }
-    ensures answers { PortRefuses result page.old.state.refusals page.new.state.refusals }
-{
-    let Ok(mut machine) = Machine::new(alloc, program) else {
-        return Err(RunStop::OutOfMemory);
-    };
-    turns(page, &mut machine, setup.until, clock, chooser)
-}
-
-/// The turns until the run ends.
-fn turns<C: Clock, K: Chooser, P: HostPort, L: Lines, M: Ledger>(
-    page: &mut Page<P, L, M>,
-    machine: &mut Machine<'_>,
-    until: Micros,
-    clock: &mut C,
-    chooser: &mut K,
-) -> Result<End, RunStop>
-    requires { CanTurn machine.old page.old until.0 }
-    ensures does { DoesTurns C.Clock K.Chooser L.Lines until.0 result
-        clock.old chooser.old machine.old page.old clock.new chooser.new machine.new page.new }
-    ensures readings { C.refusals clock.new ≡ readings_refused (C.refusals clock.old) result }
-    ensures choices { K.refusals chooser.new ≡ choices_refused (K.refusals chooser.old) result }
-    ensures answers { PortRefuses result page.old.state.refusals page.new.state.refusals }
-{
-    'turns: loop {
-        if let Some(end) = turn(page, machine, until, clock, chooser)? {
-            return Ok(end);
         }
     }
 }

@@ -8,11 +8,11 @@ ghost use Rattle.loop_turn.specs.declared.run_stop.RunStop.TheVariants.{NoReadin
 ghost use Rattle.loop_turn.specs.TurnActs.{CanTurn, IfGoesOn, PortRefuses, StillCan};
 ghost use Rattle.loop_turn.specs.ByRules.{PerformsTask};
 
+use crate::live_page::LivePage;
 use crate::run_stop::RunStop;
 use page_base::{End, Source};
-use page_host::{Did, Page};
+use page_host::Did;
 use page_hosts::HostPort;
-use page_interp::Machine;
 use std::sync::ledger::Ledger;
 use trace_text::Lines;
 
@@ -22,24 +22,23 @@ use trace_text::Lines;
 /// A task asks neither clock nor chooser, so a stop is none of theirs. With `NoHost` the host port has refused; where the call does
 /// not stop, it has not.
 pub(crate) fn perform<P: HostPort, L: Lines, M: Ledger>(
-    page: &mut Page<P, L, M>,
-    machine: &mut Machine<'_>,
+    live: &mut LivePage<'_, P, L, M>,
     source: Source,
 ) -> Result<Option<End>, RunStop>
-    requires ready { CanTurn machine.old page.old page.old.until }
-    requires in_time { read_by (λ p. p.now) page.old.state ≤ page.old.until }
-    requires runnable { IsTrue (is_runnable (read_by seeing.view page.old.state) source) }
-    ensures does { PerformsTask L.Lines source result machine.old page.old machine.new page.new }
+    requires ready { CanTurn live.old.machine live.old.page live.old.page.until }
+    requires in_time { read_by (λ p. p.now) live.old.page.state ≤ live.old.page.until }
+    requires runnable { IsTrue (is_runnable (read_by seeing.view live.old.page.state) source) }
+    ensures does { PerformsTask L.Lines source result live.old live.new }
     ensures reads_nothing { IfErr result (λ why. why ≢ NoReading) }
     ensures chooses_nothing { IfErr result (λ why. why ≢ NoChoice) }
-    ensures answers { PortRefuses result page.old.state.refusals page.new.state.refusals }
-    ensures goes_on { IfGoesOn result (StillCan page.old machine.new page.new) }
-    ensures program { machine.new.script ≡ machine.old.script }
+    ensures answers { PortRefuses result live.old.page.state.refusals live.new.page.state.refusals }
+    ensures goes_on { IfGoesOn result (StillCan live.old.page live.new.machine live.new.page) }
+    ensures program { live.new.machine.script ≡ live.old.machine.script }
 {
-    match page.perform(machine, source)? {
+    match live.page.perform(&mut live.machine, source)? {
         Did::Finished => Ok(None),
         Did::Fuel => {
-            page.finish(End::Fuel)?;
+            live.page.finish(End::Fuel)?;
             Ok(Some(End::Fuel))
         }
     }

@@ -22,8 +22,8 @@ use Rattle.loop_turn.proofs.turn.perform_next.Goals as goal
 pub returns-in_err-begin_turn-clause-does : goal.returns-in_err-begin_turn-clause-does
 returns-in_err-begin_turn-clause-does g c =
     let rules = run_rules no_reading g.K.Chooser.rule in
-    let m = c.args.machine.now in
-    let p = c.args.page.now in
+    let m = c.args.live.now.machine in
+    let p = c.args.live.now.page in
     let q = c.begin_turn.new.self in
     let why = c.in_err-begin_turn.field-0.0 in
     turn-fault p.state.kept q.state.kept
@@ -40,8 +40,8 @@ returns-in_err-begin_turn-clause-does g c =
 pub returns-then-has_no_task-clause-does : goal.returns-then-has_no_task-clause-does
 returns-then-has_no_task-clause-does g c =
     let rules = run_rules no_reading g.K.Chooser.rule in
-    let m = c.args.machine.now in
-    let p = c.args.page.now in
+    let m = c.args.live.now.machine in
+    let p = c.args.live.now.page in
     let q = c.begin_turn.new.self in
     λ left h. (
       left,
@@ -55,15 +55,15 @@ returns-then-has_no_task-clause-answers g c = work-refusals (turn_counted None) 
 
 pub returns-then-has_no_task-clause-goes_on : goal.returns-then-has_no_task-clause-goes_on
 returns-then-has_no_task-clause-goes_on g c = record {
-  ready = work-can (turn_counted None) c.in_ok-begin_turn.ensures.does tt c.args.machine.now c.args.page.now.until c.in_ok-begin_turn.ensures.stops c.in_ok-begin_turn.ensures.same c.requires.ready;
+  ready = work-can (turn_counted None) c.in_ok-begin_turn.ensures.does tt c.args.live.now.machine c.args.live.now.page.until c.in_ok-begin_turn.ensures.stops c.in_ok-begin_turn.ensures.same c.requires.ready;
   fuel = let taken = c.in_ok-begin_turn.ensures.fuel in omega (arith, taken);
 }
 
 pub returns-in_err-begin_turn-2-clause-does : goal.returns-in_err-begin_turn-2-clause-does
 returns-in_err-begin_turn-2-clause-does g c =
     let rules = run_rules no_reading g.K.Chooser.rule in
-    let m = c.args.machine.now in
-    let p = c.args.page.now in
+    let m = c.args.live.now.machine in
+    let p = c.args.live.now.page in
     let q = c.begin_turn-2.new.self in
     let why = c.in_err-begin_turn-2.field-0.0 in
     let source = c.in_ok-source.source in
@@ -84,7 +84,7 @@ returns-in_err-begin_turn-2-clause-does g c =
 
 pub perform-requires-clause-ready : goal.perform-requires-clause-ready
 perform-requires-clause-ready g c =
-    let can = work-can (turn_counted (Some c.in_ok-source.source)) c.in_ok-begin_turn-2.ensures.does tt c.args.machine.now c.args.page.now.until c.in_ok-begin_turn-2.ensures.stops c.in_ok-begin_turn-2.ensures.same c.requires.ready in
+    let can = work-can (turn_counted (Some c.in_ok-source.source)) c.in_ok-begin_turn-2.ensures.does tt c.args.live.now.machine c.args.live.now.page.until c.in_ok-begin_turn-2.ensures.stops c.in_ok-begin_turn-2.ensures.same c.requires.ready in
     record {
       running = can.running;
       at_rest = can.at_rest;
@@ -109,8 +109,8 @@ perform-requires-clause-runnable g c =
 pub returns-clause-does : goal.returns-clause-does
 returns-clause-does g c =
     let rules = run_rules no_reading g.K.Chooser.rule in
-    let m = c.args.machine.now in
-    let p = c.args.page.now in
+    let m = c.args.live.now.machine in
+    let p = c.args.live.now.page in
     let q = c.begin_turn-2.new.self in
     let source = c.in_ok-source.source in
     let held = g.K.Chooser.held c.choose.new.self in

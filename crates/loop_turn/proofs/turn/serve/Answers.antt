@@ -21,9 +21,10 @@ use Rattle.loop_turn.proofs.turn.serve.Goals as goal
 
 pub returns-in_err-finish-clause-does : goal.returns-in_err-finish-clause-does
 returns-in_err-finish-clause-does g c =
-    let rules = run_rules no_reading g.K.Chooser.rule in
-    let m = c.args.machine.now in
-    let p = c.args.page.now in
+    rw c.requires.ends
+    (let rules = run_rules no_reading g.K.Chooser.rule in
+    let m = c.args.live.now.machine in
+    let p = c.args.live.now.page in
     let q = c.finish.new.self in
     let until = c.args.until.0 in
     let why = c.in_err-finish.field-0.0 in
@@ -37,13 +38,14 @@ returns-in_err-finish-clause-does g c =
     why does c.in_err-finish.ensures.stops
     (λ fault h. clock-stop rules (calling m) (calling-adds m) until m.globals p.fuel p.state (serving g.K.Chooser.held c.args.chooser.now first)
     (stop_outcome (run_stop_of why)) (state_of m q) (serving g.K.Chooser.held c.args.chooser.now left)
-    (leb-true until (page_of p.state).now (sym c.is_over.ensures ∙ c.if-is_over.true)) h))
+    (leb-true until (page_of p.state).now (sym c.is_over.ensures ∙ c.if-is_over.true)) h)))
 
 pub returns-then-is_over-clause-does : goal.returns-then-is_over-clause-does
 returns-then-is_over-clause-does g c =
-    let rules = run_rules no_reading g.K.Chooser.rule in
-    let m = c.args.machine.now in
-    let p = c.args.page.now in
+    rw c.requires.ends
+    (let rules = run_rules no_reading g.K.Chooser.rule in
+    let m = c.args.live.now.machine in
+    let p = c.args.live.now.page in
     let q = c.finish.new.self in
     let until = c.args.until.0 in
     let does = rw c.requires.ends at c.in_ok-finish.ensures.does in
@@ -54,16 +56,17 @@ returns-then-is_over-clause-does g c =
           (record { state = around m.globals n q.state; held = serving g.K.Chooser.held c.args.chooser.now left; shown = shown g.L.Lines.seen q }) in
           subst P (sym c.in_ok-finish.ensures.fuel)
           (clock-ends rules (calling m) (calling-adds m) until m.globals p.fuel p.state (serving g.K.Chooser.held c.args.chooser.now left) (leb-true until (page_of p.state).now (sym c.is_over.ensures ∙ c.if-is_over.true)) does)),
-    )
+    ))
 
 pub returns-then-is_over-clause-answers : goal.returns-then-is_over-clause-answers
-returns-then-is_over-clause-answers g c = work-refusals (run_ended c.args.page.now.until Clock) c.in_ok-finish.ensures.does
+returns-then-is_over-clause-answers g c = work-refusals (run_ended c.args.live.now.page.until Clock) c.in_ok-finish.ensures.does
 
 pub returns-in_err-finish-2-clause-does : goal.returns-in_err-finish-2-clause-does
 returns-in_err-finish-2-clause-does g c =
-    let rules = run_rules no_reading g.K.Chooser.rule in
-    let m = c.args.machine.now in
-    let p = c.args.page.now in
+    rw c.requires.ends
+    (let rules = run_rules no_reading g.K.Chooser.rule in
+    let m = c.args.live.now.machine in
+    let p = c.args.live.now.page in
     let q = c.finish-then-is_dry.new.self in
     let until = c.args.until.0 in
     let why = c.in_err-finish-2.field-0.0 in
@@ -77,13 +80,14 @@ returns-in_err-finish-2-clause-does g c =
     (λ fault h. task-stop rules (calling m) (calling-adds m) until m.globals p.fuel p.state (serving g.K.Chooser.held c.args.chooser.now first)
     (leb-false until (page_of p.state).now (sym c.is_over.ensures ∙ c.if-is_over.false)) (stop_outcome (run_stop_of why))
     (dry-stop rules (calling m) m.globals p.state (serving g.K.Chooser.held c.args.chooser.now first) p.fuel p.until
-    (stop_outcome (run_stop_of why)) (state_of m q) (serving g.K.Chooser.held c.args.chooser.now left) (c.is_dry.ensures.none c.if-is_dry.true) h)))
+    (stop_outcome (run_stop_of why)) (state_of m q) (serving g.K.Chooser.held c.args.chooser.now left) (c.is_dry.ensures.none c.if-is_dry.true) h))))
 
 pub returns-then-is_dry-clause-does : goal.returns-then-is_dry-clause-does
 returns-then-is_dry-clause-does g c =
-    let rules = run_rules no_reading g.K.Chooser.rule in
-    let m = c.args.machine.now in
-    let p = c.args.page.now in
+    rw c.requires.ends
+    (let rules = run_rules no_reading g.K.Chooser.rule in
+    let m = c.args.live.now.machine in
+    let p = c.args.live.now.page in
     let q = c.finish-then-is_dry.new.self in
     let until = c.args.until.0 in
     λ left h. (
@@ -95,41 +99,44 @@ returns-then-is_dry-clause-does g c =
           (task-over rules (calling m) (calling-adds m) until m.globals p.fuel p.state (serving g.K.Chooser.held c.args.chooser.now left)
           (leb-false until (page_of p.state).now (sym c.is_over.ensures ∙ c.if-is_over.false)) (λ e. cc)
           (dry-ends rules (calling m) m.globals p.state (serving g.K.Chooser.held c.args.chooser.now left) p.fuel p.until (c.is_dry.ensures.none c.if-is_dry.true) c.in_ok-finish-2.ensures.does))),
-    )
+    ))
 
 pub returns-then-is_dry-clause-answers : goal.returns-then-is_dry-clause-answers
-returns-then-is_dry-clause-answers g c = work-refusals (run_ended c.args.page.now.until Fuel) c.in_ok-finish-2.ensures.does
+returns-then-is_dry-clause-answers g c = work-refusals (run_ended c.args.live.now.page.until Fuel) c.in_ok-finish-2.ensures.does
 
 pub returns-in_err-end-clause-does : goal.returns-in_err-end-clause-does
 returns-in_err-end-clause-does g c =
-    let rules = run_rules no_reading g.K.Chooser.rule in
-    let m = c.args.machine.now in
-    let p = c.args.page.now in
+    rw c.requires.ends
+    (let rules = run_rules no_reading g.K.Chooser.rule in
+    let m = c.args.live.now.machine in
+    let p = c.args.live.now.page in
     serve-exit rules (calling m) (calling-adds m) c.args.until.0 m.globals p.fuel p.state (leb-false c.args.until.0 (page_of p.state).now (sym c.is_over.ensures ∙ c.if-is_over.false))
-    p.state.kept c.perform_next.new.page.state.kept (λ first. serving g.K.Chooser.held c.args.chooser.now first)
-    (λ left. reached g.L.Lines.seen c.perform_next.new.machine c.perform_next.new.page (serving g.K.Chooser.held c.perform_next.new.chooser left))
-    _ _ c.from_residual-in_err-end.ensures.1 c.in_err-end.ensures.does
+    p.state.kept c.perform_next.new.live.page.state.kept (λ first. serving g.K.Chooser.held c.args.chooser.now first)
+    (λ left. reached g.L.Lines.seen c.perform_next.new.live.machine c.perform_next.new.live.page (serving g.K.Chooser.held c.perform_next.new.chooser left))
+    _ _ c.from_residual-in_err-end.ensures.1 c.in_err-end.ensures.does)
 
 pub returns-in-Some-clause-does : goal.returns-in-Some-clause-does
 returns-in-Some-clause-does g c =
-    let rules = run_rules no_reading g.K.Chooser.rule in
-    let m = c.args.machine.now in
-    let p = c.args.page.now in
+    rw c.requires.ends
+    (let rules = run_rules no_reading g.K.Chooser.rule in
+    let m = c.args.live.now.machine in
+    let p = c.args.live.now.page in
     let does = rw c.in-Some.is at c.in_ok-end.ensures.does in
     λ left h. let x = does left h in (
       x.0,
       x.1,
       task-over rules (calling m) (calling-adds m) c.args.until.0 m.globals p.fuel p.state (serving g.K.Chooser.held c.args.chooser.now x.0)
           (leb-false c.args.until.0 (page_of p.state).now (sym c.is_over.ensures ∙ c.if-is_over.false)) (λ e. cc) x.2,
-    )
+    ))
 
 pub returns-in_err-idle-in-None-clause-does : goal.returns-in_err-idle-in-None-clause-does
 returns-in_err-idle-in-None-clause-does g c =
-    let rules = run_rules no_reading g.K.Chooser.rule in
-    let m = c.args.machine.now in
-    let p = c.args.page.now in
-    let n = c.perform_next.new.machine in
-    let q = c.perform_next.new.page in
+    rw c.requires.ends
+    (let rules = run_rules no_reading g.K.Chooser.rule in
+    let m = c.args.live.now.machine in
+    let p = c.args.live.now.page in
+    let n = c.perform_next.new.live.machine in
+    let q = c.perform_next.new.live.page in
     let u = c.idle.new.page in
     let until = c.args.until.0 in
     let why = c.in_err-idle-in-None.field-0.0 in
@@ -148,15 +155,16 @@ returns-in_err-idle-in-None-clause-does g c =
           (leb-false until (page_of p.state).now (sym c.is_over.ensures ∙ c.if-is_over.false)) x.2
           (idle-stop rules (calling m) (calling-adds m) until n.globals q.fuel q.state (serving g.K.Chooser.held c.perform_next.new.chooser mid.0)
           (stop_outcome (run_stop_of why)) (state_of n u) (serving g.K.Chooser.held c.perform_next.new.chooser left) f)))),
-    )
+    ))
 
 pub returns-in_ok-idle-in-None-clause-does : goal.returns-in_ok-idle-in-None-clause-does
 returns-in_ok-idle-in-None-clause-does g c =
-    let rules = run_rules no_reading g.K.Chooser.rule in
-    let m = c.args.machine.now in
-    let p = c.args.page.now in
-    let n = c.perform_next.new.machine in
-    let q = c.perform_next.new.page in
+    rw c.requires.ends
+    (let rules = run_rules no_reading g.K.Chooser.rule in
+    let m = c.args.live.now.machine in
+    let p = c.args.live.now.page in
+    let n = c.perform_next.new.live.machine in
+    let q = c.perform_next.new.live.page in
     let u = c.idle.new.page in
     let until = c.args.until.0 in
     let does = rw c.in-None.is at c.in_ok-end.ensures.does in
@@ -169,7 +177,7 @@ returns-in_ok-idle-in-None-clause-does g c =
           (task-then rules (calling m) (calling-adds m) until m.globals p.fuel p.state (serving g.K.Chooser.held c.args.chooser.now x.0)
           (leb-false until (page_of p.state).now (sym c.is_over.ensures ∙ c.if-is_over.false)) x.2
           (idle-done rules (calling m) (calling-adds m) until n.globals q.fuel q.state (serving g.K.Chooser.held c.perform_next.new.chooser left) c.in_ok-idle-in-None.ensures.does))),
-    )
+    ))
 
 pub returns-in_ok-idle-in-None-clause-answers : goal.returns-in_ok-idle-in-None-clause-answers
 returns-in_ok-idle-in-None-clause-answers g c = work-refusals idled c.in_ok-idle-in-None.ensures.does ∙ c.in_ok-end.ensures.answers
@@ -179,6 +187,6 @@ returns-in_ok-idle-in-None-clause-goes_on g c =
     let taken = rw (c.in-None.is, c.requires.ends) at c.in_ok-end.ensures.goes_on in
     let idle = c.in_ok-idle-in-None.ensures in
     record {
-      ready = work-can idled idle.does tt c.perform_next.new.machine c.args.until.0 idle.stops idle.setting taken.ready;
+      ready = work-can idled idle.does tt c.perform_next.new.live.machine c.args.until.0 idle.stops idle.setting taken.ready;
       fuel = let same = idle.fuel in let less = taken.fuel in omega (arith, same, less);
     }
